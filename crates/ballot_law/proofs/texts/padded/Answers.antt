@@ -1,0 +1,12 @@
+use Rattle.std.proofs.Common.{◌≡◌, ℕ, ◌++◌, ◌-◌, length, refl}
+use Rattle.std.proofs.Math.ListN.{replicate, drop}
+use Rattle.std.proofs.lemmas.List.{drop-replicate}
+use Rattle.ballot_law.specs.Padding.{zeros}
+use Rattle.ballot_law.proofs.texts.padded.Goals as goal
+
+pub returns-clause-whole : goal.returns-clause-whole
+returns-clause-whole c =
+    let bytes = c.args.bytes.now in
+    let whole : c.copy_from_slice.new.self ++ drop (length bytes) (replicate 128 0) ≡ bytes ++ zeros (128 - length bytes) =
+    rw (c.copy_from_slice.ensures.after, drop-replicate {X = ℕ} (length bytes) 128 0) refl in
+    whole

@@ -1,0 +1,16 @@
+pub mod Clocks
+pub mod Counts
+pub mod Hellos
+pub mod Names
+pub mod NamesAgain
+pub mod Ordered
+pub mod Orders
+pub mod OwnVotes
+pub mod Padding
+pub mod Quorums
+pub mod RosterFaults
+pub mod Rosters
+pub mod ShortTexts
+pub mod ShortTextsAgain
+pub mod VotesHeard
+pub mod Words

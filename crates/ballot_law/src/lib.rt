@@ -1,0 +1,36 @@
+//! What the nodes of a Sentinel group share: the plain data that they keep and send each other, the fixed roster of the
+//! group, and the definitions that speak of the group as a whole.
+//!
+//! Nothing here acts. The crates above read and write these values, and their contracts cite the definitions in this
+//! crate's `specs/`, so that all of them speak of the same things.
+#![tactic(auto)]
+
+mod addresses;
+mod cards;
+mod clocks;
+mod commands;
+mod events;
+mod hearings;
+mod messages;
+mod names;
+mod ordering;
+mod replies;
+mod rosters;
+mod steps;
+mod texts;
+
+pub use addresses::{Addr, RunId};
+pub use cards::{Card, Kept, KeptMaster, KeptMasters, MAX_EPOCH, Shown, ShownList};
+pub use clocks::{LAST_READING, clock_of};
+pub use commands::Command;
+pub use events::{Event, Input};
+pub use hearings::{DownReport, HeardVote};
+pub use messages::{Body, Message, NodeName, Note, Output};
+pub use names::{NAME_MAX, Name};
+pub use replies::{DataRole, Hello, Info, PingReply, Role};
+pub use rosters::{Member, Roster, RosterFault, Watched};
+pub use steps::{KeptText, Step};
+pub use texts::{ShortText, Text};
+
+#[cfg(test)]
+mod tests;

@@ -1,0 +1,61 @@
+-- Numbers without leading zeros, as words and as lines of a stream.
+use Rattle.std.proofs.Common.{◌≡◌, ℕ, ◌-◌, ◌^◌, ◌≤◌, ◌<◌, Bool, true, false, ◌&&◌, leb, List, refl, ap, ◌∙◌, subst, arith, Option, Some, None, decimal}
+use Rattle.std.proofs.lemmas.Bool.{and_parts, leb-true}
+use Rattle.ballot_law.specs.Orders.{same_bytes}
+use Rattle.ballot_law.specs.Words.{some_if, then_some, number, number_within, canonical_within}
+use Rattle.ballot_law.proofs.WordLemmas.{same_bytes-refl, same_bytes-true, number_within-decimal}
+use Rattle.resp2.specs.Reading.{number_of}
+use Rattle.resp2.proofs.Numbers.{some_is, number_takes, number_again}
+
+pub then_some_is : {X Y : Type 0} (o : Option X) (f : X → Option Y) (y : Y) → then_some o f ≡ Some y → (x : X) × (o ≡ Some x) × (f x ≡ Some y)
+then_some_is (Some x) f y e = (x, refl, e)
+then_some_is None f y e = absurd cc
+
+pub some_if_is : {X : Type 0} (b : Bool) (x y : X) → some_if b x ≡ Some y → (b ≡ true) × (x ≡ y)
+some_if_is true x y e = (refl, some_is x y e)
+some_if_is false x y e = absurd cc
+
+-- what a word spells, and its bounds
+pub record Canonical (low high : ℕ) (word : List ℕ) (n : ℕ) : Type 0 where
+  pub spelled : word ≡ decimal n
+  pub above : low ≤ n
+  pub below : n ≤ high
+
+within_is : (low high : ℕ) (word : List ℕ) (n : ℕ) → number_within low high word ≡ Some n → (low ≤ n) × (n ≤ high)
+within_is low high word n e =
+    let found = then_some_is (number word) (λ m. some_if (leb low m && leb m high) m) n e in
+    let test = some_if_is (leb low found.0 && leb found.0 high) found.0 n found.2 in
+    let both = and_parts (leb low found.0) (leb found.0 high) test.0 in
+    let made : (low ≤ found.0) × (found.0 ≤ high) = (leb-true low found.0 both.0, leb-true found.0 high both.1) in
+    subst (λ (k : ℕ). (low ≤ k) × (k ≤ high)) test.1 made
+
+pub canonical_is : (low high : ℕ) (word : List ℕ) (n : ℕ) → canonical_within low high word ≡ Some n → Canonical low high word n
+canonical_is low high word n e =
+    let found = then_some_is (number_within low high word) (λ m. some_if (same_bytes word (decimal m)) m) n e in
+    let test = some_if_is (same_bytes word (decimal found.0)) found.0 n found.2 in
+    let bounds = within_is low high word found.0 found.1 in
+    let made : Canonical low high word found.0 = record { spelled = same_bytes-true word (decimal found.0) test.0; above = bounds.0; below = bounds.1 } in
+    subst (λ (k : ℕ). Canonical low high word k) test.1 made
+
+pub canonical_decimal : (low high n : ℕ) → n < 2 ^ 64 → low ≤ n → n ≤ high → canonical_within low high (decimal n) ≡ Some n
+canonical_decimal low high n small above below =
+    ap (λ (o : Option ℕ). then_some o (λ m. some_if (same_bytes (decimal n) (decimal m)) m)) (number_within-decimal low high n small above below)
+    ∙ ap (λ (b : Bool). some_if b n) (same_bytes-refl (decimal n))
+
+module _ (low high : ℕ) (word : List ℕ) where
+  pub canonical_within_bounds : (n : ℕ) → high < 2 ^ 64 - 1 → number_of word ≡ Some n → low ≤ n → n ≤ high → canonical_within low high word ≡ Some n
+  canonical_within_bounds n small read above below =
+      let spelled : word ≡ decimal n = number_takes word n (omega arith) read in
+      ap (canonical_within low high) spelled ∙ canonical_decimal low high n (omega arith) above below
+
+  -- no number is spelled where none is read that lies within the bounds
+  pub canonical_none : high < 2 ^ 64 - 1 → ((n : ℕ) → number_of word ≡ Some n → low ≤ n → n ≤ high → ⊥) → canonical_within low high word ≡ None
+  canonical_none small never = at (canonical_within low high word) refl
+    where
+      at : (o : Option ℕ) → canonical_within low high word ≡ o → o ≡ None
+      at None e = refl
+      at (Some n) e =
+          let c = canonical_is low high word n e in
+          let le : n ≤ high = c.below in
+          let read : number_of word ≡ Some n = ap number_of c.spelled ∙ number_again n (omega arith) in
+          absurd (never n read c.above le)

@@ -1,0 +1,14 @@
+-- A command with another number of words.
+use Rattle.std.proofs.Common.{◌≡◌, ◌≢◌, List, [], ◌∷◌, length, refl, Err}
+use Rattle.resp2.specs.declared.command.CommandFault.TheVariants.{WrongArguments}
+use Rattle.resp2.specs.declared.value.Value.{Value}
+use Rattle.resp2.specs.Frame.{frames_view}
+use Rattle.resp2.specs.Commands.{words, is_master_down_by_addr}
+
+pub wrong_number : (args : List Value) → length args ≢ 4 → is_master_down_by_addr (words (frames_view args)) ≡ Err WrongArguments
+wrong_number [] other = refl
+wrong_number (a ∷ []) other = refl
+wrong_number (a ∷ b ∷ []) other = refl
+wrong_number (a ∷ b ∷ c ∷ []) other = refl
+wrong_number (a ∷ b ∷ c ∷ d ∷ []) other = absurd (other refl)
+wrong_number (a ∷ b ∷ c ∷ d ∷ e ∷ rest) other = refl

@@ -1,0 +1,94 @@
+-- The commands of a Sentinel's port: which words are one, and the first fault of those that are none.
+use Rattle.std.specs.Prelude.{ℕ, ◌≤◌, Bool, true, false, ◌&&◌, List, [], ◌∷◌, Option, Some, None, Result, Ok, Err, bytes_eq, codes, decimal, if◌then◌else◌}
+use Rattle.ballot_law.specs.declared.addresses.Addr.{Addr}
+use Rattle.ballot_law.specs.declared.addresses.RunId.{RunId}
+use Rattle.ballot_law.specs.declared.cards.TheConstants.{MAX_EPOCH}
+use Rattle.ballot_law.specs.declared.commands.Command.{Command}
+use Rattle.ballot_law.specs.declared.commands.Command.TheVariants.{IsMasterDownByAddr}
+use Rattle.ballot_law.specs.Hellos.{IsRunId}
+use Rattle.ballot_law.specs.Words.{then_some, canonical_within, canonical_address, run_id, lower, ip_text, id_text}
+use Rattle.resp2.specs.declared.command.CommandFault.{CommandFault}
+use Rattle.resp2.specs.declared.command.CommandFault.TheVariants.{NotACommand, UnknownCommand, WrongArguments, BadAddress, BadEpoch, BadRunId}
+use Rattle.resp2.specs.Frame.{Frame, FrameList, bulk, items, no_frames, frame}
+
+-- what was read, or this fault
+abbrev pub wanted : {X Y : Type 0} → CommandFault → Option X → (X → Result Y CommandFault) → Result Y CommandFault
+wanted refusal None f = Err refusal
+wanted refusal (Some x) f = f x
+
+-- ---- words
+
+abbrev pub is_bulk : Frame → Bool
+is_bulk (bulk bytes) = true
+is_bulk _ = false
+
+abbrev pub are_bulk : FrameList → Bool
+are_bulk no_frames = true
+are_bulk (frame f fs) = is_bulk f && are_bulk fs
+
+-- the bytes of a bulk string
+abbrev pub word : Frame → List ℕ
+word (bulk bytes) = bytes
+word _ = []
+
+abbrev pub words : FrameList → List (List ℕ)
+words no_frames = []
+words (frame f fs) = word f ∷ words fs
+
+-- the word is this name, which is written in lower case
+abbrev pub is_called : List ℕ → List ℕ → Bool
+is_called name word = bytes_eq (lower word) name
+
+-- ---- commands
+
+-- the run id, or none for `*`
+abbrev pub candidate : List ℕ → Option (Option RunId)
+candidate word = if bytes_eq word (codes "*") then Some None else then_some (run_id word) (λ id. Some (Some id))
+
+-- whether a master is down, and a vote unless the run id is `*`: ip, port, epoch, run id
+abbrev pub is_master_down_by_addr : List (List ℕ) → Result Command CommandFault
+is_master_down_by_addr (ip ∷ port ∷ epoch ∷ id ∷ []) =
+    wanted BadAddress (canonical_address ip port) (λ addr.
+    wanted BadEpoch (canonical_within 0 MAX_EPOCH epoch) (λ epoch.
+    wanted BadRunId (candidate id) (λ candidate.
+    Ok (IsMasterDownByAddr addr epoch candidate))))
+is_master_down_by_addr _ = Err WrongArguments
+
+-- what stands behind SENTINEL
+abbrev pub sentinel_command : List (List ℕ) → Result Command CommandFault
+sentinel_command [] = Err UnknownCommand
+sentinel_command (name ∷ args) = if is_called (codes "is-master-down-by-addr") name then is_master_down_by_addr args else Err UnknownCommand
+
+abbrev pub command_of_words : List (List ℕ) → Result Command CommandFault
+command_of_words [] = Err NotACommand
+command_of_words (name ∷ args) = if is_called (codes "sentinel") name then sentinel_command args else Err UnknownCommand
+
+-- a command is a nonempty array of bulk strings
+abbrev pub command_of : Frame → Result Command CommandFault
+command_of (items fs) = if are_bulk fs then command_of_words (words fs) else Err NotACommand
+command_of _ = Err NotACommand
+
+-- ---- the spelling of an ask
+
+abbrev pub bulks : List (List ℕ) → FrameList
+bulks [] = no_frames
+bulks (word ∷ words) = frame (bulk word) (bulks words)
+
+abbrev pub candidate_text : Option RunId → List ℕ
+candidate_text None = codes "*"
+candidate_text (Some id) = id_text id
+
+-- the frame by which a Sentinel asks another one whether a master is down, and for its vote where a candidate is given
+abbrev pub ask_frame : Addr → ℕ → Option RunId → Frame
+ask_frame addr epoch candidate =
+    items (bulks (codes "SENTINEL" ∷ codes "IS-MASTER-DOWN-BY-ADDR" ∷ ip_text addr.ip ∷ decimal addr.port ∷ decimal epoch ∷ candidate_text candidate ∷ []))
+
+-- a run id of 40 digits, where there is one
+abbrev pub IsCandidate : Option RunId → Type 0
+IsCandidate None = Unit {0}
+IsCandidate (Some id) = IsRunId id
+
+-- the epoch of a command is in range
+abbrev pub IsWithin : Command → Type 0
+IsWithin (IsMasterDownByAddr addr epoch candidate) = epoch ≤ MAX_EPOCH
+IsWithin _ = Unit {0}

@@ -1,0 +1,5 @@
+pub mod Frame
+pub mod Reading
+pub mod Stream
+pub mod Writing
+pub mod Commands

@@ -1,0 +1,155 @@
+//! The commands of a Sentinel's port, as values.
+ghost use Rattle.std.specs.Prelude.{◌≡◌, IfOk};
+ghost use Rattle.resp2.specs.Commands as commands;
+ghost use Rattle.resp2.specs.Frame as frames;
+ghost use Rattle.resp2.specs.Frame.{view, frames_view};
+
+use crate::value::Value;
+use ballot_law::{Command, MAX_EPOCH, RunId};
+use thiserror::Error;
+use words::{canonical_address_of, canonical_number_of, run_id_of};
+
+/// Why a value is no command of a Sentinel's port. The text of each is the variant's name.
+///
+/// Of several faults the first of this list is told.
+#[derive(Clone, Copy, Debug, PartialEq, Eq, Error)]
+pub enum CommandFault {
+    /// The value isn't an array of one or more bulk strings.
+    #[error("NotACommand")]
+    NotACommand,
+    /// No command has this name, or `SENTINEL` no subcommand of this name.
+    #[error("UnknownCommand")]
+    UnknownCommand,
+    /// The command has another number of words.
+    #[error("WrongArguments")]
+    WrongArguments,
+    /// The ip isn't four decimal parts from 0 to 255, or the port isn't from 1 to 65,535; none of
+    /// these has leading zeros.
+    #[error("BadAddress")]
+    BadAddress,
+    /// The epoch isn't a decimal number without leading zeros up to 281,474,976,710,655.
+    #[error("BadEpoch")]
+    BadEpoch,
+    /// The run id is neither 40 lower case hex digits nor `*`.
+    #[error("BadRunId")]
+    BadRunId,
+}
+
+/// The bytes of a bulk string, and none of any other value.
+fn word_of(value: &Value) -> &[u8]
+    ensures { result.now ≡ commands.word (view value.now) }
+{
+    match value {
+        Value::Bulk(bytes) => bytes.as_slice(),
+        Value::Simple(_) => &[],
+        Value::Fault(_) => &[],
+        Value::Int(_) => &[],
+        Value::NullBulk => &[],
+        Value::Items(_) => &[],
+        Value::NullItems => &[],
+    }
+}
+
+fn is_bulk(value: &Value) -> bool
+    ensures { result ≡ commands.is_bulk (view value.now) }
+{
+    match value {
+        Value::Bulk(_) => true,
+        Value::Simple(_) => false,
+        Value::Fault(_) => false,
+        Value::Int(_) => false,
+        Value::NullBulk => false,
+        Value::Items(_) => false,
+        Value::NullItems => false,
+    }
+}
+
+fn are_bulk(items: &[Value]) -> bool
+    ensures { result ≡ commands.are_bulk (frames_view items.now) }
+{
+    for item in items {
+        if !is_bulk(item) {
+            return false;
+        }
+    }
+    true
+}
+
+/// The run id that the word is, or none for `*`.
+fn candidate_of(word: &[u8]) -> Option<Option<RunId>>
+    ensures { result ≡ commands.candidate word.now }
+{
+    if word == b"*".as_slice() {
+        return Some(None);
+    }
+    run_id_of(word).map(Some)
+}
+
+/// The command of `SENTINEL IS-MASTER-DOWN-BY-ADDR` and these words.
+fn is_master_down_by_addr(args: &[Value]) -> Result<Command, CommandFault>
+    ensures within { IfOk result commands.IsWithin }
+    ensures command { result ≡ commands.is_master_down_by_addr (commands.words (frames_view args.now)) }
+{
+    let [ip, port, epoch, id] = args else {
+        return Err(CommandFault::WrongArguments);
+    };
+    let addr = canonical_address_of(word_of(ip), word_of(port)).ok_or(CommandFault::BadAddress)?;
+    let epoch = canonical_number_of(word_of(epoch), 0, MAX_EPOCH).ok_or(CommandFault::BadEpoch)?;
+    let candidate = candidate_of(word_of(id)).ok_or(CommandFault::BadRunId)?;
+    Ok(Command::IsMasterDownByAddr {
+        addr,
+        epoch,
+        candidate,
+    })
+}
+
+/// The command of `SENTINEL` and these words.
+fn sentinel_command(words: &[Value]) -> Result<Command, CommandFault>
+    ensures within { IfOk result commands.IsWithin }
+    ensures command { result ≡ commands.sentinel_command (commands.words (frames_view words.now)) }
+{
+    let Some((name, args)) = words.split_first() else {
+        return Err(CommandFault::UnknownCommand);
+    };
+    if word_of(name).eq_ignore_ascii_case(b"is-master-down-by-addr") {
+        is_master_down_by_addr(args)
+    } else {
+        Err(CommandFault::UnknownCommand)
+    }
+}
+
+fn command_of_items(words: &[Value]) -> Result<Command, CommandFault>
+    ensures within { IfOk result commands.IsWithin }
+    ensures command { result ≡ commands.command_of (frames.items (frames_view words.now)) }
+{
+    if !are_bulk(words) {
+        return Err(CommandFault::NotACommand);
+    }
+    let Some((name, args)) = words.split_first() else {
+        return Err(CommandFault::NotACommand);
+    };
+    if word_of(name).eq_ignore_ascii_case(b"sentinel") {
+        sentinel_command(args)
+    } else {
+        Err(CommandFault::UnknownCommand)
+    }
+}
+
+/// The command that a value spells, or the first fault that fits. No memory is taken.
+///
+/// Names of commands and subcommands ignore ASCII case, as in Redis. For now the one command is
+/// `SENTINEL IS-MASTER-DOWN-BY-ADDR <ip> <port> <epoch> <runid>`; every other is `UnknownCommand`.
+pub fn command_of(value: &Value) -> Result<Command, CommandFault>
+    ensures command { result ≡ commands.command_of (view value.now) }
+    ensures within { IfOk result commands.IsWithin }
+{
+    match value {
+        Value::Items(items) => command_of_items(items),
+        Value::Simple(_) => Err(CommandFault::NotACommand),
+        Value::Fault(_) => Err(CommandFault::NotACommand),
+        Value::Int(_) => Err(CommandFault::NotACommand),
+        Value::Bulk(_) => Err(CommandFault::NotACommand),
+        Value::NullBulk => Err(CommandFault::NotACommand),
+        Value::NullItems => Err(CommandFault::NotACommand),
+    }
+}

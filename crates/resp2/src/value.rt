@@ -1,0 +1,24 @@
+//! A value of the Redis serialization protocol, version 2.
+use crate::text::ByteText;
+
+/// A value of the Redis serialization protocol, version 2 (RESP2).
+///
+/// In a stream a value has at most 65,536 bytes, nests at most 8 deep (a value that isn't an array
+/// is 1 deep) and has at most 1,024 items in each array. A value in memory has no such limits.
+#[derive(Debug, Drop, PartialEq)]
+pub enum Value {
+    /// A simple string, `+` and a line without CR and LF: the answer to a command that went well.
+    Simple(ByteText),
+    /// An error, `-` and a line without CR and LF, as `ERR unknown command`.
+    Fault(ByteText),
+    /// An integer, `:`.
+    Int(i64),
+    /// A bulk string, `$`: any bytes.
+    Bulk(ByteText),
+    /// The null bulk string, `$-1`.
+    NullBulk,
+    /// An array, `*`.
+    Items(Vec<Value>),
+    /// The null array, `*-1`.
+    NullItems,
+}

@@ -1,0 +1,19 @@
+//! The running program without its words: it serves streams of commands.
+//!
+//! Threads, sockets and files stand in this crate alone; the rules stand in the crates below.
+#![tactic(auto)]
+
+mod desk;
+mod faults;
+mod replies;
+mod serving;
+mod streams;
+
+pub use desk::VoteDesk;
+pub use faults::ServeFault;
+pub use replies::Reply;
+pub use serving::{READS_MAX, Served, serve_votes};
+pub use streams::write_whole;
+
+#[cfg(test)]
+mod tests;

@@ -1,0 +1,219 @@
+//! Streams of vote requests with the bytes of their answers.
+
+use super::*;
+use resp2::FrameFault;
+use std::alloc::Global;
+use std::io::{self, Cursor, ErrorKind, Read, Write};
+use std::test::Fail;
+
+/// Requests for the vote of epochs 1, 1, 2 and 1, by four candidates.
+const FOUR_ASKS: &[u8] =
+    b"*6\r\n$8\r\nSENTINEL\r\n$22\r\nIS-MASTER-DOWN-BY-ADDR\r\n$9\r\n127.0.0.1\r\n$4\r\n6379\r\n$1\r\n1\r\n$40\r\naaaaaaaaaaaaaaaaaaaaaaaaaaaaaaaaaaaaaaaa\r\n\
+*6\r\n$8\r\nSENTINEL\r\n$22\r\nIS-MASTER-DOWN-BY-ADDR\r\n$9\r\n127.0.0.1\r\n$4\r\n6379\r\n$1\r\n1\r\n$40\r\nbbbbbbbbbbbbbbbbbbbbbbbbbbbbbbbbbbbbbbbb\r\n\
+*6\r\n$8\r\nSENTINEL\r\n$22\r\nIS-MASTER-DOWN-BY-ADDR\r\n$9\r\n127.0.0.1\r\n$4\r\n6379\r\n$1\r\n2\r\n$40\r\nbbbbbbbbbbbbbbbbbbbbbbbbbbbbbbbbbbbbbbbb\r\n\
+*6\r\n$8\r\nSENTINEL\r\n$22\r\nIS-MASTER-DOWN-BY-ADDR\r\n$9\r\n127.0.0.1\r\n$4\r\n6379\r\n$1\r\n1\r\n$40\r\ncccccccccccccccccccccccccccccccccccccccc\r\n";
+
+const FOUR_ANSWERS: &[u8] = b"*3\r\n:0\r\n$40\r\naaaaaaaaaaaaaaaaaaaaaaaaaaaaaaaaaaaaaaaa\r\n:1\r\n\
+*3\r\n:0\r\n$40\r\naaaaaaaaaaaaaaaaaaaaaaaaaaaaaaaaaaaaaaaa\r\n:1\r\n\
+*3\r\n:0\r\n$40\r\nbbbbbbbbbbbbbbbbbbbbbbbbbbbbbbbbbbbbbbbb\r\n:2\r\n\
+*3\r\n:0\r\n$40\r\nbbbbbbbbbbbbbbbbbbbbbbbbbbbbbbbbbbbbbbbb\r\n:2\r\n";
+
+/// How many bytes one answer of `FOUR_ANSWERS` has.
+const ANSWER_LEN: usize = 59;
+
+/// A reader of two pieces.
+#[derive(Drop)]
+struct TwoPieces<'a> {
+    front: &'a [u8],
+    back: &'a [u8],
+}
+
+impl Read for TwoPieces<'_> {
+    fn read(&mut self, buf: &mut [u8]) -> io::Result<usize> {
+        if self.front.is_empty() {
+            return self.back.read(buf);
+        }
+        self.front.read(buf)
+    }
+}
+
+/// A reader that gives one byte a time.
+#[derive(Drop)]
+struct SingleBytes<'a> {
+    bytes: &'a [u8],
+}
+
+impl Read for SingleBytes<'_> {
+    fn read(&mut self, buf: &mut [u8]) -> io::Result<usize> {
+        if buf.is_empty() {
+            return Ok(0);
+        }
+        self.bytes.read(&mut buf[..1])
+    }
+}
+
+/// A reader that fails at its end.
+#[derive(Drop)]
+struct BrokenReader<'a> {
+    bytes: &'a [u8],
+}
+
+impl Read for BrokenReader<'_> {
+    fn read(&mut self, buf: &mut [u8]) -> io::Result<usize> {
+        if self.bytes.is_empty() {
+            return Err(io::Error::from(ErrorKind::ConnectionReset));
+        }
+        self.bytes.read(buf)
+    }
+}
+
+/// A writer that has room for so many bytes, and fails when it is full.
+#[derive(Drop)]
+struct FullWriter {
+    bytes: Vec<u8>,
+    room: usize,
+}
+
+impl Write for FullWriter {
+    fn write(&mut self, buf: &[u8]) -> io::Result<usize> {
+        let taken = buf.len().min(self.room);
+        if taken == 0 {
+            return Err(io::Error::from(ErrorKind::StorageFull));
+        }
+        self.bytes.extend_from_slice(&buf[..taken])?;
+        self.room -= taken;
+        Ok(taken)
+    }
+
+    fn flush(&mut self) -> io::Result<()> {
+        Ok(())
+    }
+}
+
+/// What is written for these bytes.
+fn served(alloc: Global, bytes: &[u8]) -> (Result<Served, ServeFault>, Vec<u8>) {
+    let mut written = Vec::new(alloc);
+    let result = serve_votes(alloc, &mut Cursor::new(bytes), &mut written);
+    (result, written)
+}
+
+#[test]
+fn an_epoch_has_one_vote(rt: HostRuntime) -> Result<(), Fail> {
+    let (result, written) = served(rt.alloc(), FOUR_ASKS);
+    assert_eq!(rt; result, Ok(Served { answers: 4 }));
+    assert_eq!(rt; written.as_slice(), FOUR_ANSWERS);
+    Ok(())
+}
+
+#[test]
+fn a_star_asks_for_no_vote(rt: HostRuntime) -> Result<(), Fail> {
+    let asks =
+        b"*6\r\n$8\r\nSENTINEL\r\n$22\r\nIS-MASTER-DOWN-BY-ADDR\r\n$9\r\n127.0.0.1\r\n$4\r\n6379\r\n$1\r\n9\r\n$1\r\n*\r\n\
+*6\r\n$8\r\nSENTINEL\r\n$22\r\nIS-MASTER-DOWN-BY-ADDR\r\n$9\r\n127.0.0.1\r\n$4\r\n6379\r\n$1\r\n1\r\n$40\r\naaaaaaaaaaaaaaaaaaaaaaaaaaaaaaaaaaaaaaaa\r\n";
+    let (result, written) = served(rt.alloc(), asks);
+    assert_eq!(rt; result, Ok(Served { answers: 2 }));
+    assert_eq!(rt;
+        written.as_slice(),
+        b"*3\r\n:0\r\n$1\r\n*\r\n:0\r\n*3\r\n:0\r\n$40\r\naaaaaaaaaaaaaaaaaaaaaaaaaaaaaaaaaaaaaaaa\r\n:1\r\n".as_slice()
+    );
+    Ok(())
+}
+
+#[test]
+fn another_address_is_no_master(rt: HostRuntime) -> Result<(), Fail> {
+    let ask =
+        b"*6\r\n$8\r\nSENTINEL\r\n$22\r\nIS-MASTER-DOWN-BY-ADDR\r\n$9\r\n127.0.0.1\r\n$4\r\n6399\r\n$1\r\n1\r\n$40\r\naaaaaaaaaaaaaaaaaaaaaaaaaaaaaaaaaaaaaaaa\r\n";
+    let (result, written) = served(rt.alloc(), ask);
+    assert_eq!(rt; result, Ok(Served { answers: 1 }));
+    assert_eq!(rt;
+        written.as_slice(),
+        b"*3\r\n:0\r\n$1\r\n*\r\n:0\r\n".as_slice()
+    );
+    Ok(())
+}
+
+#[test]
+fn cuts_do_not_matter(rt: HostRuntime) -> Result<(), Fail> {
+    for place in 0..FOUR_ASKS.len() {
+        let (front, back) = FOUR_ASKS.split_at(place);
+        let mut written = Vec::new(rt.alloc());
+        let result = serve_votes(rt.alloc(), &mut TwoPieces { front, back }, &mut written);
+        assert_eq!(rt; result, Ok(Served { answers: 4 }), "cut at {place}");
+        assert_eq!(rt; written.as_slice(), FOUR_ANSWERS, "cut at {place}");
+    }
+    let mut written = Vec::new(rt.alloc());
+    let result = serve_votes(
+        rt.alloc(),
+        &mut SingleBytes { bytes: FOUR_ASKS },
+        &mut written,
+    );
+    assert_eq!(rt; result, Ok(Served { answers: 4 }));
+    assert_eq!(rt; written.as_slice(), FOUR_ANSWERS);
+    Ok(())
+}
+
+#[test]
+fn a_frame_cut_off_gets_no_answer(rt: HostRuntime) -> Result<(), Fail> {
+    let (result, written) = served(rt.alloc(), &FOUR_ASKS[..FOUR_ASKS.len() - 1]);
+    assert_eq!(rt; result, Ok(Served { answers: 3 }));
+    assert_eq!(rt; written.as_slice(), &FOUR_ANSWERS[..3 * ANSWER_LEN]);
+    Ok(())
+}
+
+#[test]
+fn refused_commands_get_their_lines(rt: HostRuntime) -> Result<(), Fail> {
+    let asks =
+        b"+PING\r\n*1\r\n$4\r\nPING\r\n*3\r\n$8\r\nsentinel\r\n$22\r\nis-master-down-by-addr\r\n$1\r\nx\r\n\
+*6\r\n$8\r\nSENTINEL\r\n$22\r\nIS-MASTER-DOWN-BY-ADDR\r\n$9\r\nlocalhost\r\n$4\r\n6379\r\n$1\r\nx\r\n$1\r\nx\r\n\
+*6\r\n$8\r\nSENTINEL\r\n$22\r\nIS-MASTER-DOWN-BY-ADDR\r\n$9\r\n127.0.0.1\r\n$4\r\n6379\r\n$15\r\n281474976710656\r\n$1\r\nx\r\n\
+*6\r\n$8\r\nSENTINEL\r\n$22\r\nIS-MASTER-DOWN-BY-ADDR\r\n$9\r\n127.0.0.1\r\n$4\r\n6379\r\n$1\r\n1\r\n$1\r\nx\r\n";
+    let (result, written) = served(rt.alloc(), asks);
+    assert_eq!(rt; result, Ok(Served { answers: 6 }));
+    assert_eq!(rt;
+        written.as_slice(),
+        b"-ERR not a command\r\n-ERR unknown command\r\n-ERR wrong number of arguments\r\n-ERR bad address\r\n-ERR bad epoch\r\n-ERR bad run id\r\n".as_slice()
+    );
+    Ok(())
+}
+
+#[test]
+fn nothing_follows_a_protocol_error(rt: HostRuntime) -> Result<(), Fail> {
+    let (result, written) = served(rt.alloc(), b"+PING\r\n!\r\n+PING\r\n");
+    assert_eq!(rt; result, Err(ServeFault::Frame(FrameFault::BadKind)));
+    assert_eq!(rt;
+        written.as_slice(),
+        b"-ERR not a command\r\n-ERR Protocol error\r\n".as_slice()
+    );
+    Ok(())
+}
+
+#[test]
+fn a_failed_read_leaves_the_answers_written(rt: HostRuntime) -> Result<(), Fail> {
+    let mut written = Vec::new(rt.alloc());
+    let result = serve_votes(
+        rt.alloc(),
+        &mut BrokenReader { bytes: FOUR_ASKS },
+        &mut written,
+    );
+    assert_eq!(rt; result, Err(ServeFault::Read));
+    assert_eq!(rt; written.as_slice(), FOUR_ANSWERS);
+    Ok(())
+}
+
+#[test]
+fn a_full_writer_holds_a_first_part(rt: HostRuntime) -> Result<(), Fail> {
+    for room in 0..FOUR_ANSWERS.len() {
+        let mut writer = FullWriter {
+            bytes: Vec::new(rt.alloc()),
+            room,
+        };
+        let result = serve_votes(rt.alloc(), &mut Cursor::new(FOUR_ASKS), &mut writer);
+        assert_eq!(rt; result, Err(ServeFault::Write), "room for {room}");
+        assert_eq!(rt;
+            writer.bytes.as_slice(),
+            &FOUR_ANSWERS[..room],
+            "room for {room}"
+        );
+    }
+    Ok(())
+}

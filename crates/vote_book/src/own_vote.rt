@@ -1,0 +1,118 @@
+//! The own vote for one master.
+
+ghost use Rattle.std.specs.Prelude.{◌≡◌, max, ◌+◌, ◌<◌, ◌≤◌, ◌⊎◌, Some, None, OnSome, IfSome, IfNone, IsSome, ◌↔◌};
+ghost use Rattle.ballot_law.specs.OwnVotes.{raised, asked};
+
+use ballot_law::{MAX_EPOCH, RunId};
+use std::marker::Model;
+
+/// A vote as an answer to a request shows it.
+#[derive(Clone, Copy, Debug, PartialEq, Eq)]
+pub struct VoteAnswer {
+    /// Whom the vote of this epoch went to: none where no vote was given since the start.
+    pub leader: Option<RunId>,
+    /// The epoch of the last vote, 0 where none was ever given.
+    pub epoch: u64,
+}
+
+/// The current epoch and the last vote for one master, as a Sentinel keeps them.
+///
+/// A Sentinel votes once in an epoch, for the first candidate that asks. So no two Sentinels can win one epoch, which is
+/// what makes a configuration epoch unique (documentation of Redis Sentinel, "Configuration epochs").
+#[derive(Drop)]
+pub struct VoteBook {
+    current: u64,
+    voted: u64,
+    leader: Option<RunId>,
+}
+
+impl Model for VoteBook {
+    ghost use Rattle.ballot_law.specs.OwnVotes.{Book};
+
+    ghost Value = { Book };
+
+    ghost view = { λ book. record { current = book.current; voted = book.voted; leader = book.leader } };
+}
+
+impl VoteBook {
+    /// The book of a Sentinel that was just started: the two epochs as its file holds them, and no candidate, since the
+    /// file holds none.
+    pub fn of(current: u64, voted: u64) -> VoteBook
+        ensures { result ≡ record { current = current; voted = voted; leader = None } }
+    {
+        VoteBook {
+            current,
+            voted,
+            leader: None,
+        }
+    }
+
+    /// The current epoch: the greatest that the Sentinel has seen.
+    pub fn current(&self) -> u64
+        ensures { result ≡ self.now.current }
+    {
+        self.current
+    }
+
+    /// The epoch of the last vote, 0 where none was ever given.
+    pub fn voted(&self) -> u64
+        ensures { result ≡ self.now.voted }
+    {
+        self.voted
+    }
+
+    /// The candidate of the last vote: none where no vote was given since the start.
+    pub fn leader(&self) -> Option<RunId>
+        ensures { result ≡ self.now.leader }
+    {
+        self.leader
+    }
+
+    /// Takes a candidate's request for the vote of an epoch, and answers the vote now kept.
+    ///
+    /// An epoch above the current one raises it. The candidate gets the vote where none was given in this epoch or a
+    /// later one and the epoch has not passed; else the vote stays as it was.
+    pub fn ask(&mut self, epoch: u64, candidate: RunId) -> VoteAnswer
+        ensures book { self.new ≡ asked self.old epoch candidate }
+        ensures answer { result ≡ record { leader = self.new.leader; epoch = self.new.voted } }
+        ensures current { self.new.current ≡ max self.old.current epoch }
+        ensures granted { self.old.voted < epoch → self.old.current ≤ epoch →
+            (self.new.voted ≡ epoch) × (self.new.leader ≡ Some candidate) }
+        ensures refused { (epoch ≤ self.old.voted) ⊎ (epoch < self.old.current) →
+            (self.new.voted ≡ self.old.voted) × (self.new.leader ≡ self.old.leader) }
+        ensures never_falls { self.old.voted ≤ self.new.voted }
+        ensures one_leader { self.new.voted ≡ self.old.voted → self.new.leader ≡ self.old.leader }
+    {
+        self.raise(epoch);
+        if self.voted < epoch && self.current <= epoch {
+            self.leader = Some(candidate);
+            self.voted = epoch;
+        }
+        VoteAnswer {
+            leader: self.leader,
+            epoch: self.voted,
+        }
+    }
+
+    /// Makes the current epoch at least this one; the vote stays.
+    pub fn raise(&mut self, epoch: u64)
+        ensures { self.new ≡ raised self.old epoch }
+    {
+        self.current = self.current.max(epoch);
+    }
+
+    /// Opens the epoch of a new campaign: raises the current epoch by one and gives it. None, with nothing changed, at
+    /// the greatest epoch.
+    pub fn open_campaign(&mut self) -> Option<u64>
+        ensures some { IsSome result ↔ (self.old.current < MAX_EPOCH) }
+        ensures epoch { IfSome result (λ epoch. epoch ≡ self.old.current + 1) }
+        ensures opened { OnSome result (self.new ≡ record self.old { current = self.old.current + 1 }) }
+        ensures none { IfNone result (self.new ≡ self.old) }
+    {
+        if self.current >= MAX_EPOCH {
+            return None;
+        }
+        self.current += 1;
+        Some(self.current)
+    }
+}
