@@ -7,8 +7,8 @@ use Rattle.ballot_law.specs.declared.hearings.HeardVote.{HeardVote}
 use Rattle.ballot_law.specs.Counts.{count_below}
 use Rattle.ballot_law.specs.Orders.{same_id}
 use Rattle.ballot_law.specs.OwnVotes.{Book}
-use Rattle.ballot_law.specs.Quorums.{AtLeast}
-use Rattle.ballot_law.specs.VotesHeard.{Hearing, greater, latest, is_for, is_leader, own_votes, count_in, IsElectedIn, HearsNone, HasVotedFor, hearing_of}
+use Rattle.ballot_law.specs.Rosters.{AtLeast}
+use Rattle.ballot_law.specs.VotesHeard.{Hearing, greater, latest, is_for, is_leader, IsElectedIn, HearsNone, HasVotedFor, hearing_of}
 
 -- Counts and numbers of different voters
 

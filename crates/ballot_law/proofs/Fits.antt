@@ -2,7 +2,7 @@
 use Rattle.std.proofs.Common.{◌≡◌, Bool, true, false, List, [], ◌∷◌, ◌++◌, ap, refl, ◌∙◌, Option, Some, None}
 use Rattle.ballot_law.specs.declared.rosters.RosterFault.{RosterFault}
 use Rattle.ballot_law.specs.Rosters.{Roster}
-use Rattle.ballot_law.specs.RosterFaults.{first_tests, last_tests, tests, fault_of}
+use Rattle.ballot_law.specs.RosterFaults.{first_tests, last_tests, fault_of}
 use Rattle.ballot_law.specs.RosterFaults.{first_that_fits}
 
 pub fits_now : {F : Type 0} (b : Bool) (fault : F) (rest : List (Bool × F)) → b ≡ true → first_that_fits ((b, fault) ∷ rest) ≡ Some fault

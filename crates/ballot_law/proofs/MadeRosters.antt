@@ -1,7 +1,7 @@
 -- Lists in order of members of which no fault fits are a roster.
-use Rattle.std.proofs.Common.{◌≡◌, ◌≤◌, ℕ, List, length, map, Option, Some, None, ap, sym, ◌∙◌, subst, refl, arith}
+use Rattle.std.proofs.Common.{◌≡◌, ◌≤◌, List, length, map, None, ap, ◌∙◌, subst, arith}
 use Rattle.ballot_law.specs.declared.rosters.Member.{Member}
-use Rattle.ballot_law.specs.Rosters.{Roster, MasterPlan, nodes_in_order, ordered}
+use Rattle.ballot_law.specs.Rosters.{Roster, MasterPlan, nodes_in_order}
 use Rattle.ballot_law.specs.Orders.{id_before, bytes_before}
 use Rattle.ballot_law.specs.Ordered.{in_order}
 use Rattle.ballot_law.specs.RosterFaults.{fault_of, IsRoster}

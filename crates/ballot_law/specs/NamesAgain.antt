@@ -1,9 +1,9 @@
 -- The fields of a name can be had back from its bytes.
-use Rattle.std.specs.Prelude.{◌≡◌, ℕ, ◌-◌, ◌≤◌, length, take, ◌++◌}
+use Rattle.std.specs.Prelude.{◌≡◌, ◌≤◌, length, take}
 use Rattle.std.proofs.Common.{refl}
 use Rattle.std.proofs.lemmas.List.{length-take-le}
 use Rattle.ballot_law.specs.declared.names.Name.TheInside.{Inside}
-use Rattle.ballot_law.specs.Padding.{IsPaddedTo, zeros, padded-take}
+use Rattle.ballot_law.specs.Padding.{padded-take}
 use Rattle.ballot_law.specs.Names.{IsPaddedName, bytes_of, name_of}
 
 pub name_of_bytes_of : (name : Inside) → IsPaddedName name → name_of (bytes_of name) ≡ name

@@ -1,5 +1,5 @@
 -- Lists in order, each element once, and tests of repetition.
-use Rattle.std.specs.Prelude.{ℕ, Bool, true, false, ◌||◌, List, [], ◌∷◌}
+use Rattle.std.specs.Prelude.{Bool, true, false, ◌||◌, List, [], ◌∷◌}
 use Rattle.std.specs.List.{list_any}
 
 -- the list with x at its place, unless an element that ties with it stands there

@@ -1,11 +1,11 @@
 -- A roster as contracts see it: its order, and what is asked of it.
-use Rattle.std.specs.Prelude.{◌≡◌, ℕ, true, ◌+◌, ◌/◌, max, List, [], length, map, slice_index_or}
+use Rattle.std.specs.Prelude.{◌≡◌, ℕ, zero, suc, true, false, ◌+◌, ◌/◌, ◌<◌, ◌⊎◌, max, Option, Some, None, List, [], ◌∷◌, length, map, slice_index_or}
 use Rattle.std.specs.List.{list_any}
 use Rattle.ballot_law.specs.declared.addresses.Addr.{Addr}
 use Rattle.ballot_law.specs.declared.addresses.RunId.{RunId}
 use Rattle.ballot_law.specs.declared.rosters.Member.{Member}
 use Rattle.ballot_law.specs.Ordered.{in_order}
-use Rattle.ballot_law.specs.Orders.{same_addr, addr_before, id_before, bytes_before}
+use Rattle.ballot_law.specs.Orders.{same_addr, same_bytes, addr_before, id_before, bytes_before}
 
 pub record MasterPlan : Type 0 where
   pub name : List ℕ
@@ -55,3 +55,29 @@ need roster m = max (size roster / 2 + 1) (master_at roster m).quorum
 -- the list of this master has the address
 abbrev pub HasNode : Roster → ℕ → Addr → Type 0
 HasNode roster m addr = list_any (same_addr addr) (master_at roster m).nodes ≡ true
+
+-- the number of the first of these masters that has the name, where they are numbered from `first` on
+abbrev pub number_named : (first : ℕ) → List ℕ → List MasterPlan → Option ℕ
+number_named first name [] = None
+number_named first name (master ∷ masters) =
+    elim (same_bytes name master.name) [ true ↦ Some first | false ↦ number_named (first + 1) name masters ]
+
+-- the number of the master with this name
+abbrev pub master_named : Roster → List ℕ → Option ℕ
+master_named roster name = number_named 0 name roster.masters
+
+-- no two Sentinels have one run id
+abbrev pub HasDistinctIds : Roster → Type 0
+HasDistinctIds roster = (i j : ℕ) → i < size roster → j < size roster → id_of roster i ≡ id_of roster j → i ≡ j
+
+-- no two masters have one name
+abbrev pub HasDistinctNames : Roster → Type 0
+HasDistinctNames roster =
+    (m k : ℕ) → m < length roster.masters → k < length roster.masters → (master_at roster m).name ≡ (master_at roster k).name → m ≡ k
+
+-- at least so many of the first n numbers are in P
+abbrev pub AtLeast : (ℕ → Type 0) → (n count : ℕ) → Type 0
+AtLeast P zero zero = Unit {0}
+AtLeast P zero (suc count) = ⊥
+AtLeast P (suc n) zero = Unit {0}
+AtLeast P (suc n) (suc count) = (P n × AtLeast P n count) ⊎ AtLeast P n (suc count)

@@ -1,9 +1,9 @@
 -- The fields of a short text can be had back from its bytes.
-use Rattle.std.specs.Prelude.{◌≡◌, ℕ, ◌-◌, ◌≤◌, length, take, ◌++◌}
+use Rattle.std.specs.Prelude.{◌≡◌, ◌≤◌, length, take}
 use Rattle.std.proofs.Common.{refl}
 use Rattle.std.proofs.lemmas.List.{length-take-le}
 use Rattle.ballot_law.specs.declared.texts.ShortText.TheInside.{Inside}
-use Rattle.ballot_law.specs.Padding.{IsPaddedTo, zeros, padded-take}
+use Rattle.ballot_law.specs.Padding.{padded-take}
 use Rattle.ballot_law.specs.ShortTexts.{IsPadded, bytes_of, text_of}
 
 pub text_of_bytes_of : (text : Inside) → IsPadded text → text_of (bytes_of text) ≡ text

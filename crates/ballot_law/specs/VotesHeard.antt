@@ -6,7 +6,7 @@ use Rattle.ballot_law.specs.Orders.{same_id, id_before}
 use Rattle.ballot_law.specs.Counts.{count_below}
 use Rattle.ballot_law.specs.declared.hearings.HeardVote.{HeardVote}
 use Rattle.ballot_law.specs.OwnVotes.{Book}
-use Rattle.ballot_law.specs.Quorums.{AtLeast}
+use Rattle.ballot_law.specs.Rosters.{AtLeast}
 
 -- the Sentinel at a place voted so
 pub record Hearing : Type 0 where

@@ -11,9 +11,11 @@ mod clocks;
 mod commands;
 mod events;
 mod hearings;
+mod laws;
 mod messages;
 mod names;
 mod ordering;
+mod records;
 mod replies;
 mod rosters;
 mod steps;
@@ -25,8 +27,12 @@ pub use clocks::{LAST_READING, clock_of};
 pub use commands::Command;
 pub use events::{Event, Input};
 pub use hearings::{DownReport, HeardVote};
+pub use laws::{
+    law_failover_happens, law_never_falls, law_one_address, law_one_leader, law_runs_join,
+};
 pub use messages::{Body, Message, NodeName, Note, Output};
 pub use names::{NAME_MAX, Name};
+pub use records::{Elected, Said, Win};
 pub use replies::{DataRole, Hello, Info, PingReply, Role};
 pub use rosters::{Member, Roster, RosterFault, Watched};
 pub use steps::{KeptText, Step};

@@ -1,5 +1,7 @@
 //! What nodes say of themselves: hellos, and the answers to PING, INFO and ROLE.
 
+ghost use Rattle.std.specs.Prelude.{◌≡◌};
+
 use crate::addresses::{Addr, RunId};
 use crate::cards::Card;
 use crate::names::Name;
@@ -62,4 +64,27 @@ pub enum PingReply {
     Loading,
     MasterDown,
     Other,
+}
+
+impl PingReply {
+    ghost use Rattle.ballot_law.specs.PingReplies.{reply_of};
+
+    /// What a simple string or an error counts as: the string `PONG` exactly, an error by how it begins. No memory.
+    pub fn of(is_error: bool, text: &[u8]) -> PingReply
+        ensures { result ≡ reply_of is_error text.now }
+    {
+        if is_error {
+            if text.starts_with(b"LOADING") {
+                PingReply::Loading
+            } else if text.starts_with(b"MASTERDOWN") {
+                PingReply::MasterDown
+            } else {
+                PingReply::Other
+            }
+        } else if text == b"PONG".as_slice() {
+            PingReply::Pong
+        } else {
+            PingReply::Other
+        }
+    }
 }

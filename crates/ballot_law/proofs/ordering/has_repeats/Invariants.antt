@@ -1,4 +1,4 @@
-use Rattle.std.proofs.Common.{◌≡◌, ℕ, ◌+◌, ◌<◌, ◌||◌, length, drop, get_or}
+use Rattle.std.proofs.Common.{◌≡◌, ◌+◌, ◌||◌, drop, get_or}
 use Rattle.std.specs.List.{list_any}
 use Rattle.ballot_law.specs.Ordered.{repeats}
 use Rattle.ballot_law.proofs.ordering.has_repeats.Given as goal

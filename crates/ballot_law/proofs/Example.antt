@@ -1,0 +1,418 @@
+-- A run of three Sentinels: one asks for votes, another votes for it, it wins, chooses and enacts; a data node passes
+-- its hello on, and the third Sentinel takes the card, is stopped within the store, starts again and shows it.
+use Rattle.std.proofs.Common.{◌≡◌, ℕ, zero, suc, ◌+◌, ◌<◌, ◌≤◌, true, Some, List, [], ◌∷◌, ◌++◌, get_or, refl, sym, ap, subst, ◌∙◌, inl, inr, arith, lit<, lit≤}
+use Rattle.std.specs.Prelude.{All}
+use Rattle.std.proofs.lemmas.List.Elements.{All-nil, All-cons}
+use Rattle.ballot_law.specs.declared.addresses.Addr.{Addr}
+use Rattle.ballot_law.specs.declared.addresses.RunId.{RunId}
+use Rattle.ballot_law.specs.declared.cards.Card.{Card}
+use Rattle.ballot_law.specs.declared.cards.Kept.{Kept}
+use Rattle.ballot_law.specs.declared.cards.Shown.{Shown}
+use Rattle.ballot_law.specs.declared.events.Event.{Event}
+use Rattle.ballot_law.specs.declared.events.Event.TheVariants.{Tick}
+use Rattle.ballot_law.specs.declared.events.Input.{Input}
+use Rattle.ballot_law.specs.declared.messages.Body.{Body}
+use Rattle.ballot_law.specs.declared.messages.Body.TheVariants.{Ask, Answer, Publish, HelloText, Done}
+use Rattle.ballot_law.specs.declared.messages.Message.{Message}
+use Rattle.ballot_law.specs.declared.messages.NodeName.{NodeName}
+use Rattle.ballot_law.specs.declared.messages.NodeName.TheVariants.{SentinelAt, StoreAt}
+use Rattle.ballot_law.specs.declared.messages.Output.{Output}
+use Rattle.ballot_law.specs.declared.messages.Output.TheVariants.{Send}
+use Rattle.ballot_law.specs.declared.replies.Hello.{Hello}
+use Rattle.ballot_law.specs.declared.replies.PingReply.TheVariants.{Pong}
+use Rattle.ballot_law.specs.declared.rosters.Member.{Member}
+use Rattle.ballot_law.specs.declared.steps.KeptText.TheVariants.{New}
+use Rattle.ballot_law.specs.declared.steps.Step.{Step}
+use Rattle.ballot_law.specs.declared.steps.Step.TheVariants.{Take, Deliver, Store, Release, Stop, Start, Answer as AnswerNow}
+use Rattle.ballot_law.specs.Rosters.{Roster, HasNode}
+use Rattle.ballot_law.specs.RosterFaults.{IsRoster}
+use Rattle.ballot_law.specs.Names.{IsNameByte}
+use Rattle.ballot_law.specs.Hellos.{IsHello, hello_text}
+use Rattle.ballot_law.specs.Messages.{Vote, sent, event_at, Delivers, passed_on, hello_handed}
+use Rattle.ballot_law.specs.Ballots.{Parts, Ballot, Raise, Open, Cast, Hear, Win_at, Choose, Enact, Adopt, ShowsCard, after, card_of, voted_of, candidate_of}
+use Rattle.ballot_law.specs.Worlds.{Ready, Pending, Stored, Sentinel, World, sentinel_at, with_sentinel, IsRight, IsRightOutput, Choice, IsChoice, taken, started, after_store, after_release, after_stop, after_answer, with_other, other_at, IsPassable, Run}
+use Rattle.ballot_law.specs.Law.{IsWellFormed, IsFreshOther, IsStart, FailoverHappens}
+
+abbrev addr : ℕ → Addr
+addr port = record { ip = 2130706433; port = port }
+
+abbrev id : ℕ → RunId
+id n = record { hi = 0; lo = n }
+
+abbrev plan : ℕ → Member
+plan n = record { id = id n; addr = addr (26379 + n) }
+
+abbrev roster : Roster
+roster =
+    record {
+      sentinels = plan 0 ∷ plan 1 ∷ plan 2 ∷ [];
+      masters = (record { name = 109 ∷ []; nodes = addr 6379 ∷ addr 6380 ∷ []; quorum = 2 }) ∷ [];
+    }
+
+abbrev file : Kept
+file = record { current = 0; masters = (record { card = record { epoch = 0; addr = addr 6379 }; voted = 0 }) ∷ [] }
+
+abbrev begin : World
+begin =
+    record {
+      sentinels = started roster file ∷ started roster file ∷ started roster file ∷ [];
+      stores = (record { state = Ready; held = [] }) ∷ [];
+      clients = [];
+      messages = [];
+      votes = [];
+      elected = [];
+      said = [];
+    }
+
+abbrev card : Card
+card = record { epoch = 1; addr = addr 6380 }
+
+abbrev hello : Hello
+hello = record { addr = addr 26379; id = id 0; current = 1; master = 109 ∷ []; card = card }
+
+-- the message of this number
+abbrev message_at : World → ℕ → Message
+message_at w k = get_or w.messages k (record { sender = StoreAt 0; target = StoreAt 0; body = Done })
+
+-- the parts after ballot steps of Sentinel i
+abbrev all_after : ℕ → List Ballot → Parts → Parts
+all_after i [] parts = parts
+all_after i (ballot ∷ ballots) parts = all_after i ballots (after i parts ballot)
+
+abbrev choose : World → ℕ → List Ballot → List Output → Choice
+choose w i ballots held =
+    record { ballots = ballots; parts = all_after i ballots (record (sentinel_at w i).parts { casts = []; wins = [] }); must_store = true; held = held }
+
+abbrev take_as : World → ℕ → Choice → World
+take_as w i choice = with_sentinel w i (taken (sentinel_at w i) choice)
+
+abbrev store_as : World → ℕ → World
+store_as w i = after_store w i (sentinel_at w i)
+
+abbrev release_as : World → ℕ → World
+release_as w i = after_release roster w i (sentinel_at w i)
+
+abbrev tick : Input
+tick = record { now = 0; event = Tick 0 0 }
+
+-- what the message becomes
+abbrev event_from : Message → Event
+event_from message = event_at message.target Pong [] message
+
+becomes : (message : Message) → Delivers message (event_from message)
+becomes message = record { reply = Pong; info = []; is_event = refl }
+
+abbrev message : (sender target : NodeName) → Body → Message
+message sender target body = record { sender = sender; target = target; body = body }
+
+abbrev asks : Message
+asks = message (SentinelAt 0) (SentinelAt 1) (Ask (addr 6379) 1 (Some (id 0)))
+
+abbrev grants : Message
+grants = message (SentinelAt 1) (SentinelAt 0) (Answer 0 (addr 6379) true (Some (id 0)) 1)
+
+abbrev publishes : Message
+publishes = message (SentinelAt 0) (StoreAt 0) (Publish hello)
+
+abbrev passes : Message
+passes = message (StoreAt 0) (SentinelAt 2) (HelloText hello)
+
+abbrev c1 : Choice
+c1 = choose begin 0 (Open 0 ∷ Cast 0 1 (id 0) ∷ []) (Send asks ∷ [])
+
+abbrev w1 : World
+w1 = take_as begin 0 c1
+
+abbrev w3 : World
+w3 = release_as (store_as w1 0) 0
+
+abbrev c4 : Choice
+c4 = choose w3 1 (Raise 1 ∷ Cast 0 1 (id 0) ∷ []) (Send grants ∷ [])
+
+abbrev w4 : World
+w4 = take_as w3 1 c4
+
+abbrev w6 : World
+w6 = release_as (store_as w4 1) 1
+
+abbrev c7 : Choice
+c7 = choose w6 0 (Hear 1 0 1 (id 0) ∷ Win_at 0 1 ∷ Choose 0 1 (addr 6380) ∷ Enact 0 1 (addr 6380) ∷ []) (Send publishes ∷ [])
+
+abbrev w7 : World
+w7 = take_as w6 0 c7
+
+abbrev w9 : World
+w9 = release_as (store_as w7 0) 0
+
+abbrev pass_as : World → World
+pass_as w = with_other w (StoreAt 0) (record { state = Pending; held = Send passes ∷ [] })
+
+abbrev pass_stored : World → World
+pass_stored w = with_other w (StoreAt 0) (record (other_at w (StoreAt 0)) { state = Stored })
+
+abbrev pass_released : World → World
+pass_released w =
+    record
+    (with_other w (StoreAt 0) (record { state = Ready; held = [] }))
+    { messages = w.messages ++ sent (other_at w (StoreAt 0)).held }
+
+abbrev w12 : World
+w12 = pass_released (pass_stored (pass_as w9))
+
+abbrev c13 : Choice
+c13 = choose w12 2 (Adopt 0 card ∷ []) []
+
+abbrev w13 : World
+w13 = take_as w12 2 c13
+
+abbrev stop_as : World → ℕ → World
+stop_as w i = after_stop w i (sentinel_at w i) (sentinel_at w i).state New
+
+abbrev start_as : World → ℕ → World
+start_as w i = with_sentinel w i (started roster (sentinel_at w i).file)
+
+abbrev w16 : World
+w16 = after_answer (start_as (stop_as w13 2) 2) 2 0 0
+
+abbrev steps : List Step
+steps =
+    Take (SentinelAt 0) tick
+    ∷ Store (SentinelAt 0)
+    ∷ Release (SentinelAt 0)
+    ∷ Deliver 0 0
+    ∷ Store (SentinelAt 1)
+    ∷ Release (SentinelAt 1)
+    ∷ Deliver 1 0
+    ∷ Store (SentinelAt 0)
+    ∷ Release (SentinelAt 0)
+    ∷ Deliver 2 0
+    ∷ Store (StoreAt 0)
+    ∷ Release (StoreAt 0)
+    ∷ Deliver 3 0
+    ∷ Stop (SentinelAt 2) New
+    ∷ Start (SentinelAt 2) 0
+    ∷ AnswerNow (SentinelAt 2) 0
+    ∷ []
+
+held_none : (i : ℕ) (parts : Parts) → All (IsRightOutput roster i parts) []
+held_none i parts = All-nil (IsRightOutput roster i parts)
+
+held_one : (i : ℕ) (parts : Parts) (message : Message) → IsRight roster i parts message → All (IsRightOutput roster i parts) (Send message ∷ [])
+held_one i parts message right = All-cons (IsRightOutput roster i parts) (Send message) [] right (All-nil (IsRightOutput roster i parts))
+
+abbrev epoch_at : Kept → ℕ
+epoch_at kept = (card_of kept 0).epoch
+
+abbrev IsCard : Parts → Shown → Type 0
+IsCard parts s = s.card ≡ card_of parts.kept s.master
+
+is_hello : IsHello hello
+is_hello =
+    record {
+      addr = record { ip = lit< tt; port_low = lit≤ tt; port_high = lit≤ tt };
+      id = record { hi = lit< tt; lo = lit< tt };
+      current = lit≤ tt;
+      master = (lit≤ tt, lit≤ tt, All-cons (λ b. IsNameByte b) 109 [] (inl (lit≤ tt, lit≤ tt)) (All-nil (λ b. IsNameByte b)));
+      card_addr = record { ip = lit< tt; port_low = lit≤ tt; port_high = lit≤ tt };
+      epoch = lit≤ tt;
+    }
+
+ok1 : IsChoice roster 0 (Tick 0 0) (sentinel_at begin 0) c1
+ok1 =
+    record {
+      moved = ((lit< tt, refl, lit< tt), ((lit< tt, refl, lit< tt), refl));
+      must_store = ((λ _. inr (λ e. let f : 1 ≡ 0 = ap (λ (k : Kept). k.current) e in omega arith)), (λ _. refl));
+      held = held_one 0 c1.parts asks (record { sender = refl; cards = All-nil (IsCard c1.parts); votes = λ v e. absurd (cc); hellos = λ it e. absurd (cc); no_hello_text = refl });
+    }
+
+ok4 : IsChoice roster 1 (event_from asks) (sentinel_at w3 1) c4
+ok4 =
+    record {
+      moved = (lit< tt, ((lit< tt, refl, lit< tt), refl));
+      must_store = ((λ _. inr (λ e. let f : 1 ≡ 0 = ap (λ (k : Kept). k.current) e in omega arith)), (λ _. refl));
+      held = held_one 1 c4.parts grants
+          (record {
+            sender = refl;
+            cards = All-nil (IsCard c4.parts);
+            votes = λ v e.
+                let it : Vote = record { voter = 1; master = 0; epoch = 1; candidate = id 0 } in
+                let same : it ≡ v = cc in
+                subst (λ (u : Vote). (u.epoch ≡ voted_of c4.parts.kept u.master) × (candidate_of c4.parts u.master ≡ Some u.candidate)) same (refl, refl);
+            hellos = λ it e. absurd (cc);
+            no_hello_text = refl;
+          });
+    }
+
+ok7 : IsChoice roster 0 (event_from grants) (sentinel_at w6 0) c7
+ok7 =
+    record {
+      moved = (
+        (lit< tt, refl),
+        (
+          (lit< tt, refl, inr (inl (inl (0, lit< tt, refl), inl (inr (refl, refl, refl), tt)))),
+          ((lit< tt, refl, refl, (λ e. let f : 6380 ≡ 6379 = ap (λ (a : Addr). a.port) e in omega arith)), ((lit< tt, refl), refl)),
+        ),
+      );
+      must_store = ((λ _. inr (λ e. let f : 1 ≡ 0 = ap epoch_at e in omega arith)), (λ _. refl));
+      held = held_one 0 c7.parts publishes
+          (record {
+            sender = refl;
+            cards = All-cons (IsCard c7.parts) (record { master = 0; card = card }) [] refl (All-nil (IsCard c7.parts));
+            votes = λ v e. absurd (cc);
+            hellos = λ it e. let same : hello ≡ it = cc in subst IsHello same is_hello;
+            no_hello_text = refl;
+          });
+    }
+
+shows : ShowsCard roster (event_from passes) 0 card
+shows =
+    record {
+      hello = hello;
+      text = hello_text hello;
+      read = refl;
+      spelled = record { is_hello = is_hello; spelled = refl };
+      names = refl;
+      shows = refl;
+    }
+
+ok13 : IsChoice roster 2 (event_from passes) (sentinel_at w12 2) c13
+ok13 =
+    record {
+      moved = ((lit< tt, shows, lit< tt, refl), refl);
+      must_store = ((λ _. inr (λ e. let f : 1 ≡ 0 = ap epoch_at e in omega arith)), (λ _. refl));
+      held = held_none 2 c13.parts;
+    }
+
+passed : (it : Hello) → passed_on passes.body ≡ Some it → hello_handed (event_from publishes) ≡ Some it
+passed it e = let same : hello ≡ it = cc in subst (λ (x : Hello). hello_handed (event_from publishes) ≡ Some x) same refl
+
+pass_ok : All (IsPassable (StoreAt 0) (event_from publishes)) (Send passes ∷ [])
+pass_ok =
+    All-cons (IsPassable (StoreAt 0) (event_from publishes)) (Send passes) []
+    (record { sender = refl; no_publish = refl; handed = passed })
+    (All-nil (IsPassable (StoreAt 0) (event_from publishes)))
+
+run : Run roster steps begin w16
+run = (
+  w1,
+  inl (((lit< tt, refl), tt), (c1, ok1, refl)),
+  (
+    store_as w1 0,
+    inl ((lit< tt, refl), refl),
+    (
+      w3,
+      inl ((lit< tt, refl), refl),
+      (
+        w4,
+        inl ((lit< tt, refl), (event_from asks, becomes asks, (c4, ok4, refl))),
+        (
+          store_as w4 1,
+          inl ((lit< tt, refl), refl),
+          (
+            w6,
+            inl ((lit< tt, refl), refl),
+            (
+              w7,
+              inl ((lit< tt, refl), (event_from grants, becomes grants, (c7, ok7, refl))),
+              (
+                store_as w7 0,
+                inl ((lit< tt, refl), refl),
+                (
+                  w9,
+                  inl ((lit< tt, refl), refl),
+                  (
+                    pass_as w9,
+                    inl ((lit< tt, refl), (event_from publishes, becomes publishes, (Send passes ∷ [], pass_ok, refl))),
+                    (
+                      pass_stored (pass_as w9),
+                      inl ((lit< tt, refl), refl),
+                      (
+                        w12,
+                        inl ((lit< tt, refl), refl),
+                        (
+                          w13,
+                          inl ((lit< tt, refl), (event_from passes, becomes passes, (c13, ok13, refl))),
+                          (
+                            stop_as w13 2,
+                            inl (lit< tt, refl),
+                            (
+                              start_as (stop_as w13 2) 2,
+                              inl ((lit< tt, refl), refl),
+                              (w16, inl ((lit< tt, lit< tt, (λ e. absurd (cc)), lit< tt), refl), refl),
+                            ),
+                          ),
+                        ),
+                      ),
+                    ),
+                  ),
+                ),
+              ),
+            ),
+          ),
+        ),
+      ),
+    ),
+  ),
+)
+
+starts : IsStart roster begin
+starts =
+    record {
+      count = refl;
+      fresh = λ i l. inl (node_is i l);
+      files = λ i l. subst (λ (s : Sentinel). IsWellFormed roster s.file) (sym (node_same i l)) formed;
+      same_cards = λ i j m k l. ap (λ (s : Sentinel). card_of s.file m) (node_same i k) ∙ sym (ap (λ (s : Sentinel). card_of s.file m) (node_same j l));
+      stores = All-cons IsFreshOther (record { state = Ready; held = [] }) [] (inl refl, refl) (All-nil IsFreshOther);
+      clients = All-nil IsFreshOther;
+      messages = refl;
+      votes = refl;
+      elected = refl;
+      said = refl;
+    }
+  where
+    node_same : (i : ℕ) → i < 3 → sentinel_at begin i ≡ started roster file
+    node_same zero l = refl
+    node_same (suc zero) l = refl
+    node_same (suc (suc zero)) l = refl
+    node_same (suc (suc (suc i))) l = absurd (omega arith)
+
+    node_is : (i : ℕ) → i < 3 → sentinel_at begin i ≡ started roster (sentinel_at begin i).file
+    node_is i l = node_same i l ∙ sym (ap (λ (s : Sentinel). started roster s.file) (node_same i l))
+
+    first_only : (P : ℕ → Type 0) → P 0 → (m : ℕ) → m < 1 → P m
+    first_only P p zero l = p
+    first_only P p (suc m) l = absurd (omega arith)
+
+    formed : IsWellFormed roster file
+    formed =
+        record {
+          masters = refl;
+          cards = first_only (λ m. (card_of file m).epoch ≤ file.current) (lit≤ tt);
+          votes = first_only (λ m. voted_of file m ≤ file.current) (lit≤ tt);
+          addresses = first_only (λ m. HasNode roster m (card_of file m).addr) refl;
+        }
+
+-- the members are in order, and no fault fits them
+is_roster : IsRoster roster
+is_roster =
+    record { few_sentinels = lit≤ tt; few_masters = lit≤ tt; made = ∣ record { given = roster; fits = refl; in_order = refl } ∣₁ }
+
+pub failover_happens : FailoverHappens
+failover_happens = (
+  roster,
+  begin,
+  w16,
+  steps,
+  0,
+  2,
+  1,
+  card,
+  is_roster,
+  starts,
+  run,
+  (0, lit< tt, refl),
+  (1, lit< tt, refl),
+  (λ e. let f : 2 ≡ 0 = e in omega arith),
+  refl,
+  (λ e. let f : 6380 ≡ 6379 = ap (λ (a : Addr). a.port) e in omega arith),
+)

@@ -1,0 +1,70 @@
+-- What a Sentinel's calls on the watch of one node tell of that node. The latest call stands first.
+use Rattle.std.specs.Prelude.{◌≡◌, ℕ, ◌+◌, min, Bool, nat_lt, Option, Some, None, option_map, unwrap_or, List, [], ◌∷◌, if◌then◌else◌}
+use Rattle.ballot_law.specs.declared.replies.PingReply.{PingReply}
+use Rattle.ballot_law.specs.declared.replies.DataRole.{DataRole}
+use Rattle.ballot_law.specs.declared.replies.DataRole.TheVariants.{Master, Replica}
+use Rattle.ballot_law.specs.PingReplies.{is_valid}
+use Rattle.ballot_law.specs.Clocks.{age}
+
+pub data WatchCall : Type 0 where
+  HeardReply : (at : ℕ) → (reply : PingReply) → WatchCall
+  ReportedRole : (at : ℕ) → (role : DataRole) → WatchCall
+  ChangedCard : (at : ℕ) → WatchCall
+
+-- the moment of the last valid reply
+abbrev pub last_reply : List WatchCall → Option ℕ
+last_reply [] = None
+last_reply (HeardReply at reply ∷ earlier) = if is_valid reply then Some at else last_reply earlier
+last_reply (ReportedRole at role ∷ earlier) = last_reply earlier
+last_reply (ChangedCard at ∷ earlier) = last_reply earlier
+
+-- silence counts from the last valid reply, before the first one from the opening of the watch
+abbrev pub silent_from : (opened : ℕ) → List WatchCall → ℕ
+silent_from opened calls = unwrap_or (last_reply calls) opened
+
+-- since when the node has reported itself a replica without a break; a change of its master's configuration starts that time anew
+abbrev pub replica_since : List WatchCall → Option ℕ
+replica_since [] = None
+replica_since (HeardReply at reply ∷ earlier) = replica_since earlier
+replica_since (ReportedRole at Master ∷ earlier) = None
+replica_since (ReportedRole at Replica ∷ earlier) = Some (unwrap_or (replica_since earlier) at)
+replica_since (ChangedCard at ∷ earlier) = option_map (λ _. at) (replica_since earlier)
+
+-- how much longer a master may report itself a replica than be silent, in milliseconds
+abbrev pub REPLICA_MS : ℕ
+REPLICA_MS = 20000
+
+-- the end of a time that began at a moment, where more than the time has passed
+abbrev pub passed_at : (began bound now : ℕ) → Option ℕ
+passed_at began bound now = if nat_lt bound (age began now) then Some (began + bound) else None
+
+abbrev pub passed_since : Option ℕ → (bound now : ℕ) → Option ℕ
+passed_since None bound now = None
+passed_since (Some began) bound now = passed_at began bound now
+
+-- the node has been silent for more than the setting allows
+abbrev pub silent_at : (opened : ℕ) → List WatchCall → (now after : ℕ) → Option ℕ
+silent_at opened calls now after = passed_at (silent_from opened calls) after now
+
+-- a node that is to be the master has reported itself a replica for too long
+abbrev pub demoted_at : List WatchCall → (now after : ℕ) → (as_master : Bool) → Option ℕ
+demoted_at calls now after as_master = if as_master then passed_since (replica_since calls) (after + REPLICA_MS) now else None
+
+abbrev pub earlier_of : Option ℕ → Option ℕ → Option ℕ
+earlier_of None b = b
+earlier_of (Some a) None = Some a
+earlier_of (Some a) (Some b) = Some (min a b)
+
+-- since when the node is subjectively down, by the cause that held earlier; none where it isn't
+abbrev pub down_since : (opened : ℕ) → List WatchCall → (now after : ℕ) → (as_master : Bool) → Option ℕ
+down_since opened calls now after as_master = earlier_of (silent_at opened calls now after) (demoted_at calls now after as_master)
+
+-- what a watch keeps of the calls
+pub record Watched : Type 0 where
+  pub silent_from : ℕ
+  pub replica_since : Option ℕ
+
+-- what is kept is what these calls, after an opening at this moment, tell
+pub record StandsForCalls (watched : Watched) (opened : ℕ) (calls : List WatchCall) : Type 0 where
+  pub silent_from : watched.silent_from ≡ silent_from opened calls
+  pub replica_since : watched.replica_since ≡ replica_since calls
