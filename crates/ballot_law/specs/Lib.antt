@@ -19,5 +19,6 @@ pub mod ShortTextsAgain
 pub mod Tilts
 pub mod VotesHeard
 pub mod Watches
+pub mod Wins
 pub mod Words
 pub mod Worlds

@@ -1,5 +1,6 @@
 //! The laws over every run of a group.
 
+ghost use Rattle.ballot_law.specs.Wins.{ElectedMayWin};
 ghost use Rattle.ballot_law.specs.Law.{OneLeader, OneAddress, NeverFalls, NeverFallsAlong, RunsJoin, StepsJoin, FailoverHappens};
 
 /// In every run at most one Sentinel is elected for a master in an epoch, whatever is lost, delayed, repeated, refused,
@@ -32,4 +33,9 @@ pub fn law_runs_join()
 /// another address, and another Sentinel then shows that address in the epoch of the election.
 pub fn law_failover_happens()
     ensures { FailoverHappens }
+{}
+
+/// A Sentinel that counts itself elected, by the votes that it heard and its own, meets the model's condition of a win.
+pub fn law_elected_may_win()
+    ensures { ElectedMayWin }
 {}

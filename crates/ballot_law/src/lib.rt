@@ -28,7 +28,8 @@ pub use commands::Command;
 pub use events::{Event, Input};
 pub use hearings::{DownReport, HeardVote};
 pub use laws::{
-    law_failover_happens, law_never_falls, law_one_address, law_one_leader, law_runs_join,
+    law_elected_may_win, law_failover_happens, law_never_falls, law_one_address, law_one_leader,
+    law_runs_join,
 };
 pub use messages::{Body, Message, NodeName, Note, Output};
 pub use names::{NAME_MAX, Name};
