@@ -1,0 +1,105 @@
+//! What a turn of a failover looks at, and what it answers.
+
+ghost use Rattle.std.specs.Prelude.{◌≡◌};
+ghost use Rattle.failover_states.specs.Elections.{vote_in, has_own_vote, is_elected};
+ghost use Rattle.failover_states.specs.Known.{known, is_down};
+
+use crate::states::Row;
+use ballot_law::{Addr, RunId};
+
+/// What a turn of a failover looks at. Epochs are at most `MAX_EPOCH`; places are those of the master's nodes in the
+/// roster, which are ordered by address.
+#[derive(Clone, Copy)]
+pub struct Facts<'a> {
+    /// The reading of the Sentinel's clock, in milliseconds.
+    pub now: u64,
+    /// The random number of the tick.
+    pub random: u64,
+    /// Whether the master is objectively down.
+    pub odown: bool,
+    /// The Sentinel's current epoch.
+    pub current: u64,
+    /// The epoch of its last vote for this master, 0 where there is none.
+    pub voted: u64,
+    /// The candidate of that vote, where it was given since the Sentinel was opened.
+    pub own: Option<RunId>,
+    /// The Sentinel's own run id.
+    pub me: RunId,
+    /// How many votes elect.
+    pub need: u32,
+    /// The candidate with most of the votes heard at the campaign's epoch, or the Sentinel itself.
+    pub pick: RunId,
+    /// How many of the votes heard at the campaign's epoch are for the Sentinel.
+    pub count: u32,
+    /// The best replica, by place and address; none where no replica can be promoted.
+    pub best: Option<(u16, Addr)>,
+    /// The place of the node that the configuration names as the master.
+    pub card_place: u16,
+    /// Whether each of the master's nodes is subjectively down, by place.
+    pub down: &'a [bool],
+    /// The setting `failover-timeout`, in milliseconds.
+    pub timeout: u64,
+    /// The setting `parallel-syncs`.
+    pub parallel_syncs: u64,
+}
+
+/// What a turn of a failover did.
+#[derive(Clone, Copy, Debug, PartialEq, Eq)]
+pub struct Act {
+    /// The last row that was taken; none where none fits.
+    pub row: Option<Row>,
+    /// The vote that the Sentinel gives in the campaign's epoch, where it gives one.
+    pub vote: Option<RunId>,
+}
+
+impl Act {
+    /// A row with no vote.
+    pub(crate) fn of(row: Row) -> Act
+        ensures { result ≡ record { row = Some row; vote = None } }
+    {
+        Act {
+            row: Some(row),
+            vote: None,
+        }
+    }
+}
+
+impl Facts<'_> {
+    /// The vote that the Sentinel can still give in the campaign's epoch.
+    pub(crate) fn vote_in(&self, epoch: u64) -> Option<RunId>
+        ensures { result ≡ vote_in epoch (known self.entry.now) }
+    {
+        if self.voted < epoch && self.current <= epoch {
+            Some(self.pick)
+        } else {
+            None
+        }
+    }
+
+    /// Whether the Sentinel votes for itself in the campaign's epoch.
+    fn has_own_vote(&self, epoch: u64) -> bool
+        ensures { result ≡ has_own_vote epoch (known self.entry.now) }
+    {
+        if let Some(candidate) = self.vote_in(epoch) {
+            return candidate.is_same(&self.me);
+        }
+        match self.own {
+            Some(candidate) => self.voted == epoch && candidate.is_same(&self.me),
+            None => false,
+        }
+    }
+
+    /// Whether the votes heard in the campaign's epoch elect the Sentinel, with its own one.
+    pub(crate) fn is_elected(&self, epoch: u64) -> bool
+        ensures { result ≡ is_elected epoch (known self.entry.now) }
+    {
+        self.need as u64 <= self.count as u64 + self.has_own_vote(epoch) as u64
+    }
+
+    /// Whether the node at a place is down.
+    pub(crate) fn is_down(&self, place: usize) -> bool
+        ensures { result ≡ is_down (known self.entry.now) place }
+    {
+        place < self.down.len() && self.down[place]
+    }
+}
