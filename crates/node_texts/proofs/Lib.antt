@@ -1,0 +1,13 @@
+pub mod CommaLemmas
+pub mod HelloAgain
+pub mod HelloBack
+pub mod InfoAgain
+pub mod InfoLines
+pub mod LabelLemmas
+pub mod LineLemmas
+pub mod NameLemmas
+pub mod NewestLemmas
+pub mod RoleAgain
+pub mod Utf8Lemmas
+pub mod WordsAgain
+pub mod WordsBack

@@ -1,0 +1,5 @@
+pub mod Faults
+pub mod Hellos
+pub mod Infos
+pub mod Lines
+pub mod Roles

@@ -1,0 +1,30 @@
+//! Decimal digits.
+
+ghost use Rattle.std.specs.Prelude.{◌≡◌};
+ghost use Rattle.node_texts.specs.Hellos.{are_digits, has_leading_zero, is_decimal};
+
+/// Whether these are one or more digits.
+pub(crate) fn are_digits(bytes: &[u8]) -> bool
+    ensures { result ≡ are_digits bytes.now }
+{
+    for byte in bytes {
+        if !byte.is_ascii_digit() {
+            return false;
+        }
+    }
+    !bytes.is_empty()
+}
+
+/// Whether a zero stands before other bytes.
+fn has_leading_zero(bytes: &[u8]) -> bool
+    ensures { result ≡ has_leading_zero bytes.now }
+{
+    bytes.len() > 1 && bytes[0] == b'0'
+}
+
+/// Whether these are the digits of a number, of any size, without leading zeros.
+pub(crate) fn is_decimal(bytes: &[u8]) -> bool
+    ensures { result ≡ is_decimal bytes.now }
+{
+    are_digits(bytes) && !has_leading_zero(bytes)
+}

@@ -1,0 +1,27 @@
+//! The texts in which the nodes of a Sentinel group speak of themselves: hellos, and the answers to INFO and ROLE.
+//!
+//! A hello is what a Sentinel publishes on the channel `__sentinel__:hello` of the nodes it watches. INFO and ROLE are
+//! commands of a data node; their answers are read here as far as a Sentinel needs them. Reading takes no memory.
+#![tactic(auto)]
+
+mod digits;
+mod drafts;
+mod encoding;
+mod faults;
+mod hello_fields;
+mod hellos;
+mod info_fields;
+mod infos;
+mod lines;
+mod roles;
+
+pub use ballot_law::{DataRole, Hello, Info, Role};
+pub use faults::TextFault;
+pub use hellos::{read_hello, write_hello};
+pub use infos::{read_info, write_info};
+pub use roles::{read_role, write_role};
+
+#[cfg(test)]
+mod server_texts;
+#[cfg(test)]
+mod tests;

@@ -1,0 +1,21 @@
+mod Rows
+pub mod SpacedWords
+pub mod Cuts
+pub mod RoomLemmas
+pub mod Fitting
+pub mod ReadSteps
+pub mod RosterAgain
+pub mod ListSteps
+pub mod FileWalks
+pub mod DirectiveSteps
+pub mod NameWords
+pub mod SetLemmas
+pub mod OrderLemmas
+pub mod StateLemmas
+pub mod FileLemmas
+pub mod LineLemmas
+pub mod SizeLemmas
+pub mod TextLemmas
+pub mod ReadAgain
+pub mod ValidLines
+pub mod ReadConf

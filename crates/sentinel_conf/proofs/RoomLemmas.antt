@@ -1,0 +1,155 @@
+-- Texts that are added to a text with bounded room.
+use Rattle.std.proofs.Common.{◌≡◌, ℕ, zero, suc, min, Bool, true, if◌then◌else◌, ◌⊎◌, inl, inr, ◌+◌, ◌-◌, ◌≤◌, ◌<◌, List, [], ◌∷◌, ◌++◌, length, take, drop, get_or, refl, ap, sym, ◌∙◌, arith, append_assoc, append-nil}
+use Rattle.std.proofs.lemmas.List.{take_all}
+use Rattle.std.proofs.Math.Seq.{take-append-add}
+use Rattle.std.proofs.lemmas.Bool.{cases_lt}
+use Rattle.std.specs.Prelude.{map, filter}
+use Rattle.std.specs.List.{flat_map, zip}
+use Rattle.sentinel_conf.specs.declared.lines.State.{State}
+use Rattle.sentinel_conf.specs.Lines.{spelled}
+use Rattle.sentinel_conf.specs.Rewritten.{ended, text_of}
+use Rattle.sentinel_conf.specs.Room.{ROOM, bounded}
+use Rattle.sentinel_conf.proofs.FileLemmas.{filter_yes}
+
+take_again : (n : ℕ) (xs ys : List ℕ) → take n (take n xs ++ ys) ≡ take n (xs ++ ys)
+take_again zero xs ys = refl
+take_again (suc n) [] ys = refl
+take_again (suc n) (x ∷ xs) ys = ap (λ t. x ∷ t) (take_again n xs ys)
+
+pub bounded-bounded : (xs ys : List ℕ) → bounded (bounded xs ++ ys) ≡ bounded (xs ++ ys)
+unfolding bounded
+bounded-bounded xs ys = take_again ROOM xs ys
+
+pub bounded_all : (xs : List ℕ) → length xs ≤ ROOM → bounded xs ≡ xs
+unfolding bounded
+bounded_all xs h = take_all ROOM xs h
+
+-- two texts, one after the other
+pub added_both : (old first second : List ℕ) → bounded (bounded (old ++ first) ++ second) ≡ bounded (old ++ (first ++ second))
+added_both old first second = bounded-bounded (old ++ first) second ∙ ap bounded (append_assoc old first second)
+
+take_min : (k : ℕ) (ys : List ℕ) → take (min (length ys) k) ys ≡ take k ys
+take_min k ys = by_order (cases_lt (length ys) k) where
+  by_order : (length ys < k) ⊎ (k ≤ length ys) → take (min (length ys) k) ys ≡ take k ys
+  by_order (inr h) = ap (λ n. take n ys) (let e : min (length ys) k ≡ k = omega arith in e)
+  by_order (inl h) =
+      ap (λ n. take n ys) (let e : min (length ys) k ≡ length ys = omega arith in e)
+      ∙ take_all (length ys) ys (omega arith)
+      ∙ sym (take_all k ys (omega arith))
+
+-- what there is room for
+pub added_first : (xs ys : List ℕ) → length xs ≤ ROOM → xs ++ take (min (length ys) (ROOM - length xs)) ys ≡ bounded (xs ++ ys)
+unfolding bounded
+added_first xs ys h =
+    let whole : length xs + (ROOM - length xs) ≡ ROOM = omega arith in
+    ap (λ t. xs ++ t) (take_min (ROOM - length xs) ys)
+    ∙ sym (take-append-add xs ys (ROOM - length xs))
+    ∙ ap (λ n. take n (xs ++ ys)) whole
+
+module _ (old first second : List ℕ) where
+  pub two_adds : (mid new : List ℕ) → mid ≡ bounded (old ++ first) → new ≡ bounded (mid ++ second) → new ≡ bounded (old ++ (first ++ second))
+  two_adds mid new e f = f ∙ ap (λ t. bounded (t ++ second)) e ∙ added_both old first second
+
+  pub three_adds : (third mid other new : List ℕ) → mid ≡ bounded (old ++ first) → other ≡ bounded (mid ++ second) → new ≡ bounded (other ++ third)
+    → new ≡ bounded (old ++ (first ++ (second ++ third)))
+  three_adds third mid other new e f g =
+      g
+      ∙ ap (λ t. bounded (t ++ third)) (two_adds mid other e f)
+      ∙ added_both old (first ++ second) third
+      ∙ ap (λ t. bounded (old ++ t)) (append_assoc first second third)
+
+-- one more word behind a node
+pub node_more : (name ip port rest : List ℕ) → (32 ∷ (name ++ 32 ∷ (ip ++ 32 ∷ port))) ++ rest ≡ 32 ∷ (name ++ 32 ∷ (ip ++ 32 ∷ (port ++ rest)))
+node_more name ip port rest =
+    ap (λ t. 32 ∷ t) (append_assoc name (32 ∷ (ip ++ 32 ∷ port)) rest)
+    ∙ ap (λ t. 32 ∷ (name ++ 32 ∷ t)) (append_assoc ip (32 ∷ port) rest)
+
+pub added_when : (xs ys fits : List ℕ) (k : ℕ) (ok : Bool) (new : List ℕ) → length xs ≤ ROOM → k ≡ min (length ys) (ROOM - length xs) → fits ≡ take k ys
+  → ok ≡ true → new ≡ (if ok then xs ++ fits else xs) → new ≡ bounded (xs ++ ys)
+added_when xs ys fits k ok new h e f g n =
+    n ∙ ap (λ t. if t then xs ++ fits else xs) g ∙ ap (λ t. xs ++ t) (f ∙ ap (λ m. take m ys) e) ∙ added_first xs ys h
+
+-- what is added, up to what there is room for
+pub bounded-again : (xs : List ℕ) → bounded (bounded xs) ≡ bounded xs
+bounded-again xs = ap bounded (sym (append-nil (bounded xs))) ∙ bounded-bounded xs [] ∙ ap bounded (append-nil xs)
+
+pub room_step : (out new piece rest : List ℕ) → new ≡ bounded (out ++ piece) → bounded (new ++ rest) ≡ bounded (out ++ (piece ++ rest))
+room_step out new piece rest e = ap (λ t. bounded (t ++ rest)) e ∙ added_both out piece rest
+
+pub room_join : (out mid new first second : List ℕ) → bounded mid ≡ bounded (out ++ first) → bounded new ≡ bounded (mid ++ second) → bounded new ≡ bounded (out ++ (first ++ second))
+room_join out mid new first second e f =
+    f ∙ sym (bounded-bounded mid second) ∙ ap (λ t. bounded (t ++ second)) e ∙ added_both out first second
+
+pub room_of : (out new piece : List ℕ) → new ≡ bounded (out ++ piece) → bounded new ≡ bounded (out ++ piece)
+room_of out new piece e = ap bounded e ∙ bounded-again (out ++ piece)
+
+head_and_rest : {X : Type 0} (d : X) (rest : List X) → 1 ≤ length rest → rest ≡ get_or rest 0 d ∷ take (length rest - 1) (drop 1 rest)
+head_and_rest d [] h = absurd (omega arith)
+head_and_rest d (x ∷ xs) h = ap (λ t. x ∷ t) (sym (take_all (length (x ∷ xs) - 1) xs (let k : length (x ∷ xs) ≡ suc (length xs) = refl in omega arith)))
+
+-- the line of one element more
+pub lines_more : {X : Type 0} (keep : X → Bool) (line : X → State) (start out new : List ℕ) (all rest : List X) (d : X) → 1 ≤ length rest → keep (get_or rest 0 d) ≡ true
+  → new ≡ bounded (out ++ ended (spelled (line (get_or rest 0 d))))
+  → bounded (start ++ text_of (map line (filter keep all))) ≡ bounded (out ++ text_of (map line (filter keep rest)))
+  → bounded (start ++ text_of (map line (filter keep all))) ≡ bounded (new ++ text_of (map line (filter keep (take (length rest - 1) (drop 1 rest)))))
+lines_more keep line start out new all rest d h k e i =
+    let x = get_or rest 0 d in
+    let more = take (length rest - 1) (drop 1 rest) in
+    i
+    ∙ ap (λ t. bounded (out ++ text_of (map line (filter keep t)))) (head_and_rest d rest h)
+    ∙ ap (λ t. bounded (out ++ text_of (map line t))) (filter_yes keep x more k)
+    ∙ sym (room_step out new (ended (spelled (line x))) (text_of (map line (filter keep more))) e)
+
+pub text_of-append : (xs ys : List State) → text_of (xs ++ ys) ≡ text_of xs ++ text_of ys
+text_of-append [] ys = refl
+text_of-append (x ∷ xs) ys = ap (λ t. ended (spelled x) ++ t) (text_of-append xs ys) ∙ sym (append_assoc (ended (spelled x)) (text_of xs) (text_of ys))
+
+pub kept_and_states : (texts : List (List ℕ)) (states : List State) → flat_map ended (texts ++ map spelled states) ≡ flat_map ended texts ++ text_of states
+kept_and_states [] states = refl
+kept_and_states (text ∷ texts) states =
+    ap (λ t. ended text ++ t) (kept_and_states texts states) ∙ sym (append_assoc (ended text) (flat_map ended texts) (text_of states))
+
+-- the text of three lines and of two lists of lines
+pub three_and_two : (a b c : State) (ds es : List State) (out one two three four five : List ℕ)
+  → one ≡ bounded (out ++ ended (spelled a)) → two ≡ bounded (one ++ ended (spelled b)) → three ≡ bounded (two ++ ended (spelled c))
+  → bounded four ≡ bounded (three ++ text_of ds) → bounded five ≡ bounded (four ++ text_of es)
+  → bounded five ≡ bounded (out ++ text_of (a ∷ b ∷ c ∷ (ds ++ es)))
+three_and_two a b c ds es out one two three four five e f g h i =
+    let lists = room_join three four five (text_of ds) (text_of es) h i ∙ ap (λ t. bounded (three ++ t)) (sym (text_of-append ds es)) in
+    let third = room_join two three five (ended (spelled c)) (text_of (ds ++ es)) (room_of two three (ended (spelled c)) g) lists in
+    let second = room_join one two five (ended (spelled b)) (text_of (c ∷ (ds ++ es))) (room_of one two (ended (spelled b)) f) third in
+    room_join out one five (ended (spelled a)) (text_of (b ∷ c ∷ (ds ++ es))) (room_of out one (ended (spelled a)) e) second
+
+-- the lines of one master more
+pub masters_more : {A B : Type 0} (f : A × B → List State) (whole out new : List ℕ) (ms : List A) (ks : List B) (m : A) (d : B) → 1 ≤ length ms → m ≡ get_or ms 0 m → 1 ≤ length ks
+  → bounded new ≡ bounded (out ++ text_of (f (m, get_or ks 0 d)))
+  → bounded whole ≡ bounded (out ++ text_of (flat_map f (zip ms ks)))
+  → bounded whole ≡ bounded (new ++ text_of (flat_map f (zip (take (length ms - 1) (drop 1 ms)) (take (length ks - 1) (drop 1 ks)))))
+masters_more f whole out new [] ks m d h e i n w = absurd (omega arith)
+masters_more f whole out new (x ∷ xs) [] m d h e i n w = absurd (omega arith)
+masters_more f whole out new (x ∷ xs) (k ∷ ks) m d h e i n w =
+    let more = take (length (x ∷ xs) - 1) xs in
+    let others = take (length (k ∷ ks) - 1) ks in
+    let first : more ≡ xs = take_all (length (x ∷ xs) - 1) xs (let l : length (x ∷ xs) ≡ suc (length xs) = refl in omega arith) in
+    let second : others ≡ ks = take_all (length (k ∷ ks) - 1) ks (let l : length (k ∷ ks) ≡ suc (length ks) = refl in omega arith) in
+    let rest = text_of (flat_map f (zip xs ks)) in
+    w
+    ∙ ap (λ t. bounded (out ++ t)) (text_of-append (f (x, k)) (flat_map f (zip xs ks)))
+    ∙ ap (λ t. bounded (out ++ (text_of (f (t, k)) ++ rest))) (sym e)
+    ∙ ap bounded (sym (append_assoc out (text_of (f (m, k))) rest))
+    ∙ sym (bounded-bounded (out ++ text_of (f (m, k))) rest)
+    ∙ ap (λ t. bounded (t ++ rest)) (sym n)
+    ∙ bounded-bounded new rest
+    ∙ ap (λ t. bounded (new ++ text_of (flat_map f (zip t ks)))) (sym first)
+    ∙ ap (λ t. bounded (new ++ text_of (flat_map f (zip more t)))) (sym second)
+
+pub file_text : (out kept one two three four : List ℕ) (a b : State) (cs : List State)
+  → one ≡ bounded (out ++ kept) → two ≡ bounded (one ++ ended (spelled a)) → three ≡ bounded (two ++ ended (spelled b)) → bounded four ≡ bounded (three ++ text_of cs)
+  → bounded four ≡ bounded (out ++ (kept ++ text_of (a ∷ b ∷ cs)))
+file_text out kept one two three four a b cs e f g h =
+    let second = room_join two three four (ended (spelled b)) (text_of cs) (room_of two three (ended (spelled b)) g) h in
+    let first = room_join one two four (ended (spelled a)) (text_of (b ∷ cs)) (room_of one two (ended (spelled a)) f) second in
+    room_join out one four kept (text_of (a ∷ b ∷ cs)) (room_of out one kept e) first
+
+pub text_from_empty : (text whole start : List ℕ) → start ≡ [] → bounded text ≡ text → bounded text ≡ bounded (start ++ whole) → text ≡ bounded whole
+text_from_empty text whole start s w h = sym w ∙ h ∙ ap (λ t. bounded (t ++ whole)) s

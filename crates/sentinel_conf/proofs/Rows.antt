@@ -1,0 +1,77 @@
+-- The rows of a worked file, evaluated.
+use Rattle.std.proofs.Common.{◌≡◌, ℕ, ◌+◌, List, [], ◌∷◌, ◌++◌, refl, Option, Some, None, Result, Ok, Err}
+use Rattle.std.specs.Prelude.{codes}
+use Rattle.std.specs.Fmt.{digits}
+use Rattle.ballot_law.specs.declared.addresses.Addr.{Addr}
+use Rattle.sentinel_conf.specs.declared.faults.ConfKind.{ConfKind}
+use Rattle.sentinel_conf.specs.declared.faults.ConfKind.TheVariants.{BadAddress, BadNumber, UnknownMaster, Twice, NoMyId, BadDirective}
+use Rattle.sentinel_conf.specs.declared.faults.ConfFault.{ConfFault}
+use Rattle.ballot_law.specs.Words.{hex}
+use Rattle.sentinel_conf.specs.Words.{lines, words_of}
+use Rattle.sentinel_conf.specs.Meaning.{ConfPlan}
+use Rattle.ballot_law.specs.declared.cards.Kept.{Kept as KeptPlan}
+use Rattle.sentinel_conf.specs.Rewritten.{rewritten}
+use Rattle.sentinel_conf.specs.Reading.{conf_of_lines, fault_at}
+
+abbrev file : List ℕ
+file = codes "# group one\nport 26379\nbind 127.0.0.1\nsentinel monitor mymaster 127.0.0.1 6379 2\nsentinel auth-pass mymaster secret\nsentinel down-after-milliseconds mymaster 5000\nsentinel known-replica mymaster 127.0.0.1 6381\nsentinel known-replica mymaster 127.0.0.1 6380\nsentinel known-sentinel mymaster 127.0.0.1 26380 bbbbbbbbbbbbbbbbbbbbbbbbbbbbbbbbbbbbbbbb\nsentinel myid aaaaaaaaaaaaaaaaaaaaaaaaaaaaaaaaaaaaaaaa"
+
+abbrev short_file : List ℕ
+short_file = codes "# group one\nport 26379\nbind 127.0.0.1\nsentinel monitor mymaster 127.0.0.1 6379 2\nsentinel auth-pass mymaster secret\nsentinel down-after-milliseconds mymaster 5000\nsentinel known-replica mymaster 127.0.0.1 6381\nsentinel known-replica mymaster 127.0.0.1 6380\nsentinel known-sentinel mymaster 127.0.0.1 26380 bbbbbbbbbbbbbbbbbbbbbbbbbbbbbbbbbbbbbbbb"
+
+abbrev kept : KeptPlan
+kept = record {
+  current = 3;
+  masters = (record { card = record { epoch = 2; addr = record { ip = 2130706433; port = 6380 } }; voted = 3 }) ∷ [];
+}
+
+abbrev text_of : Result ConfPlan ConfFault → List ℕ
+text_of (Ok conf) = rewritten conf kept
+text_of (Err fault) = []
+
+abbrev fault_of : Result ConfPlan ConfFault → Option ConfFault
+fault_of (Ok conf) = None
+fault_of (Err fault) = Some fault
+
+quoted_words : words_of (codes "\ta  \"b c\"d e\"f \"\"  ") ≡ codes "a" ∷ codes "b c" ∷ codes "d" ∷ codes "e\"f" ∷ [] ∷ []
+quoted_words = refl
+
+open_quote : words_of (codes "a \"b c  ") ≡ codes "a" ∷ codes "b c" ∷ []
+open_quote = refl
+
+three_lines : lines (codes "\na\nb") ≡ [] ∷ codes "a" ∷ codes "b" ∷ []
+three_lines = refl
+
+rewritten_file : text_of (conf_of_lines (lines file)) ≡ codes "# group one\nport 26379\nbind 127.0.0.1\nsentinel auth-pass mymaster secret\nsentinel down-after-milliseconds mymaster 5000\nsentinel myid aaaaaaaaaaaaaaaaaaaaaaaaaaaaaaaaaaaaaaaa\nsentinel current-epoch 3\nsentinel monitor mymaster 127.0.0.1 6380 2\nsentinel config-epoch mymaster 2\nsentinel leader-epoch mymaster 3\nsentinel known-replica mymaster 127.0.0.1 6379\nsentinel known-replica mymaster 127.0.0.1 6381\nsentinel known-sentinel mymaster 127.0.0.1 26380 bbbbbbbbbbbbbbbbbbbbbbbbbbbbbbbbbbbbbbbb\n"
+unfolding digits hex
+rewritten_file = refl
+
+line_twice : fault_of (conf_of_lines (lines (file ++ codes "\nsentinel monitor mymaster 127.0.0.1 6379 2"))) ≡ Some (fault_at 11 Twice)
+unfolding digits hex
+line_twice = refl
+
+no_my_id : fault_of (conf_of_lines (lines short_file)) ≡ Some (fault_at 0 NoMyId)
+unfolding digits hex
+no_my_id = refl
+
+bad_address : fault_of (conf_of_lines (lines (codes "sentinel monitor mymaster localhost 6379 2"))) ≡ Some (fault_at 1 BadAddress)
+unfolding digits hex
+bad_address = refl
+
+bad_epoch : fault_of (conf_of_lines (lines (codes "sentinel current-epoch 281474976710656"))) ≡ Some (fault_at 1 BadNumber)
+unfolding digits hex
+bad_epoch = refl
+
+unknown_master : fault_of (conf_of_lines (lines (file ++ codes "\nsentinel config-epoch other 3"))) ≡ Some (fault_at 11 UnknownMaster)
+unfolding digits hex
+unknown_master = refl
+
+-- an earlier kind of fault on a later line waits for the faults of the lines before
+first_line_first : fault_of (conf_of_lines (lines (codes "sentinel config-epoch other x\nport"))) ≡ Some (fault_at 1 BadNumber)
+unfolding digits hex
+first_line_first = refl
+
+-- a bad directive is found before an unknown master of an earlier line
+unknown_last : fault_of (conf_of_lines (lines (codes "sentinel config-epoch other 3\nport"))) ≡ Some (fault_at 2 BadDirective)
+unfolding digits hex
+unknown_last = refl

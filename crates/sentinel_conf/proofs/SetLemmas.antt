@@ -1,0 +1,147 @@
+-- Lists in order, each element once: two of the same elements are equal.
+use Rattle.std.proofs.Common.{◌≡◌, ℕ, Bool, true, false, ◌&&◌, ◌||◌, eqb, ltb, List, [], ◌∷◌, refl, ap, sym, ◌∙◌, subst, arith, ◌⊎◌, inl, inr}
+use Rattle.std.specs.List.{AllByRecursion}
+use Rattle.std.proofs.lemmas.Bool.{and_parts, and_from, or_cases, or_left, or_right, or_from, or_parts, and_left, and_right, and_cases, true≢false, cases_Bool}
+use Rattle.std.proofs.lemmas.Bool.Decides.{nat_tests}
+use Rattle.ballot_law.specs.Ordered.{add, in_order}
+
+pub record IsOrder {X : Type 0} (before : X → X → Bool) : Type 0 where
+  pub irreflexive : (x : X) → before x x ≡ false
+  pub transitive : (x y z : X) → before x y ≡ true → before y z ≡ true → before x z ≡ true
+  pub tied : (x y : X) → before x y ≡ false → before y x ≡ false → x ≡ y
+
+abbrev pub In : {X : Type 0} → X → List X → Type 0
+In x [] = ⊥
+In x (y ∷ ys) = (x ≡ y) ⊎ In x ys
+
+-- each element stands before all that follow
+abbrev pub Rises : {X : Type 0} → (X → X → Bool) → List X → Type 0
+Rises before [] = Unit {0}
+Rises before (x ∷ xs) = AllByRecursion (λ y. before x y ≡ true) xs × Rises before xs
+
+pub each_in : {X : Type 0} (P : X → Type 0) (xs : List X) → AllByRecursion P xs → (x : X) → In x xs → P x
+each_in P [] h x i = absurd i
+each_in P (y ∷ ys) h x (inl e) = subst P (sym e) h.0
+each_in P (y ∷ ys) h x (inr i) = each_in P ys h.1 x i
+
+pub each_from : {X : Type 0} (P : X → Type 0) (xs : List X) → ((x : X) → In x xs → P x) → AllByRecursion P xs
+each_from P [] h = tt
+each_from P (y ∷ ys) h = (h y (inl refl), each_from P ys (λ x i. h x (inr i)))
+
+module _ {X : Type 0} (before : X → X → Bool) where
+  add_at : (x y : X) (ys : List X) → before y x ≡ true → add before x (y ∷ ys) ≡ y ∷ add before x ys
+  add_at x y ys e = ap (λ t. elim t as (λ _. List X) [ true ↦ y ∷ add before x ys | false ↦ elim (before x y) as (λ _. List X) [ true ↦ x ∷ y ∷ ys | false ↦ y ∷ ys ] ]) e
+
+  add_before : (x y : X) (ys : List X) → before y x ≡ false → before x y ≡ true → add before x (y ∷ ys) ≡ x ∷ y ∷ ys
+  add_before x y ys e f =
+      ap (λ t. elim t as (λ _. List X) [ true ↦ y ∷ add before x ys | false ↦ elim (before x y) as (λ _. List X) [ true ↦ x ∷ y ∷ ys | false ↦ y ∷ ys ] ]) e
+      ∙ ap (λ t. elim t as (λ _. List X) [ true ↦ x ∷ y ∷ ys | false ↦ y ∷ ys ]) f
+
+  add_tied : (x y : X) (ys : List X) → before y x ≡ false → before x y ≡ false → add before x (y ∷ ys) ≡ y ∷ ys
+  add_tied x y ys e f =
+      ap (λ t. elim t as (λ _. List X) [ true ↦ y ∷ add before x ys | false ↦ elim (before x y) as (λ _. List X) [ true ↦ x ∷ y ∷ ys | false ↦ y ∷ ys ] ]) e
+      ∙ ap (λ t. elim t as (λ _. List X) [ true ↦ x ∷ y ∷ ys | false ↦ y ∷ ys ]) f
+
+  -- what stands in the list after an addition
+  abbrev Adds : X → List X → List X → Type 0
+  Adds x ys zs = ((z : X) → In z zs → (z ≡ x) ⊎ In z ys) × ((z : X) → (z ≡ x) ⊎ In z ys → In z zs)
+
+  front_adds : (x : X) (ys : List X) → Adds x ys (x ∷ ys)
+  front_adds x ys = ((λ z i. i), (λ z i. i))
+
+  later : (z x y : X) (ys : List X) → (z ≡ x) ⊎ In z ys → (z ≡ x) ⊎ In z (y ∷ ys)
+  later z x y ys (inl e) = inl e
+  later z x y ys (inr i) = inr (inr i)
+
+  swapped : (x y : X) (ys zs : List X) → Adds x ys zs → (z : X) → In z (y ∷ zs) → (z ≡ x) ⊎ In z (y ∷ ys)
+  swapped x y ys zs a z (inl e) = inr (inl e)
+  swapped x y ys zs a z (inr i) = later z x y ys (a.0 z i)
+
+  swapped_back : (x y : X) (ys zs : List X) → Adds x ys zs → (z : X) → (z ≡ x) ⊎ In z (y ∷ ys) → In z (y ∷ zs)
+  swapped_back x y ys zs a z (inl e) = inr (a.1 z (inl e))
+  swapped_back x y ys zs a z (inr (inl e)) = inl e
+  swapped_back x y ys zs a z (inr (inr i)) = inr (a.1 z (inr i))
+
+  behind_adds : (x y : X) (ys zs : List X) → Adds x ys zs → Adds x (y ∷ ys) (y ∷ zs)
+  behind_adds x y ys zs a = (swapped x y ys zs a, swapped_back x y ys zs a)
+
+  there_back : (x y : X) (ys : List X) → x ≡ y → (z : X) → (z ≡ x) ⊎ In z (y ∷ ys) → In z (y ∷ ys)
+  there_back x y ys e z (inl f) = inl (f ∙ e)
+  there_back x y ys e z (inr i) = i
+
+  there_adds : (x y : X) (ys : List X) → x ≡ y → Adds x (y ∷ ys) (y ∷ ys)
+  there_adds x y ys e = ((λ z i. inr i), there_back x y ys e)
+
+  module _ (o : IsOrder before) where
+    add_adds_by : (x y : X) (ys : List X) (s t : Bool) → before y x ≡ s → before x y ≡ t → Adds x ys (add before x ys) → Adds x (y ∷ ys) (add before x (y ∷ ys))
+    add_adds_by x y ys true t e f a = subst (Adds x (y ∷ ys)) (sym (add_at x y ys e)) (behind_adds x y ys (add before x ys) a)
+    add_adds_by x y ys false true e f a = subst (Adds x (y ∷ ys)) (sym (add_before x y ys e f)) (front_adds x (y ∷ ys))
+    add_adds_by x y ys false false e f a = subst (Adds x (y ∷ ys)) (sym (add_tied x y ys e f)) (there_adds x y ys (o.tied x y f e))
+
+    add_adds : (x : X) (ys : List X) → Adds x ys (add before x ys)
+    add_adds x [] = front_adds x []
+    add_adds x (y ∷ ys) = add_adds_by x y ys (before y x) (before x y) refl refl (add_adds x ys)
+
+    in_cases : (x : X) (xs ys : List X) → ((z : X) → In z xs → In z ys) → (z : X) → (z ≡ x) ⊎ In z xs → (z ≡ x) ⊎ In z ys
+    in_cases x xs ys h z (inl e) = inl e
+    in_cases x xs ys h z (inr i) = inr (h z i)
+
+    pub from_in_order : (xs : List X) (z : X) → In z (in_order before xs) → In z xs
+    from_in_order [] z i = absurd i
+    from_in_order (x ∷ xs) z i = in_cases x (in_order before xs) xs (from_in_order xs) z ((add_adds x (in_order before xs)).0 z i)
+
+    pub to_in_order : (xs : List X) (z : X) → In z xs → In z (in_order before xs)
+    to_in_order [] z i = absurd i
+    to_in_order (x ∷ xs) z i = (add_adds x (in_order before xs)).1 z (in_cases x xs (in_order before xs) (to_in_order xs) z i)
+
+    above_added : (y x : X) (ys zs : List X) → Adds x ys zs → before y x ≡ true → AllByRecursion (λ z. before y z ≡ true) ys → AllByRecursion (λ z. before y z ≡ true) zs
+    above_added y x ys zs a e h =
+        each_from (λ z. before y z ≡ true) zs (λ z i.
+          elim (a.0 z i) as (λ _. before y z ≡ true) [ inl f ↦ ap (before y) f ∙ e | inr j ↦ each_in (λ z. before y z ≡ true) ys h z j ])
+
+    above_all : (x y : X) (ys : List X) → before x y ≡ true → AllByRecursion (λ z. before y z ≡ true) ys → AllByRecursion (λ z. before x z ≡ true) ys
+    above_all x y ys e h = each_from (λ z. before x z ≡ true) ys (λ z i. o.transitive x y z e (each_in (λ z. before y z ≡ true) ys h z i))
+
+    add_rises_by : (x y : X) (ys : List X) (s t : Bool) → before y x ≡ s → before x y ≡ t → Rises before (y ∷ ys) → Rises before (add before x ys) → Rises before (add before x (y ∷ ys))
+    add_rises_by x y ys true t e f r s =
+        subst (Rises before) (sym (add_at x y ys e)) (above_added y x ys (add before x ys) (add_adds x ys) e r.0, s)
+    add_rises_by x y ys false true e f r s = subst (Rises before) (sym (add_before x y ys e f)) ((f, above_all x y ys f r.0), r)
+    add_rises_by x y ys false false e f r s = subst (Rises before) (sym (add_tied x y ys e f)) r
+
+    add_rises : (x : X) (ys : List X) → Rises before ys → Rises before (add before x ys)
+    add_rises x [] r = (tt, tt)
+    add_rises x (y ∷ ys) r = add_rises_by x y ys (before y x) (before x y) refl refl r (add_rises x ys r.1)
+
+    pub rises_in_order : (xs : List X) → Rises before (in_order before xs)
+    rises_in_order [] = tt
+    rises_in_order (x ∷ xs) = add_rises x (in_order before xs) (rises_in_order xs)
+
+    not_above : (x : X) (ys : List X) → AllByRecursion (λ y. before x y ≡ true) ys → In x ys → ⊥
+    not_above x ys h i = true≢false (sym (each_in (λ y. before x y ≡ true) ys h x i) ∙ o.irreflexive x)
+
+    heads_by : (x y : X) (xs ys : List X) → Rises before (x ∷ xs) → Rises before (y ∷ ys) → (x ≡ y) ⊎ In x ys → (y ≡ x) ⊎ In y xs → x ≡ y
+    heads_by x y xs ys r s (inl e) j = e
+    heads_by x y xs ys r s (inr i) (inl e) = sym e
+    heads_by x y xs ys r s (inr i) (inr j) =
+        absurd (true≢false (sym (o.transitive x y x (each_in (λ z. before x z ≡ true) xs r.0 y j) (each_in (λ z. before y z ≡ true) ys s.0 x i)) ∙ o.irreflexive x))
+
+    tail_in : (x y : X) (xs ys : List X) → Rises before (x ∷ xs) → x ≡ y → ((z : X) → In z (x ∷ xs) → In z (y ∷ ys)) → (z : X) → In z xs → In z ys
+    tail_in x y xs ys r e h z i =
+        elim (h z (inr i)) as (λ _. In z ys) [
+          inl f ↦ absurd (not_above x xs r.0 (subst (λ w. In w xs) (f ∙ sym e) i))
+        | inr j ↦ j
+        ]
+
+    pub same_elements : (xs ys : List X) → Rises before xs → Rises before ys → ((z : X) → In z xs → In z ys) → ((z : X) → In z ys → In z xs) → xs ≡ ys
+    same_elements [] [] r s h g = refl
+    same_elements [] (y ∷ ys) r s h g = absurd (g y (inl refl))
+    same_elements (x ∷ xs) [] r s h g = absurd (h x (inl refl))
+    same_elements (x ∷ xs) (y ∷ ys) r s h g =
+        let e : x ≡ y = heads_by x y xs ys r s (h x (inl refl)) (g y (inl refl)) in
+        let rest : xs ≡ ys = same_elements xs ys r.1 s.1 (tail_in x y xs ys r e h) (tail_in y x ys xs s (sym e) g) in
+        cc
+
+    -- the elements of a list in order, put in order
+    pub in_order_is : (xs ys : List X) → Rises before ys → ((z : X) → In z xs → In z ys) → ((z : X) → In z ys → In z xs) → in_order before xs ≡ ys
+    in_order_is xs ys r h g =
+        same_elements (in_order before xs) ys (rises_in_order xs) r (λ z i. h z (from_in_order xs z i)) (λ z i. to_in_order xs z (g z i))

@@ -1,0 +1,71 @@
+-- The rewritten file of a conf and a kept part.
+use Rattle.std.specs.Prelude.{ℕ, ◌≡◌, ◌≤◌, Bool, not, List, [], ◌∷◌, ◌++◌, map, filter, length, Contains}
+use Rattle.std.specs.List.{flat_map, zip, AllZip}
+use Rattle.ballot_law.specs.declared.addresses.Addr.{Addr}
+use Rattle.ballot_law.specs.declared.addresses.RunId.{RunId}
+use Rattle.ballot_law.specs.declared.rosters.Member.{Member}
+use Rattle.ballot_law.specs.Rosters.{Roster as RosterPlan, MasterPlan}
+use Rattle.ballot_law.specs.Orders.{same_id, same_addr}
+use Rattle.ballot_law.specs.declared.cards.KeptMaster.{KeptMaster}
+use Rattle.sentinel_conf.specs.declared.lines.State.{State}
+use Rattle.sentinel_conf.specs.declared.lines.State.TheVariants.{MyId, CurrentEpoch, Monitor, ConfigEpoch, LeaderEpoch, KnownReplica, KnownSentinel}
+use Rattle.sentinel_conf.specs.Lines.{spelled, MAX_EPOCH}
+use Rattle.sentinel_conf.specs.Meaning.{ConfPlan}
+use Rattle.ballot_law.specs.declared.cards.Kept.{Kept as KeptPlan}
+
+abbrev pub others : ConfPlan → List Member
+others conf = filter (λ member. not (same_id conf.id member.id)) conf.roster.sentinels
+
+abbrev pub replicas : MasterPlan → KeptMaster → List Addr
+replicas master kept = filter (λ addr. not (same_addr kept.card.addr addr)) master.nodes
+
+abbrev pub replica_states : List ℕ → Addr → List Addr → List State
+replica_states name at nodes = map (KnownReplica name) (filter (λ addr. not (same_addr at addr)) nodes)
+
+abbrev pub sentinel_states : List ℕ → RunId → List Member → List State
+sentinel_states name id members = map (λ member. KnownSentinel name member.addr member.id) (filter (λ member. not (same_id id member.id)) members)
+
+-- the state lines of one master, but for the Sentinel with this run id
+abbrev pub master_lines : RunId → List Member → MasterPlan × KeptMaster → List State
+master_lines id members (master, kept) =
+    Monitor master.name kept.card.addr master.quorum
+    ∷ ConfigEpoch master.name kept.card.epoch
+    ∷ LeaderEpoch master.name kept.voted
+    ∷ (replica_states master.name kept.card.addr master.nodes ++ sentinel_states master.name id members)
+
+abbrev pub master_states : ConfPlan → MasterPlan × KeptMaster → List State
+master_states conf = master_lines conf.id conf.roster.sentinels
+
+abbrev pub state_lines : ConfPlan → KeptPlan → List State
+state_lines conf kept = MyId conf.id ∷ CurrentEpoch kept.current ∷ flat_map (master_states conf) (zip conf.roster.masters kept.masters)
+
+-- the lines of the rewritten file: those that are kept, then those of the state
+abbrev pub rewritten_lines : ConfPlan → KeptPlan → List (List ℕ)
+rewritten_lines conf kept = conf.kept_lines ++ map spelled (state_lines conf kept)
+
+abbrev pub ended : List ℕ → List ℕ
+ended text = text ++ 10 ∷ []
+
+-- the state lines as text
+abbrev pub text_of : List State → List ℕ
+text_of states = flat_map ended (map spelled states)
+
+abbrev pub rewritten : ConfPlan → KeptPlan → List ℕ
+rewritten conf kept = flat_map ended (rewritten_lines conf kept)
+
+abbrev pub at_last_epoch : KeptMaster → KeptMaster
+at_last_epoch kept = record { card = record { epoch = MAX_EPOCH; addr = kept.card.addr }; voted = MAX_EPOCH }
+
+-- the kept part with every epoch the last one, which has the most digits
+abbrev pub longest : KeptPlan → KeptPlan
+longest kept = record { current = MAX_EPOCH; masters = map at_last_epoch kept.masters }
+
+pub record IsKeptMaster (current : ℕ) (master : MasterPlan) (kept : KeptMaster) : Type 0 where
+  pub addr : Contains master.nodes kept.card.addr
+  pub epoch : kept.card.epoch ≤ current
+  pub voted : kept.voted ≤ current
+
+-- a kept part of this conf's masters
+pub record IsKeptPart (conf : ConfPlan) (kept : KeptPlan) : Type 0 where
+  pub current : kept.current ≤ MAX_EPOCH
+  pub masters : AllZip (IsKeptMaster kept.current) conf.roster.masters kept.masters

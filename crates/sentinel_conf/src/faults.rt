@@ -1,0 +1,59 @@
+//! What is wrong with a file.
+
+use ballot_law::RosterFault;
+use thiserror::Error;
+
+/// What is wrong with a file, in the order of this list but for `UnknownMaster` and `TooLong`, which is judged first of
+/// the file itself and last of the file as it would be rewritten.
+#[derive(Clone, Copy, Debug, PartialEq, Eq, Error)]
+pub enum ConfKind {
+    /// The file, or the longest file that a rewrite could make of it, has more than 65,536 bytes.
+    #[error("TooLong")]
+    TooLong,
+    /// The bytes of the file aren't UTF-8.
+    #[error("NotUtf8")]
+    NotUtf8,
+    /// A directive with a wrong number of words after it.
+    #[error("BadDirective")]
+    BadDirective,
+    /// A word that should be a number isn't one, or is out of range.
+    #[error("BadNumber")]
+    BadNumber,
+    /// An ip isn't four decimal parts, or its port isn't 1 to 65,535.
+    #[error("BadAddress")]
+    BadAddress,
+    /// A master's name isn't 1 to 64 letters, digits, `.`, `-` and `_`.
+    #[error("BadName")]
+    BadName,
+    /// A run id isn't 40 lower case hex digits.
+    #[error("BadRunId")]
+    BadRunId,
+    /// A line speaks of a master that no `sentinel monitor` line of the file names.
+    #[error("UnknownMaster")]
+    UnknownMaster,
+    /// A state line of which the file may hold one comes again.
+    #[error("Twice")]
+    Twice,
+    /// The file has no `sentinel myid` line.
+    #[error("NoMyId")]
+    NoMyId,
+    /// No roster can be made of what the file says.
+    #[error(transparent)]
+    Roster(RosterFault),
+    /// A growth was refused.
+    #[error("NoMemory")]
+    NoMemory,
+}
+
+/// The first fault of a file.
+#[derive(Clone, Copy, Debug, PartialEq, Eq)]
+pub struct ConfFault {
+    /// The number of the line, the first being 1; 0 for a fault of the file as a whole.
+    pub line: u64,
+    pub kind: ConfKind,
+}
+
+/// A growth was refused, and nothing that the caller can see has changed.
+#[derive(Clone, Copy, Debug, PartialEq, Eq, Error)]
+#[error("NoMemory")]
+pub struct NoMemory;

@@ -1,0 +1,183 @@
+//! Where a file is kept.
+
+ghost use Rattle.std.specs.Prelude.{◌≡◌, ◌+◌, ◌-◌, ◌^◌, ◌<◌, ◌⊎◌, Bool, ℕ, List, Option, None, Some, OnOk, OnErr, IsErrOf, IfSome, IfOk, is_ok, if◌then◌else◌};
+
+use crate::faults::NoMemory;
+use std::alloc::{AllocError, Global};
+use std::marker::Model;
+use thiserror::Error;
+
+/// The text was not stored: the old text or the new one stands.
+#[derive(Clone, Copy, Debug, PartialEq, Eq, Error)]
+#[error("StoreRefused")]
+pub struct StoreRefused;
+
+/// Why no text was loaded.
+#[derive(Clone, Copy, Debug, PartialEq, Eq, Error)]
+pub enum LoadFault {
+    /// A growth was refused; the failure count is as it was.
+    #[error("NoMemory")]
+    NoMemory,
+    /// The text can't be read; the failure count is one higher.
+    #[error("Failed")]
+    Failed,
+}
+
+/// The text of a file.
+#[derive(Debug, Drop)]
+pub struct FileText {
+    bytes: Vec<u8>,
+}
+
+impl Model for FileText {
+    ghost use Rattle.std.specs.Prelude.{List, ℕ};
+
+    ghost Value = { List ℕ };
+
+    ghost view = { λ text. text.bytes.items };
+}
+
+impl FileText {
+    /// The text with these bytes, with no memory taken.
+    pub fn from_vec(bytes: Vec<u8>) -> FileText
+        ensures { result ≡ bytes.items }
+    {
+        FileText { bytes }
+    }
+
+    /// The bytes of the text.
+    pub fn as_slice(&self) -> &[u8]
+        ensures { result.now ≡ self.now }
+    {
+        self.bytes.as_slice()
+    }
+}
+
+/// A place that holds the text of one Sentinel's file, with its failures counted.
+pub trait ConfStore {
+    // The text that is held, where the type says it: a store in memory does, a real file can't.
+    ghost held: { Self → Option (List ℕ) } = { λ _. None };
+
+    ghost failure_count: { Self → ℕ };
+
+    /// The text that is held. The store is as it was, but for its failure count at `Failed`.
+    fn load(&mut self) -> Result<FileText, LoadFault>
+        requires { failure_count self.old < 2 ^ 64 - 1 }
+        ensures text { IfOk result (λ text. IfSome (held self.old) (λ bytes. text ≡ bytes)) }
+        ensures kept { held self.new ≡ held self.old }
+        ensures ok { OnOk result (failure_count self.new ≡ failure_count self.old) }
+        ensures no_memory { IsErrOf result LoadFault.NoMemory
+            → failure_count self.new ≡ failure_count self.old }
+        ensures failed { IsErrOf result LoadFault.Failed
+            → failure_count self.new ≡ failure_count self.old + 1 };
+
+    /// Puts this text in place of the one that is held. After a refusal the old text or the new one stands, and the
+    /// failure count is one higher.
+    fn replace(&mut self, text: &[u8]) -> Result<(), StoreRefused>
+        requires { failure_count self.old < 2 ^ 64 - 1 }
+        ensures stored { OnOk result (IfSome (held self.new) (λ bytes. bytes ≡ text.now)) }
+        ensures refused { OnErr result ((held self.new ≡ held self.old)
+            ⊎ IfSome (held self.new) (λ bytes. bytes ≡ text.now)) }
+        ensures counted { failure_count self.new
+            ≡ (if is_ok result then failure_count self.old else failure_count self.old + 1) };
+
+    /// How many calls of `load` and `replace` have failed.
+    fn failures(&self) -> u64
+        ensures { result ≡ failure_count self.now };
+}
+
+/// A store in memory, which a test can have refuse the next replacement.
+#[derive(Drop)]
+pub struct MemoryStore {
+    text: Vec<u8>,
+    failed: u64,
+    refusal: Option<bool>,
+}
+
+impl Model for MemoryStore {
+    ghost use Rattle.sentinel_conf.specs.Stores.{Stored};
+
+    ghost Value = { Stored };
+
+    ghost view = { λ store. record {
+        text = store.text.items;
+        failed = store.failed;
+        refusal = store.refusal } };
+}
+
+impl MemoryStore {
+    /// A store that holds these bytes, with failure count 0.
+    pub fn holding(alloc: Global, bytes: &[u8]) -> Result<MemoryStore, NoMemory>
+        ensures { IfOk result
+            (λ store. store ≡ record { text = bytes.now; failed = 0; refusal = None }) }
+    {
+        match Vec::from_slice(alloc, bytes) {
+            Ok(text) => Ok(MemoryStore {
+                text,
+                failed: 0,
+                refusal: None,
+            }),
+            Err(_) => Err(NoMemory),
+        }
+    }
+
+    /// The text that is held.
+    pub fn text(&self) -> &[u8]
+        ensures { result.now ≡ self.now.text }
+    {
+        self.text.as_slice()
+    }
+
+    /// Has the next `replace` answer `StoreRefused`; then the new text stands if `new`, and else the old one.
+    pub fn refuse_next(&mut self, new: bool)
+        ensures { self.new ≡ record self.old { refusal = Some new } }
+    {
+        self.refusal = Some(new);
+    }
+
+    /// Puts this text in place of the one that is held; without memory that one stands.
+    fn put(&mut self, text: &[u8]) -> Result<(), AllocError>
+        ensures ok { OnOk result (self.new ≡ record self.old { text = text.now }) }
+        ensures err { OnErr result (self.new ≡ self.old) }
+    {
+        self.text = Vec::from_slice(*self.text.allocator(), text)?;
+        Ok(())
+    }
+}
+
+impl ConfStore for MemoryStore {
+    ghost held = { λ store. Some store.text };
+
+    ghost failure_count = { λ store. store.failed };
+
+    fn load(&mut self) -> Result<FileText, LoadFault> {
+        match self.text.clone() {
+            Ok(bytes) => Ok(FileText { bytes }),
+            Err(_) => Err(LoadFault::NoMemory),
+        }
+    }
+
+    fn replace(&mut self, text: &[u8]) -> Result<(), StoreRefused> {
+        match self.refusal {
+            Some(new) => {
+                self.refusal = None;
+                self.failed += 1;
+                if new {
+                    let _ = self.put(text);
+                }
+                Err(StoreRefused)
+            }
+            None => {
+                if self.put(text).is_err() {
+                    self.failed += 1;
+                    return Err(StoreRefused);
+                }
+                Ok(())
+            }
+        }
+    }
+
+    fn failures(&self) -> u64 {
+        self.failed
+    }
+}

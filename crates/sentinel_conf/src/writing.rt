@@ -1,0 +1,221 @@
+//! The lines of a rewritten file.
+
+ghost use Rattle.std.specs.Prelude.{◌≡◌, ◌∷◌, ◌++◌, decimal};
+ghost use Rattle.std.specs.List.{flat_map, zip};
+ghost use Rattle.sentinel_conf.specs.declared.lines.State.TheVariants.{MyId, CurrentEpoch};
+ghost use Rattle.ballot_law.specs.Words.{ip_text, id_text};
+ghost use Rattle.sentinel_conf.specs.Lines.{spelled};
+ghost use Rattle.sentinel_conf.specs.Rewritten.{ended, text_of, replica_states, sentinel_states, master_lines};
+ghost use Rattle.sentinel_conf.specs.Room.{bounded};
+
+use crate::conf_text::ConfText;
+use crate::lines::State;
+use ballot_law::{Addr, KeptMaster, Member, Name, Roster, RunId, Watched};
+use itoa::Buffer;
+use words::{ip_text, run_id_text};
+
+/// Adds a word after a space.
+#[tactic(auto, using(crate::proofs::RoomLemmas::added_both))]
+fn add_word(out: &mut ConfText, word: &[u8])
+    ensures { out.new ≡ bounded (out.old ++ 32 ∷ word.now) }
+{
+    out.add(b" ");
+    out.add(word);
+}
+
+/// Adds a number after a space.
+fn add_number(out: &mut ConfText, number: u64)
+    ensures { out.new ≡ bounded (out.old ++ 32 ∷ decimal number) }
+{
+    let mut buffer = Buffer::new();
+    add_word(out, buffer.format(number).as_bytes());
+}
+
+/// Adds a run id after a space.
+fn add_id(out: &mut ConfText, id: RunId)
+    ensures { out.new ≡ bounded (out.old ++ 32 ∷ id_text id) }
+{
+    add_word(out, &run_id_text(id));
+}
+
+/// Adds an ip and a port, each after a space.
+#[tactic(auto, using(crate::proofs::RoomLemmas::added_both))]
+fn add_addr(out: &mut ConfText, addr: Addr)
+    ensures { out.new ≡ bounded (out.old ++ 32 ∷ (ip_text addr.ip ++ 32 ∷ decimal addr.port)) }
+{
+    add_word(out, &ip_text(addr.ip));
+    add_number(out, u64::from(addr.port));
+}
+
+/// Adds a name, an ip and a port, each after a space.
+#[tactic(auto, using(crate::proofs::RoomLemmas::added_both))]
+fn add_node(out: &mut ConfText, name: &Name, addr: Addr)
+    ensures { out.new ≡ bounded (out.old
+        ++ 32 ∷ (name.now ++ 32 ∷ (ip_text addr.ip ++ 32 ∷ decimal addr.port))) }
+{
+    add_word(out, name.as_slice());
+    add_addr(out, addr);
+}
+
+/// Adds a name and an epoch, each after a space.
+#[tactic(auto, using(crate::proofs::RoomLemmas::added_both))]
+fn add_epoch(out: &mut ConfText, name: &Name, epoch: u64)
+    ensures { out.new ≡ bounded (out.old ++ 32 ∷ (name.now ++ 32 ∷ decimal epoch)) }
+{
+    add_word(out, name.as_slice());
+    add_number(out, epoch);
+}
+
+/// Adds a state line without its end.
+#[tactic(auto, using(crate::proofs::RoomLemmas::added_both))]
+fn add_spelled(out: &mut ConfText, state: &State)
+    ensures { out.new ≡ bounded (out.old ++ spelled state.now) }
+{
+    match state {
+        State::MyId(id) => {
+            out.add(b"sentinel myid");
+            add_id(out, *id);
+        }
+        State::CurrentEpoch(epoch) => {
+            out.add(b"sentinel current-epoch");
+            add_number(out, *epoch);
+        }
+        State::Monitor { name, addr, quorum } => {
+            out.add(b"sentinel monitor");
+            add_node(out, name, *addr);
+            add_number(out, u64::from(*quorum));
+        }
+        State::ConfigEpoch { name, epoch } => {
+            out.add(b"sentinel config-epoch");
+            add_epoch(out, name, *epoch);
+        }
+        State::LeaderEpoch { name, epoch } => {
+            out.add(b"sentinel leader-epoch");
+            add_epoch(out, name, *epoch);
+        }
+        State::KnownReplica { name, addr } => {
+            out.add(b"sentinel known-replica");
+            add_node(out, name, *addr);
+        }
+        State::KnownSentinel { name, addr, id } => {
+            out.add(b"sentinel known-sentinel");
+            add_node(out, name, *addr);
+            add_id(out, *id);
+        }
+    }
+}
+
+/// Adds a state line, ended by LF.
+#[tactic(auto, using(crate::proofs::RoomLemmas::added_both))]
+pub fn add_state(out: &mut ConfText, state: &State)
+    ensures { out.new ≡ bounded (out.old ++ ended (spelled state.now)) }
+{
+    add_spelled(out, state);
+    out.add(b"\n");
+}
+
+/// Adds the replica lines of a master whose address is `at`.
+pub fn add_replicas(out: &mut ConfText, name: &Name, nodes: &[Addr], at: Addr)
+    ensures { bounded out.new
+        ≡ bounded (out.old ++ text_of (replica_states name.now at nodes.now)) }
+{
+    let mut rest = nodes;
+    while let [addr, more @ ..] = rest {
+        if !at.is_same(addr) {
+            add_state(
+                out,
+                &State::KnownReplica {
+                    name: *name,
+                    addr: *addr,
+                },
+            );
+        }
+        rest = more;
+    }
+}
+
+/// Adds the Sentinel lines of a master, but for the Sentinel with this run id.
+pub fn add_sentinels(out: &mut ConfText, name: &Name, id: RunId, members: &[Member])
+    ensures { bounded out.new
+        ≡ bounded (out.old ++ text_of (sentinel_states name.now id members.now)) }
+{
+    let mut rest = members;
+    while let [member, more @ ..] = rest {
+        if !id.is_same(&member.id) {
+            add_state(
+                out,
+                &State::KnownSentinel {
+                    name: *name,
+                    addr: member.addr,
+                    id: member.id,
+                },
+            );
+        }
+        rest = more;
+    }
+}
+
+/// Adds the state lines of one master, but for the Sentinel with this run id.
+fn add_master(
+    out: &mut ConfText,
+    id: RunId,
+    members: &[Member],
+    master: &Watched,
+    kept: &KeptMaster,
+)
+    ensures { bounded out.new
+        ≡ bounded (out.old ++ text_of (master_lines id members.now (master.now, kept.now))) }
+{
+    let name = master.name;
+    let addr = kept.card.addr;
+    let quorum = master.quorum;
+    add_state(out, &State::Monitor { name, addr, quorum });
+    let epoch = kept.card.epoch;
+    add_state(out, &State::ConfigEpoch { name, epoch });
+    let epoch = kept.voted;
+    add_state(out, &State::LeaderEpoch { name, epoch });
+    add_replicas(out, &name, master.nodes(), addr);
+    add_sentinels(out, &name, id, members);
+}
+
+/// Adds the state lines of each master.
+fn add_masters(
+    out: &mut ConfText,
+    id: RunId,
+    members: &[Member],
+    masters: &[Watched],
+    kept: &[KeptMaster],
+)
+    ensures { bounded out.new ≡ bounded (out.old
+        ++ text_of (flat_map (master_lines id members.now) (zip masters.now kept.now))) }
+{
+    let mut rest = masters;
+    let mut held = kept;
+    while let [master, more @ ..] = rest {
+        let [first, others @ ..] = held else {
+            return;
+        };
+        add_master(out, id, members, master, first);
+        rest = more;
+        held = others;
+    }
+}
+
+/// Adds a rewritten file: the kept lines as they are, then the state lines.
+pub fn add_file(
+    out: &mut ConfText,
+    kept_lines: &[u8],
+    id: RunId,
+    roster: &Roster,
+    current: u64,
+    masters: &[KeptMaster],
+)
+    ensures { bounded out.new ≡ bounded (out.old ++ (kept_lines.now ++ text_of (MyId id
+        ∷ CurrentEpoch current
+        ∷ flat_map (master_lines id roster.now.sentinels) (zip roster.now.masters masters.now)))) }
+{
+    out.add(kept_lines);
+    add_state(out, &State::MyId(id));
+    add_state(out, &State::CurrentEpoch(current));
+    add_masters(out, id, roster.sentinels(), roster.masters(), masters);
+}
