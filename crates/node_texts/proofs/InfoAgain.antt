@@ -16,9 +16,10 @@ use Rattle.ballot_law.specs.declared.replies.Info.{Info}
 use Rattle.ballot_law.specs.Hellos.{IsAddr, IsRunId}
 use Rattle.ballot_law.specs.Words.{then_some, number, with_first, ip_text, id_text}
 use Rattle.ballot_law.proofs.WordLemmas.{ArePlain, IsWord, spells_decimal, number_within-decimal, ip-ip_text, word_ip_text, word_decimal, port-decimal, run_id-id_text, word_id_text}
+use Rattle.node_texts.specs.declared.info_fields.TheConstants.{COUNT_MAX}
 use Rattle.node_texts.specs.Faults.{◌>>=◌, wanted, unless_not}
 use Rattle.node_texts.specs.Lines.{lines, without_return}
-use Rattle.node_texts.specs.Infos.{COUNT_MAX, role_name, is_up, count, count_or_minus, judged, address_of, or_default, fields_of, info_of_fields, info_of, IsInfo, role_word, link_word, info_lines, ended, info_text}
+use Rattle.node_texts.specs.Infos.{role_name, is_up, count, count_or_minus, judged, address_of, or_default, fields_of, info_of_fields, info_of, IsInfo, role_word, link_word, info_lines, ended, info_text}
 use Rattle.node_texts.proofs.HelloAgain.{ascii_utf8}
 use Rattle.node_texts.proofs.LineLemmas.{goes_on, return_dropped}
 use Rattle.node_texts.proofs.WordsAgain.{ascii_ip, ascii_id}

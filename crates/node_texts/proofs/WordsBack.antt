@@ -93,15 +93,16 @@ pub record IsIp (n : ℕ) (bytes : List ℕ) : Type 0 where
   pub text : bytes ≡ ip_text n
   pub most : n < 2 ^ 32
 
-ip_of_four : (a b c d w x y z n : ℕ) → a ≡ w → a ≤ 255 → b ≤ 255 → c ≤ 255 → d ≤ 255 → ((a * 256 + b) * 256 + c) * 256 + d ≡ n
+-- the number's parts
+quarters : (a b c d n : ℕ) → a ≤ 255 → b ≤ 255 → c ≤ 255 → d ≤ 255 → ((a * 256 + b) * 256 + c) * 256 + d ≡ n
     → (n / 256 / 256 / 256 ≡ a) × (n / 256 / 256 % 256 ≡ b) × (n / 256 % 256 ≡ c) × (n % 256 ≡ d) × (n < 2 ^ 32)
-ip_of_four a b c d w x y z n i ha hb hc hd e = (omega arith, omega arith, omega arith, omega arith, omega arith)
+quarters a b c d n ha hb hc hd e = (omega arith, omega arith, omega arith, omega arith, omega arith)
 
 four_texts : (pa pb pc pd : List ℕ) (a b c d n : ℕ) → pa ≡ decimal a → pb ≡ decimal b → pc ≡ decimal c → pd ≡ decimal d → a ≤ 255 → b ≤ 255 → c ≤ 255 → d ≤ 255 → ((a * 256 + b) * 256 + c) * 256 + d ≡ n
     → IsIp n (with_dots (pa ∷ pb ∷ pc ∷ pd ∷ []))
 unfolding with_dots
 four_texts pa pb pc pd a b c d n ea eb ec ed ha hb hc hd e =
-    let q = ip_of_four a b c d a b c d n refl ha hb hc hd e in
+    let q = quarters a b c d n ha hb hc hd e in
     record {
       text =
           ap (λ (t : List ℕ). t ++ 46 ∷ (pb ++ 46 ∷ (pc ++ 46 ∷ pd))) (ea ∙ ap decimal (sym q.0))

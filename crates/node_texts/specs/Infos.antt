@@ -9,16 +9,13 @@ use Rattle.ballot_law.specs.Hellos.{IsAddr, IsRunId}
 use Rattle.ballot_law.specs.Words.{then_some, number, number_within, ip, ip_text, port, run_id, id_text}
 use Rattle.node_texts.specs.declared.faults.TextFault.{TextFault}
 use Rattle.node_texts.specs.declared.faults.TextFault.TheVariants.{BadField}
+use Rattle.node_texts.specs.declared.info_fields.TheConstants.{COUNT_MAX}
 use Rattle.node_texts.specs.declared.info_fields.Fields.{Fields}
 use Rattle.node_texts.specs.declared.info_fields.OwnFields.{OwnFields}
 use Rattle.node_texts.specs.declared.info_fields.LinkFields.{LinkFields}
 use Rattle.node_texts.specs.declared.info_fields.ReplicaFields.{ReplicaFields}
 use Rattle.node_texts.specs.Faults.{◌>>=◌, wanted, of_text}
 use Rattle.node_texts.specs.Lines.{lines, without_return}
-
--- the greatest number: 2^63 - 1
-abbrev pub COUNT_MAX : ℕ
-COUNT_MAX = 9223372036854775807
 
 -- ---- fields of lines
 

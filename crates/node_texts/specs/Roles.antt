@@ -9,8 +9,9 @@ use Rattle.ballot_law.specs.Words.{some_if, ip, ip_text}
 use Rattle.resp2.specs.Frame.{Frame, FrameList, int, bulk, items, no_frames, frame}
 use Rattle.node_texts.specs.declared.faults.TextFault.{TextFault}
 use Rattle.node_texts.specs.declared.faults.TextFault.TheVariants.{FieldCount, BadField}
+use Rattle.node_texts.specs.declared.info_fields.TheConstants.{COUNT_MAX}
 use Rattle.node_texts.specs.Faults.{◌>>=◌, wanted}
-use Rattle.node_texts.specs.Infos.{COUNT_MAX, role_name}
+use Rattle.node_texts.specs.Infos.{role_name}
 
 -- ---- elements
 

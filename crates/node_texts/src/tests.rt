@@ -394,3 +394,35 @@ fn faults_are_shown_by_name(rt: HostRuntime) -> Result<(), Fail> {
     );
     Ok(())
 }
+
+#[test]
+fn each_prefix_of_a_role_is_no_value_yet(rt: HostRuntime) -> Result<(), Fail> {
+    for n in 0..MASTER_ROLE.len() {
+        let mut frames = Frames::new(rt.alloc());
+        frames.feed(&MASTER_ROLE[..n])?;
+        assert!(rt; frames.next()?.is_none());
+    }
+    Ok(())
+}
+
+/// Where memory is refused the text must be as it was, and the same write must then go well.
+#[test]
+fn refused_memory_leaves_the_text_as_it_was(rt: HostRuntime) -> Result<(), Fail> {
+    let hello = read_hello(HELLO)?;
+    let role = Role::Master { offset: 0 };
+    let mut text = OutText::new(rt.alloc());
+    if let Err(fault) = write_hello(&hello, &mut text) {
+        assert_eq!(rt; fault, TextFault::NoMemory);
+        assert_eq!(rt; text.as_slice(), b"".as_slice());
+        write_hello(&hello, &mut text)?;
+    }
+    assert_eq!(rt; text.as_slice(), HELLO);
+    let mut answer = OutText::new(rt.alloc());
+    if let Err(fault) = write_role(&role, &mut answer) {
+        assert_eq!(rt; fault, TextFault::NoMemory);
+        assert_eq!(rt; answer.as_slice(), b"".as_slice());
+        write_role(&role, &mut answer)?;
+    }
+    assert_eq!(rt; answer.as_slice(), MASTER_ROLE);
+    Ok(())
+}

@@ -1,7 +1,7 @@
 -- Lines and words that end at the first byte of a kind.
-use Rattle.std.proofs.Common.{◌≡◌, ℕ, zero, suc, ◌+◌, ◌-◌, ◌≤◌, ◌<◌, Bool, true, false, eqb, List, [], ◌∷◌, ◌++◌, length, take, drop, get_or, refl, ap, sym, ◌∙◌, arith, add-one}
+use Rattle.std.proofs.Common.{◌≡◌, ℕ, zero, suc, ◌+◌, ◌-◌, ◌≤◌, ◌<◌, Bool, true, false, eqb, List, [], ◌∷◌, length, take, drop, refl, ap, sym, ◌∙◌, arith, add-one}
 use Rattle.std.specs.Prelude.{slice_index}
-use Rattle.sentinel_conf.specs.Words.{lines, with_front, is_blank, is_edge, is_lf, is_quote, IsEnd, after_edges, before_edges, joined_unless_empty, words_at}
+use Rattle.sentinel_conf.specs.Words.{lines, with_front, is_blank, is_edge, is_lf, is_quote, IsEnd, before_edges, joined_unless_empty, words_at}
 use Rattle.sentinel_conf.specs.Words.Place.{Between, Plain, Quoted}
 
 -- the place is one further behind one more byte

@@ -1,5 +1,5 @@
 -- Steps along a table of directives.
-use Rattle.std.proofs.Common.{◌≡◌, ℕ, Bool, true, false, List, ◌∷◌, ap}
+use Rattle.std.proofs.Common.{◌≡◌, ℕ, true, false, List, ◌∷◌, ap}
 use Rattle.ballot_law.specs.Orders.{same_bytes}
 use Rattle.ballot_law.specs.Words.{lower}
 use Rattle.sentinel_conf.specs.declared.lines.Line.{Line}

@@ -1,8 +1,8 @@
 -- Elements of lists, and what folds over the lines of a file give.
-use Rattle.std.proofs.Common.{◌≡◌, ℕ, zero, suc, ◌+◌, ◌≤◌, ◌<◌, max, Bool, true, false, cond, not, ◌&&◌, ◌||◌, List, [], ◌∷◌, ◌++◌, length, get_or, map, refl, ap, sym, ◌∙◌, subst, arith, ◌⊎◌, inl, inr, Option, Some, None, append_assoc}
+use Rattle.std.proofs.Common.{◌≡◌, ℕ, zero, suc, ◌≤◌, ◌<◌, Bool, true, false, cond, ◌||◌, List, [], ◌∷◌, ◌++◌, length, get_or, map, refl, ap, sym, ◌∙◌, subst, arith, ◌⊎◌, inl, inr, Option, Some, None}
 use Rattle.std.specs.Prelude.{unwrap_or, filter}
-use Rattle.std.specs.List.{list_any, list_all, flat_map, filter_map, cons_option, zip, AllZip, AllByRecursion}
-use Rattle.std.proofs.lemmas.Bool.{and_parts, or_parts, or_from, true≢false, false_from_ne_true, cases_Bool}
+use Rattle.std.specs.List.{list_any, flat_map, filter_map, cons_option, zip, AllZip, AllByRecursion}
+use Rattle.std.proofs.lemmas.Bool.{or_parts, or_from, true≢false, false_from_ne_true, cases_Bool}
 use Rattle.ballot_law.specs.Ordered.{repeats}
 use Rattle.sentinel_conf.specs.Meaning.{first, greatest}
 use Rattle.sentinel_conf.proofs.SetLemmas.{In, Rises, IsOrder, each_in, each_from}
@@ -41,8 +41,8 @@ pub each_flat_map : {X Y : Type 0} (f : X → List Y) (P : Y → Type 0) (xs : L
 each_flat_map f P [] h y i = absurd i
 each_flat_map f P (x ∷ xs) h y i =
     elim (in_append_cases y (f x) (flat_map f xs) i) as (λ _. P y) [
-      inl j ↦ h x (inl refl) y j
-    | inr j ↦ each_flat_map f P xs (λ z k. h z (inr k)) y j
+      | inl j ↦ h x (inl refl) y j
+      | inr j ↦ each_flat_map f P xs (λ z k. h z (inr k)) y j
     ]
 
 pub filter_yes : {X : Type 0} (p : X → Bool) (y : X) (xs : List X) → p y ≡ true → filter p (y ∷ xs) ≡ y ∷ filter p xs
@@ -74,7 +74,7 @@ from_filter p x (y ∷ xs) i = from_filter_by p x y xs (p y) refl (from_filter p
 rises_filter_by : {X : Type 0} (before : X → X → Bool) (p : X → Bool) (y : X) (xs : List X) (t : Bool) → p y ≡ t → AllByRecursion (λ z. before y z ≡ true) xs → Rises before (filter p xs) → Rises before (filter p (y ∷ xs))
 rises_filter_by before p y xs true e a r =
     subst (Rises before) (sym (filter_yes p y xs e))
-      (each_from (λ z. before y z ≡ true) (filter p xs) (λ z i. each_in (λ z. before y z ≡ true) xs a z (from_filter p z xs i).1), r)
+    (each_from (λ z. before y z ≡ true) (filter p xs) (λ z i. each_in (λ z. before y z ≡ true) xs a z (from_filter p z xs i).1), r)
 rises_filter_by before p y xs false e a r = subst (Rises before) (sym (filter_no p y xs e)) r
 
 pub rises_filter : {X : Type 0} (before : X → X → Bool) (p : X → Bool) (xs : List X) → Rises before xs → Rises before (filter p xs)
@@ -104,16 +104,16 @@ pub each_filter_map : {X Y : Type 0} (h : X → Option Y) (P : Y → Type 0) (xs
 each_filter_map h P [] a y i = absurd i
 each_filter_map h P (x ∷ xs) a y i =
     elim (cases_cons_option (h x) y (filter_map h xs) i) as (λ _. P y) [
-      inl e ↦ a x (inl refl) y e
-    | inr j ↦ each_filter_map h P xs (λ z k. a z (inr k)) y j
+      | inl e ↦ a x (inl refl) y e
+      | inr j ↦ each_filter_map h P xs (λ z k. a z (inr k)) y j
     ]
 
 pub in_filter_map : {X Y : Type 0} (h : X → Option Y) (y : Y) (xs : List X) → In y (filter_map h xs) → (z : X) × In z xs × (h z ≡ Some y)
 in_filter_map h y [] i = absurd i
 in_filter_map {X} h y (x ∷ xs) i =
     elim (cases_cons_option (h x) y (filter_map h xs) i) as (λ _. (z : X) × In z (x ∷ xs) × (h z ≡ Some y)) [
-      inl e ↦ (x, inl refl, e)
-    | inr j ↦ let r = in_filter_map h y xs j in (r.0, inr r.1, r.2)
+      | inl e ↦ (x, inl refl, e)
+      | inr j ↦ let r = in_filter_map h y xs j in (r.0, inr r.1, r.2)
     ]
 
 -- what the first gives, where all that give anything give the same
@@ -138,26 +138,29 @@ Apart same (x ∷ xs) = AllByRecursion (λ y. same y x ≡ false) xs × Apart sa
 
 pub apart_append : {X : Type 0} (same : X → X → Bool) (xs ys : List X) → Apart same xs → Apart same ys → ((x y : X) → In x xs → In y ys → same y x ≡ false) → Apart same (xs ++ ys)
 apart_append same [] ys a b h = b
-apart_append same (x ∷ xs) ys a b h =
-    (each_from (λ y. same y x ≡ false) (xs ++ ys) (λ y i.
-       elim (in_append_cases y xs ys i) as (λ _. same y x ≡ false) [
-         inl j ↦ each_in (λ y. same y x ≡ false) xs a.0 y j
-       | inr j ↦ h x y (inl refl) j
-       ]),
-     apart_append same xs ys a.1 b (λ z y i j. h z y (inr i) j))
+apart_append same (x ∷ xs) ys a b h = (
+  each_from (λ y. same y x ≡ false) (xs ++ ys) (λ y i.
+      elim (in_append_cases y xs ys i) as (λ _. same y x ≡ false) [
+        | inl j ↦ each_in (λ y. same y x ≡ false) xs a.0 y j
+        | inr j ↦ h x y (inl refl) j
+      ]),
+  apart_append same xs ys a.1 b (λ z y i j. h z y (inr i) j),
+)
 
 pub apart_map : {X Y : Type 0} (f : X → Y) (same : Y → Y → Bool) (test : X → X → Bool) (xs : List X) → ((x y : X) → test y x ≡ false → same (f y) (f x) ≡ false) → Apart test xs → Apart same (map f xs)
 apart_map f same test [] h a = tt
-apart_map f same test (x ∷ xs) h a =
-    (each_from (λ y. same y (f x) ≡ false) (map f xs) (each_map f (λ y. same y (f x) ≡ false) xs (λ y i. h x y (each_in (λ y. test y x ≡ false) xs a.0 y i))),
-     apart_map f same test xs h a.1)
+apart_map f same test (x ∷ xs) h a = (
+  each_from (λ y. same y (f x) ≡ false) (map f xs) (each_map f (λ y. same y (f x) ≡ false) xs (λ y i. h x y (each_in (λ y. test y x ≡ false) xs a.0 y i))),
+  apart_map f same test xs h a.1,
+)
 
 pub apart_rises : {X : Type 0} (before same : X → X → Bool) (o : IsOrder before) (s : IsSame same) (xs : List X) → Rises before xs → Apart same xs
 apart_rises before same o s [] r = tt
-apart_rises before same o s (x ∷ xs) r =
-    (each_from (λ y. same y x ≡ false) xs (λ y i. false_from_ne_true (same y x) (λ e.
-       true≢false (sym (each_in (λ y. before x y ≡ true) xs r.0 y i) ∙ ap (before x) (s.equal y x e) ∙ o.irreflexive x))),
-     apart_rises before same o s xs r.1)
+apart_rises before same o s (x ∷ xs) r = (
+  each_from (λ y. same y x ≡ false) xs (λ y i. false_from_ne_true (same y x) (λ e.
+      true≢false (sym (each_in (λ y. before x y ≡ true) xs r.0 y i) ∙ ap (before x) (s.equal y x e) ∙ o.irreflexive x))),
+  apart_rises before same o s xs r.1,
+)
 
 none_any : {X : Type 0} (p : X → Bool) (xs : List X) → list_any p xs ≡ false → (x : X) → In x xs → p x ≡ false
 none_any p [] h x i = absurd i
@@ -174,10 +177,11 @@ any_some p xs x i e = elim (cases_Bool (list_any p xs)) as (λ _. list_any p xs 
 pub apart_from_repeats : {X : Type 0} (same : X → X → Bool) (s : IsSame same) (xs : List X) → repeats same xs ≡ false → Apart same xs
 apart_from_repeats same s [] h = tt
 apart_from_repeats same s (x ∷ xs) h =
-    let both = or_parts (list_any (same x) xs) (repeats same xs) h in
-    (each_from (λ y. same y x ≡ false) xs (λ y i. false_from_ne_true (same y x) (λ e.
-       true≢false (sym (s.of_equal x) ∙ ap (same x) (sym (s.equal y x e)) ∙ none_any (same x) xs both.0 y i))),
-     apart_from_repeats same s xs both.1)
+    let both = or_parts (list_any (same x) xs) (repeats same xs) h in (
+      each_from (λ y. same y x ≡ false) xs (λ y i. false_from_ne_true (same y x) (λ e.
+          true≢false (sym (s.of_equal x) ∙ ap (same x) (sym (s.equal y x e)) ∙ none_any (same x) xs both.0 y i))),
+      apart_from_repeats same s xs both.1,
+    )
 
 any_key : {X K : Type 0} (key : X → K) (p : K → Bool) (xs : List X) → list_any p (map key xs) ≡ list_any (λ x. p (key x)) xs
 any_key key p [] = refl
@@ -206,7 +210,7 @@ one_of_key key same s (z ∷ xs) a x y (inr i) (inr j) e = one_of_key key same s
 apart_filter_by : {X : Type 0} (same : X → X → Bool) (p : X → Bool) (y : X) (xs : List X) (t : Bool) → p y ≡ t → AllByRecursion (λ z. same z y ≡ false) xs → Apart same (filter p xs) → Apart same (filter p (y ∷ xs))
 apart_filter_by same p y xs true e a r =
     subst (Apart same) (sym (filter_yes p y xs e))
-      (each_from (λ z. same z y ≡ false) (filter p xs) (λ z i. each_in (λ z. same z y ≡ false) xs a z (from_filter p z xs i).1), r)
+    (each_from (λ z. same z y ≡ false) (filter p xs) (λ z i. each_in (λ z. same z y ≡ false) xs a z (from_filter p z xs i).1), r)
 apart_filter_by same p y xs false e a r = subst (Apart same) (sym (filter_no p y xs e)) r
 
 pub apart_filter : {X : Type 0} (same : X → X → Bool) (p : X → Bool) (xs : List X) → Apart same xs → Apart same (filter p xs)

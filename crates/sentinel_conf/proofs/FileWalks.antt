@@ -1,47 +1,46 @@
 -- Steps from line to line.
-use Rattle.std.proofs.Common.{◌≡◌, ℕ, ◌+◌, Bool, true, false, if◌then◌else◌, List, [], ◌∷◌, ◌++◌, map, refl, ap, sym, ◌∙◌, append_assoc, append-nil, Option, Some, None}
+use Rattle.std.proofs.Common.{◌≡◌, ℕ, ◌+◌, Bool, true, false, if◌then◌else◌, List, [], ◌∷◌, ◌++◌, map, refl, ap, sym, ◌∙◌, Option, Some, None}
 use Rattle.std.specs.List.{filter_map, flat_map}
 use Rattle.std.proofs.lemmas.List.Elements.{filter_map-append}
 use Rattle.sentinel_conf.proofs.FileLemmas.{filter_yes, filter_no}
 use Rattle.sentinel_conf.specs.declared.faults.ConfKind.{ConfKind}
 use Rattle.sentinel_conf.specs.declared.faults.ConfFault.{ConfFault}
 use Rattle.sentinel_conf.specs.declared.lines.State.{State}
-use Rattle.sentinel_conf.specs.declared.lines.Setting.{Setting}
 use Rattle.sentinel_conf.specs.declared.lines.Line.{Line}
 use Rattle.sentinel_conf.specs.Lines.{line_of}
-use Rattle.sentinel_conf.specs.Meaning.{states, settings, state_of, setting_of, is_kept}
+use Rattle.sentinel_conf.specs.Meaning.{states, is_kept}
 use Rattle.sentinel_conf.specs.Rewritten.{ended}
 use Rattle.sentinel_conf.specs.Reading.{fault_at, first_fault, unknown_fault, kept_lines_of}
 
 pub fault_more : (test : List State → Line → Option ConfKind) (number : ℕ) (earlier : List State) (line : Line) (lines : List Line) → test earlier line ≡ None
-  → first_fault test number earlier (line ∷ lines) ≡ first_fault test (number + 1) (earlier ++ states (line ∷ [])) lines
+    → first_fault test number earlier (line ∷ lines) ≡ first_fault test (number + 1) (earlier ++ states (line ∷ [])) lines
 fault_more test number earlier line lines e =
     ap
-      (λ t. elim t as (λ _. Option ConfFault) [ Some kind ↦ Some (fault_at number kind) | None ↦ first_fault test (number + 1) (earlier ++ states (line ∷ [])) lines ])
-      e
+    (λ t. elim t as (λ _. Option ConfFault) [ Some kind ↦ Some (fault_at number kind) | None ↦ first_fault test (number + 1) (earlier ++ states (line ∷ [])) lines ])
+    e
 
 pub fault_here : (test : List State → Line → Option ConfKind) (number : ℕ) (earlier : List State) (line : Line) (lines : List Line) (kind : ConfKind)
-  → test earlier line ≡ Some kind → first_fault test number earlier (line ∷ lines) ≡ Some (fault_at number kind)
+    → test earlier line ≡ Some kind → first_fault test number earlier (line ∷ lines) ≡ Some (fault_at number kind)
 fault_here test number earlier line lines kind e =
     ap
-      (λ t. elim t as (λ _. Option ConfFault) [ Some kind ↦ Some (fault_at number kind) | None ↦ first_fault test (number + 1) (earlier ++ states (line ∷ [])) lines ])
-      e
+    (λ t. elim t as (λ _. Option ConfFault) [ Some kind ↦ Some (fault_at number kind) | None ↦ first_fault test (number + 1) (earlier ++ states (line ∷ [])) lines ])
+    e
 
 module _ (test : Line → Option ConfKind) (number : ℕ) (one other : List State) (line : Line) (lines : List Line) where
   any_step : first_fault (λ _. test) (number + 1) (one ++ states (line ∷ [])) lines ≡ first_fault (λ _. test) (number + 1) (other ++ states (line ∷ [])) lines
-    → (t : Option ConfKind) → test line ≡ t → first_fault (λ _. test) number one (line ∷ lines) ≡ first_fault (λ _. test) number other (line ∷ lines)
+      → (t : Option ConfKind) → test line ≡ t → first_fault (λ _. test) number one (line ∷ lines) ≡ first_fault (λ _. test) number other (line ∷ lines)
   any_step h (Some kind) e = fault_here (λ _. test) number one line lines kind e ∙ sym (fault_here (λ _. test) number other line lines kind e)
   any_step h None e = fault_more (λ _. test) number one line lines e ∙ h ∙ sym (fault_more (λ _. test) number other line lines e)
 
 -- a test that doesn't look at the lines before
 pub any_earlier : (test : Line → Option ConfKind) (number : ℕ) (one other : List State) (lines : List Line)
-  → first_fault (λ _. test) number one lines ≡ first_fault (λ _. test) number other lines
+    → first_fault (λ _. test) number one lines ≡ first_fault (λ _. test) number other lines
 any_earlier test number one other [] = refl
 any_earlier test number one other (line ∷ lines) =
     any_step test number one other line lines (any_earlier test (number + 1) (one ++ states (line ∷ [])) (other ++ states (line ∷ [])) lines) (test line) refl
 
 pub unknown_more : (names : List (List ℕ)) (number : ℕ) (text : List ℕ) (all texts : List (List ℕ)) → all ≡ text ∷ texts → unknown_fault names (line_of text) ≡ None
-  → first_fault (λ _. unknown_fault names) number [] (map line_of all) ≡ first_fault (λ _. unknown_fault names) (number + 1) [] (map line_of texts)
+    → first_fault (λ _. unknown_fault names) number [] (map line_of all) ≡ first_fault (λ _. unknown_fault names) (number + 1) [] (map line_of texts)
 unknown_more names number text all texts h e =
     ap (λ t. first_fault (λ _. unknown_fault names) number [] (map line_of t)) h
     ∙ fault_more (λ _. unknown_fault names) number [] (line_of text) (map line_of texts) e
@@ -51,10 +50,10 @@ pub filter_map_more : {X Y : Type 0} (f : X → Option Y) (x : X) (xs : List X) 
 filter_map_more f x xs = filter_map-append f (x ∷ []) xs
 
 pub kept_more : (text : List ℕ) (texts : List (List ℕ))
-  → flat_map ended (kept_lines_of (text ∷ texts)) ≡ (if is_kept (line_of text) then ended text else []) ++ flat_map ended (kept_lines_of texts)
+    → flat_map ended (kept_lines_of (text ∷ texts)) ≡ (if is_kept (line_of text) then ended text else []) ++ flat_map ended (kept_lines_of texts)
 kept_more text texts = by_test (is_kept (line_of text)) refl where
   by_test : (t : Bool) → is_kept (line_of text) ≡ t
-    → flat_map ended (kept_lines_of (text ∷ texts)) ≡ (if is_kept (line_of text) then ended text else []) ++ flat_map ended (kept_lines_of texts)
+      → flat_map ended (kept_lines_of (text ∷ texts)) ≡ (if is_kept (line_of text) then ended text else []) ++ flat_map ended (kept_lines_of texts)
   by_test true e =
       ap (flat_map ended) (filter_yes (λ t. is_kept (line_of t)) text texts e)
       ∙ ap (λ t. (if t then ended text else []) ++ flat_map ended (kept_lines_of texts)) (sym e)

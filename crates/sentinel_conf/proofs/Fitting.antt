@@ -4,7 +4,7 @@ use Rattle.ballot_law.specs.declared.cards.Kept.{Kept as KeptPlan}
 use Rattle.sentinel_conf.specs.Meaning.{ConfPlan}
 use Rattle.sentinel_conf.specs.Rewritten.{rewritten, IsKeptPart}
 use Rattle.sentinel_conf.specs.Reading.{FILE_MAX, IsRead}
-use Rattle.sentinel_conf.specs.Room.{ROOM, bounded}
+use Rattle.sentinel_conf.specs.Room.{bounded}
 use Rattle.ballot_law.specs.Rosters.{MasterPlan}
 use Rattle.sentinel_conf.specs.Meaning.{settings_of}
 use Rattle.sentinel_conf.proofs.ReadAgain.{fits, names, kept_settings}
@@ -15,7 +15,7 @@ pub rewritten_fits : (conf : ConfPlan) (kept : KeptPlan) → IsRead conf → IsK
 rewritten_fits conf kept r k = fits conf kept (conf_is r.bytes conf r.reads) k
 
 pub whole_text : (conf seen : ConfPlan) (kept : KeptPlan) (text : List ℕ) → seen ≡ conf → IsRead seen → text ≡ bounded (rewritten seen kept) → IsKeptPart conf kept
-  → text ≡ rewritten conf kept
+    → text ≡ rewritten conf kept
 whole_text conf seen kept text v r h k =
     let short : length (rewritten conf kept) ≤ FILE_MAX = rewritten_fits conf kept (subst IsRead v r) k in
     h ∙ ap (λ t. bounded (rewritten t kept)) v ∙ bounded_all (rewritten conf kept) (omega arith)

@@ -1,4 +1,4 @@
-mod Rows
+mod WorkedFiles
 pub mod SpacedWords
 pub mod Cuts
 pub mod RoomLemmas

@@ -1,23 +1,20 @@
 -- The lines of a rewritten file: what is kept, then the state.
-use Rattle.std.proofs.Common.{◌≡◌, ℕ, zero, suc, ◌+◌, ◌≤◌, ◌<◌, Bool, true, false, cond, not, List, [], ◌∷◌, ◌++◌, length, map, refl, ap, sym, ◌∙◌, subst, arith, ◌⊎◌, inl, inr, Option, Some, None, Result, Ok, Err, append_assoc}
-use Rattle.std.specs.Prelude.{filter}
-use Rattle.std.specs.List.{list_any, flat_map, filter_map, cons_option, AllByRecursion}
+use Rattle.std.proofs.Common.{◌≡◌, ℕ, ◌+◌, true, false, cond, List, [], ◌∷◌, ◌++◌, map, refl, ap, sym, ◌∙◌, subst, inl, inr, Option, Some, None}
+use Rattle.std.specs.List.{list_any, cons_option, AllByRecursion}
 use Rattle.std.proofs.lemmas.List.Elements.{filter_map-append, filter-append}
 use Rattle.std.proofs.lemmas.List.Folds.{list_any-append}
 use Rattle.std.proofs.lemmas.Bool.{or_from}
-use Rattle.ballot_law.specs.Orders.{same_bytes}
 use Rattle.sentinel_conf.specs.declared.faults.ConfKind.{ConfKind}
 use Rattle.sentinel_conf.specs.declared.faults.ConfKind.TheVariants.{Twice}
 use Rattle.sentinel_conf.specs.declared.faults.ConfFault.{ConfFault}
 use Rattle.sentinel_conf.specs.declared.lines.State.{State}
-use Rattle.sentinel_conf.specs.declared.lines.Setting.{Setting}
 use Rattle.sentinel_conf.specs.declared.lines.Line.{Line}
 use Rattle.sentinel_conf.specs.declared.lines.Line.TheVariants as line
 use Rattle.ballot_law.specs.Words.{some_if}
 use Rattle.sentinel_conf.specs.Lines.{line_of, spelled, same_key}
 use Rattle.sentinel_conf.specs.Meaning.{states, settings, state_of, setting_of, is_kept}
 use Rattle.sentinel_conf.specs.Reading.{fault_at, line_fault, first_fault, kept_lines_of}
-use Rattle.sentinel_conf.proofs.SetLemmas.{In, each_in, each_from}
+use Rattle.sentinel_conf.proofs.SetLemmas.{In, each_in}
 use Rattle.sentinel_conf.proofs.StateLemmas.{IsState, line_of-spelled}
 use Rattle.sentinel_conf.proofs.FileLemmas.{Apart}
 
@@ -127,8 +124,8 @@ clean_none test n earlier (l ∷ ls) h =
     ∙ clean_none test (n + 1) (earlier ++ states (l ∷ [])) ls h.1
 
 clean_step : (test : List State → Line → Option ConfKind) (n : ℕ) (earlier : List State) (l : Line) (ls : List Line) (o : Option ConfKind) → test earlier l ≡ o
-  → (elim o as (λ _. Option ConfFault) [ Some kind ↦ Some (fault_at n kind) | None ↦ first_fault test (n + 1) (earlier ++ states (l ∷ [])) ls ]) ≡ None
-  → (test earlier l ≡ None) × (first_fault test (n + 1) (earlier ++ states (l ∷ [])) ls ≡ None)
+    → (elim o as (λ _. Option ConfFault) [ Some kind ↦ Some (fault_at n kind) | None ↦ first_fault test (n + 1) (earlier ++ states (l ∷ [])) ls ]) ≡ None
+    → (test earlier l ≡ None) × (first_fault test (n + 1) (earlier ++ states (l ∷ [])) ls ≡ None)
 clean_step test n earlier l ls None e h = (e, h)
 clean_step test n earlier l ls (Some kind) e h = cc
 
@@ -150,20 +147,22 @@ each_clean test earlier (l ∷ ls) h = (h.0, each_clean test (earlier ++ states 
 -- no two state lines have one key, and none has that of a line before
 clean_states : (earlier ss : List State) → ((s : State) → In s ss → list_any (same_key s) earlier ≡ false) → Apart same_key ss → Clean line_fault earlier (map line.State ss)
 clean_states earlier [] h a = tt
-clean_states earlier (s ∷ ss) h a =
-    (ap (λ t. some_if t Twice) (h s (inl refl)),
-     clean_states (earlier ++ s ∷ []) ss
-       (λ t i. list_any-append (same_key t) earlier (s ∷ [])
-         ∙ or_from (list_any (same_key t) earlier) (list_any (same_key t) (s ∷ [])) (h t (inr i)) (or_from (same_key t s) false (each_in (λ t. same_key t s ≡ false) ss a.0 t i) refl))
-       a.1)
+clean_states earlier (s ∷ ss) h a = (
+  ap (λ t. some_if t Twice) (h s (inl refl)),
+  clean_states (earlier ++ s ∷ []) ss
+      (λ t i. list_any-append (same_key t) earlier (s ∷ [])
+      ∙ or_from (list_any (same_key t) earlier) (list_any (same_key t) (s ∷ [])) (h t (inr i)) (or_from (same_key t s) false (each_in (λ t. same_key t s ≡ false) ss a.0 t i) refl))
+      a.1,
+)
 
 clean_plain : (earlier : List State) (texts : List (List ℕ)) (more : List Line) → ArePlainTexts texts → Clean line_fault earlier more → Clean line_fault earlier (map line_of texts ++ more)
 clean_plain earlier [] more p h = h
-clean_plain earlier (t ∷ ts) more p h =
-    (plain_no_fault earlier (line_of t) p.0,
-     subst (λ e. Clean line_fault e (map line_of ts ++ more))
-       (sym (ap (λ o. earlier ++ cons_option o []) (no_state (line_of t) p.0) ∙ append_nil earlier))
-       (clean_plain earlier ts more p.1 h))
+clean_plain earlier (t ∷ ts) more p h = (
+  plain_no_fault earlier (line_of t) p.0,
+  subst (λ e. Clean line_fault e (map line_of ts ++ more))
+      (sym (ap (λ o. earlier ++ cons_option o []) (no_state (line_of t) p.0) ∙ append_nil earlier))
+      (clean_plain earlier ts more p.1 h),
+)
 
 pub none_twice : (texts : List (List ℕ)) (ss : List State) → ArePlainTexts texts → AreStates ss → Apart same_key ss → first_fault line_fault 1 [] (map line_of (texts ++ map spelled ss)) ≡ None
 none_twice texts ss p v a =

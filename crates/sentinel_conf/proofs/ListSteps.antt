@@ -1,10 +1,10 @@
 -- Steps of loops that go from element to element.
-use Rattle.std.proofs.Common.{◌≡◌, ℕ, suc, ◌-◌, ◌≤◌, List, [], ◌∷◌, ◌++◌, length, map, take, drop, get_or, refl, ap, sym, ◌∙◌, arith, append_assoc}
+use Rattle.std.proofs.Common.{◌≡◌, suc, ◌-◌, ◌≤◌, List, [], ◌∷◌, ◌++◌, length, map, take, drop, get_or, refl, ap, sym, ◌∙◌, arith, append_assoc}
 use Rattle.std.proofs.lemmas.List.{take_all}
 
 -- one element more has been mapped
 pub map_more : {X Y : Type 0} (f : X → Y) (all done : List Y) (rest : List X) (x : X) (new : List Y) → 1 ≤ length rest → x ≡ get_or rest 0 x
-  → new ≡ done ++ f x ∷ [] → all ≡ done ++ map f rest → all ≡ new ++ map f (take (length rest - 1) (drop 1 rest))
+    → new ≡ done ++ f x ∷ [] → all ≡ done ++ map f rest → all ≡ new ++ map f (take (length rest - 1) (drop 1 rest))
 map_more f all done [] x new l e n h = absurd (omega arith)
 map_more f all done (y ∷ ys) x new l e n h =
     h

@@ -1,12 +1,12 @@
 -- A word is a name exactly where its bytes are.
-use Rattle.std.proofs.Common.{◌≡◌, ℕ, ◌≤◌, ◌<◌, Bool, true, false, ◌||◌, ◌&&◌, List, [], ◌∷◌, length, get_or, Option, Some, None, refl, ap, sym, ◌∙◌, subst, arith}
+use Rattle.std.proofs.Common.{◌≡◌, ℕ, ◌≤◌, Bool, true, false, ◌&&◌, List, length, get_or, Some, None, refl, ap, arith}
 use Rattle.std.specs.Prelude.{nat_lt, nat_le, All}
 use Rattle.std.specs.List.{list_all}
 use Rattle.std.proofs.lemmas.Bool.{and_from, and_parts}
 use Rattle.std.proofs.lemmas.Bool.Decides.{nat_tests}
 use Rattle.std.proofs.lemmas.List.Sums.{AllPass-from_list_all, list_all-from_AllPass}
 use Rattle.ballot_law.specs.Names.{IsName, IsNameByte}
-use Rattle.ballot_law.specs.Words.{some_if, is_digit, is_name_byte, name}
+use Rattle.ballot_law.specs.Words.{some_if, is_name_byte, name}
 
 byte_test : (b : ℕ) → IsNameByte b → is_name_byte b ≡ true
 byte_test b h = grind (arith, nat_tests)
@@ -23,7 +23,7 @@ bytes_of bytes h = λ k d l. test_byte (get_or bytes k d) (AllPass-from_list_all
 fits : (bytes : List ℕ) → IsName bytes → (nat_lt 0 (length bytes) && (nat_le (length bytes) 64 && list_all is_name_byte bytes)) ≡ true
 fits bytes h =
     and_from (nat_lt 0 (length bytes)) (nat_le (length bytes) 64 && list_all is_name_byte bytes) (let k : 1 ≤ length bytes = h.0 in let a : nat_lt 0 (length bytes) ≡ true = grind (arith, nat_tests) in a)
-      (and_from (nat_le (length bytes) 64) (list_all is_name_byte bytes) (let k : length bytes ≤ 64 = h.1 in let b : nat_le (length bytes) 64 ≡ true = grind (arith, nat_tests) in b) (tests bytes h.2))
+    (and_from (nat_le (length bytes) 64) (list_all is_name_byte bytes) (let k : length bytes ≤ 64 = h.1 in let b : nat_le (length bytes) 64 ≡ true = grind (arith, nat_tests) in b) (tests bytes h.2))
 
 fits_back : (bytes : List ℕ) → (nat_lt 0 (length bytes) && (nat_le (length bytes) 64 && list_all is_name_byte bytes)) ≡ true → IsName bytes
 fits_back bytes h =

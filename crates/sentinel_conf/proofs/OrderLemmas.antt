@@ -1,6 +1,6 @@
 -- The orders of addresses, run ids, Sentinels and names, in each of which only equal values tie.
-use Rattle.std.proofs.Common.{◌≡◌, ℕ, Bool, true, false, ◌&&◌, ◌||◌, eqb, ltb, List, [], ◌∷◌, refl, ap, sym, ◌∙◌, subst, arith, ◌⊎◌, inl, inr}
-use Rattle.std.proofs.lemmas.Bool.{and_parts, and_from, or_cases, or_left, or_right, or_from, or_parts, and_left, and_right, and_cases, true≢false, cases_Bool}
+use Rattle.std.proofs.Common.{◌≡◌, ℕ, Bool, true, false, ◌&&◌, ◌||◌, eqb, ltb, List, [], ◌∷◌, refl, ap, sym, ◌∙◌, arith, ◌⊎◌, inl, inr}
+use Rattle.std.proofs.lemmas.Bool.{and_parts, and_from, or_cases, or_left, or_right, or_from, or_parts, and_right, and_cases, true≢false}
 use Rattle.std.proofs.lemmas.Bool.Decides.{nat_tests}
 use Rattle.ballot_law.specs.declared.addresses.Addr.{Addr}
 use Rattle.ballot_law.specs.declared.addresses.RunId.{RunId}
@@ -43,13 +43,13 @@ module _ {X A B : Type 0} (p : X → A) (q : X → B) (whole : (x y : X) → p x
         let one = and_parts (same (p x) (p y)) (g (q x) (q y)) h in
         let two = and_parts (same (p y) (p z)) (g (q y) (q z)) k in
         or_right (f (p x) (p z)) (same (p x) (p z) && g (q x) (q z))
-          (and_from (same (p x) (p z)) (g (q x) (q z)) (ap (λ a. same a (p z)) (s.equal (p x) (p y) one.0) ∙ two.0) (u.transitive (q x) (q y) (q z) one.1 two.1))
+        (and_from (same (p x) (p z)) (g (q x) (q z)) (ap (λ a. same a (p z)) (s.equal (p x) (p y) one.0) ∙ two.0) (u.transitive (q x) (q y) (q z) one.1 two.1))
 
     first_ties : (x y : X) → lex x y ≡ false → lex y x ≡ false → p x ≡ p y
     first_ties x y h k =
         o.tied (p x) (p y)
-          (or_parts (f (p x) (p y)) (same (p x) (p y) && g (q x) (q y)) h).0
-          (or_parts (f (p y) (p x)) (same (p y) (p x) && g (q y) (q x)) k).0
+        (or_parts (f (p x) (p y)) (same (p x) (p y) && g (q x) (q y)) h).0
+        (or_parts (f (p y) (p x)) (same (p y) (p x) && g (q y) (q x)) k).0
 
     second_free_by : (x y : X) → p x ≡ p y → (same (p x) (p y) ≡ false) ⊎ (g (q x) (q y) ≡ false) → g (q x) (q y) ≡ false
     second_free_by x y e (inl h) = absurd (true≢false (sym (s.of_equal (p x)) ∙ ap (same (p x)) e ∙ h))
@@ -58,17 +58,17 @@ module _ {X A B : Type 0} (p : X → A) (q : X → B) (whole : (x y : X) → p x
     second_free : (x y : X) → p x ≡ p y → lex x y ≡ false → g (q x) (q y) ≡ false
     second_free x y e h =
         second_free_by x y e
-          (and_cases (same (p x) (p y)) (g (q x) (q y)) (or_parts (f (p x) (p y)) (same (p x) (p y) && g (q x) (q y)) h).1)
+        (and_cases (same (p x) (p y)) (g (q x) (q y)) (or_parts (f (p x) (p y)) (same (p x) (p y) && g (q x) (q y)) h).1)
 
     pub lex_order : IsOrder lex
     lex_order = record {
       irreflexive = λ x.
-        or_from (f (p x) (p x)) (same (p x) (p x) && g (q x) (q x)) (o.irreflexive (p x)) (and_right (same (p x) (p x)) (g (q x) (q x)) (u.irreflexive (q x)));
+          or_from (f (p x) (p x)) (same (p x) (p x) && g (q x) (q x)) (o.irreflexive (p x)) (and_right (same (p x) (p x)) (g (q x) (q x)) (u.irreflexive (q x)));
       transitive = λ x y z h k.
-        chain_by x y z (or_cases (f (p x) (p y)) (same (p x) (p y) && g (q x) (q y)) h) (or_cases (f (p y) (p z)) (same (p y) (p z) && g (q y) (q z)) k);
+          chain_by x y z (or_cases (f (p x) (p y)) (same (p x) (p y) && g (q x) (q y)) h) (or_cases (f (p y) (p z)) (same (p y) (p z) && g (q y) (q z)) k);
       tied = λ x y h k.
-        let e = first_ties x y h k in
-        whole x y e (u.tied (q x) (q y) (second_free x y e h) (second_free y x (sym e) k));
+          let e = first_ties x y h k in
+          whole x y e (u.tied (q x) (q y) (second_free x y e h) (second_free y x (sym e) k));
     }
 
     pub lex_same : (b : B → B → Bool) → IsSame b → IsSame (λ x y. same (p x) (p y) && b (q x) (q y))
@@ -109,7 +109,7 @@ bytes_irreflexive [] = refl
 bytes_irreflexive (x ∷ xs) = or_from (ltb x x) (eqb x x && bytes_before xs xs) (number_order.irreflexive x) (and_right (eqb x x) (bytes_before xs xs) (bytes_irreflexive xs))
 
 bytes_chain_by : (x y z : ℕ) (xs ys zs : List ℕ) → (bytes_before xs ys ≡ true → bytes_before ys zs ≡ true → bytes_before xs zs ≡ true)
-  → (ltb x y ≡ true) ⊎ ((eqb x y && bytes_before xs ys) ≡ true) → (ltb y z ≡ true) ⊎ ((eqb y z && bytes_before ys zs) ≡ true) → (ltb x z || (eqb x z && bytes_before xs zs)) ≡ true
+    → (ltb x y ≡ true) ⊎ ((eqb x y && bytes_before xs ys) ≡ true) → (ltb y z ≡ true) ⊎ ((eqb y z && bytes_before ys zs) ≡ true) → (ltb x z || (eqb x z && bytes_before xs zs)) ≡ true
 bytes_chain_by x y z xs ys zs t (inl h) (inl k) = or_left (ltb x z) (eqb x z && bytes_before xs zs) (number_order.transitive x y z h k)
 bytes_chain_by x y z xs ys zs t (inl h) (inr k) =
     let both = and_parts (eqb y z) (bytes_before ys zs) k in
@@ -144,7 +144,7 @@ bytes_tied (x ∷ xs) (y ∷ ys) h k =
     let b = or_parts (ltb y x) (eqb y x && bytes_before ys xs) k in
     let e : x ≡ y = number_order.tied x y a.0 b.0 in
     let rest : xs ≡ ys =
-      bytes_tied xs ys (bytes_free_by x y xs ys e (and_cases (eqb x y) (bytes_before xs ys) a.1)) (bytes_free_by y x ys xs (sym e) (and_cases (eqb y x) (bytes_before ys xs) b.1)) in
+    bytes_tied xs ys (bytes_free_by x y xs ys e (and_cases (eqb x y) (bytes_before xs ys) a.1)) (bytes_free_by y x ys xs (sym e) (and_cases (eqb y x) (bytes_before ys xs) b.1)) in
     cc
 
 pub bytes_order : IsOrder bytes_before

@@ -1,23 +1,18 @@
 -- A rewritten file says what its conf and its kept part say.
-use Rattle.std.proofs.Common.{◌≡◌, ℕ, zero, suc, ◌+◌, ◌≤◌, ◌<◌, ◌≢◌, max, Bool, true, false, cond, not, ◌&&◌, ◌||◌, eqb, ltb, leb, List, [], ◌∷◌, ◌++◌, length, get_or, map, refl, ap, sym, ◌∙◌, subst, arith, ◌⊎◌, inl, inr, Option, Some, None, Result, Ok, Err, append_assoc, length-append}
-use Rattle.std.specs.Prelude.{unwrap_or, filter, decimal, codes}
-use Rattle.std.specs.List.{list_any, list_all, flat_map, filter_map, cons_option, zip, AllZip, AllByRecursion}
+use Rattle.std.proofs.Common.{◌≡◌, ℕ, ◌≤◌, max, Bool, true, false, not, eqb, ltb, List, [], ◌∷◌, ◌++◌, length, map, refl, ap, sym, ◌∙◌, subst, arith, inl, inr, Option, Some, None, Result, Ok, Err}
+use Rattle.std.specs.List.{list_any, flat_map, filter_map, zip, AllByRecursion}
 use Rattle.std.specs.Str.{IsUtf8, is_utf8}
-use Rattle.std.proofs.lemmas.Bool.{and_parts, and_right, or_cases, or_parts, or_from, true≢false, false_from_ne_true, cases_Bool, not-true, not_from_true, not_from_false, le-ltb}
-use Rattle.std.proofs.lemmas.Bool.Decides.{nat_tests}
+use Rattle.std.proofs.lemmas.Bool.{and_parts, and_right, or_cases, true≢false, false_from_ne_true, cases_Bool, not_from_true, not_from_false, le-ltb}
 use Rattle.std.proofs.lemmas.Str.{is_utf8-from_IsUtf8}
-use Rattle.std.proofs.lemmas.List.Elements.{filter_map-append, filter-append}
 use Rattle.ballot_law.specs.declared.addresses.Addr.{Addr}
-use Rattle.ballot_law.specs.declared.addresses.RunId.{RunId}
 use Rattle.ballot_law.specs.declared.rosters.Member.{Member}
 use Rattle.ballot_law.specs.Ordered.{in_order, repeats}
 use Rattle.ballot_law.specs.Rosters.{Roster as RosterPlan, MasterPlan}
-use Rattle.ballot_law.specs.Orders.{same_bytes, same_id, same_addr, addr_before, id_before, bytes_before}
+use Rattle.ballot_law.specs.Orders.{same_bytes, same_id, same_addr, addr_before, bytes_before}
 use Rattle.ballot_law.specs.RosterFaults.{fault_of, first_that_fits, tests}
 use Rattle.sentinel_conf.specs.declared.faults.ConfKind.{ConfKind}
-use Rattle.sentinel_conf.specs.declared.faults.ConfKind.TheVariants.{TooLong, NotUtf8, UnknownMaster, Twice, NoMyId, Roster}
+use Rattle.sentinel_conf.specs.declared.faults.ConfKind.TheVariants.{TooLong, NotUtf8, UnknownMaster, NoMyId, Roster}
 use Rattle.sentinel_conf.specs.declared.faults.ConfFault.{ConfFault}
-use Rattle.ballot_law.specs.declared.cards.Card.{Card}
 use Rattle.ballot_law.specs.declared.cards.KeptMaster.{KeptMaster}
 use Rattle.sentinel_conf.specs.declared.settings.Settings.{Settings}
 use Rattle.sentinel_conf.specs.declared.lines.State.{State}
@@ -28,20 +23,20 @@ use Rattle.sentinel_conf.specs.declared.lines.Line.TheVariants as line
 use Rattle.sentinel_conf.specs.Words.{lines}
 use Rattle.ballot_law.specs.Words.{some_if}
 use Rattle.sentinel_conf.specs.Lines.{line_of, spelled, same_key, MAX_EPOCH}
-use Rattle.sentinel_conf.specs.Meaning.{ConfPlan, states, settings, state_of, setting_of, name_of, quorum_of, monitored_at, node_of, config_of, voted_of, epoch_of, known_of, my_id_of, first, member_before, names_of, master_of, kept_master_of, members_of, greatest, kept_of, own_addr, own_port, settings_of, plan_of, is_kept, conf_of}
+use Rattle.sentinel_conf.specs.Meaning.{ConfPlan, states, settings, name_of, quorum_of, monitored_at, node_of, config_of, voted_of, epoch_of, known_of, my_id_of, first, member_before, names_of, master_of, kept_master_of, members_of, greatest, kept_of, own_addr, own_port, settings_of, conf_of}
 use Rattle.ballot_law.specs.declared.cards.Kept.{Kept as KeptPlan}
 use Rattle.ballot_law.specs.Rosters.{no_addr}
-use Rattle.sentinel_conf.specs.Rewritten.{others, replicas, master_states, state_lines, rewritten_lines, ended, rewritten, longest, IsKeptMaster, IsKeptPart}
-use Rattle.sentinel_conf.specs.Reading.{FILE_MAX, fault_at, line_fault, state_name, setting_name, spoken_of, unknown_fault, first_fault, ◌>>=◌, unless, guard, found, roster_checked, kept_lines_of, whole_conf, conf_of_lines, conf_of_bytes}
+use Rattle.sentinel_conf.specs.Rewritten.{others, replicas, master_states, state_lines, rewritten, longest, IsKeptMaster, IsKeptPart}
+use Rattle.sentinel_conf.specs.Reading.{FILE_MAX, fault_at, line_fault, state_name, spoken_of, unknown_fault, first_fault, ◌>>=◌, unless, guard, found, roster_checked, whole_conf, conf_of_lines, conf_of_bytes}
 use Rattle.sentinel_conf.proofs.SpacedWords.{HasNoLf, lines-ended}
 use Rattle.ballot_law.proofs.WordLemmas.{same_bytes-refl, same_bytes-true}
 use Rattle.sentinel_conf.proofs.SetLemmas.{In, Rises, each_in, each_from, in_order_is}
 use Rattle.sentinel_conf.proofs.OrderLemmas.{addr_order, addr_same, id_same, member_order, bytes_order, bytes_same}
-use Rattle.sentinel_conf.proofs.StateLemmas.{IsAddr, IsId, IsName, IsState, line_of-spelled, no_lf_spelled}
+use Rattle.sentinel_conf.proofs.StateLemmas.{IsAddr, IsId, IsName, IsState, no_lf_spelled}
 use Rattle.sentinel_conf.proofs.SizeLemmas.{rewritten_size, longest_is}
 use Rattle.sentinel_conf.proofs.TextLemmas.{utf8_spelled, utf8_ended}
-use Rattle.sentinel_conf.proofs.LineLemmas.{IsPlainLine, ArePlainTexts, AreStates, lines_again, states_again, settings_again, kept_again as kept_lines_again, clean_none, clean_each, none_twice, map_append}
-use Rattle.sentinel_conf.proofs.FileLemmas.{in_append_left, in_append_right, in_append_cases, in_map, each_map, in_flat_map, each_flat_map, to_filter, from_filter, rises_filter, to_filter_map, each_filter_map, first_is, greatest-le, Apart, apart_back, apart_append, apart_map, apart_rises, any_none, any_some, apart_from_repeats, repeats_key, one_of_key, apart_filter, zipped, in_from_at}
+use Rattle.sentinel_conf.proofs.LineLemmas.{IsPlainLine, ArePlainTexts, AreStates, lines_again, states_again, settings_again, kept_again as kept_lines_again, clean_none, clean_each, none_twice}
+use Rattle.sentinel_conf.proofs.FileLemmas.{in_append_left, in_append_right, in_append_cases, in_map, each_map, in_flat_map, each_flat_map, to_filter, from_filter, rises_filter, to_filter_map, each_filter_map, first_is, greatest-le, Apart, apart_back, apart_append, apart_map, apart_rises, any_some, apart_from_repeats, repeats_key, one_of_key, apart_filter, zipped, in_from_at}
 
 abbrev pub names : ConfPlan → List (List ℕ)
 names conf = map (λ master. master.name) conf.roster.masters
@@ -144,8 +139,8 @@ named conf p s (inr (inl f)) = ap state_name f
 named conf p s (inr (inr (inl f))) = ap state_name f
 named conf p s (inr (inr (inr j))) =
     elim (in_append_cases s (map (KnownReplica p.0.name) (replicas p.0 p.1)) (map (λ member. KnownSentinel p.0.name member.addr member.id) (others conf)) j) as (λ _. state_name s ≡ Some p.0.name) [
-      inl r ↦ each_map (KnownReplica p.0.name) (λ s. state_name s ≡ Some p.0.name) (replicas p.0 p.1) (λ a q. refl) s r
-    | inr r ↦ each_map (λ (member : Member). KnownSentinel p.0.name member.addr member.id) (λ s. state_name s ≡ Some p.0.name) (others conf) (λ m q. refl) s r
+      | inl r ↦ each_map (KnownReplica p.0.name) (λ s. state_name s ≡ Some p.0.name) (replicas p.0 p.1) (λ a q. refl) s r
+      | inr r ↦ each_map (λ (member : Member). KnownSentinel p.0.name member.addr member.id) (λ s. state_name s ≡ Some p.0.name) (others conf) (λ m q. refl) s r
     ]
 
 -- a state line of a master has another key than one of none
@@ -156,9 +151,9 @@ not_of_none s t n e f = false_from_ne_true (same_key s t) (λ h. let g : None �
 not_of_other : (s t : State) (m n : List ℕ) → state_name s ≡ Some m → state_name t ≡ Some n → same_bytes m n ≡ false → same_key s t ≡ false
 not_of_other s t m n e f h =
     false_from_ne_true (same_key s t) (λ k.
-      let g : Some m ≡ Some n = sym e ∙ key_name s t k ∙ f in
-      let w : m ≡ n = cc in
-      true≢false (sym (same_bytes-refl m) ∙ ap (same_bytes m) w ∙ h))
+    let g : Some m ≡ Some n = sym e ∙ key_name s t k ∙ f in
+    let w : m ≡ n = cc in
+    true≢false (sym (same_bytes-refl m) ∙ ap (same_bytes m) w ∙ h))
 
 apart_master : (conf : ConfPlan) (p : MasterPlan × KeptMaster) → Rises addr_before p.0.nodes → Apart same_id (map (λ (member : Member). member.id) conf.roster.sentinels) → Apart same_key (master_states conf p)
 apart_master conf p r a =
@@ -166,37 +161,42 @@ apart_master conf p r a =
     let reps : List State = map (KnownReplica n) (replicas p.0 p.1) in
     let sens : List State = map (λ (member : Member). KnownSentinel n member.addr member.id) (others conf) in
     let tails : (P : State → Type 0) → ((a : Addr) → P (KnownReplica n a)) → ((m : Member) → P (KnownSentinel n m.addr m.id)) → AllByRecursion P (reps ++ sens) =
-      λ P f g. each_from P (reps ++ sens) (λ s i.
-        elim (in_append_cases s reps sens i) as (λ _. P s) [
-          inl j ↦ each_map (KnownReplica n) P (replicas p.0 p.1) (λ a q. f a) s j
-        | inr j ↦ each_map (λ (member : Member). KnownSentinel n member.addr member.id) P (others conf) (λ m q. g m) s j
-        ]) in
+    λ P f g. each_from P (reps ++ sens) (λ s i.
+    elim (in_append_cases s reps sens i) as (λ _. P s) [
+      | inl j ↦ each_map (KnownReplica n) P (replicas p.0 p.1) (λ a q. f a) s j
+      | inr j ↦ each_map (λ (member : Member). KnownSentinel n member.addr member.id) P (others conf) (λ m q. g m) s j
+    ]) in
     let first_apart : Apart same_key reps =
-      apart_map (KnownReplica n) same_key same_addr (replicas p.0 p.1) (λ x y h. and_right (same_bytes n n) (same_addr y x) h)
-        (apart_rises addr_before same_addr addr_order addr_same (replicas p.0 p.1) (rises_filter addr_before (λ addr. not (same_addr p.1.card.addr addr)) p.0.nodes r)) in
+    apart_map (KnownReplica n) same_key same_addr (replicas p.0 p.1) (λ x y h. and_right (same_bytes n n) (same_addr y x) h)
+    (apart_rises addr_before same_addr addr_order addr_same (replicas p.0 p.1) (rises_filter addr_before (λ addr. not (same_addr p.1.card.addr addr)) p.0.nodes r)) in
     let second_apart : Apart same_key sens =
-      apart_map (λ (member : Member). KnownSentinel n member.addr member.id) same_key (λ x y. same_id x.id y.id) (others conf) (λ x y h. and_right (same_bytes n n) (same_id y.id x.id) h)
-        (apart_filter (λ (x y : Member). same_id x.id y.id) (λ member. not (same_id conf.id member.id)) conf.roster.sentinels (apart_back (λ (m : Member). m.id) same_id conf.roster.sentinels a)) in
+    apart_map (λ (member : Member). KnownSentinel n member.addr member.id) same_key (λ x y. same_id x.id y.id) (others conf) (λ x y h. and_right (same_bytes n n) (same_id y.id x.id) h)
+    (apart_filter (λ (x y : Member). same_id x.id y.id) (λ member. not (same_id conf.id member.id)) conf.roster.sentinels (apart_back (λ (m : Member). m.id) same_id conf.roster.sentinels a)) in
     let across : (x y : State) → In x reps → In y sens → same_key y x ≡ false =
-      λ x y i j.
-        each_map (KnownReplica n) (λ x. same_key y x ≡ false) (replicas p.0 p.1)
-          (λ a q. each_map (λ (member : Member). KnownSentinel n member.addr member.id) (λ y. same_key y (KnownReplica n a) ≡ false) (others conf) (λ m w. refl) y j) x i in
-    ((refl, (refl, tails (λ s. same_key s (Monitor n p.1.card.addr p.0.quorum) ≡ false) (λ a. refl) (λ m. refl))),
-     ((refl, tails (λ s. same_key s (ConfigEpoch n p.1.card.epoch) ≡ false) (λ a. refl) (λ m. refl)),
-      (tails (λ s. same_key s (LeaderEpoch n p.1.voted) ≡ false) (λ a. refl) (λ m. refl),
-       apart_append same_key reps sens first_apart second_apart across)))
+    λ x y i j.
+    each_map (KnownReplica n) (λ x. same_key y x ≡ false) (replicas p.0 p.1)
+    (λ a q. each_map (λ (member : Member). KnownSentinel n member.addr member.id) (λ y. same_key y (KnownReplica n a) ≡ false) (others conf) (λ m w. refl) y j) x i in (
+      (refl, (refl, tails (λ s. same_key s (Monitor n p.1.card.addr p.0.quorum) ≡ false) (λ a. refl) (λ m. refl))),
+      (
+        (refl, tails (λ s. same_key s (ConfigEpoch n p.1.card.epoch) ≡ false) (λ a. refl) (λ m. refl)),
+        (
+          tails (λ s. same_key s (LeaderEpoch n p.1.voted) ≡ false) (λ a. refl) (λ m. refl),
+          apart_append same_key reps sens first_apart second_apart across,
+        ),
+      ),
+    )
 
 apart_masters : (conf : ConfPlan) (ps : List (MasterPlan × KeptMaster)) → ((p : MasterPlan × KeptMaster) → In p ps → Rises addr_before p.0.nodes) → Apart same_id (map (λ (member : Member). member.id) conf.roster.sentinels)
-  → Apart same_bytes (map (λ (p : MasterPlan × KeptMaster). p.0.name) ps) → Apart same_key (flat_map (master_states conf) ps)
+    → Apart same_bytes (map (λ (p : MasterPlan × KeptMaster). p.0.name) ps) → Apart same_key (flat_map (master_states conf) ps)
 apart_masters conf [] r a n = tt
 apart_masters conf (p ∷ ps) r a n =
     apart_append same_key (master_states conf p) (flat_map (master_states conf) ps)
-      (apart_master conf p (r p (inl refl)) a)
-      (apart_masters conf ps (λ q i. r q (inr i)) a n.1)
-      (λ x y i j. each_flat_map (master_states conf) (λ y. same_key y x ≡ false) ps
-        (λ q k y l. not_of_other y x q.0.name p.0.name (named conf q y l) (named conf p x i)
-          (each_in (λ m. same_bytes m p.0.name ≡ false) (map (λ (p : MasterPlan × KeptMaster). p.0.name) ps) n.0 q.0.name (in_map (λ (p : MasterPlan × KeptMaster). p.0.name) q ps k)))
-        y j)
+    (apart_master conf p (r p (inl refl)) a)
+    (apart_masters conf ps (λ q i. r q (inr i)) a n.1)
+    (λ x y i j. each_flat_map (master_states conf) (λ y. same_key y x ≡ false) ps
+    (λ q k y l. not_of_other y x q.0.name p.0.name (named conf q y l) (named conf p x i)
+    (each_in (λ m. same_bytes m p.0.name ≡ false) (map (λ (p : MasterPlan × KeptMaster). p.0.name) ps) n.0 q.0.name (in_map (λ (p : MasterPlan × KeptMaster). p.0.name) q ps k)))
+    y j)
 
 -- a line speaks of no master but these
 known_line_by : (ns : List (List ℕ)) (o : Option (List ℕ)) → ((n : List ℕ) → o ≡ Some n → In n ns) → (elim o as (λ _. Option ConfKind) [ None ↦ None | Some n ↦ some_if (not (list_any (same_bytes n) ns)) UnknownMaster ]) ≡ None
@@ -229,7 +229,6 @@ module _ (conf : ConfPlan) (kept : KeptPlan) (c : IsConf conf) (k : IsKeptPart c
   abbrev lines_of_state : List State
   lines_of_state = state_lines conf kept
 
-
   -- a fact of each state line
   record Each (P : State → Type 0) : Type 0 where
     pub id : P (MyId conf.id)
@@ -246,8 +245,8 @@ module _ (conf : ConfPlan) (kept : KeptPlan) (c : IsConf conf) (k : IsKeptPart c
   each_of_master P e p i s (inr (inr (inl f))) = subst P (sym f) (e.leader p i)
   each_of_master P e p i s (inr (inr (inr j))) =
       elim (in_append_cases s (map (KnownReplica p.0.name) (replicas p.0 p.1)) (map (λ member. KnownSentinel p.0.name member.addr member.id) (others conf)) j) as (λ _. P s) [
-        inl r ↦ each_map (KnownReplica p.0.name) P (replicas p.0 p.1) (λ a q. e.replica p i a (from_filter (λ addr. not (same_addr p.1.card.addr addr)) a p.0.nodes q).1) s r
-      | inr r ↦ each_map (λ (member : Member). KnownSentinel p.0.name member.addr member.id) P (others conf) (λ m q. e.known p i m (from_filter (λ member. not (same_id conf.id member.id)) m conf.roster.sentinels q).1) s r
+        | inl r ↦ each_map (KnownReplica p.0.name) P (replicas p.0 p.1) (λ a q. e.replica p i a (from_filter (λ addr. not (same_addr p.1.card.addr addr)) a p.0.nodes q).1) s r
+        | inr r ↦ each_map (λ (member : Member). KnownSentinel p.0.name member.addr member.id) P (others conf) (λ m q. e.known p i m (from_filter (λ member. not (same_id conf.id member.id)) m conf.roster.sentinels q).1) s r
       ]
 
   each_state : (P : State → Type 0) → Each P → (s : State) → In s lines_of_state → P s
@@ -313,15 +312,15 @@ module _ (conf : ConfPlan) (kept : KeptPlan) (c : IsConf conf) (k : IsKeptPart c
       id = λ a e. nothing a (In a p.0.nodes) e;
       current = λ a e. nothing a (In a p.0.nodes) e;
       monitor = λ q j a e.
-        let g = given_if (same_bytes p.0.name q.0.name) q.1.card.addr a e in
-        let f : p ≡ q = one_pair p q i j g.0 in
-        subst (λ w. In w p.0.nodes) (ap (λ r. r.1.card.addr) f ∙ g.1) (addr_in p i);
+          let g = given_if (same_bytes p.0.name q.0.name) q.1.card.addr a e in
+          let f : p ≡ q = one_pair p q i j g.0 in
+          subst (λ w. In w p.0.nodes) (ap (λ r. r.1.card.addr) f ∙ g.1) (addr_in p i);
       config = λ q j a e. nothing a (In a p.0.nodes) e;
       leader = λ q j a e. nothing a (In a p.0.nodes) e;
       replica = λ q j b l a e.
-        let g = given_if (same_bytes p.0.name q.0.name) b a e in
-        let f : p ≡ q = one_pair p q i j g.0 in
-        subst (λ w. In w p.0.nodes) g.1 (subst (λ (r : MasterPlan × KeptMaster). In b r.0.nodes) (sym f) l);
+          let g = given_if (same_bytes p.0.name q.0.name) b a e in
+          let f : p ≡ q = one_pair p q i j g.0 in
+          subst (λ w. In w p.0.nodes) g.1 (subst (λ (r : MasterPlan × KeptMaster). In b r.0.nodes) (sym f) l);
       known = λ q j m l a e. nothing a (In a p.0.nodes) e;
     })
 
@@ -331,79 +330,79 @@ module _ (conf : ConfPlan) (kept : KeptPlan) (c : IsConf conf) (k : IsKeptPart c
     node_known : (a : Addr) → In a p.0.nodes → In a (filter_map (node_of p.0.name) lines_of_state)
     node_known a l =
         elim (cases_Bool (same_addr p.1.card.addr a)) as (λ _. In a (filter_map (node_of p.0.name) lines_of_state)) [
-          inl t ↦
-            let e : p.1.card.addr ≡ a = addr_same.equal p.1.card.addr a t in
-            to_filter_map (node_of p.0.name) (Monitor p.0.name p.1.card.addr p.0.quorum) a lines_of_state monitor_in
+          | inl t ↦
+              let e : p.1.card.addr ≡ a = addr_same.equal p.1.card.addr a t in
+              to_filter_map (node_of p.0.name) (Monitor p.0.name p.1.card.addr p.0.quorum) a lines_of_state monitor_in
               (gives_if (same_bytes p.0.name p.0.name) p.1.card.addr (same_bytes-refl p.0.name) ∙ ap Some e)
-        | inr f ↦
-            to_filter_map (node_of p.0.name) (KnownReplica p.0.name a) a lines_of_state
+          | inr f ↦
+              to_filter_map (node_of p.0.name) (KnownReplica p.0.name a) a lines_of_state
               (of_master p i (KnownReplica p.0.name a)
-                (inr (inr (inr (in_append_left (KnownReplica p.0.name a) (map (KnownReplica p.0.name) (replicas p.0 p.1)) (map (λ member. KnownSentinel p.0.name member.addr member.id) (others conf))
-                  (in_map (KnownReplica p.0.name) a (replicas p.0 p.1) (to_filter (λ addr. not (same_addr p.1.card.addr addr)) a p.0.nodes (not_from_false (same_addr p.1.card.addr a) f) l)))))))
+              (inr (inr (inr (in_append_left (KnownReplica p.0.name a) (map (KnownReplica p.0.name) (replicas p.0 p.1)) (map (λ member. KnownSentinel p.0.name member.addr member.id) (others conf))
+              (in_map (KnownReplica p.0.name) a (replicas p.0 p.1) (to_filter (λ addr. not (same_addr p.1.card.addr addr)) a p.0.nodes (not_from_false (same_addr p.1.card.addr a) f) l)))))))
               (gives_if (same_bytes p.0.name p.0.name) a (same_bytes-refl p.0.name))
         ]
 
     nodes_again : in_order addr_before (filter_map (node_of p.0.name) lines_of_state) ≡ p.0.nodes
     nodes_again =
         in_order_is addr_before addr_order (filter_map (node_of p.0.name) lines_of_state) p.0.nodes (master_is p i).order
-          (each_filter_map (node_of p.0.name) (λ a. In a p.0.nodes) lines_of_state node_found) node_known
+        (each_filter_map (node_of p.0.name) (λ a. In a p.0.nodes) lines_of_state node_found) node_known
 
     -- one value of a master: its line gives it, and no other line does
     quorum_again : first (quorum_of p.0.name) 0 lines_of_state ≡ p.0.quorum
     quorum_again =
         first_is (quorum_of p.0.name) 0 p.0.quorum lines_of_state
-          (each_state (Gives (quorum_of p.0.name) (λ y. y ≡ p.0.quorum)) (record {
-             id = λ y e. nothing y (y ≡ p.0.quorum) e;
-             current = λ y e. nothing y (y ≡ p.0.quorum) e;
-             monitor = λ q j y e. let g = given_if (same_bytes p.0.name q.0.name) q.0.quorum y e in sym g.1 ∙ ap (λ r. r.0.quorum) (sym (one_pair p q i j g.0));
-             config = λ q j y e. nothing y (y ≡ p.0.quorum) e;
-             leader = λ q j y e. nothing y (y ≡ p.0.quorum) e;
-             replica = λ q j b l y e. nothing y (y ≡ p.0.quorum) e;
-             known = λ q j m l y e. nothing y (y ≡ p.0.quorum) e;
-           }))
-          (Monitor p.0.name p.1.card.addr p.0.quorum) monitor_in (gives_if (same_bytes p.0.name p.0.name) p.0.quorum (same_bytes-refl p.0.name))
+        (each_state (Gives (quorum_of p.0.name) (λ y. y ≡ p.0.quorum)) (record {
+          id = λ y e. nothing y (y ≡ p.0.quorum) e;
+          current = λ y e. nothing y (y ≡ p.0.quorum) e;
+          monitor = λ q j y e. let g = given_if (same_bytes p.0.name q.0.name) q.0.quorum y e in sym g.1 ∙ ap (λ r. r.0.quorum) (sym (one_pair p q i j g.0));
+          config = λ q j y e. nothing y (y ≡ p.0.quorum) e;
+          leader = λ q j y e. nothing y (y ≡ p.0.quorum) e;
+          replica = λ q j b l y e. nothing y (y ≡ p.0.quorum) e;
+          known = λ q j m l y e. nothing y (y ≡ p.0.quorum) e;
+        }))
+        (Monitor p.0.name p.1.card.addr p.0.quorum) monitor_in (gives_if (same_bytes p.0.name p.0.name) p.0.quorum (same_bytes-refl p.0.name))
 
     card_again : first (monitored_at p.0.name) no_addr lines_of_state ≡ p.1.card.addr
     card_again =
         first_is (monitored_at p.0.name) no_addr p.1.card.addr lines_of_state
-          (each_state (Gives (monitored_at p.0.name) (λ y. y ≡ p.1.card.addr)) (record {
-             id = λ y e. nothing y (y ≡ p.1.card.addr) e;
-             current = λ y e. nothing y (y ≡ p.1.card.addr) e;
-             monitor = λ q j y e. let g = given_if (same_bytes p.0.name q.0.name) q.1.card.addr y e in sym g.1 ∙ ap (λ r. r.1.card.addr) (sym (one_pair p q i j g.0));
-             config = λ q j y e. nothing y (y ≡ p.1.card.addr) e;
-             leader = λ q j y e. nothing y (y ≡ p.1.card.addr) e;
-             replica = λ q j b l y e. nothing y (y ≡ p.1.card.addr) e;
-             known = λ q j m l y e. nothing y (y ≡ p.1.card.addr) e;
-           }))
-          (Monitor p.0.name p.1.card.addr p.0.quorum) monitor_in (gives_if (same_bytes p.0.name p.0.name) p.1.card.addr (same_bytes-refl p.0.name))
+        (each_state (Gives (monitored_at p.0.name) (λ y. y ≡ p.1.card.addr)) (record {
+          id = λ y e. nothing y (y ≡ p.1.card.addr) e;
+          current = λ y e. nothing y (y ≡ p.1.card.addr) e;
+          monitor = λ q j y e. let g = given_if (same_bytes p.0.name q.0.name) q.1.card.addr y e in sym g.1 ∙ ap (λ r. r.1.card.addr) (sym (one_pair p q i j g.0));
+          config = λ q j y e. nothing y (y ≡ p.1.card.addr) e;
+          leader = λ q j y e. nothing y (y ≡ p.1.card.addr) e;
+          replica = λ q j b l y e. nothing y (y ≡ p.1.card.addr) e;
+          known = λ q j m l y e. nothing y (y ≡ p.1.card.addr) e;
+        }))
+        (Monitor p.0.name p.1.card.addr p.0.quorum) monitor_in (gives_if (same_bytes p.0.name p.0.name) p.1.card.addr (same_bytes-refl p.0.name))
 
     epoch_again : first (config_of p.0.name) 0 lines_of_state ≡ p.1.card.epoch
     epoch_again =
         first_is (config_of p.0.name) 0 p.1.card.epoch lines_of_state
-          (each_state (Gives (config_of p.0.name) (λ y. y ≡ p.1.card.epoch)) (record {
-             id = λ y e. nothing y (y ≡ p.1.card.epoch) e;
-             current = λ y e. nothing y (y ≡ p.1.card.epoch) e;
-             monitor = λ q j y e. nothing y (y ≡ p.1.card.epoch) e;
-             config = λ q j y e. let g = given_if (same_bytes p.0.name q.0.name) q.1.card.epoch y e in sym g.1 ∙ ap (λ r. r.1.card.epoch) (sym (one_pair p q i j g.0));
-             leader = λ q j y e. nothing y (y ≡ p.1.card.epoch) e;
-             replica = λ q j b l y e. nothing y (y ≡ p.1.card.epoch) e;
-             known = λ q j m l y e. nothing y (y ≡ p.1.card.epoch) e;
-           }))
-          (ConfigEpoch p.0.name p.1.card.epoch) (of_master p i (ConfigEpoch p.0.name p.1.card.epoch) (inr (inl refl))) (gives_if (same_bytes p.0.name p.0.name) p.1.card.epoch (same_bytes-refl p.0.name))
+        (each_state (Gives (config_of p.0.name) (λ y. y ≡ p.1.card.epoch)) (record {
+          id = λ y e. nothing y (y ≡ p.1.card.epoch) e;
+          current = λ y e. nothing y (y ≡ p.1.card.epoch) e;
+          monitor = λ q j y e. nothing y (y ≡ p.1.card.epoch) e;
+          config = λ q j y e. let g = given_if (same_bytes p.0.name q.0.name) q.1.card.epoch y e in sym g.1 ∙ ap (λ r. r.1.card.epoch) (sym (one_pair p q i j g.0));
+          leader = λ q j y e. nothing y (y ≡ p.1.card.epoch) e;
+          replica = λ q j b l y e. nothing y (y ≡ p.1.card.epoch) e;
+          known = λ q j m l y e. nothing y (y ≡ p.1.card.epoch) e;
+        }))
+        (ConfigEpoch p.0.name p.1.card.epoch) (of_master p i (ConfigEpoch p.0.name p.1.card.epoch) (inr (inl refl))) (gives_if (same_bytes p.0.name p.0.name) p.1.card.epoch (same_bytes-refl p.0.name))
 
     voted_again : first (voted_of p.0.name) 0 lines_of_state ≡ p.1.voted
     voted_again =
         first_is (voted_of p.0.name) 0 p.1.voted lines_of_state
-          (each_state (Gives (voted_of p.0.name) (λ y. y ≡ p.1.voted)) (record {
-             id = λ y e. nothing y (y ≡ p.1.voted) e;
-             current = λ y e. nothing y (y ≡ p.1.voted) e;
-             monitor = λ q j y e. nothing y (y ≡ p.1.voted) e;
-             config = λ q j y e. nothing y (y ≡ p.1.voted) e;
-             leader = λ q j y e. let g = given_if (same_bytes p.0.name q.0.name) q.1.voted y e in sym g.1 ∙ ap (λ r. r.1.voted) (sym (one_pair p q i j g.0));
-             replica = λ q j b l y e. nothing y (y ≡ p.1.voted) e;
-             known = λ q j m l y e. nothing y (y ≡ p.1.voted) e;
-           }))
-          (LeaderEpoch p.0.name p.1.voted) (of_master p i (LeaderEpoch p.0.name p.1.voted) (inr (inr (inl refl)))) (gives_if (same_bytes p.0.name p.0.name) p.1.voted (same_bytes-refl p.0.name))
+        (each_state (Gives (voted_of p.0.name) (λ y. y ≡ p.1.voted)) (record {
+          id = λ y e. nothing y (y ≡ p.1.voted) e;
+          current = λ y e. nothing y (y ≡ p.1.voted) e;
+          monitor = λ q j y e. nothing y (y ≡ p.1.voted) e;
+          config = λ q j y e. nothing y (y ≡ p.1.voted) e;
+          leader = λ q j y e. let g = given_if (same_bytes p.0.name q.0.name) q.1.voted y e in sym g.1 ∙ ap (λ r. r.1.voted) (sym (one_pair p q i j g.0));
+          replica = λ q j b l y e. nothing y (y ≡ p.1.voted) e;
+          known = λ q j m l y e. nothing y (y ≡ p.1.voted) e;
+        }))
+        (LeaderEpoch p.0.name p.1.voted) (of_master p i (LeaderEpoch p.0.name p.1.voted) (inr (inr (inl refl)))) (gives_if (same_bytes p.0.name p.0.name) p.1.voted (same_bytes-refl p.0.name))
 
     master_again : master_of lines_of_state p.0.name ≡ p.0
     master_again = whole_plan p.0 (in_order addr_before (filter_map (node_of p.0.name) lines_of_state)) (first (quorum_of p.0.name) 0 lines_of_state) nodes_again quorum_again
@@ -426,13 +425,13 @@ module _ (conf : ConfPlan) (kept : KeptPlan) (c : IsConf conf) (k : IsKeptPart c
   name_known : (n : List ℕ) → In n (names conf) → In n (filter_map name_of lines_of_state)
   name_known n l =
       each_map (λ (p : MasterPlan × KeptMaster). p.0.name) (λ n. In n (filter_map name_of lines_of_state)) pairs
-        (λ p i. to_filter_map name_of (Monitor p.0.name p.1.card.addr p.0.quorum) p.0.name lines_of_state (monitor_in p i) refl)
-        n (subst (In n) (sym names_of_pairs) l)
+      (λ p i. to_filter_map name_of (Monitor p.0.name p.1.card.addr p.0.quorum) p.0.name lines_of_state (monitor_in p i) refl)
+      n (subst (In n) (sym names_of_pairs) l)
 
   names_again : names_of lines_of_state ≡ names conf
   names_again =
       in_order_is bytes_before bytes_order (filter_map name_of lines_of_state) (names conf) c.name_order
-        (each_filter_map name_of (λ n. In n (names conf)) lines_of_state name_found) name_known
+      (each_filter_map name_of (λ n. In n (names conf)) lines_of_state name_found) name_known
 
   masters_again : map (master_of lines_of_state) (names_of lines_of_state) ≡ conf.roster.masters
   masters_again =
@@ -489,16 +488,16 @@ module _ (conf : ConfPlan) (kept : KeptPlan) (c : IsConf conf) (k : IsKeptPart c
       let some = some_pair_by pairs lefts in
       let p = some.0 in
       to_filter_map known_of (KnownSentinel p.0.name m.addr m.id) m lines_of_state
-        (of_master p some.1 (KnownSentinel p.0.name m.addr m.id)
-          (inr (inr (inr (in_append_right (KnownSentinel p.0.name m.addr m.id) (map (KnownReplica p.0.name) (replicas p.0 p.1)) (map (λ member. KnownSentinel p.0.name member.addr member.id) (others conf))
-            (in_map (λ (member : Member). KnownSentinel p.0.name member.addr member.id) m (others conf) (to_filter (λ member. not (same_id conf.id member.id)) m conf.roster.sentinels (not_from_false (same_id conf.id m.id) f) l)))))))
-        refl
+      (of_master p some.1 (KnownSentinel p.0.name m.addr m.id)
+      (inr (inr (inr (in_append_right (KnownSentinel p.0.name m.addr m.id) (map (KnownReplica p.0.name) (replicas p.0 p.1)) (map (λ member. KnownSentinel p.0.name member.addr member.id) (others conf))
+      (in_map (λ (member : Member). KnownSentinel p.0.name member.addr member.id) m (others conf) (to_filter (λ member. not (same_id conf.id member.id)) m conf.roster.sentinels (not_from_false (same_id conf.id m.id) f) l)))))))
+      refl
 
   member_known : (m : Member) → In m conf.roster.sentinels → In m (own conf ∷ filter_map known_of lines_of_state)
   member_known m l =
       elim (cases_Bool (same_id conf.id m.id)) as (λ _. In m (own conf ∷ filter_map known_of lines_of_state)) [
-        inl t ↦ inl (one_of_key (λ (member : Member). member.id) same_id id_same conf.roster.sentinels sentinels_apart m (own conf) l c.own (sym (id_same.equal conf.id m.id t)))
-      | inr f ↦ inr (known_known m l f)
+        | inl t ↦ inl (one_of_key (λ (member : Member). member.id) same_id id_same conf.roster.sentinels sentinels_apart m (own conf) l c.own (sym (id_same.equal conf.id m.id t)))
+        | inr f ↦ inr (known_known m l f)
       ]
 
   member_found : (m : Member) → In m (own conf ∷ filter_map known_of lines_of_state) → In m conf.roster.sentinels
@@ -507,7 +506,6 @@ module _ (conf : ConfPlan) (kept : KeptPlan) (c : IsConf conf) (k : IsKeptPart c
 
   sentinels_again : members_of (own conf) lines_of_state ≡ conf.roster.sentinels
   sentinels_again = in_order_is member_before member_order (own conf ∷ filter_map known_of lines_of_state) conf.roster.sentinels c.order member_found member_known
-
 
   are_states : AreStates lines_of_state
   are_states = each_from IsState lines_of_state all_states
@@ -528,10 +526,13 @@ module _ (conf : ConfPlan) (kept : KeptPlan) (c : IsConf conf) (k : IsKeptPart c
       each_flat_map (master_states conf) (λ s. same_key s (CurrentEpoch kept.current) ≡ false) pairs (λ p i s j. not_of_none s (CurrentEpoch kept.current) p.0.name (named conf p s j) refl)
 
   apart_states : Apart same_key lines_of_state
-  apart_states =
-      (each_from (λ s. same_key s (MyId conf.id) ≡ false) (CurrentEpoch kept.current ∷ flat_map (master_states conf) pairs) no_other_id,
-       (each_from (λ s. same_key s (CurrentEpoch kept.current) ≡ false) (flat_map (master_states conf) pairs) no_other_epoch,
-        apart_masters conf pairs (λ p i. (master_is p i).order) sentinels_apart names_apart))
+  apart_states = (
+    each_from (λ s. same_key s (MyId conf.id) ≡ false) (CurrentEpoch kept.current ∷ flat_map (master_states conf) pairs) no_other_id,
+    (
+      each_from (λ s. same_key s (CurrentEpoch kept.current) ≡ false) (flat_map (master_states conf) pairs) no_other_epoch,
+      apart_masters conf pairs (λ p i. (master_is p i).order) sentinels_apart names_apart,
+    ),
+  )
 
   no_twice : first_fault line_fault 1 [] (map line_of texts) ≡ None
   no_twice = none_twice conf.kept_lines lines_of_state are_plain are_states apart_states
@@ -559,18 +560,18 @@ module _ (conf : ConfPlan) (kept : KeptPlan) (c : IsConf conf) (k : IsKeptPart c
   line_known : (l : Line) → In l (map line_of conf.kept_lines ++ map line.State lines_of_state) → unknown_fault found_names l ≡ None
   line_known l i =
       elim (in_append_cases l (map line_of conf.kept_lines) (map line.State lines_of_state) i) as (λ _. unknown_fault found_names l ≡ None) [
-        inl j ↦ each_map line_of (λ l. unknown_fault found_names l ≡ None) conf.kept_lines
-          (λ t q. known_line found_names (line_of t) (λ n f. names_in n (spoken_known (names conf) (line_of t) n (each_in (IsKeptText (names conf)) conf.kept_lines c.lines t q).known f))) l j
-      | inr j ↦ each_map line.State (λ l. unknown_fault found_names l ≡ None) lines_of_state
-          (λ s q. known_line found_names (line.State s) (λ n f. names_in n (state_named s q n f))) l j
+        | inl j ↦ each_map line_of (λ l. unknown_fault found_names l ≡ None) conf.kept_lines
+            (λ t q. known_line found_names (line_of t) (λ n f. names_in n (spoken_known (names conf) (line_of t) n (each_in (IsKeptText (names conf)) conf.kept_lines c.lines t q).known f))) l j
+        | inr j ↦ each_map line.State (λ l. unknown_fault found_names l ≡ None) lines_of_state
+            (λ s q. known_line found_names (line.State s) (λ n f. names_in n (state_named s q n f))) l j
       ]
 
   no_unknown : first_fault (λ _. unknown_fault found_names) 1 [] (map line_of texts) ≡ None
   no_unknown =
       clean_none (λ _. unknown_fault found_names) 1 [] (map line_of texts)
-        (clean_each (unknown_fault found_names) [] (map line_of texts)
-          (subst (AllByRecursion (λ l. unknown_fault found_names l ≡ None)) (sym (lines_again conf.kept_lines lines_of_state are_plain are_states))
-            (each_from (λ l. unknown_fault found_names l ≡ None) (map line_of conf.kept_lines ++ map line.State lines_of_state) line_known)))
+      (clean_each (unknown_fault found_names) [] (map line_of texts)
+      (subst (AllByRecursion (λ l. unknown_fault found_names l ≡ None)) (sym (lines_again conf.kept_lines lines_of_state are_plain are_states))
+      (each_from (λ l. unknown_fault found_names l ≡ None) (map line_of conf.kept_lines ++ map line.State lines_of_state) line_known)))
 
   abbrev again : ConfPlan
   again = record conf { kept = kept }
@@ -632,18 +633,18 @@ module _ (conf : ConfPlan) (kept : KeptPlan) (c : IsConf conf) (k : IsKeptPart c
   texts_no_lf : AllByRecursion HasNoLf texts
   texts_no_lf =
       each_from HasNoLf texts (λ t i.
-        elim (in_append_cases t conf.kept_lines (map spelled lines_of_state) i) as (λ _. HasNoLf t) [
-          inl j ↦ (each_in (IsKeptText (names conf)) conf.kept_lines c.lines t j).no_lf
+      elim (in_append_cases t conf.kept_lines (map spelled lines_of_state) i) as (λ _. HasNoLf t) [
+        | inl j ↦ (each_in (IsKeptText (names conf)) conf.kept_lines c.lines t j).no_lf
         | inr j ↦ each_map spelled HasNoLf lines_of_state (λ s q. no_lf_spelled s (all_states s q)) t j
-        ])
+      ])
 
   texts_utf8 : AllByRecursion IsUtf8 texts
   texts_utf8 =
       each_from IsUtf8 texts (λ t i.
-        elim (in_append_cases t conf.kept_lines (map spelled lines_of_state) i) as (λ _. IsUtf8 t) [
-          inl j ↦ (each_in (IsKeptText (names conf)) conf.kept_lines c.lines t j).utf8
+      elim (in_append_cases t conf.kept_lines (map spelled lines_of_state) i) as (λ _. IsUtf8 t) [
+        | inl j ↦ (each_in (IsKeptText (names conf)) conf.kept_lines c.lines t j).utf8
         | inr j ↦ each_map spelled IsUtf8 lines_of_state (λ s q. utf8_spelled s (all_states s q)) t j
-        ])
+      ])
 
   is_text : not (is_utf8 (rewritten conf kept)) ≡ false
   is_text = not_from_true (is_utf8 (rewritten conf kept)) (is_utf8-from_IsUtf8 (rewritten conf kept) (utf8_ended texts texts_utf8))
@@ -651,7 +652,7 @@ module _ (conf : ConfPlan) (kept : KeptPlan) (c : IsConf conf) (k : IsKeptPart c
   pub read_again : conf_of_bytes (rewritten conf kept) ≡ Ok again
   read_again =
       ap (λ t. elim t as (λ _. Result (Unit {0}) ConfFault) [ true ↦ Err (fault_at 0 TooLong) | false ↦ Ok tt ] >>= λ _. guard (not (is_utf8 (rewritten conf kept))) NotUtf8 >>= λ _. conf_of_lines (lines (rewritten conf kept)))
-        (le-ltb FILE_MAX (length (rewritten conf kept)) fits)
+      (le-ltb FILE_MAX (length (rewritten conf kept)) fits)
       ∙ ap (λ t. elim t as (λ _. Result (Unit {0}) ConfFault) [ true ↦ Err (fault_at 0 NotUtf8) | false ↦ Ok tt ] >>= λ _. conf_of_lines (lines (rewritten conf kept))) is_text
       ∙ ap conf_of_lines (lines-ended texts texts_no_lf)
       ∙ lines_read_again

@@ -1,22 +1,21 @@
 -- What is read is a conf whose rewritten files are read again.
-use Rattle.std.proofs.Common.{◌≡◌, ℕ, zero, suc, ◌+◌, ◌^◌, ◌≤◌, ◌<◌, max, Bool, true, false, cond, not, ◌&&◌, ◌||◌, eqb, ltb, leb, List, [], ◌∷◌, ◌++◌, length, get_or, map, refl, ap, sym, ◌∙◌, subst, arith, ◌⊎◌, inl, inr, Option, Some, None, Result, Ok, Err}
-use Rattle.std.specs.Prelude.{unwrap_or, filter, Contains}
-use Rattle.std.specs.List.{list_any, filter_map, cons_option, AllZip, AllByRecursion}
+use Rattle.std.proofs.Common.{◌≡◌, ℕ, suc, ◌^◌, ◌≤◌, ◌<◌, Bool, true, false, cond, not, ltb, List, [], ◌∷◌, ◌++◌, length, map, refl, ap, sym, ◌∙◌, subst, arith, ◌⊎◌, inl, inr, Option, Some, None, Result, Ok, Err}
+use Rattle.std.specs.Prelude.{unwrap_or, Contains}
+use Rattle.std.specs.List.{filter_map, cons_option, AllZip, AllByRecursion}
 use Rattle.std.specs.Str.{IsUtf8, is_utf8}
-use Rattle.std.proofs.lemmas.Bool.{true≢false, false_from_ne_true, cases_Bool, ltb-false, not-false}
+use Rattle.std.proofs.lemmas.Bool.{true≢false, ltb-false, not-false}
 use Rattle.std.proofs.lemmas.Str.{IsUtf8-from_is_utf8}
 use Rattle.ballot_law.specs.declared.rosters.RosterFault.{RosterFault}
 use Rattle.ballot_law.specs.declared.addresses.Addr.{Addr}
 use Rattle.ballot_law.specs.declared.addresses.RunId.{RunId}
 use Rattle.ballot_law.specs.declared.rosters.Member.{Member}
 use Rattle.ballot_law.specs.Ordered.{in_order}
-use Rattle.ballot_law.specs.Rosters.{Roster as RosterPlan, MasterPlan}
+use Rattle.ballot_law.specs.Rosters.{MasterPlan}
 use Rattle.ballot_law.specs.Orders.{same_bytes, addr_before, bytes_before}
 use Rattle.ballot_law.specs.RosterFaults.{fault_of}
 use Rattle.sentinel_conf.specs.declared.faults.ConfKind.{ConfKind}
-use Rattle.sentinel_conf.specs.declared.faults.ConfKind.TheVariants.{TooLong, NotUtf8, UnknownMaster, Twice, NoMyId, Roster}
+use Rattle.sentinel_conf.specs.declared.faults.ConfKind.TheVariants.{TooLong, NotUtf8, NoMyId, Roster}
 use Rattle.sentinel_conf.specs.declared.faults.ConfFault.{ConfFault}
-use Rattle.ballot_law.specs.declared.cards.KeptMaster.{KeptMaster}
 use Rattle.sentinel_conf.specs.declared.lines.State.{State}
 use Rattle.sentinel_conf.specs.declared.lines.State.TheVariants.{MyId, CurrentEpoch, Monitor, ConfigEpoch, LeaderEpoch, KnownReplica, KnownSentinel}
 use Rattle.sentinel_conf.specs.declared.lines.Setting.{Setting}
@@ -25,14 +24,14 @@ use Rattle.sentinel_conf.specs.declared.lines.Line.{Line}
 use Rattle.sentinel_conf.specs.declared.lines.Line.TheVariants as line
 use Rattle.sentinel_conf.specs.Words.{lines}
 use Rattle.ballot_law.specs.Words.{some_if}
-use Rattle.sentinel_conf.specs.Lines.{line_of, same_key, MAX_EPOCH}
-use Rattle.sentinel_conf.specs.Meaning.{ConfPlan, states, settings, state_of, setting_of, name_of, quorum_of, monitored_at, node_of, config_of, voted_of, epoch_of, known_of, my_id_of, first, last, member_before, names_of, master_of, kept_master_of, members_of, greatest, kept_of, own_addr, own_port, port_of, announce_ip_of, announce_port_of, settings_of, plan_of, is_kept, conf_of}
+use Rattle.sentinel_conf.specs.Lines.{line_of, MAX_EPOCH}
+use Rattle.sentinel_conf.specs.Meaning.{ConfPlan, states, settings, state_of, setting_of, name_of, quorum_of, monitored_at, node_of, config_of, voted_of, epoch_of, known_of, my_id_of, first, last, member_before, names_of, master_of, kept_master_of, greatest, kept_of, own_addr, own_port, port_of, announce_ip_of, announce_port_of, settings_of, is_kept}
 use Rattle.ballot_law.specs.declared.cards.Kept.{Kept as KeptPlan}
 use Rattle.ballot_law.specs.Rosters.{no_addr}
 use Rattle.sentinel_conf.specs.Rewritten.{rewritten, longest, IsKeptMaster, IsKeptPart}
-use Rattle.sentinel_conf.specs.Reading.{FILE_MAX, fault_at, line_fault, unknown_fault, spoken_of, first_fault, ◌>>=◌, unless, guard, found, roster_checked, kept_lines_of, whole_conf, conf_of_lines, conf_of_bytes}
+use Rattle.sentinel_conf.specs.Reading.{FILE_MAX, fault_at, line_fault, unknown_fault, first_fault, ◌>>=◌, unless, guard, found, roster_checked, kept_lines_of, whole_conf, conf_of_lines, conf_of_bytes}
 use Rattle.sentinel_conf.proofs.SpacedWords.{HasNoLf}
-use Rattle.ballot_law.proofs.WordLemmas.{same_bytes-refl, same_bytes-true}
+use Rattle.ballot_law.proofs.WordLemmas.{same_bytes-refl}
 use Rattle.sentinel_conf.proofs.SetLemmas.{In, Rises, each_in, each_from, rises_in_order, from_in_order, to_in_order}
 use Rattle.sentinel_conf.proofs.OrderLemmas.{addr_order, member_order, bytes_order}
 use Rattle.sentinel_conf.proofs.StateLemmas.{IsAddr, IsId, IsName, IsState}
@@ -40,7 +39,7 @@ use Rattle.sentinel_conf.proofs.FileLemmas.{in_map, each_map, to_filter_map, eac
 use Rattle.sentinel_conf.proofs.LineLemmas.{IsPlainLine, Clean, none_clean, each_clean}
 use Rattle.sentinel_conf.proofs.TextLemmas.{text_lines}
 use Rattle.sentinel_conf.proofs.ValidLines.{IsSetting, IsLine, line_of_is}
-use Rattle.sentinel_conf.proofs.ReadAgain.{names, IsKeptText, IsMaster, IsMember, kept_settings, own, IsConf, known_line, spoken_known, map_map, map_same, read_again}
+use Rattle.sentinel_conf.proofs.ReadAgain.{names, IsKeptText, IsMaster, IsMember, kept_settings, own, IsConf, known_line, spoken_known, map_map, read_again}
 
 -- what a bind that is Ok went through
 through : {A B : Type 0} (r : Result A ConfFault) (f : A → Result B ConfFault) (y : B) → (r >>= f) ≡ Ok y → (x : A) × (r ≡ Ok x) × (f x ≡ Ok y)
@@ -75,7 +74,7 @@ clean_plain earlier (m ∷ ls) h l (inl f) e = plain_by l earlier (ap (line_faul
 clean_plain earlier (m ∷ ls) h l (inr i) e = clean_plain (earlier ++ states (m ∷ [])) ls h.1 l i e
 
 kept_only_by : (o : Option Setting) (t : Bool) (l : Line) (text : List ℕ) (texts : List (List ℕ)) → is_kept (line_of text) ≡ t → settings (map line_of (kept_lines_of texts)) ≡ settings (map line_of texts)
-  → settings (map line_of (cond t (text ∷ kept_lines_of texts) (kept_lines_of texts))) ≡ settings (map line_of (text ∷ texts))
+    → settings (map line_of (cond t (text ∷ kept_lines_of texts) (kept_lines_of texts))) ≡ settings (map line_of (text ∷ texts))
 kept_only_by o true l text texts e h = ap (cons_option (setting_of (line_of text))) h
 kept_only_by o false l text texts e h = h ∙ sym (ap (λ o. cons_option o (settings (map line_of texts))) (no_setting (line_of text) e)) where
   no_setting : (l : Line) → is_kept l ≡ false → setting_of l ≡ None
@@ -217,7 +216,7 @@ module _ (bytes : List ℕ) (u : IsUtf8 bytes) (id : RunId) where
     name = name_valid;
     order = rises_in_order addr_before addr_order (filter_map (node_of n) ss);
     nodes = each_from IsAddr (in_order addr_before (filter_map (node_of n) ss)) (λ a j.
-      each_filter_map (node_of n) IsAddr ss (λ s q b e. node_by s b (state_valid s q) e) a (from_in_order addr_before addr_order (filter_map (node_of n) ss) a j));
+        each_filter_map (node_of n) IsAddr ss (λ s q b e. node_by s b (state_valid s q) e) a (from_in_order addr_before addr_order (filter_map (node_of n) ss) a j));
     quorum = first_fact (quorum_of n) (λ q. q ≤ 4294967295) 0 ss (omega arith) (λ s q w e. quorum_by s w (state_valid s q) e);
   } where
     named_by : (s : State) → IsState s → name_of s ≡ Some n → IsName n
@@ -228,8 +227,10 @@ module _ (bytes : List ℕ) (u : IsUtf8 bytes) (id : RunId) where
     named_by (LeaderEpoch m a) v e = cc
     named_by (KnownReplica m a) v e = cc
     named_by (KnownSentinel m a q) v e = cc
+
     name_valid : IsName n
     name_valid = let m = monitored n i in named_by m.0 (state_valid m.0 m.1) m.2
+
     node_by : (s : State) (b : Addr) → IsState s → node_of n s ≡ Some b → IsAddr b
     node_by (Monitor m a q) b v e = subst IsAddr (given_if (same_bytes n m) a b e).1 v.1
     node_by (KnownReplica m a) b v e = subst IsAddr (given_if (same_bytes n m) a b e).1 v.1
@@ -238,6 +239,7 @@ module _ (bytes : List ℕ) (u : IsUtf8 bytes) (id : RunId) where
     node_by (ConfigEpoch m a) b v e = cc
     node_by (LeaderEpoch m a) b v e = cc
     node_by (KnownSentinel m a q) b v e = cc
+
     quorum_by : (s : State) (w : ℕ) → IsState s → quorum_of n s ≡ Some w → w ≤ 4294967295
     quorum_by (Monitor m a q) w v e = let f : q ≡ w = (given_if (same_bytes n m) q w e).1 in let l : q ≤ 4294967295 = v.2 in omega arith
     quorum_by (MyId m) w v e = cc
@@ -250,20 +252,21 @@ module _ (bytes : List ℕ) (u : IsUtf8 bytes) (id : RunId) where
   members_valid : (own_id : IsId id) → AllByRecursion IsMember conf.roster.sentinels
   members_valid own_id =
       each_from IsMember conf.roster.sentinels (λ m i. member_by m (from_in_order member_before member_order ((record { id = id; addr = own_addr (settings all) }) ∷ filter_map known_of ss) m i)) where
-    known_by : (m : Member) (s : State) → IsState s → known_of s ≡ Some m → IsMember m
-    known_by m (KnownSentinel n a i) v e =
-        let made : Member = record { id = i; addr = a } in
-        let f : made ≡ m = cc in
-        subst IsMember f (record { id = v.2; addr = v.1 })
-    known_by m (Monitor n a q) v e = cc
-    known_by m (MyId n) v e = cc
-    known_by m (CurrentEpoch n) v e = cc
-    known_by m (ConfigEpoch n a) v e = cc
-    known_by m (LeaderEpoch n a) v e = cc
-    known_by m (KnownReplica n a) v e = cc
-    member_by : (m : Member) → In m ((record { id = id; addr = own_addr (settings all) }) ∷ filter_map known_of ss) → IsMember m
-    member_by m (inl e) = subst IsMember (sym e) (record { id = own_id; addr = own_is })
-    member_by m (inr j) = each_filter_map known_of IsMember ss (λ s q m e. known_by m s (state_valid s q) e) m j
+        known_by : (m : Member) (s : State) → IsState s → known_of s ≡ Some m → IsMember m
+        known_by m (KnownSentinel n a i) v e =
+            let made : Member = record { id = i; addr = a } in
+            let f : made ≡ m = cc in
+            subst IsMember f (record { id = v.2; addr = v.1 })
+        known_by m (Monitor n a q) v e = cc
+        known_by m (MyId n) v e = cc
+        known_by m (CurrentEpoch n) v e = cc
+        known_by m (ConfigEpoch n a) v e = cc
+        known_by m (LeaderEpoch n a) v e = cc
+        known_by m (KnownReplica n a) v e = cc
+
+        member_by : (m : Member) → In m ((record { id = id; addr = own_addr (settings all) }) ∷ filter_map known_of ss) → IsMember m
+        member_by m (inl e) = subst IsMember (sym e) (record { id = own_id; addr = own_is })
+        member_by m (inr j) = each_filter_map known_of IsMember ss (λ s q m e. known_by m s (state_valid s q) e) m j
 
   -- the kept part
   epoch_bound : (s : State) (e : ℕ) → IsState s → epoch_of s ≡ Some e → e ≤ MAX_EPOCH
@@ -320,9 +323,9 @@ module _ (bytes : List ℕ) (u : IsUtf8 bytes) (id : RunId) where
       let g = monitor_gives n m.0 m.2 in
       record {
         addr = given_fact (monitored_at n) (Contains (in_order addr_before (filter_map (node_of n) ss))) no_addr ss
-          (λ s q a e. at_from_in a (in_order addr_before (filter_map (node_of n) ss))
+            (λ s q a e. at_from_in a (in_order addr_before (filter_map (node_of n) ss))
             (to_in_order addr_before addr_order (filter_map (node_of n) ss) a (to_filter_map (node_of n) s a ss q (monitored_is_node n s a e))))
-          m.0 m.1 g.0 g.1;
+            m.0 m.1 g.0 g.1;
         epoch = first_fact (config_of n) (λ e. e ≤ greatest (filter_map epoch_of ss)) 0 ss (omega arith) (λ s q e h. epochs_le s q e (config_is_epoch n s e h));
         voted = first_fact (voted_of n) (λ e. e ≤ greatest (filter_map epoch_of ss)) 0 ss (omega arith) (λ s q e h. epochs_le s q e (voted_is_epoch n s e h));
       }
@@ -353,15 +356,15 @@ module _ (bytes : List ℕ) (u : IsUtf8 bytes) (id : RunId) where
       let own_id : IsId id = each_filter_map my_id_of (λ i. (i ≡ id) → IsId id) ss (λ s q i e f. own_id_by s (state_valid s q) (e ∙ ap Some f)) id ids refl in
       record {
         lines = each_from (IsKeptText (names conf)) (kept_lines_of texts) (λ t i.
-          let f = from_filter (λ text. is_kept (line_of text)) t texts i in
-          let text = each_in (λ t. HasNoLf t × IsUtf8 t) texts (text_lines bytes u) t f.1 in
-          record {
-            no_lf = text.0;
-            utf8 = text.1;
-            plain = clean_plain [] all (none_clean line_fault 1 [] all clean) (line_of t) (in_map line_of t texts f.1) f.0;
-            known = known_line (names conf) (line_of t) (λ n g. name_in n (spoken_known (filter_map name_of ss) (line_of t) n
-              (each_in (λ l. unknown_fault (filter_map name_of ss) l ≡ None) all (each_clean (unknown_fault (filter_map name_of ss)) [] all (none_clean (λ _. unknown_fault (filter_map name_of ss)) 1 [] all known)) (line_of t) (in_map line_of t texts f.1)) g));
-          });
+            let f = from_filter (λ text. is_kept (line_of text)) t texts i in
+            let text = each_in (λ t. HasNoLf t × IsUtf8 t) texts (text_lines bytes u) t f.1 in
+            record {
+              no_lf = text.0;
+              utf8 = text.1;
+              plain = clean_plain [] all (none_clean line_fault 1 [] all clean) (line_of t) (in_map line_of t texts f.1) f.0;
+              known = known_line (names conf) (line_of t) (λ n g. name_in n (spoken_known (filter_map name_of ss) (line_of t) n
+                  (each_in (λ l. unknown_fault (filter_map name_of ss) l ≡ None) all (each_clean (unknown_fault (filter_map name_of ss)) [] all (none_clean (λ _. unknown_fault (filter_map name_of ss)) 1 [] all known)) (line_of t) (in_map line_of t texts f.1)) g));
+            });
         name_order = subst (Rises bytes_before) (sym names_are) (rises_in_order bytes_before bytes_order (filter_map name_of ss));
         masters = each_from IsMaster (map (master_of ss) (names_of ss)) (each_map (master_of ss) IsMaster (names_of ss) master_valid);
         order = rises_in_order member_before member_order ((record { id = id; addr = own_addr (settings all) }) ∷ filter_map known_of ss);
@@ -390,12 +393,12 @@ conf_is_of_lines bytes u c h =
     let same = g.2 in
     let is : w ≡ c = cc in
     subst IsConf is
-      (is_conf bytes u d.0
-        (unless_ok (first_fault line_fault 1 [] ls) a.0 a.1)
-        (unless_ok (first_fault (λ _. unknown_fault (filter_map name_of (states ls))) 1 [] ls) b.0 b.1)
-        (found_in NoMyId (filter_map my_id_of (states ls)) d.0 d.1)
-        (roster_ok_by (fault_of w.roster) e.0 e.1)
-        (ltb-false FILE_MAX (length (rewritten w (longest w.kept))) (guard_by (ltb FILE_MAX (length (rewritten w (longest w.kept)))) TooLong g.0 g.1)))
+    (is_conf bytes u d.0
+    (unless_ok (first_fault line_fault 1 [] ls) a.0 a.1)
+    (unless_ok (first_fault (λ _. unknown_fault (filter_map name_of (states ls))) 1 [] ls) b.0 b.1)
+    (found_in NoMyId (filter_map my_id_of (states ls)) d.0 d.1)
+    (roster_ok_by (fault_of w.roster) e.0 e.1)
+    (ltb-false FILE_MAX (length (rewritten w (longest w.kept))) (guard_by (ltb FILE_MAX (length (rewritten w (longest w.kept)))) TooLong g.0 g.1)))
 
 pub conf_is : (bytes : List ℕ) (c : ConfPlan) → conf_of_bytes bytes ≡ Ok c → IsConf c
 conf_is bytes c h =

@@ -1,14 +1,12 @@
 -- The steps of reading a file.
-use Rattle.std.proofs.Common.{◌≡◌, ℕ, suc, ◌≤◌, ◌<◌, ◌⊎◌, inl, inr, Bool, true, false, ltb, List, [], ◌∷◌, ◌++◌, map, length, take, min, get_or, Option, Some, None, Result, Ok, Err, refl, ap, sym, subst, ◌∙◌, arith, length-take}
-use Rattle.std.specs.Prelude.{not, MatchResult, slice_index_or}
-use Rattle.std.specs.List.{filter_map, cons_option, flat_map, list_any, AllByRecursion}
+use Rattle.std.proofs.Common.{◌≡◌, ℕ, suc, ◌≤◌, ◌<◌, Bool, true, false, ltb, List, [], ◌∷◌, map, length, min, get_or, Option, Some, None, Result, Ok, Err, refl, ap, sym, ◌∙◌, arith, length-take}
+use Rattle.std.specs.Prelude.{not, MatchResult}
+use Rattle.std.specs.List.{filter_map, cons_option, flat_map, list_any}
 use Rattle.std.specs.Str.{IsUtf8, is_utf8}
 use Rattle.std.proofs.lemmas.Bool.Decides.{nat_tests}
 use Rattle.std.proofs.lemmas.Str.{is_utf8-from_IsUtf8, IsUtf8-from_is_utf8}
 use Rattle.ballot_law.specs.declared.addresses.RunId.{RunId}
-use Rattle.ballot_law.specs.declared.rosters.Member.{Member}
 use Rattle.ballot_law.specs.RosterFaults.{fault_of}
-use Rattle.ballot_law.specs.Orders.{same_id}
 use Rattle.sentinel_conf.specs.declared.faults.ConfKind.{ConfKind}
 use Rattle.sentinel_conf.specs.declared.faults.ConfKind.TheVariants.{TooLong, NotUtf8, NoMyId}
 use Rattle.sentinel_conf.specs.declared.faults.ConfFault.{ConfFault}
@@ -20,21 +18,21 @@ use Rattle.sentinel_conf.specs.Lines.{line_of}
 use Rattle.sentinel_conf.specs.Meaning.{ConfPlan, states, settings, name_of, my_id_of, first_given, is_kept, conf_of}
 use Rattle.sentinel_conf.specs.Rewritten.{ended, rewritten, longest}
 use Rattle.sentinel_conf.specs.Room.{ROOM, bounded}
-use Rattle.sentinel_conf.specs.Reading.{FILE_MAX, no_memory, fault_at, line_fault, unknown_fault, first_fault, ◌>>=◌, unless, guard, found, checked, roster_checked, sized, kept_lines_of, whole_conf, conf_of_lines, conf_of_bytes}
+use Rattle.sentinel_conf.specs.Reading.{FILE_MAX, fault_at, line_fault, unknown_fault, first_fault, ◌>>=◌, unless, guard, found, checked, roster_checked, sized, kept_lines_of, whole_conf, conf_of_lines, conf_of_bytes}
 use Rattle.sentinel_conf.proofs.SpacedWords.{HasNoLf, lines-ended}
-use Rattle.sentinel_conf.proofs.SetLemmas.{In, each_in, each_from}
+use Rattle.sentinel_conf.proofs.SetLemmas.{each_in, each_from}
 use Rattle.sentinel_conf.proofs.FileLemmas.{from_filter}
 use Rattle.sentinel_conf.proofs.TextLemmas.{text_lines}
 
 given_step : {X Y : Type 0} (h : X → Option Y) (kind : ConfKind) (xs : List X) (o : Option Y)
-  → found kind (filter_map h xs) ≡ (elim (first_given h xs) as (λ _. Result Y ConfFault) [ None ↦ Err (fault_at 0 kind) | Some y ↦ Ok y ])
-  → found kind (cons_option o (filter_map h xs))
+    → found kind (filter_map h xs) ≡ (elim (first_given h xs) as (λ _. Result Y ConfFault) [ None ↦ Err (fault_at 0 kind) | Some y ↦ Ok y ])
+    → found kind (cons_option o (filter_map h xs))
     ≡ (elim (elim o as (λ _. Option Y) [ Some y ↦ Some y | None ↦ first_given h xs ]) as (λ _. Result Y ConfFault) [ None ↦ Err (fault_at 0 kind) | Some y ↦ Ok y ])
 given_step h kind xs (Some y) i = refl
 given_step h kind xs None i = i
 
 found-given : {X Y : Type 0} (h : X → Option Y) (kind : ConfKind) (xs : List X)
-  → found kind (filter_map h xs) ≡ (elim (first_given h xs) as (λ _. Result Y ConfFault) [ None ↦ Err (fault_at 0 kind) | Some y ↦ Ok y ])
+    → found kind (filter_map h xs) ≡ (elim (first_given h xs) as (λ _. Result Y ConfFault) [ None ↦ Err (fault_at 0 kind) | Some y ↦ Ok y ])
 found-given h kind [] = refl
 found-given h kind (x ∷ xs) = given_step h kind xs (h x) (found-given h kind xs)
 
@@ -65,15 +63,15 @@ module _ (texts : List (List ℕ)) where
   lines_clean names n a = ap (λ t. unless t >>= λ _. with_names named) a ∙ ap with_names (sym n)
 
   pub name_faulty : (fault : ConfFault) (names : List (List ℕ)) → names ≡ named → first_fault line_fault 1 [] ls ≡ None
-    → first_fault (λ _. unknown_fault names) 1 [] ls ≡ Some fault → conf_of_lines texts ≡ Err fault
+      → first_fault (λ _. unknown_fault names) 1 [] ls ≡ Some fault → conf_of_lines texts ≡ Err fault
   name_faulty fault names n a e = lines_clean names n a ∙ ap (λ t. unless t >>= λ _. with_id) e
 
   names_clean : (names : List (List ℕ)) → names ≡ named → first_fault line_fault 1 [] ls ≡ None → first_fault (λ _. unknown_fault names) 1 [] ls ≡ None
-    → conf_of_lines texts ≡ with_id
+      → conf_of_lines texts ≡ with_id
   names_clean names n a b = lines_clean names n a ∙ ap (λ t. unless t >>= λ _. with_id) b
 
   pub without_id : (names : List (List ℕ)) → names ≡ named → first_fault line_fault 1 [] ls ≡ None → first_fault (λ _. unknown_fault names) 1 [] ls ≡ None
-    → (ss : List State) → ss ≡ states ls → first_given my_id_of ss ≡ None → conf_of_lines texts ≡ Err (fault_at 0 NoMyId)
+      → (ss : List State) → ss ≡ states ls → first_given my_id_of ss ≡ None → conf_of_lines texts ≡ Err (fault_at 0 NoMyId)
   without_id names n a b ss s e =
       names_clean names n a b
       ∙ ap (λ t. found NoMyId (filter_map my_id_of t) >>= identified) (sym s)
@@ -81,7 +79,7 @@ module _ (texts : List (List ℕ)) where
       ∙ ap (λ t. (elim t as (λ _. Result RunId ConfFault) [ None ↦ Err (fault_at 0 NoMyId) | Some y ↦ Ok y ]) >>= identified) e
 
   pub with_this_id : (names : List (List ℕ)) → names ≡ named → first_fault line_fault 1 [] ls ≡ None → first_fault (λ _. unknown_fault names) 1 [] ls ≡ None
-    → (ss : List State) → ss ≡ states ls → (id : RunId) → first_given my_id_of ss ≡ Some id → conf_of_lines texts ≡ identified id
+      → (ss : List State) → ss ≡ states ls → (id : RunId) → first_given my_id_of ss ≡ Some id → conf_of_lines texts ≡ identified id
   with_this_id names n a b ss s id e =
       names_clean names n a b
       ∙ ap (λ t. found NoMyId (filter_map my_id_of t) >>= identified) (sym s)
@@ -89,7 +87,7 @@ module _ (texts : List (List ℕ)) where
       ∙ ap (λ t. (elim t as (λ _. Result RunId ConfFault) [ None ↦ Err (fault_at 0 NoMyId) | Some y ↦ Ok y ]) >>= identified) e
 
   pub whole_is : (kept : List (List ℕ)) (ss : List State) (sets : List Setting) (id : RunId) → kept ≡ kept_lines_of texts → ss ≡ states ls → sets ≡ settings ls
-    → conf_of kept ss sets id ≡ whole_conf texts id
+      → conf_of kept ss sets id ≡ whole_conf texts id
   whole_is kept ss sets id k s t =
       ap (λ x. conf_of x ss sets id) k ∙ ap (λ x. conf_of (kept_lines_of texts) x sets id) s ∙ ap (λ x. conf_of (kept_lines_of texts) (states ls) x id) t
 
@@ -106,8 +104,8 @@ kept_lines_again bytes kept u e =
     let all = text_lines bytes u in
     ap lines e
     ∙ lines-ended (kept_lines_of (lines bytes))
-        (each_from HasNoLf (kept_lines_of (lines bytes)) (λ t i.
-          (each_in (λ t. HasNoLf t × IsUtf8 t) (lines bytes) all t (from_filter (λ text. is_kept (line_of text)) t (lines bytes) i).1).0))
+    (each_from HasNoLf (kept_lines_of (lines bytes)) (λ t i.
+    (each_in (λ t. HasNoLf t × IsUtf8 t) (lines bytes) all t (from_filter (λ text. is_kept (line_of text)) t (lines bytes) i).1).0))
 
 pub kept_is_ended : (bytes kept : List ℕ) → IsUtf8 bytes → kept ≡ flat_map ended (kept_lines_of (lines bytes)) → kept ≡ flat_map ended (lines kept)
 kept_is_ended bytes kept u e = e ∙ ap (flat_map ended) (sym (kept_lines_again bytes kept u e))

@@ -51,7 +51,7 @@ module _ (old first second : List ℕ) where
   two_adds mid new e f = f ∙ ap (λ t. bounded (t ++ second)) e ∙ added_both old first second
 
   pub three_adds : (third mid other new : List ℕ) → mid ≡ bounded (old ++ first) → other ≡ bounded (mid ++ second) → new ≡ bounded (other ++ third)
-    → new ≡ bounded (old ++ (first ++ (second ++ third)))
+      → new ≡ bounded (old ++ (first ++ (second ++ third)))
   three_adds third mid other new e f g =
       g
       ∙ ap (λ t. bounded (t ++ third)) (two_adds mid other e f)
@@ -65,7 +65,7 @@ node_more name ip port rest =
     ∙ ap (λ t. 32 ∷ (name ++ 32 ∷ t)) (append_assoc ip (32 ∷ port) rest)
 
 pub added_when : (xs ys fits : List ℕ) (k : ℕ) (ok : Bool) (new : List ℕ) → length xs ≤ ROOM → k ≡ min (length ys) (ROOM - length xs) → fits ≡ take k ys
-  → ok ≡ true → new ≡ (if ok then xs ++ fits else xs) → new ≡ bounded (xs ++ ys)
+    → ok ≡ true → new ≡ (if ok then xs ++ fits else xs) → new ≡ bounded (xs ++ ys)
 added_when xs ys fits k ok new h e f g n =
     n ∙ ap (λ t. if t then xs ++ fits else xs) g ∙ ap (λ t. xs ++ t) (f ∙ ap (λ m. take m ys) e) ∙ added_first xs ys h
 
@@ -89,9 +89,9 @@ head_and_rest d (x ∷ xs) h = ap (λ t. x ∷ t) (sym (take_all (length (x ∷ 
 
 -- the line of one element more
 pub lines_more : {X : Type 0} (keep : X → Bool) (line : X → State) (start out new : List ℕ) (all rest : List X) (d : X) → 1 ≤ length rest → keep (get_or rest 0 d) ≡ true
-  → new ≡ bounded (out ++ ended (spelled (line (get_or rest 0 d))))
-  → bounded (start ++ text_of (map line (filter keep all))) ≡ bounded (out ++ text_of (map line (filter keep rest)))
-  → bounded (start ++ text_of (map line (filter keep all))) ≡ bounded (new ++ text_of (map line (filter keep (take (length rest - 1) (drop 1 rest)))))
+    → new ≡ bounded (out ++ ended (spelled (line (get_or rest 0 d))))
+    → bounded (start ++ text_of (map line (filter keep all))) ≡ bounded (out ++ text_of (map line (filter keep rest)))
+    → bounded (start ++ text_of (map line (filter keep all))) ≡ bounded (new ++ text_of (map line (filter keep (take (length rest - 1) (drop 1 rest)))))
 lines_more keep line start out new all rest d h k e i =
     let x = get_or rest 0 d in
     let more = take (length rest - 1) (drop 1 rest) in
@@ -111,9 +111,9 @@ kept_and_states (text ∷ texts) states =
 
 -- the text of three lines and of two lists of lines
 pub three_and_two : (a b c : State) (ds es : List State) (out one two three four five : List ℕ)
-  → one ≡ bounded (out ++ ended (spelled a)) → two ≡ bounded (one ++ ended (spelled b)) → three ≡ bounded (two ++ ended (spelled c))
-  → bounded four ≡ bounded (three ++ text_of ds) → bounded five ≡ bounded (four ++ text_of es)
-  → bounded five ≡ bounded (out ++ text_of (a ∷ b ∷ c ∷ (ds ++ es)))
+    → one ≡ bounded (out ++ ended (spelled a)) → two ≡ bounded (one ++ ended (spelled b)) → three ≡ bounded (two ++ ended (spelled c))
+    → bounded four ≡ bounded (three ++ text_of ds) → bounded five ≡ bounded (four ++ text_of es)
+    → bounded five ≡ bounded (out ++ text_of (a ∷ b ∷ c ∷ (ds ++ es)))
 three_and_two a b c ds es out one two three four five e f g h i =
     let lists = room_join three four five (text_of ds) (text_of es) h i ∙ ap (λ t. bounded (three ++ t)) (sym (text_of-append ds es)) in
     let third = room_join two three five (ended (spelled c)) (text_of (ds ++ es)) (room_of two three (ended (spelled c)) g) lists in
@@ -122,9 +122,9 @@ three_and_two a b c ds es out one two three four five e f g h i =
 
 -- the lines of one master more
 pub masters_more : {A B : Type 0} (f : A × B → List State) (whole out new : List ℕ) (ms : List A) (ks : List B) (m : A) (d : B) → 1 ≤ length ms → m ≡ get_or ms 0 m → 1 ≤ length ks
-  → bounded new ≡ bounded (out ++ text_of (f (m, get_or ks 0 d)))
-  → bounded whole ≡ bounded (out ++ text_of (flat_map f (zip ms ks)))
-  → bounded whole ≡ bounded (new ++ text_of (flat_map f (zip (take (length ms - 1) (drop 1 ms)) (take (length ks - 1) (drop 1 ks)))))
+    → bounded new ≡ bounded (out ++ text_of (f (m, get_or ks 0 d)))
+    → bounded whole ≡ bounded (out ++ text_of (flat_map f (zip ms ks)))
+    → bounded whole ≡ bounded (new ++ text_of (flat_map f (zip (take (length ms - 1) (drop 1 ms)) (take (length ks - 1) (drop 1 ks)))))
 masters_more f whole out new [] ks m d h e i n w = absurd (omega arith)
 masters_more f whole out new (x ∷ xs) [] m d h e i n w = absurd (omega arith)
 masters_more f whole out new (x ∷ xs) (k ∷ ks) m d h e i n w =
@@ -144,8 +144,8 @@ masters_more f whole out new (x ∷ xs) (k ∷ ks) m d h e i n w =
     ∙ ap (λ t. bounded (new ++ text_of (flat_map f (zip more t)))) (sym second)
 
 pub file_text : (out kept one two three four : List ℕ) (a b : State) (cs : List State)
-  → one ≡ bounded (out ++ kept) → two ≡ bounded (one ++ ended (spelled a)) → three ≡ bounded (two ++ ended (spelled b)) → bounded four ≡ bounded (three ++ text_of cs)
-  → bounded four ≡ bounded (out ++ (kept ++ text_of (a ∷ b ∷ cs)))
+    → one ≡ bounded (out ++ kept) → two ≡ bounded (one ++ ended (spelled a)) → three ≡ bounded (two ++ ended (spelled b)) → bounded four ≡ bounded (three ++ text_of cs)
+    → bounded four ≡ bounded (out ++ (kept ++ text_of (a ∷ b ∷ cs)))
 file_text out kept one two three four a b cs e f g h =
     let second = room_join two three four (ended (spelled b)) (text_of cs) (room_of two three (ended (spelled b)) g) h in
     let first = room_join one two four (ended (spelled a)) (text_of (b ∷ cs)) (room_of one two (ended (spelled a)) f) second in

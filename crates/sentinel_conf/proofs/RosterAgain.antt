@@ -1,8 +1,6 @@
 -- The roster that the lines give is in order already.
 use Rattle.std.proofs.Common.{◌≡◌, ℕ, Bool, true, false, ◌||◌, ◌&&◌, List, [], ◌∷◌, map, refl, ap, sym, ◌∙◌, None}
 use Rattle.std.specs.List.{list_any, AllByRecursion, filter_map}
-use Rattle.ballot_law.specs.declared.addresses.Addr.{Addr}
-use Rattle.ballot_law.specs.declared.addresses.RunId.{RunId}
 use Rattle.ballot_law.specs.declared.rosters.Member.{Member}
 use Rattle.ballot_law.specs.Ordered.{add, in_order, repeats}
 use Rattle.ballot_law.specs.Orders.{same_id, id_before, addr_before, bytes_before}
@@ -11,9 +9,9 @@ use Rattle.ballot_law.specs.RosterFaults.{fault_of}
 use Rattle.ballot_law.proofs.Placing.{add_before}
 use Rattle.sentinel_conf.specs.declared.lines.State.{State}
 use Rattle.sentinel_conf.specs.Meaning.{member_before, name_of, node_of, known_of, names_of, master_of, members_of, plan_of}
-use Rattle.sentinel_conf.proofs.SetLemmas.{In, Rises, IsOrder, each_in, each_from, rises_in_order}
+use Rattle.sentinel_conf.proofs.SetLemmas.{Rises, IsOrder, rises_in_order}
 use Rattle.sentinel_conf.proofs.OrderLemmas.{addr_order, id_order, member_order, bytes_order}
-use Rattle.sentinel_conf.proofs.ReadAgain.{NoFault, no_fault, map_map, map_same}
+use Rattle.sentinel_conf.proofs.ReadAgain.{no_fault, map_map, map_same}
 
 abbrev IsOneWay : {X : Type 0} → (X → X → Bool) → Type 0
 IsOneWay {X} before = (x y : X) → before x y ≡ true → before y x ≡ false
@@ -34,7 +32,7 @@ stays before o [] h = refl
 stays before o (x ∷ xs) h = ap (add before x) (stays before o xs h.1) ∙ add_front before o x xs h.0
 
 rises_map : {X Y : Type 0} (before : X → X → Bool) (after : Y → Y → Bool) (f : X → Y) → ((x y : X) → before x y ≡ true → after (f x) (f y) ≡ true)
-  → (xs : List X) → Rises before xs → Rises after (map f xs)
+    → (xs : List X) → Rises before xs → Rises after (map f xs)
 rises_map before after f g [] h = h
 rises_map before after f g (x ∷ xs) h = (later x xs h.0, rises_map before after f g xs h.1) where
   later : (x : _) (xs : List _) → AllByRecursion (λ y. before x y ≡ true) xs → AllByRecursion (λ y. after (f x) y ≡ true) (map f xs)
@@ -63,9 +61,10 @@ or_false_right false b h = h
 
 ids_later : (a : Member) (xs : List Member) → AllByRecursion (λ b. member_before a b ≡ true) xs → list_any (one_id a) xs ≡ false → AllByRecursion (λ b. by_id a b ≡ true) xs
 ids_later a [] h e = tt
-ids_later a (b ∷ xs) h e =
-    (id_first (id_before a.id b.id) (same_id a.id b.id) (addr_before a.addr b.addr) h.0 (or_false_left (one_id a b) (list_any (one_id a) xs) e)
-    , ids_later a xs h.1 (or_false_right (one_id a b) (list_any (one_id a) xs) e))
+ids_later a (b ∷ xs) h e = (
+  id_first (id_before a.id b.id) (same_id a.id b.id) (addr_before a.addr b.addr) h.0 (or_false_left (one_id a b) (list_any (one_id a) xs) e),
+  ids_later a xs h.1 (or_false_right (one_id a b) (list_any (one_id a) xs) e),
+)
 
 rises_ids : (xs : List Member) → Rises member_before xs → repeats one_id xs ≡ false → Rises by_id xs
 rises_ids [] h e = h
@@ -76,7 +75,7 @@ master_again : (states : List State) (name : List ℕ) → nodes_in_order (maste
 master_again states name =
     let nodes = filter_map (node_of name) states in
     ap (λ t. let m : MasterPlan = record (master_of states name) { nodes = t } in m)
-      (stays addr_before (one_way addr_before addr_order) (in_order addr_before nodes) (rises_in_order addr_before addr_order nodes))
+    (stays addr_before (one_way addr_before addr_order) (in_order addr_before nodes) (rises_in_order addr_before addr_order nodes))
 
 masters_again : (states : List State) (names : List (List ℕ)) → map nodes_in_order (map (master_of states) names) ≡ map (master_of states) names
 masters_again states names = sym (map_map (master_of states) nodes_in_order names) ∙ map_same (λ n. nodes_in_order (master_of states n)) (master_of states) names (λ n i. master_again states n)
@@ -89,8 +88,8 @@ ordered_again own states h =
     let by_name : MasterPlan → MasterPlan → Bool = λ a b. bytes_before a.name b.name in
     let given = filter_map name_of states in
     ap (λ t. let p : RosterPlan = record { sentinels = t; masters = in_order by_name (map nodes_in_order masters) } in p)
-      (stays by_id (λ a b k. one_way id_before id_order a.id b.id k) members (rises_ids members (rises_in_order member_before member_order (own ∷ filter_map known_of states)) none.ids))
+    (stays by_id (λ a b k. one_way id_before id_order a.id b.id k) members (rises_ids members (rises_in_order member_before member_order (own ∷ filter_map known_of states)) none.ids))
     ∙ ap (λ t. let p : RosterPlan = record { sentinels = members; masters = in_order by_name t } in p) (masters_again states (names_of states))
     ∙ ap (λ t. let p : RosterPlan = record { sentinels = members; masters = t } in p)
-        (stays by_name (λ a b k. one_way bytes_before bytes_order a.name b.name k) masters
-          (rises_map bytes_before by_name (master_of states) (λ x y k. k) (names_of states) (rises_in_order bytes_before bytes_order given)))
+    (stays by_name (λ a b k. one_way bytes_before bytes_order a.name b.name k) masters
+    (rises_map bytes_before by_name (master_of states) (λ x y k. k) (names_of states) (rises_in_order bytes_before bytes_order given)))

@@ -1,8 +1,7 @@
 -- Lists in order, each element once: two of the same elements are equal.
-use Rattle.std.proofs.Common.{◌≡◌, ℕ, Bool, true, false, ◌&&◌, ◌||◌, eqb, ltb, List, [], ◌∷◌, refl, ap, sym, ◌∙◌, subst, arith, ◌⊎◌, inl, inr}
+use Rattle.std.proofs.Common.{◌≡◌, Bool, true, false, List, [], ◌∷◌, refl, ap, sym, ◌∙◌, subst, ◌⊎◌, inl, inr}
 use Rattle.std.specs.List.{AllByRecursion}
-use Rattle.std.proofs.lemmas.Bool.{and_parts, and_from, or_cases, or_left, or_right, or_from, or_parts, and_left, and_right, and_cases, true≢false, cases_Bool}
-use Rattle.std.proofs.lemmas.Bool.Decides.{nat_tests}
+use Rattle.std.proofs.lemmas.Bool.{true≢false}
 use Rattle.ballot_law.specs.Ordered.{add, in_order}
 
 pub record IsOrder {X : Type 0} (before : X → X → Bool) : Type 0 where
@@ -97,7 +96,7 @@ module _ {X : Type 0} (before : X → X → Bool) where
     above_added : (y x : X) (ys zs : List X) → Adds x ys zs → before y x ≡ true → AllByRecursion (λ z. before y z ≡ true) ys → AllByRecursion (λ z. before y z ≡ true) zs
     above_added y x ys zs a e h =
         each_from (λ z. before y z ≡ true) zs (λ z i.
-          elim (a.0 z i) as (λ _. before y z ≡ true) [ inl f ↦ ap (before y) f ∙ e | inr j ↦ each_in (λ z. before y z ≡ true) ys h z j ])
+        elim (a.0 z i) as (λ _. before y z ≡ true) [ inl f ↦ ap (before y) f ∙ e | inr j ↦ each_in (λ z. before y z ≡ true) ys h z j ])
 
     above_all : (x y : X) (ys : List X) → before x y ≡ true → AllByRecursion (λ z. before y z ≡ true) ys → AllByRecursion (λ z. before x z ≡ true) ys
     above_all x y ys e h = each_from (λ z. before x z ≡ true) ys (λ z i. o.transitive x y z e (each_in (λ z. before y z ≡ true) ys h z i))
@@ -128,8 +127,8 @@ module _ {X : Type 0} (before : X → X → Bool) where
     tail_in : (x y : X) (xs ys : List X) → Rises before (x ∷ xs) → x ≡ y → ((z : X) → In z (x ∷ xs) → In z (y ∷ ys)) → (z : X) → In z xs → In z ys
     tail_in x y xs ys r e h z i =
         elim (h z (inr i)) as (λ _. In z ys) [
-          inl f ↦ absurd (not_above x xs r.0 (subst (λ w. In w xs) (f ∙ sym e) i))
-        | inr j ↦ j
+          | inl f ↦ absurd (not_above x xs r.0 (subst (λ w. In w xs) (f ∙ sym e) i))
+          | inr j ↦ j
         ]
 
     pub same_elements : (xs ys : List X) → Rises before xs → Rises before ys → ((z : X) → In z xs → In z ys) → ((z : X) → In z ys → In z xs) → xs ≡ ys

@@ -1,8 +1,8 @@
 -- Words that are spelled with one space between them are read back, and so are lines.
-use Rattle.std.proofs.Common.{◌≡◌, ℕ, ◌+◌, ◌≤◌, ◌<◌, ◌≢◌, Bool, true, false, eqb, List, [], ◌∷◌, ◌++◌, refl, ap, sym, ◌∙◌, arith, append_assoc}
+use Rattle.std.proofs.Common.{◌≡◌, ℕ, ◌≤◌, ◌≢◌, true, false, eqb, List, [], ◌∷◌, ◌++◌, refl, ap, ◌∙◌, arith, append_assoc}
 use Rattle.std.specs.List.{flat_map, AllByRecursion}
 use Rattle.std.proofs.lemmas.Bool.Decides.{nat_tests}
-use Rattle.sentinel_conf.specs.Words.{lines, with_front, is_blank, is_edge, after_edges, before_edges, joined_unless_empty, trimmed, Place, words_at, words_of, spaced}
+use Rattle.sentinel_conf.specs.Words.{lines, with_front, is_blank, is_edge, after_edges, before_edges, joined_unless_empty, words_at, words_of, spaced}
 use Rattle.sentinel_conf.specs.Words.Place.{Between, Plain, Quoted}
 use Rattle.sentinel_conf.specs.Rewritten.{ended}
 use Rattle.ballot_law.proofs.WordLemmas.{ArePlain, IsWord}

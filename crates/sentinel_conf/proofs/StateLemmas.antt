@@ -1,20 +1,18 @@
 -- A spelled state line is read back.
-use Rattle.std.proofs.Common.{◌≡◌, ℕ, ◌^◌, ◌≤◌, ◌<◌, Bool, true, false, leb, List, [], ◌∷◌, ◌++◌, refl, ap, sym, ◌∙◌, subst, arith, Option, Some, None}
+use Rattle.std.proofs.Common.{◌≡◌, ℕ, ◌^◌, ◌≤◌, ◌<◌, true, leb, List, [], ◌∷◌, refl, ap, ◌∙◌, arith, Some}
 use Rattle.std.specs.Prelude.{decimal, codes}
-use Rattle.std.specs.List.{list_all, AllByRecursion}
+use Rattle.std.specs.List.{list_all}
 use Rattle.std.proofs.lemmas.Bool.{and_parts, leb-true}
 use Rattle.ballot_law.specs.declared.addresses.Addr.{Addr}
 use Rattle.ballot_law.specs.declared.addresses.RunId.{RunId}
-use Rattle.sentinel_conf.specs.declared.faults.ConfKind.TheVariants.{BadDirective, BadNumber, BadAddress, BadName, BadRunId}
+use Rattle.sentinel_conf.specs.declared.faults.ConfKind.TheVariants.{BadNumber, BadAddress, BadName, BadRunId}
 use Rattle.sentinel_conf.specs.declared.lines.State.{State}
 use Rattle.sentinel_conf.specs.declared.lines.State.TheVariants.{MyId, CurrentEpoch, Monitor, ConfigEpoch, LeaderEpoch, KnownReplica, KnownSentinel}
-use Rattle.sentinel_conf.specs.declared.lines.Line.{Line}
 use Rattle.sentinel_conf.specs.declared.lines.Line.TheVariants as line
-use Rattle.sentinel_conf.specs.Words.{words_of, spaced}
 use Rattle.ballot_law.specs.Words.{name, address, run_id, ip_text, id_text}
 use Rattle.sentinel_conf.specs.Lines.{wanted, epoch, count, line_of, line_of_words, state_words, spelled, MAX_EPOCH}
 use Rattle.sentinel_conf.proofs.SpacedWords.{AreWords, words_of-spaced, HasNoLf, no_lf_spaced}
-use Rattle.ballot_law.proofs.WordLemmas.{ArePlain, IsWord}
+use Rattle.ballot_law.proofs.WordLemmas.{IsWord}
 use Rattle.ballot_law.proofs.WordLemmas.{number_within-decimal, word_decimal, address-text, word_ip_text, run_id-id_text, word_id_text, word_name}
 
 pub record IsAddr (addr : Addr) : Type 0 where

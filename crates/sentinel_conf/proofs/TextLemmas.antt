@@ -1,8 +1,8 @@
 -- Spelled state lines are text, and the lines of a text are texts.
-use Rattle.std.proofs.Common.{◌≡◌, ℕ, zero, suc, ◌+◌, ◌/◌, ◌%◌, ◌≤◌, ◌<◌, ◌≢◌, Bool, true, false, eqb, ltb, leb, ◌&&◌, List, [], ◌∷◌, ◌++◌, length, get_or, take, drop, map, refl, ap, sym, ◌∙◌, subst, arith, ◌⊎◌, inl, inr, Option, Some, None, append_assoc, length-append}
+use Rattle.std.proofs.Common.{◌≡◌, ℕ, zero, suc, ◌+◌, ◌/◌, ◌%◌, ◌≤◌, ◌<◌, ◌≢◌, Bool, true, false, eqb, ltb, leb, ◌&&◌, List, [], ◌∷◌, ◌++◌, length, get_or, refl, ap, sym, subst, arith, Some, append_assoc, length-append}
 use Rattle.std.specs.Prelude.{decimal, codes}
 use Rattle.std.specs.List.{list_all, flat_map, AllByRecursion}
-use Rattle.std.specs.Str.{IsUtf8, IsAscii}
+use Rattle.std.specs.Str.{IsUtf8}
 use Rattle.std.proofs.lemmas.Bool.{and_parts}
 use Rattle.std.proofs.lemmas.Bool.Decides.{nat_tests}
 use Rattle.std.proofs.lemmas.Str.{IsUtf8-append, IsUtf8-nil, IsUtf8-from_ascii, IsUtf8-take, IsUtf8-drop, IsCharBoundary-before_ascii, IsCharBoundary-after_ascii}
@@ -54,15 +54,17 @@ low_name n h =
 
 low_ip : (n : ℕ) → n < 4294967296 → AreLow (ip_text n)
 low_ip n h =
-    low_append (decimal (n / 256 / 256 / 256)) (46 ∷ (decimal (n / 256 / 256 % 256) ++ 46 ∷ (decimal (n / 256 % 256) ++ 46 ∷ decimal (n % 256)))) (low_decimal (n / 256 / 256 / 256) (omega arith))
-      (omega arith, low_append (decimal (n / 256 / 256 % 256)) (46 ∷ (decimal (n / 256 % 256) ++ 46 ∷ decimal (n % 256))) (low_decimal (n / 256 / 256 % 256) (omega arith))
-        (omega arith, low_append (decimal (n / 256 % 256)) (46 ∷ decimal (n % 256)) (low_decimal (n / 256 % 256) (omega arith)) (omega arith, low_decimal (n % 256) (omega arith))))
+    low_append (decimal (n / 256 / 256 / 256)) (46 ∷ (decimal (n / 256 / 256 % 256) ++ 46 ∷ (decimal (n / 256 % 256) ++ 46 ∷ decimal (n % 256)))) (low_decimal (n / 256 / 256 / 256) (omega arith)) (
+      omega arith,
+      low_append (decimal (n / 256 / 256 % 256)) (46 ∷ (decimal (n / 256 % 256) ++ 46 ∷ decimal (n % 256))) (low_decimal (n / 256 / 256 % 256) (omega arith))
+          (omega arith, low_append (decimal (n / 256 % 256)) (46 ∷ decimal (n % 256)) (low_decimal (n / 256 % 256) (omega arith)) (omega arith, low_decimal (n % 256) (omega arith))),
+    )
 
 low_id : (id : RunId) → IsId id → AreLow (id_text id)
 low_id id h =
     low_append (hex 32 id.hi) (hex 8 id.lo)
-      (low_by is_hex (λ b e. let l : b < 128 = grind (arith, nat_tests) in l) (hex 32 id.hi) (spells_hex 32 id.hi h.hi).digits)
-      (low_by is_hex (λ b e. let l : b < 128 = grind (arith, nat_tests) in l) (hex 8 id.lo) (spells_hex 8 id.lo h.lo).digits)
+    (low_by is_hex (λ b e. let l : b < 128 = grind (arith, nat_tests) in l) (hex 32 id.hi) (spells_hex 32 id.hi h.hi).digits)
+    (low_by is_hex (λ b e. let l : b < 128 = grind (arith, nat_tests) in l) (hex 8 id.lo) (spells_hex 8 id.lo h.lo).digits)
 
 low_epoch : (e : ℕ) → e ≤ MAX_EPOCH → AreLow (decimal e)
 low_epoch e h = low_decimal e (omega arith)
@@ -137,16 +139,16 @@ append_nil [] = refl
 append_nil (x ∷ pre) = ap (λ t. x ∷ t) (append_nil pre)
 
 text_lines_by : (t : Bool) (pre : List ℕ) (b : ℕ) (bs : List ℕ) → eqb b 10 ≡ t → HasNoLf pre → IsUtf8 (pre ++ b ∷ bs) → ((pre : List ℕ) → HasNoLf pre → IsUtf8 (pre ++ bs) → AllByRecursion IsTextLine (attached pre (lines bs)))
-  → AllByRecursion IsTextLine (attached pre (lines (b ∷ bs)))
+    → AllByRecursion IsTextLine (attached pre (lines (b ∷ bs)))
 text_lines_by true pre b bs e h u rest =
     let f : b ≡ 10 = grind (arith, nat_tests, e) in
     let v : IsUtf8 (pre ++ 10 ∷ bs) = subst (λ c. IsUtf8 (pre ++ c ∷ bs)) f u in
     subst (λ ts. AllByRecursion IsTextLine (attached pre ts)) (sym (lines_at_lf b bs e))
-      ((subst IsTextLine (sym (append_nil pre)) (h, front_text pre bs v)), nil_front (lines bs) (rest [] tt (back_text pre bs v)))
+    ((subst IsTextLine (sym (append_nil pre)) (h, front_text pre bs v)), nil_front (lines bs) (rest [] tt (back_text pre bs v)))
 text_lines_by false pre b bs e h u rest =
     let n : b ≢ 10 = λ f. grind (arith, nat_tests, e) in
     subst (λ ts. AllByRecursion IsTextLine (attached pre ts)) (sym (lines_in_line b bs e))
-      (subst (AllByRecursion IsTextLine) (attached_front pre b (lines bs)) (rest (pre ++ b ∷ []) (no_lf_push pre b h n) (subst IsUtf8 (sym (append_assoc pre (b ∷ []) bs)) u)))
+    (subst (AllByRecursion IsTextLine) (attached_front pre b (lines bs)) (rest (pre ++ b ∷ []) (no_lf_push pre b h n) (subst IsUtf8 (sym (append_assoc pre (b ∷ []) bs)) u)))
 
 text_lines_from : (bs : List ℕ) (pre : List ℕ) → HasNoLf pre → IsUtf8 (pre ++ bs) → AllByRecursion IsTextLine (attached pre (lines bs))
 text_lines_from [] pre h u = ((h, subst IsUtf8 (append_nil pre) u), tt)

@@ -1,12 +1,11 @@
 -- What a line says is in range.
-use Rattle.std.proofs.Common.{◌≡◌, ℕ, zero, suc, ◌+◌, ◌-◌, ◌*◌, ◌^◌, ◌≤◌, ◌<◌, Bool, true, false, ◌&&◌, ◌||◌, eqb, ltb, leb, List, [], ◌∷◌, ◌++◌, length, take, drop, map, refl, ap, sym, ◌∙◌, subst, arith, ◌⊎◌, inl, inr, Option, Some, None, length-take-le, length-drop}
+use Rattle.std.proofs.Common.{◌≡◌, ℕ, suc, ◌+◌, ◌-◌, ◌*◌, ◌^◌, ◌≤◌, ◌<◌, Bool, true, false, ◌&&◌, eqb, ltb, leb, List, [], ◌∷◌, length, take, drop, map, refl, ap, sym, ◌∙◌, subst, arith, Option, Some, None, length-take-le, length-drop}
 use Rattle.std.specs.Prelude.{codes, decimal}
 use Rattle.std.specs.List.{list_all, AllByRecursion}
-use Rattle.std.proofs.lemmas.Bool.{and_parts, leb-true, cases_Bool}
+use Rattle.std.proofs.lemmas.Bool.{and_parts, leb-true}
 use Rattle.std.proofs.lemmas.Bool.Decides.{nat_tests}
 use Rattle.std.proofs.lemmas.List.Folds.{list_all-append}
 use Rattle.std.proofs.lemmas.List.{take-append-drop}
-use Rattle.std.proofs.Math.Nat.{pow-suc}
 use Rattle.std.specs.Int.Digits.{number_from_digits_after, AllBelowBase}
 use Rattle.std.proofs.lemmas.Int.Digits.{number_after_lt}
 use Rattle.ballot_law.specs.declared.addresses.Addr.{Addr}
@@ -14,7 +13,6 @@ use Rattle.ballot_law.specs.declared.addresses.RunId.{RunId}
 use Rattle.ballot_law.specs.Orders.{same_bytes}
 use Rattle.sentinel_conf.specs.declared.faults.ConfKind.{ConfKind}
 use Rattle.sentinel_conf.specs.declared.faults.ConfKind.TheVariants.{BadNumber, BadAddress, BadName, BadRunId}
-use Rattle.sentinel_conf.specs.declared.lines.State.{State}
 use Rattle.sentinel_conf.specs.declared.lines.State.TheVariants.{MyId, CurrentEpoch, Monitor, ConfigEpoch, LeaderEpoch, KnownReplica, KnownSentinel}
 use Rattle.sentinel_conf.specs.declared.lines.Setting.{Setting}
 use Rattle.sentinel_conf.specs.declared.lines.Setting.TheVariants.{Port, AnnounceIp, AnnouncePort, DownAfter, ParallelSyncs, FailoverTimeout}
@@ -143,33 +141,33 @@ current_is _ = tt
 monitor_is : (ws : List (List ℕ)) → IsLine (monitor_line ws)
 monitor_is (n ∷ i ∷ p ∷ q ∷ []) =
     wanted_is BadName (name n) (λ name. wanted BadAddress (address i p) (λ addr. wanted BadNumber (count q) (λ quorum. line.State (Monitor name addr quorum)))) (λ m e.
-      wanted_is BadAddress (address i p) (λ addr. wanted BadNumber (count q) (λ quorum. line.State (Monitor m addr quorum))) (λ a f.
-        wanted_is BadNumber (count q) (λ quorum. line.State (Monitor m a quorum)) (λ r g. (named n m e, addressed i p a f, (within 0 4294967295 q r g).1))))
+    wanted_is BadAddress (address i p) (λ addr. wanted BadNumber (count q) (λ quorum. line.State (Monitor m addr quorum))) (λ a f.
+    wanted_is BadNumber (count q) (λ quorum. line.State (Monitor m a quorum)) (λ r g. (named n m e, addressed i p a f, (within 0 4294967295 q r g).1))))
 monitor_is _ = tt
 
 config_is : (ws : List (List ℕ)) → IsLine (config_line ws)
 config_is (n ∷ w ∷ []) =
     wanted_is BadName (name n) (λ name. wanted BadNumber (epoch w) (λ epoch. line.State (ConfigEpoch name epoch))) (λ m e.
-      wanted_is BadNumber (epoch w) (λ epoch. line.State (ConfigEpoch m epoch)) (λ d f. (named n m e, (within 0 MAX_EPOCH w d f).1)))
+    wanted_is BadNumber (epoch w) (λ epoch. line.State (ConfigEpoch m epoch)) (λ d f. (named n m e, (within 0 MAX_EPOCH w d f).1)))
 config_is _ = tt
 
 leader_is : (ws : List (List ℕ)) → IsLine (leader_line ws)
 leader_is (n ∷ w ∷ []) =
     wanted_is BadName (name n) (λ name. wanted BadNumber (epoch w) (λ epoch. line.State (LeaderEpoch name epoch))) (λ m e.
-      wanted_is BadNumber (epoch w) (λ epoch. line.State (LeaderEpoch m epoch)) (λ d f. (named n m e, (within 0 MAX_EPOCH w d f).1)))
+    wanted_is BadNumber (epoch w) (λ epoch. line.State (LeaderEpoch m epoch)) (λ d f. (named n m e, (within 0 MAX_EPOCH w d f).1)))
 leader_is _ = tt
 
 replica_is : (ws : List (List ℕ)) → IsLine (replica_line ws)
 replica_is (n ∷ i ∷ p ∷ []) =
     wanted_is BadName (name n) (λ name. wanted BadAddress (address i p) (λ addr. line.State (KnownReplica name addr))) (λ m e.
-      wanted_is BadAddress (address i p) (λ addr. line.State (KnownReplica m addr)) (λ a f. (named n m e, addressed i p a f)))
+    wanted_is BadAddress (address i p) (λ addr. line.State (KnownReplica m addr)) (λ a f. (named n m e, addressed i p a f)))
 replica_is _ = tt
 
 sentinel_is : (ws : List (List ℕ)) → IsLine (sentinel_line ws)
 sentinel_is (n ∷ i ∷ p ∷ r ∷ []) =
     wanted_is BadName (name n) (λ name. wanted BadAddress (address i p) (λ addr. wanted BadRunId (run_id r) (λ id. line.State (KnownSentinel name addr id)))) (λ m e.
-      wanted_is BadAddress (address i p) (λ addr. wanted BadRunId (run_id r) (λ id. line.State (KnownSentinel m addr id))) (λ a f.
-        wanted_is BadRunId (run_id r) (λ id. line.State (KnownSentinel m a id)) (λ id g. (named n m e, addressed i p a f, identified r id g))))
+    wanted_is BadAddress (address i p) (λ addr. wanted BadRunId (run_id r) (λ id. line.State (KnownSentinel m addr id))) (λ a f.
+    wanted_is BadRunId (run_id r) (λ id. line.State (KnownSentinel m a id)) (λ id g. (named n m e, addressed i p a f, identified r id g))))
 sentinel_is _ = tt
 
 port_is : (ws : List (List ℕ)) → IsLine (port_line ws)
@@ -187,19 +185,19 @@ announce_port_is _ = tt
 down_after_is : (ws : List (List ℕ)) → IsLine (down_after_line ws)
 down_after_is (n ∷ m ∷ []) =
     wanted_is BadName (name n) (λ name. wanted BadNumber (number_within 1 4294967295 m) (λ ms. line.Setting (DownAfter name ms))) (λ k e.
-      wanted_is BadNumber (number_within 1 4294967295 m) (λ ms. line.Setting (DownAfter k ms)) (λ x f. tt))
+    wanted_is BadNumber (number_within 1 4294967295 m) (λ ms. line.Setting (DownAfter k ms)) (λ x f. tt))
 down_after_is _ = tt
 
 parallel_syncs_is : (ws : List (List ℕ)) → IsLine (parallel_syncs_line ws)
 parallel_syncs_is (n ∷ m ∷ []) =
     wanted_is BadName (name n) (λ name. wanted BadNumber (count m) (λ c. line.Setting (ParallelSyncs name c))) (λ k e.
-      wanted_is BadNumber (count m) (λ c. line.Setting (ParallelSyncs k c)) (λ x f. tt))
+    wanted_is BadNumber (count m) (λ c. line.Setting (ParallelSyncs k c)) (λ x f. tt))
 parallel_syncs_is _ = tt
 
 timeout_is : (ws : List (List ℕ)) → IsLine (timeout_line ws)
 timeout_is (n ∷ m ∷ []) =
     wanted_is BadName (name n) (λ name. wanted BadNumber (number_within 1 4294967295 m) (λ ms. line.Setting (FailoverTimeout name ms))) (λ k e.
-      wanted_is BadNumber (number_within 1 4294967295 m) (λ ms. line.Setting (FailoverTimeout k ms)) (λ x f. tt))
+    wanted_is BadNumber (number_within 1 4294967295 m) (λ ms. line.Setting (FailoverTimeout k ms)) (λ x f. tt))
 timeout_is _ = tt
 
 chosen_is : (t : Bool) (l m : Line) → IsLine l → IsLine m → IsLine (elim t as (λ _. Line) [ true ↦ l | false ↦ m ])
@@ -213,9 +211,31 @@ first_is_line word (d ∷ ds) args h = chosen_is (same_bytes (lower word) d.0) (
 sentinel_words_is : (ws : List (List ℕ)) → IsLine (sentinel_words ws)
 sentinel_words_is [] = tt
 sentinel_words_is (word ∷ args) =
-    first_is_line word sentinel_directives args
-      (my_id_is args, (current_is args, (monitor_is args, (config_is args, (leader_is args, (replica_is args, (replica_is args, (sentinel_is args,
-        (announce_ip_is args, (announce_port_is args, (down_after_is args, (parallel_syncs_is args, (timeout_is args, tt)))))))))))))
+    first_is_line word sentinel_directives args (
+      my_id_is args,
+      (
+        current_is args,
+        (
+          monitor_is args,
+          (
+            config_is args,
+            (
+              leader_is args,
+              (
+                replica_is args,
+                (
+                  replica_is args,
+                  (
+                    sentinel_is args,
+                    (announce_ip_is args, (announce_port_is args, (down_after_is args, (parallel_syncs_is args, (timeout_is args, tt))))),
+                  ),
+                ),
+              ),
+            ),
+          ),
+        ),
+      ),
+    )
 
 words_is : (ws : List (List ℕ)) → IsLine (line_of_words ws)
 words_is [] = tt

@@ -1,12 +1,10 @@
 -- What a line is.
-use Rattle.std.specs.Prelude.{ℕ, Bool, true, false, ◌&&◌, ◌==◌, List, [], ◌∷◌, ◌++◌, Option, Some, None, codes, decimal}
-use Rattle.ballot_law.specs.declared.addresses.Addr.{Addr}
+use Rattle.std.specs.Prelude.{ℕ, Bool, true, false, ◌&&◌, List, [], ◌∷◌, Option, Some, None, codes, decimal}
 use Rattle.ballot_law.specs.Orders.{same_bytes, same_addr, same_id}
 use Rattle.sentinel_conf.specs.declared.faults.ConfKind.{ConfKind}
 use Rattle.sentinel_conf.specs.declared.faults.ConfKind.TheVariants.{BadDirective, BadNumber, BadAddress, BadName, BadRunId}
 use Rattle.sentinel_conf.specs.declared.lines.State.{State}
 use Rattle.sentinel_conf.specs.declared.lines.State.TheVariants.{MyId, CurrentEpoch, Monitor, ConfigEpoch, LeaderEpoch, KnownReplica, KnownSentinel}
-use Rattle.sentinel_conf.specs.declared.lines.Setting.{Setting}
 use Rattle.sentinel_conf.specs.declared.lines.Setting.TheVariants.{Port, AnnounceIp, AnnouncePort, DownAfter, ParallelSyncs, FailoverTimeout}
 use Rattle.sentinel_conf.specs.declared.lines.Line.{Line}
 use Rattle.sentinel_conf.specs.declared.lines.Line.TheVariants.{Kept, Faulty}

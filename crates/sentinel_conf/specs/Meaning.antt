@@ -1,13 +1,12 @@
 -- What the lines of a file say, as folds over them.
-use Rattle.std.specs.Prelude.{ℕ, ◌+◌, max, Bool, true, false, ◌||◌, ◌&&◌, ◌==◌, List, [], ◌∷◌, ◌++◌, map, Option, Some, None, length, fold, not, filter, position, unwrap_or}
-use Rattle.std.specs.List.{list_any, filter_map}
+use Rattle.std.specs.Prelude.{ℕ, max, Bool, true, false, ◌||◌, ◌&&◌, List, [], ◌∷◌, map, Option, Some, None, unwrap_or}
+use Rattle.std.specs.List.{filter_map}
 use Rattle.ballot_law.specs.declared.addresses.Addr.{Addr}
 use Rattle.ballot_law.specs.declared.addresses.RunId.{RunId}
 use Rattle.ballot_law.specs.declared.rosters.Member.{Member}
 use Rattle.ballot_law.specs.Ordered.{in_order}
 use Rattle.ballot_law.specs.Rosters.{Roster as RosterPlan, MasterPlan}
-use Rattle.ballot_law.specs.Orders.{same_bytes, same_id, same_addr, addr_before, id_before, bytes_before}
-use Rattle.ballot_law.specs.declared.cards.Card.{Card}
+use Rattle.ballot_law.specs.Orders.{same_bytes, same_id, addr_before, id_before, bytes_before}
 use Rattle.ballot_law.specs.declared.cards.KeptMaster.{KeptMaster}
 use Rattle.ballot_law.specs.declared.cards.Kept.{Kept as KeptPlan}
 use Rattle.ballot_law.specs.Rosters.{no_addr}

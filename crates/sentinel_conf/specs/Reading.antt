@@ -1,5 +1,5 @@
 -- What a file says, or its first fault.
-use Rattle.std.specs.Prelude.{ℕ, ◌≡◌, ◌+◌, Bool, true, false, ◌||◌, ◌&&◌, not, nat_lt, List, [], ◌∷◌, ◌++◌, map, filter, length, Option, Some, None, Result, Ok, Err}
+use Rattle.std.specs.Prelude.{ℕ, ◌≡◌, ◌+◌, Bool, true, false, not, nat_lt, List, [], ◌∷◌, ◌++◌, map, filter, length, Option, Some, None, Result, Ok, Err}
 use Rattle.std.specs.List.{list_any, filter_map}
 use Rattle.std.specs.Str.{is_utf8}
 use Rattle.ballot_law.specs.declared.addresses.RunId.{RunId}
@@ -12,13 +12,13 @@ use Rattle.sentinel_conf.specs.declared.faults.ConfFault.{ConfFault}
 use Rattle.sentinel_conf.specs.declared.lines.State.{State}
 use Rattle.sentinel_conf.specs.declared.lines.State.TheVariants.{MyId, CurrentEpoch, Monitor, ConfigEpoch, LeaderEpoch, KnownReplica, KnownSentinel}
 use Rattle.sentinel_conf.specs.declared.lines.Setting.{Setting}
-use Rattle.sentinel_conf.specs.declared.lines.Setting.TheVariants.{Port, AnnounceIp, AnnouncePort, DownAfter, ParallelSyncs, FailoverTimeout}
+use Rattle.sentinel_conf.specs.declared.lines.Setting.TheVariants.{DownAfter, ParallelSyncs, FailoverTimeout}
 use Rattle.sentinel_conf.specs.declared.lines.Line.{Line}
 use Rattle.sentinel_conf.specs.declared.lines.Line.TheVariants as line
 use Rattle.sentinel_conf.specs.Words.{lines}
 use Rattle.ballot_law.specs.Words.{some_if}
 use Rattle.sentinel_conf.specs.Lines.{line_of, same_key}
-use Rattle.sentinel_conf.specs.Meaning.{ConfPlan, states, settings, state_of, is_kept, my_id_of, names_of, name_of, conf_of}
+use Rattle.sentinel_conf.specs.Meaning.{ConfPlan, states, settings, is_kept, my_id_of, name_of, conf_of}
 use Rattle.sentinel_conf.specs.Rewritten.{rewritten, longest}
 
 abbrev pub FILE_MAX : ℕ
@@ -68,8 +68,8 @@ abbrev pub first_fault : (List State → Line → Option ConfKind) → ℕ → L
 first_fault test number earlier [] = None
 first_fault test number earlier (line ∷ lines) =
     elim (test earlier line) as (λ _. Option ConfFault) [
-      Some kind ↦ Some (fault_at number kind)
-    | None ↦ first_fault test (number + 1) (earlier ++ states (line ∷ [])) lines
+      | Some kind ↦ Some (fault_at number kind)
+      | None ↦ first_fault test (number + 1) (earlier ++ states (line ∷ [])) lines
     ]
 
 infixl 10 ◌>>=◌

@@ -1,10 +1,10 @@
 -- The rewritten file of a conf and a kept part.
-use Rattle.std.specs.Prelude.{ℕ, ◌≡◌, ◌≤◌, Bool, not, List, [], ◌∷◌, ◌++◌, map, filter, length, Contains}
+use Rattle.std.specs.Prelude.{ℕ, ◌≤◌, not, List, [], ◌∷◌, ◌++◌, map, filter, Contains}
 use Rattle.std.specs.List.{flat_map, zip, AllZip}
 use Rattle.ballot_law.specs.declared.addresses.Addr.{Addr}
 use Rattle.ballot_law.specs.declared.addresses.RunId.{RunId}
 use Rattle.ballot_law.specs.declared.rosters.Member.{Member}
-use Rattle.ballot_law.specs.Rosters.{Roster as RosterPlan, MasterPlan}
+use Rattle.ballot_law.specs.Rosters.{MasterPlan}
 use Rattle.ballot_law.specs.Orders.{same_id, same_addr}
 use Rattle.ballot_law.specs.declared.cards.KeptMaster.{KeptMaster}
 use Rattle.sentinel_conf.specs.declared.lines.State.{State}

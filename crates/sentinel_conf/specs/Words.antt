@@ -1,5 +1,5 @@
 -- The lines of a file and the words of a line.
-use Rattle.std.specs.Prelude.{ℕ, ◌≡◌, ◌≤◌, ◌<◌, Bool, true, false, ◌||◌, ◌&&◌, ◌==◌, List, [], ◌∷◌, ◌++◌, length, slice_index}
+use Rattle.std.specs.Prelude.{ℕ, ◌≡◌, ◌≤◌, ◌<◌, Bool, true, false, ◌||◌, ◌==◌, List, [], ◌∷◌, ◌++◌, length, slice_index}
 
 abbrev pub with_front : ℕ → List (List ℕ) → List (List ℕ)
 with_front b [] = (b ∷ []) ∷ []
@@ -47,8 +47,8 @@ words_at [] Plain = [] ∷ []
 words_at [] Quoted = [] ∷ []
 words_at (b ∷ bs) Between =
     elim (is_blank b) [
-      true ↦ words_at bs Between
-    | false ↦ elim (b == 34) [ true ↦ words_at bs Quoted | false ↦ with_front b (words_at bs Plain) ]
+      | true ↦ words_at bs Between
+      | false ↦ elim (b == 34) [ true ↦ words_at bs Quoted | false ↦ with_front b (words_at bs Plain) ]
     ]
 words_at (b ∷ bs) Plain = elim (is_blank b) [ true ↦ [] ∷ words_at bs Between | false ↦ with_front b (words_at bs Plain) ]
 words_at (b ∷ bs) Quoted = elim (b == 34) [ true ↦ [] ∷ words_at bs Between | false ↦ with_front b (words_at bs Quoted) ]

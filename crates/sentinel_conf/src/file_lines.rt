@@ -88,23 +88,32 @@ fn is_same_key(state: &State, other: &State) -> bool
             _ => false,
         },
         State::ConfigEpoch { name, .. } => match other {
-            State::ConfigEpoch { name: other, .. } => is_same_text(name.as_slice(), other.as_slice()),
+            State::ConfigEpoch { name: other, .. } => is_same_text(
+                name.as_slice(),
+                other.as_slice(),
+            ),
             _ => false,
         },
         State::LeaderEpoch { name, .. } => match other {
-            State::LeaderEpoch { name: other, .. } => is_same_text(name.as_slice(), other.as_slice()),
+            State::LeaderEpoch { name: other, .. } => is_same_text(
+                name.as_slice(),
+                other.as_slice(),
+            ),
             _ => false,
         },
         State::KnownReplica { name, addr } => match other {
-            State::KnownReplica { name: other, addr: at } => {
-                is_same_text(name.as_slice(), other.as_slice()) && addr.is_same(at)
-            }
+            State::KnownReplica {
+                name: other,
+                addr: at,
+            } => { is_same_text(name.as_slice(), other.as_slice()) && addr.is_same(at) }
             _ => false,
         },
         State::KnownSentinel { name, id, .. } => match other {
-            State::KnownSentinel { name: other, id: of, .. } => {
-                is_same_text(name.as_slice(), other.as_slice()) && id.is_same(of)
-            }
+            State::KnownSentinel {
+                name: other,
+                id: of,
+                ..
+            } => { is_same_text(name.as_slice(), other.as_slice()) && id.is_same(of) }
             _ => false,
         },
     }

@@ -20,5 +20,4 @@ pub fn law_read_again()
         lines (rewritten conf kept) ≡ conf.kept_lines ++ map spelled (state_lines conf kept) }
     ensures size { (bytes : List ℕ) (conf : ConfPlan) (kept : KeptPlan) →
         conf_of_bytes bytes ≡ Ok conf → IsKeptPart conf kept → length (rewritten conf kept) ≤ FILE_MAX }
-{
-}
+{}

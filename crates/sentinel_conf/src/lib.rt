@@ -1,4 +1,13 @@
-//! The file sentinel.conf: what it says, and the file that keeps a Sentinel's part.
+//! The file sentinel.conf: what it says, its first fault where it has one, and the file that is written after each change
+//! of what a Sentinel keeps.
+//!
+//! - `read` gives the `Conf` of a file, or a `ConfFault` with the number of the line.
+//! - `ConfText` has the room of a rewritten file, and `rewrite_into` writes one without memory.
+//! - `ConfStore` is the place where the file is held; `MemoryStore` is one for tests.
+//!
+//! The definitions stand in `specs/`: `Words` (lines and words), `Lines` (what a line is), `Meaning` (what all lines mean
+//! together), `Reading` (the conf or the first fault), `Rewritten` (the file that is written). `law_read_again` says of
+//! them that a rewritten file is read as the conf that it was written for.
 #![tactic(auto)]
 
 mod arguments;
@@ -6,8 +15,8 @@ mod conf;
 mod conf_text;
 mod directives;
 mod faults;
-mod laws;
 mod file_lines;
+mod laws;
 mod line_words;
 mod lines;
 mod meaning;
@@ -16,11 +25,10 @@ mod parts;
 mod reading;
 mod settings;
 mod stores;
-mod texts;
-mod writing;
-
 #[cfg(test)]
 mod tests;
+mod texts;
+mod writing;
 
 pub use conf::{Conf, read, rewrite_into};
 pub use conf_text::ConfText;

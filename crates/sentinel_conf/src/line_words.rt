@@ -73,10 +73,7 @@ fn after_edges(text: &[u8]) -> &[u8]
 }
 
 /// The text up to its last byte that isn't left out.
-#[tactic(
-    auto,
-    using(crate::proofs::Cuts::before_edges_stays, crate::proofs::Cuts::before_edges_drops)
-)]
+#[tactic(auto, using(crate::proofs::Cuts::before_edges_stays, crate::proofs::Cuts::before_edges_drops))]
 fn before_edges(text: &[u8]) -> &[u8]
     ensures { result.now ≡ before_edges text.now }
 {

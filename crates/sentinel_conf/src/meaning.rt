@@ -52,7 +52,11 @@ fn node_of(state: &State, name: &Name) -> Option<Addr>
     ensures { result ≡ node_of name.now state.now }
 {
     match state {
-        State::Monitor { name: other, addr, .. } => {
+        State::Monitor {
+            name: other,
+            addr,
+            ..
+        } => {
             if is_same_text(name.as_slice(), other.as_slice()) {
                 return Some(*addr);
             }
@@ -93,7 +97,12 @@ fn quorum_of(states: &[State], name: &Name) -> u32
 {
     let mut rest = states;
     while let [state, more @ ..] = rest {
-        if let State::Monitor { name: other, quorum, .. } = state {
+        if let State::Monitor {
+            name: other,
+            quorum,
+            ..
+        } = state
+        {
             if is_same_text(name.as_slice(), other.as_slice()) {
                 return *quorum;
             }
@@ -109,7 +118,12 @@ fn monitored_at(states: &[State], name: &Name) -> Addr
 {
     let mut rest = states;
     while let [state, more @ ..] = rest {
-        if let State::Monitor { name: other, addr, .. } = state {
+        if let State::Monitor {
+            name: other,
+            addr,
+            ..
+        } = state
+        {
             if is_same_text(name.as_slice(), other.as_slice()) {
                 return *addr;
             }
@@ -313,9 +327,10 @@ pub fn own_addr(settings: &[Setting]) -> Addr
 /// The settings of the master of this name after one more line.
 fn with_setting(settings: Settings, name: &Name, setting: &Setting) -> Settings
     ensures { result ≡ record {
-        after_ms = unwrap_or (after_of name.now setting.now) settings.after_ms;
-        parallel_syncs = unwrap_or (syncs_of name.now setting.now) settings.parallel_syncs;
-        timeout = unwrap_or (timeout_of name.now setting.now) settings.timeout } }
+      after_ms = unwrap_or (after_of name.now setting.now) settings.after_ms;
+      parallel_syncs = unwrap_or (syncs_of name.now setting.now) settings.parallel_syncs;
+      timeout = unwrap_or (timeout_of name.now setting.now) settings.timeout;
+    } }
 {
     match setting {
         Setting::DownAfter { name: other, ms } => {

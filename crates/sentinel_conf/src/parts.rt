@@ -34,12 +34,13 @@ impl Model for Parts {
     ghost Value = { ConfPlan };
 
     ghost view = { λ parts. record {
-        kept_lines = lines parts.kept_lines.items;
-        roster = parts.roster;
-        id = parts.id;
-        port = parts.port;
-        settings = parts.settings.items;
-        kept = parts.kept } };
+      kept_lines = lines parts.kept_lines.items;
+      roster = parts.roster;
+      id = parts.id;
+      port = parts.port;
+      settings = parts.settings.items;
+      kept = parts.kept;
+    } };
 
     ghost invariant = { λ parts. parts.kept_lines.items
         ≡ flat_map ended (lines parts.kept_lines.items) };
@@ -57,12 +58,13 @@ impl Parts {
     ) -> Parts
         requires { kept_lines.items ≡ flat_map ended (lines kept_lines.items) }
         ensures { result ≡ record {
-            kept_lines = lines kept_lines.items;
-            roster = roster;
-            id = id;
-            port = port;
-            settings = settings.items;
-            kept = kept } }
+          kept_lines = lines kept_lines.items;
+          roster = roster;
+          id = id;
+          port = port;
+          settings = settings.items;
+          kept = kept;
+        } }
     {
         Parts {
             kept_lines,
@@ -121,7 +123,14 @@ impl Parts {
         ensures { bounded out.new ≡ bounded (out.old
             ++ rewritten self.now (record { current = current; masters = masters.now })) }
     {
-        add_file(out, &self.kept_lines, self.id, &self.roster, current, masters);
+        add_file(
+            out,
+            &self.kept_lines,
+            self.id,
+            &self.roster,
+            current,
+            masters,
+        );
     }
 
     /// Writes the rewritten file in place of what stood in the text, and tells whether it is no longer than a file may

@@ -88,9 +88,9 @@ fn assembled(
     requires names { given.items ≡ filter_map name_of file.states.items }
     ensures { MatchResult result
         (λ parts. (fault_of parts.roster ≡ None)
-            × (parts ≡ conf_of (lines file.kept.items) file.states.items file.settings.items id))
+        × (parts ≡ conf_of (lines file.kept.items) file.states.items file.settings.items id))
         (λ fault. (fault ≡ no_memory) ⊎ (roster_checked
-            (conf_of (lines file.kept.items) file.states.items file.settings.items id) ≡ Err fault)) }
+        (conf_of (lines file.kept.items) file.states.items file.settings.items id) ≡ Err fault)) }
 {
     let names = ordered(alloc, given)?;
     let own = Member {
@@ -149,7 +149,7 @@ pub fn check_size(alloc: Global, parts: &Parts) -> Result<(), ConfFault>
     ensures { MatchResult result
         (λ _. length (rewritten parts.now (longest parts.now.kept)) ≤ FILE_MAX)
         (λ fault. (fault ≡ no_memory) ⊎ ((fault ≡ fault_at 0 TooLong)
-            × (FILE_MAX < length (rewritten parts.now (longest parts.now.kept))))) }
+        × (FILE_MAX < length (rewritten parts.now (longest parts.now.kept))))) }
 {
     let masters = at_last_epochs(alloc, parts.kept().masters.as_slice())?;
     let Ok(mut text) = ConfText::new(alloc) else {

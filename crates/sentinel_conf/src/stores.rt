@@ -100,9 +100,10 @@ impl Model for MemoryStore {
     ghost Value = { Stored };
 
     ghost view = { λ store. record {
-        text = store.text.items;
-        failed = store.failed;
-        refusal = store.refusal } };
+      text = store.text.items;
+      failed = store.failed;
+      refusal = store.refusal;
+    } };
 }
 
 impl MemoryStore {

@@ -96,13 +96,7 @@ fn at(line: u64, kind: ConfKind) -> Option<ConfFault> {
 }
 
 /// One master's part at this port.
-fn kept_at(
-    alloc: Global,
-    current: u64,
-    epoch: u64,
-    port: u16,
-    voted: u64,
-) -> Result<Kept, Fail> {
+fn kept_at(alloc: Global, current: u64, epoch: u64, port: u16, voted: u64) -> Result<Kept, Fail> {
     let addr = Addr { ip: HERE, port };
     let card = Card { epoch, addr };
     Ok(Kept {
@@ -203,7 +197,10 @@ fn a_file_as_a_whole_is_refused_with_line_0(rt: HostRuntime) -> Result<(), Fail>
     let _ = long.pop();
     assert_eq!(rt; fault_of(alloc, &long), at(0, ConfKind::NoMyId));
     assert_eq!(rt; fault_of(alloc, &[255]), at(0, ConfKind::NotUtf8));
-    assert_eq!(rt; fault_of(alloc, MONITOR.as_bytes()), at(0, ConfKind::NoMyId));
+    assert_eq!(rt;
+        fault_of(alloc, MONITOR.as_bytes()),
+        at(0, ConfKind::NoMyId)
+    );
     let alone = b"sentinel myid aaaaaaaaaaaaaaaaaaaaaaaaaaaaaaaaaaaaaaaa";
     let no_master = at(0, ConfKind::Roster(RosterFault::NoMaster));
     assert_eq!(rt; fault_of(alloc, alone), no_master);

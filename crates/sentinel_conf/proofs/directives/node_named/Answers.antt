@@ -1,7 +1,7 @@
-use Rattle.std.proofs.Common.{◌≡◌, List, ◌∷◌, ℕ, sym, ◌∙◌}
+use Rattle.std.proofs.Common.{List, ◌∷◌, ℕ, sym, ◌∙◌}
 use Rattle.std.specs.Prelude.{codes}
 use Rattle.sentinel_conf.specs.declared.lines.Line.{Line}
-use Rattle.sentinel_conf.specs.Lines.{replica_line, sentinel_line, announce_directives, first_named, node_directives}
+use Rattle.sentinel_conf.specs.Lines.{replica_line, sentinel_line, announce_directives}
 use Rattle.sentinel_conf.specs.Words.{words_at}
 use Rattle.sentinel_conf.specs.Words.Place.{Between}
 use Rattle.sentinel_conf.proofs.DirectiveSteps.{named, not_named}
@@ -24,23 +24,23 @@ returns-then-is_named-2 c =
     let args = words_at c.args.args.now Between in
     c.of_state-then-is_named-2.ensures ∙ c.replica_line-then-is_named-2.ensures
     ∙ sym
-        (not_named c.args.name.now (codes "known-replica") replica_line slaves args (sym c.is_named.ensures ∙ c.if-is_named.false)
-         ∙ named c.args.name.now (codes "known-slave") replica_line sentinels args (sym c.is_named-2.ensures ∙ c.if-is_named-2.true))
+    (not_named c.args.name.now (codes "known-replica") replica_line slaves args (sym c.is_named.ensures ∙ c.if-is_named.false)
+    ∙ named c.args.name.now (codes "known-slave") replica_line sentinels args (sym c.is_named-2.ensures ∙ c.if-is_named-2.true))
 
 pub returns-then-is_named-3 : goal.returns-then-is_named-3
 returns-then-is_named-3 c =
     let args = words_at c.args.args.now Between in
     c.of_state-then-is_named-3.ensures ∙ c.sentinel_line.ensures
     ∙ sym
-        (not_named c.args.name.now (codes "known-replica") replica_line slaves args (sym c.is_named.ensures ∙ c.if-is_named.false)
-         ∙ not_named c.args.name.now (codes "known-slave") replica_line sentinels args (sym c.is_named-2.ensures ∙ c.if-is_named-2.false)
-         ∙ named c.args.name.now (codes "known-sentinel") sentinel_line announce_directives args (sym c.is_named-3.ensures ∙ c.if-is_named-3.true))
+    (not_named c.args.name.now (codes "known-replica") replica_line slaves args (sym c.is_named.ensures ∙ c.if-is_named.false)
+    ∙ not_named c.args.name.now (codes "known-slave") replica_line sentinels args (sym c.is_named-2.ensures ∙ c.if-is_named-2.false)
+    ∙ named c.args.name.now (codes "known-sentinel") sentinel_line announce_directives args (sym c.is_named-3.ensures ∙ c.if-is_named-3.true))
 
 pub returns : goal.returns
 returns c =
     let args = words_at c.args.args.now Between in
     c.announce_named.ensures
     ∙ sym
-        (not_named c.args.name.now (codes "known-replica") replica_line slaves args (sym c.is_named.ensures ∙ c.if-is_named.false)
-         ∙ not_named c.args.name.now (codes "known-slave") replica_line sentinels args (sym c.is_named-2.ensures ∙ c.if-is_named-2.false)
-         ∙ not_named c.args.name.now (codes "known-sentinel") sentinel_line announce_directives args (sym c.is_named-3.ensures ∙ c.if-is_named-3.false))
+    (not_named c.args.name.now (codes "known-replica") replica_line slaves args (sym c.is_named.ensures ∙ c.if-is_named.false)
+    ∙ not_named c.args.name.now (codes "known-slave") replica_line sentinels args (sym c.is_named-2.ensures ∙ c.if-is_named-2.false)
+    ∙ not_named c.args.name.now (codes "known-sentinel") sentinel_line announce_directives args (sym c.is_named-3.ensures ∙ c.if-is_named-3.false))

@@ -1,4 +1,4 @@
-use Rattle.std.proofs.Common.{◌≡◌, ◌+◌, ◌≤◌, ◌++◌, [], map, length}
+use Rattle.std.proofs.Common.{◌≡◌, ◌+◌, ◌≤◌, [], map, length}
 use Rattle.sentinel_conf.specs.Words.{lines}
 use Rattle.sentinel_conf.specs.Lines.{line_of}
 use Rattle.sentinel_conf.specs.Reading.{first_fault, unknown_fault}

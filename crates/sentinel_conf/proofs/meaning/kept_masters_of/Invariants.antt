@@ -1,5 +1,5 @@
 use Rattle.std.proofs.Common.{◌≡◌, ◌++◌, map, length}
-use Rattle.sentinel_conf.specs.Meaning.{master_of, kept_master_of, settings_of}
+use Rattle.sentinel_conf.specs.Meaning.{kept_master_of}
 use Rattle.sentinel_conf.proofs.meaning.kept_masters_of.Given as goal
 
 abbrev pub invariant-loop-rest : goal.invariant-loop-rest

@@ -14,7 +14,7 @@ returns-then-not-write_into c =
     let parts = c.args.parts.now in
     let masters = c.deref.ensures.value ∙ c.in_ok-masters.ensures ∙ ap (map at_last_epoch) (c.as_slice.ensures ∙ ap (λ (k : KeptPlan). k.masters) c.kept.ensures) in
     let text : c.write_into.new.text ≡ bounded (rewritten parts (longest parts.kept)) =
-      c.write_into.ensures.text ∙ ap (λ t. bounded (rewritten parts (let k : KeptPlan = record { current = MAX_EPOCH; masters = t } in k))) masters in
+    c.write_into.ensures.text ∙ ap (λ t. bounded (rewritten parts (let k : KeptPlan = record { current = MAX_EPOCH; masters = t } in k))) masters in
     let long : FILE_MAX < length c.write_into.new.text = let t = sym c.write_into.ensures.fits ∙ c.if-not-write_into.true in grind (arith, nat_tests, t) in
     inr (refl, over c.write_into.new.text (rewritten parts (longest parts.kept)) text long)
 
@@ -23,6 +23,6 @@ returns c =
     let parts = c.args.parts.now in
     let masters = c.deref.ensures.value ∙ c.in_ok-masters.ensures ∙ ap (map at_last_epoch) (c.as_slice.ensures ∙ ap (λ (k : KeptPlan). k.masters) c.kept.ensures) in
     let text : c.write_into.new.text ≡ bounded (rewritten parts (longest parts.kept)) =
-      c.write_into.ensures.text ∙ ap (λ t. bounded (rewritten parts (let k : KeptPlan = record { current = MAX_EPOCH; masters = t } in k))) masters in
+    c.write_into.ensures.text ∙ ap (λ t. bounded (rewritten parts (let k : KeptPlan = record { current = MAX_EPOCH; masters = t } in k))) masters in
     let short : length c.write_into.new.text ≤ FILE_MAX = let t = sym c.write_into.ensures.fits ∙ c.if-not-write_into.false in grind (arith, nat_tests, t) in
     under c.write_into.new.text (rewritten parts (longest parts.kept)) text short

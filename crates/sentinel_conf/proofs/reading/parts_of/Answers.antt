@@ -1,10 +1,9 @@
-use Rattle.std.proofs.Common.{◌≡◌, ◌⊎◌, inl, inr, map, None, Some, Err, ap, sym, ◌∙◌}
+use Rattle.std.proofs.Common.{◌≡◌, ◌⊎◌, inl, inr, None, Some, Err, ap, ◌∙◌}
 use Rattle.std.specs.List.{filter_map}
 use Rattle.ballot_law.specs.RosterFaults.{fault_of}
 use Rattle.sentinel_conf.specs.declared.faults.ConfFault.{ConfFault}
 use Rattle.sentinel_conf.specs.Words.{lines}
-use Rattle.sentinel_conf.specs.Lines.{line_of}
-use Rattle.sentinel_conf.specs.Meaning.{ConfPlan, states, name_of, first_given, my_id_of, conf_of}
+use Rattle.sentinel_conf.specs.Meaning.{ConfPlan, name_of, first_given, my_id_of, conf_of}
 use Rattle.sentinel_conf.specs.Reading.{no_memory, roster_checked, conf_of_lines, sized}
 use Rattle.sentinel_conf.proofs.ReadSteps.{match_map, name_faulty, without_id, with_this_id, whole_is, rostered, not_rostered, kept_lines_again, kept_is_ended}
 use Rattle.sentinel_conf.proofs.reading.parts_of.Goals as goal
@@ -36,10 +35,10 @@ returns c =
     let held = c.deref-3.ensures.value ∙ c.in_ok-file.ensures.states in
     let some : first_given my_id_of c.deref-3.result.now ≡ Some id = cc in
     let whole = whole_is texts (lines file.kept.items) file.states.items file.settings.items id (kept_lines_again c.args.bytes.now file.kept.items c.requires c.in_ok-file.ensures.kept)
-      c.in_ok-file.ensures.states c.in_ok-file.ensures.settings in
+    c.in_ok-file.ensures.states c.in_ok-file.ensures.settings in
     let read = with_this_id texts c.deref-2.result.now names c.in_ok-file.ensures.fits c.in_default.ensures.fits c.deref-3.result.now held id some in
     match_map (λ (parts : ConfPlan). (fault_of parts.roster ≡ None) × (parts ≡ conf)) (λ (parts : ConfPlan). conf_of_lines texts ≡ sized parts)
-      (λ (fault : ConfFault). (fault ≡ no_memory) ⊎ (roster_checked conf ≡ Err fault)) (λ (fault : ConfFault). (fault ≡ no_memory) ⊎ (conf_of_lines texts ≡ Err fault))
-      c.assembled.result (λ parts h. read ∙ rostered texts id conf parts whole h)
-      (λ fault h. elim h as (λ _. (fault ≡ no_memory) ⊎ (conf_of_lines texts ≡ Err fault)) [ inl e ↦ inl e | inr e ↦ inr (read ∙ not_rostered texts id conf fault whole e) ])
-      c.assembled.ensures
+    (λ (fault : ConfFault). (fault ≡ no_memory) ⊎ (roster_checked conf ≡ Err fault)) (λ (fault : ConfFault). (fault ≡ no_memory) ⊎ (conf_of_lines texts ≡ Err fault))
+    c.assembled.result (λ parts h. read ∙ rostered texts id conf parts whole h)
+    (λ fault h. elim h as (λ _. (fault ≡ no_memory) ⊎ (conf_of_lines texts ≡ Err fault)) [ inl e ↦ inl e | inr e ↦ inr (read ∙ not_rostered texts id conf fault whole e) ])
+    c.assembled.ensures

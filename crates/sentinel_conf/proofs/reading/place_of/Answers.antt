@@ -1,4 +1,4 @@
-use Rattle.std.proofs.Common.{◌≡◌, ◌<◌, true, false, sym, ◌∙◌, arith}
+use Rattle.std.proofs.Common.{◌≡◌, false, sym, ◌∙◌, arith}
 use Rattle.std.specs.List.{list_any}
 use Rattle.ballot_law.specs.declared.rosters.Member.{Member}
 use Rattle.ballot_law.specs.Orders.{same_id}
@@ -12,24 +12,24 @@ use Rattle.sentinel_conf.proofs.reading.place_of.Goals.{then-loop-place-test+els
 pub returns-clause-place : goal.returns-clause-place
 returns-clause-place c =
     elim c.loop-place-test.branch [
-      then-loop-place-test+else-not-is_same w ↦ w.loop-place-test.true
-    | else-loop-place-test w ↦
-        let none : list_any (λ (member : Member). same_id c.args.id member.id) c.args.members.now ≡ false =
+      | then-loop-place-test+else-not-is_same w ↦ w.loop-place-test.true
+      | else-loop-place-test w ↦
+          let none : list_any (λ (member : Member). same_id c.args.id member.id) c.args.members.now ≡ false =
           none_passes (λ (member : Member). same_id c.args.id member.id) c.args.members.now
-            (λ k d l. c.loop-place.invariant.others k d (let e = w.loop-place-test.false in omega arith)) in
-        let some = c.requires.known in
-        cc
+          (λ k d l. c.loop-place.invariant.others k d (let e = w.loop-place-test.false in omega arith)) in
+          let some = c.requires.known in
+          cc
     ]
 
 pub returns-clause-id : goal.returns-clause-id
 returns-clause-id c =
     elim c.loop-place-test.branch [
-      then-loop-place-test+else-not-is_same w ↦
-        sym (id_same.equal c.args.id (slice_index_or c.args.members.now c.loop-place.place no_member).id (sym w.is_same.ensures ∙ w.if-not-is_same.false))
-    | else-loop-place-test w ↦
-        let none : list_any (λ (member : Member). same_id c.args.id member.id) c.args.members.now ≡ false =
+      | then-loop-place-test+else-not-is_same w ↦
+          sym (id_same.equal c.args.id (slice_index_or c.args.members.now c.loop-place.place no_member).id (sym w.is_same.ensures ∙ w.if-not-is_same.false))
+      | else-loop-place-test w ↦
+          let none : list_any (λ (member : Member). same_id c.args.id member.id) c.args.members.now ≡ false =
           none_passes (λ (member : Member). same_id c.args.id member.id) c.args.members.now
-            (λ k d l. c.loop-place.invariant.others k d (let e = w.loop-place-test.false in omega arith)) in
-        let some = c.requires.known in
-        cc
+          (λ k d l. c.loop-place.invariant.others k d (let e = w.loop-place-test.false in omega arith)) in
+          let some = c.requires.known in
+          cc
     ]

@@ -12,7 +12,7 @@ returns-in-Ok c =
     let members = c.in_ok-members.members.items in
     let masters = c.in_ok-masters.masters.items in
     let given : (let p : RosterPlan = record { sentinels = members; masters = masters } in p) ≡ plan_of own states =
-      ap (λ t. let p : RosterPlan = record { sentinels = t; masters = masters } in p) c.in_ok-members.ensures
-      ∙ ap (λ t. let p : RosterPlan = record { sentinels = members_of own states; masters = t } in p) (c.in_ok-masters.ensures ∙ ap (map (master_of states)) c.requires) in
+    ap (λ t. let p : RosterPlan = record { sentinels = t; masters = masters } in p) c.in_ok-members.ensures
+    ∙ ap (λ t. let p : RosterPlan = record { sentinels = members_of own states; masters = t } in p) (c.in_ok-masters.ensures ∙ ap (map (master_of states)) c.requires) in
     let fits : fault_of (plan_of own states) ≡ None = subst (λ p. fault_of p ≡ None) given c.in-Ok.ensures.0 in
     (fits, c.in-Ok.ensures.1 ∙ ap ordered given ∙ ordered_again own states fits)

@@ -12,7 +12,7 @@ returns c =
     let r = c.args.roster.now in
     let three = c.add_state-2.new.out in
     file_text c.args.out.now c.args.kept_lines.now c.add.new.self c.add_state.new.out three c.add_masters.new.out (MyId id) (CurrentEpoch c.args.current)
-      (flat_map (master_lines id r.sentinels) (zip r.masters c.args.masters.now)) c.add.ensures c.add_state.ensures c.add_state-2.ensures
-      (c.add_masters.ensures
-       ∙ ap (λ ms. bounded (three ++ text_of (flat_map (master_lines id ms) (zip c.masters.result.now c.args.masters.now)))) c.sentinels.ensures
-       ∙ ap (λ ms. bounded (three ++ text_of (flat_map (master_lines id r.sentinels) (zip ms c.args.masters.now)))) c.masters.ensures)
+    (flat_map (master_lines id r.sentinels) (zip r.masters c.args.masters.now)) c.add.ensures c.add_state.ensures c.add_state-2.ensures
+    (c.add_masters.ensures
+    ∙ ap (λ ms. bounded (three ++ text_of (flat_map (master_lines id ms) (zip c.masters.result.now c.args.masters.now)))) c.sentinels.ensures
+    ∙ ap (λ ms. bounded (three ++ text_of (flat_map (master_lines id r.sentinels) (zip ms c.args.masters.now)))) c.masters.ensures)

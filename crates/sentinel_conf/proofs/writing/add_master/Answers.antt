@@ -21,13 +21,13 @@ returns c =
     let name : i.name ≡ m.name = ap (λ (t : MasterPlan). t.name) c.master.view_is in
     let quorum : i.quorum ≡ m.quorum = ap (λ (t : MasterPlan). t.quorum) c.master.view_is in
     three_and_two (Monitor m.name at m.quorum) (ConfigEpoch m.name c.args.kept.now.card.epoch) (LeaderEpoch m.name c.args.kept.now.voted)
-      (replica_states m.name at m.nodes) (sentinel_states m.name c.args.id members) out one two three four c.add_sentinels.new.out
-      (c.add_state.ensures
-       ∙ ap (λ n. bounded (out ++ ended (spelled (Monitor n at i.quorum)))) name
-       ∙ ap (λ q. bounded (out ++ ended (spelled (Monitor m.name at q)))) quorum)
-      (c.add_state-2.ensures ∙ ap (λ n. bounded (one ++ ended (spelled (ConfigEpoch n c.args.kept.now.card.epoch)))) name)
-      (c.add_state-3.ensures ∙ ap (λ n. bounded (two ++ ended (spelled (LeaderEpoch n c.args.kept.now.voted)))) name)
-      (c.add_replicas.ensures
-       ∙ ap (λ n. bounded (three ++ text_of (replica_states n at c.nodes.result.now))) name
-       ∙ ap (λ ns. bounded (three ++ text_of (replica_states m.name at ns))) c.nodes.ensures)
-      (c.add_sentinels.ensures ∙ ap (λ n. bounded (four ++ text_of (sentinel_states n c.args.id members))) name)
+    (replica_states m.name at m.nodes) (sentinel_states m.name c.args.id members) out one two three four c.add_sentinels.new.out
+    (c.add_state.ensures
+    ∙ ap (λ n. bounded (out ++ ended (spelled (Monitor n at i.quorum)))) name
+    ∙ ap (λ q. bounded (out ++ ended (spelled (Monitor m.name at q)))) quorum)
+    (c.add_state-2.ensures ∙ ap (λ n. bounded (one ++ ended (spelled (ConfigEpoch n c.args.kept.now.card.epoch)))) name)
+    (c.add_state-3.ensures ∙ ap (λ n. bounded (two ++ ended (spelled (LeaderEpoch n c.args.kept.now.voted)))) name)
+    (c.add_replicas.ensures
+    ∙ ap (λ n. bounded (three ++ text_of (replica_states n at c.nodes.result.now))) name
+    ∙ ap (λ ns. bounded (three ++ text_of (replica_states m.name at ns))) c.nodes.ensures)
+    (c.add_sentinels.ensures ∙ ap (λ n. bounded (four ++ text_of (sentinel_states n c.args.id members))) name)

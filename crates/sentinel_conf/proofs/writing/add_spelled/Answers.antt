@@ -9,13 +9,13 @@ use Rattle.sentinel_conf.proofs.writing.add_spelled.Goals as goal
 pub returns-in-CurrentEpoch : goal.returns-in-CurrentEpoch
 returns-in-CurrentEpoch c =
     two_adds c.args.out.now (codes "sentinel current-epoch") (32 ∷ decimal c.in-CurrentEpoch.epoch) c.add-in-CurrentEpoch.new.self c.add_number.new.out
-      c.add-in-CurrentEpoch.ensures c.add_number.ensures
+    c.add-in-CurrentEpoch.ensures c.add_number.ensures
     ∙ ap (λ s. bounded (c.args.out.now ++ spelled s)) (sym c.in-CurrentEpoch.is)
 
 pub returns-in-LeaderEpoch : goal.returns-in-LeaderEpoch
 returns-in-LeaderEpoch c =
     two_adds c.args.out.now (codes "sentinel leader-epoch") (32 ∷ (c.in-LeaderEpoch.name ++ 32 ∷ decimal c.in-LeaderEpoch.epoch)) c.add-in-LeaderEpoch.new.self c.add_epoch-in-LeaderEpoch.new.out
-      c.add-in-LeaderEpoch.ensures c.add_epoch-in-LeaderEpoch.ensures
+    c.add-in-LeaderEpoch.ensures c.add_epoch-in-LeaderEpoch.ensures
     ∙ ap (λ s. bounded (c.args.out.now ++ spelled s)) (sym c.in-LeaderEpoch.is)
 
 pub returns-in-Monitor : goal.returns-in-Monitor
@@ -25,7 +25,7 @@ returns-in-Monitor c =
     let port = decimal c.in-Monitor.addr.port in
     let quorum = 32 ∷ decimal c.from.result in
     three_adds c.args.out.now (codes "sentinel monitor") (32 ∷ (name ++ 32 ∷ (ip ++ 32 ∷ port))) quorum c.add-in-Monitor.new.self c.add_node.new.out c.add_number-in-Monitor.new.out
-      c.add-in-Monitor.ensures c.add_node.ensures c.add_number-in-Monitor.ensures
+    c.add-in-Monitor.ensures c.add_node.ensures c.add_number-in-Monitor.ensures
     ∙ ap (λ t. bounded (c.args.out.now ++ (codes "sentinel monitor" ++ t))) (node_more name ip port quorum)
     ∙ ap (λ n. bounded (c.args.out.now ++ (codes "sentinel monitor" ++ 32 ∷ (name ++ 32 ∷ (ip ++ 32 ∷ (port ++ 32 ∷ decimal n)))))) c.from.ensures
     ∙ ap (λ s. bounded (c.args.out.now ++ spelled s)) (sym c.in-Monitor.is)
@@ -37,6 +37,6 @@ returns-in-KnownSentinel c =
     let port = decimal c.in-KnownSentinel.addr.port in
     let id = 32 ∷ id_text c.in-KnownSentinel.id in
     three_adds c.args.out.now (codes "sentinel known-sentinel") (32 ∷ (name ++ 32 ∷ (ip ++ 32 ∷ port))) id c.add-in-KnownSentinel.new.self c.add_node-in-KnownSentinel.new.out c.add_id-in-KnownSentinel.new.out
-      c.add-in-KnownSentinel.ensures c.add_node-in-KnownSentinel.ensures c.add_id-in-KnownSentinel.ensures
+    c.add-in-KnownSentinel.ensures c.add_node-in-KnownSentinel.ensures c.add_id-in-KnownSentinel.ensures
     ∙ ap (λ t. bounded (c.args.out.now ++ (codes "sentinel known-sentinel" ++ t))) (node_more name ip port id)
     ∙ ap (λ s. bounded (c.args.out.now ++ spelled s)) (sym c.in-KnownSentinel.is)

@@ -1,4 +1,4 @@
-use Rattle.std.proofs.Common.{◌≡◌, ◌≤◌, ◌+◌, ◌-◌, min, ◌++◌, length, vec_len, vec_capacity, ap, sym, subst, ◌∙◌, arith}
+use Rattle.std.proofs.Common.{◌≡◌, ◌≤◌, ◌+◌, ◌-◌, min, ◌++◌, length, vec_len, vec_capacity, ap, subst, ◌∙◌, arith}
 use Rattle.std.specs.Prelude.{is_ok}
 use Rattle.sentinel_conf.specs.Room.{ROOM, bounded}
 use Rattle.sentinel_conf.proofs.RoomLemmas.{added_when}
@@ -11,6 +11,6 @@ returns c =
     let short : length held ≤ ROOM = omega (arith, c.self.invariant) in
     let fits : vec_len c.self.inside.bytes + length c.split_at.result.0.now ≤ vec_capacity c.self.inside.bytes = omega (arith, c.self.invariant, c.split_at.ensures.front_len, c.min-count.ensures) in
     subst (λ t. c.extend_from_slice.new.self.items ≡ bounded (t ++ c.args.piece.now)) c.self.view_is
-      (added_when held c.args.piece.now c.split_at.result.0.now c.min-count.result (is_ok c.extend_from_slice.result) c.extend_from_slice.new.self.items short
-        (c.min-count.ensures ∙ ap (λ n. min (length c.args.piece.now) (ROOM - n)) (c.len.ensures ∙ counted)) c.split_at.ensures.front
-        (c.extend_from_slice.ensures.succeeds fits) c.extend_from_slice.ensures.items)
+    (added_when held c.args.piece.now c.split_at.result.0.now c.min-count.result (is_ok c.extend_from_slice.result) c.extend_from_slice.new.self.items short
+    (c.min-count.ensures ∙ ap (λ n. min (length c.args.piece.now) (ROOM - n)) (c.len.ensures ∙ counted)) c.split_at.ensures.front
+    (c.extend_from_slice.ensures.succeeds fits) c.extend_from_slice.ensures.items)

@@ -15,6 +15,6 @@ returns c =
     let seen : ConfPlan = record { kept_lines = lines i.kept_lines.items; roster = i.roster; id = i.id; port = i.port; settings = i.settings.items; kept = i.kept } in
     let states = state_lines seen kept in
     subst (λ t. bounded c.add_file.new.out ≡ bounded (out ++ rewritten t kept)) c.self.view_is
-      (c.add_file.ensures
-       ∙ ap (λ t. bounded (out ++ (t ++ text_of states))) (c.deref.ensures.value ∙ c.self.invariant)
-       ∙ ap (λ t. bounded (out ++ t)) (sym (kept_and_states (lines i.kept_lines.items) states)))
+    (c.add_file.ensures
+    ∙ ap (λ t. bounded (out ++ (t ++ text_of states))) (c.deref.ensures.value ∙ c.self.invariant)
+    ∙ ap (λ t. bounded (out ++ t)) (sym (kept_and_states (lines i.kept_lines.items) states)))

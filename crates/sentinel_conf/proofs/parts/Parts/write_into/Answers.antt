@@ -1,4 +1,3 @@
-use Rattle.std.proofs.Common.{sym, ◌∙◌}
 use Rattle.ballot_law.specs.declared.cards.Kept.{Kept as KeptPlan}
 use Rattle.sentinel_conf.specs.Rewritten.{rewritten}
 use Rattle.sentinel_conf.proofs.RoomLemmas.{text_from_empty}

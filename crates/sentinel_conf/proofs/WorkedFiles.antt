@@ -1,9 +1,7 @@
--- The rows of a worked file, evaluated.
-use Rattle.std.proofs.Common.{◌≡◌, ℕ, ◌+◌, List, [], ◌∷◌, ◌++◌, refl, Option, Some, None, Result, Ok, Err}
+-- Worked files, evaluated by the definitions.
+use Rattle.std.proofs.Common.{◌≡◌, ℕ, List, [], ◌∷◌, ◌++◌, refl, Option, Some, None, Result, Ok, Err}
 use Rattle.std.specs.Prelude.{codes}
 use Rattle.std.specs.Fmt.{digits}
-use Rattle.ballot_law.specs.declared.addresses.Addr.{Addr}
-use Rattle.sentinel_conf.specs.declared.faults.ConfKind.{ConfKind}
 use Rattle.sentinel_conf.specs.declared.faults.ConfKind.TheVariants.{BadAddress, BadNumber, UnknownMaster, Twice, NoMyId, BadDirective}
 use Rattle.sentinel_conf.specs.declared.faults.ConfFault.{ConfFault}
 use Rattle.ballot_law.specs.Words.{hex}
