@@ -1,3 +1,5 @@
 pub mod Agreeing
+pub mod Desks
+pub mod Holding
 pub mod KnownBytes
 pub mod Steps

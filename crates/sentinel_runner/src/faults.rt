@@ -15,6 +15,9 @@ pub enum ServeFault {
     /// The writer failed, or takes no more bytes.
     #[error("Write")]
     Write,
+    /// The store refused what an answer rests on: that answer wasn't given, those before it were written.
+    #[error("Halted")]
+    Halted,
     #[error("NoMemory")]
     NoMemory,
 }

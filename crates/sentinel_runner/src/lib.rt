@@ -5,14 +5,18 @@
 
 mod desk;
 mod faults;
+mod file_store;
 mod replies;
 mod serving;
+mod storing;
 mod streams;
 
-pub use desk::VoteDesk;
+pub use desk::{Turn, VoteDesk};
 pub use faults::ServeFault;
+pub use file_store::FileStore;
 pub use replies::Reply;
 pub use serving::{READS_MAX, Served, serve_votes};
+pub use storing::store_change;
 pub use streams::write_whole;
 
 #[cfg(test)]

@@ -2,7 +2,7 @@
 
 ghost use Rattle.std.specs.Prelude.{◌≡◌, IfOk};
 ghost use Rattle.resp2.specs.Frame.{view};
-ghost use Rattle.sentinel_runner.specs.Replies.{frame_of, fault_text, leader_text, IsReply};
+ghost use Rattle.sentinel_runner.specs.Replies.{frame_of, fault_text, leader_text, no_vote, IsReply};
 
 use ballot_law::RunId;
 use resp2::{ByteText, CommandFault, NoMemory, Value};
@@ -14,6 +14,8 @@ use words::run_id_text;
 pub enum Reply {
     /// The master isn't down, since nothing watches it, and this is the vote that is kept of it.
     Vote {
+        /// The number of the master; none where the address is no master's, or no vote was asked for.
+        master: Option<usize>,
         leader: Option<RunId>,
         /// At most `MAX_EPOCH`.
         epoch: u64,
@@ -47,13 +49,24 @@ fn leader_text(alloc: Global, leader: Option<RunId>) -> Result<ByteText, NoMemor
 }
 
 impl Reply {
+    /// The answer about an address that is no master's, or to a request for no vote.
+    pub fn no_vote() -> Reply
+        ensures { result ≡ no_vote }
+    {
+        Reply::Vote {
+            master: None,
+            leader: None,
+            epoch: 0,
+        }
+    }
+
     /// The reply as a value; the only error is want of memory.
     pub fn to_value(self, alloc: Global) -> Result<Value, NoMemory>
         requires { IsReply self }
         ensures { IfOk result (λ value. view value ≡ frame_of self) }
     {
         match self {
-            Reply::Vote { leader, epoch } => {
+            Reply::Vote { leader, epoch, .. } => {
                 let leader = Value::Bulk(leader_text(alloc, leader)?);
                 Ok(Value::Items(vec![in alloc; Value::Int(0), leader, Value::Int(epoch as i64)]?))
             }

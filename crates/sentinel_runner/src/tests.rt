@@ -2,6 +2,7 @@
 
 use super::*;
 use resp2::FrameFault;
+use sentinel_conf::{ConfStore, FileText, LoadFault, MemoryStore, StoreRefused, read};
 use std::alloc::Global;
 use std::io::{self, Cursor, ErrorKind, Read, Write};
 use std::test::Fail;
@@ -90,10 +91,29 @@ impl Write for FullWriter {
     }
 }
 
+/// A Sentinel that watches one master, with three others.
+const CONF: &[u8] = b"sentinel myid 0000000000000000000000000000000000000000\n\
+sentinel monitor mymaster 127.0.0.1 6379 2\n\
+sentinel known-sentinel mymaster 127.0.0.1 26380 aaaaaaaaaaaaaaaaaaaaaaaaaaaaaaaaaaaaaaaa\n\
+sentinel known-sentinel mymaster 127.0.0.1 26381 bbbbbbbbbbbbbbbbbbbbbbbbbbbbbbbbbbbbbbbb\n\
+sentinel known-sentinel mymaster 127.0.0.1 26382 cccccccccccccccccccccccccccccccccccccccc\n";
+
+/// Serves a stream with the file in memory.
+fn serve<R: Read, W: Write>(
+    alloc: Global,
+    reader: &mut R,
+    writer: &mut W,
+) -> Result<Served, ServeFault> {
+    let (Ok(conf), Ok(mut store)) = (read(alloc, CONF), MemoryStore::holding(alloc, CONF)) else {
+        return Err(ServeFault::NoMemory);
+    };
+    serve_votes(alloc, &conf, &mut store, reader, writer)
+}
+
 /// What is written for these bytes.
 fn served(alloc: Global, bytes: &[u8]) -> (Result<Served, ServeFault>, Vec<u8>) {
     let mut written = Vec::new(alloc);
-    let result = serve_votes(alloc, &mut Cursor::new(bytes), &mut written);
+    let result = serve(alloc, &mut Cursor::new(bytes), &mut written);
     (result, written)
 }
 
@@ -137,12 +157,12 @@ fn cuts_do_not_matter(rt: HostRuntime) -> Result<(), Fail> {
     for place in 0..FOUR_ASKS.len() {
         let (front, back) = FOUR_ASKS.split_at(place);
         let mut written = Vec::new(rt.alloc());
-        let result = serve_votes(rt.alloc(), &mut TwoPieces { front, back }, &mut written);
+        let result = serve(rt.alloc(), &mut TwoPieces { front, back }, &mut written);
         assert_eq!(rt; result, Ok(Served { answers: 4 }), "cut at {place}");
         assert_eq!(rt; written.as_slice(), FOUR_ANSWERS, "cut at {place}");
     }
     let mut written = Vec::new(rt.alloc());
-    let result = serve_votes(
+    let result = serve(
         rt.alloc(),
         &mut SingleBytes { bytes: FOUR_ASKS },
         &mut written,
@@ -190,7 +210,7 @@ fn nothing_follows_a_protocol_error(rt: HostRuntime) -> Result<(), Fail> {
 #[test]
 fn a_failed_read_leaves_the_answers_written(rt: HostRuntime) -> Result<(), Fail> {
     let mut written = Vec::new(rt.alloc());
-    let result = serve_votes(
+    let result = serve(
         rt.alloc(),
         &mut BrokenReader { bytes: FOUR_ASKS },
         &mut written,
@@ -207,7 +227,7 @@ fn a_full_writer_holds_a_first_part(rt: HostRuntime) -> Result<(), Fail> {
             bytes: Vec::new(rt.alloc()),
             room,
         };
-        let result = serve_votes(rt.alloc(), &mut Cursor::new(FOUR_ASKS), &mut writer);
+        let result = serve(rt.alloc(), &mut Cursor::new(FOUR_ASKS), &mut writer);
         assert_eq!(rt; result, Err(ServeFault::Write), "room for {room}");
         assert_eq!(rt;
             writer.bytes.as_slice(),
@@ -215,5 +235,163 @@ fn a_full_writer_holds_a_first_part(rt: HostRuntime) -> Result<(), Fail> {
             "room for {room}"
         );
     }
+    Ok(())
+}
+
+/// How the serving of a stream ended, what was written, and the store that it left.
+#[derive(Drop)]
+struct Outcome {
+    result: Result<Served, ServeFault>,
+    written: Vec<u8>,
+    store: MemoryStore,
+}
+
+/// Serves these bytes with this file, whose first store is refused where the old text or the new one is to be left.
+fn serve_file(alloc: Global, file: &[u8], refusal: Option<bool>, bytes: &[u8]) -> Option<Outcome> {
+    let (Ok(conf), Ok(mut store)) = (read(alloc, file), MemoryStore::holding(alloc, file)) else {
+        return None;
+    };
+    if let Some(new) = refusal {
+        store.refuse_next(new);
+    }
+    let mut written = Vec::new(alloc);
+    let result = serve_votes(
+        alloc,
+        &conf,
+        &mut store,
+        &mut Cursor::new(bytes),
+        &mut written,
+    );
+    Some(Outcome {
+        result,
+        written,
+        store,
+    })
+}
+
+/// What the same ask gets from a Sentinel, and then from one that starts with the file that it left.
+#[test]
+fn a_vote_outlives_the_process(rt: HostRuntime) -> Result<(), Fail> {
+    let ask = &FOUR_ASKS[..FOUR_ASKS.len() / 4];
+    let first = serve_file(rt.alloc(), CONF, None, ask).ok_or("refused")?;
+    assert_eq!(rt; first.result, Ok(Served { answers: 1 }));
+    assert_eq!(rt; first.written.as_slice(), &FOUR_ANSWERS[..ANSWER_LEN]);
+    let again = serve_file(rt.alloc(), first.store.text(), None, ask).ok_or("refused")?;
+    assert_eq!(rt; again.result, Ok(Served { answers: 1 }));
+    assert_eq!(rt;
+        again.written.as_slice(),
+        b"*3\r\n:0\r\n$1\r\n*\r\n:1\r\n".as_slice()
+    );
+    Ok(())
+}
+
+#[test]
+fn a_refused_store_leaves_its_vote_unanswered(rt: HostRuntime) -> Result<(), Fail> {
+    for new in [false, true] {
+        let outcome = serve_file(rt.alloc(), CONF, Some(new), FOUR_ASKS).ok_or("refused")?;
+        assert_eq!(rt; outcome.result, Err(ServeFault::Halted));
+        assert!(rt; outcome.written.is_empty());
+        assert_eq!(rt; outcome.store.failures(), 1);
+    }
+    Ok(())
+}
+
+/// A store that refuses every text but the first.
+#[derive(Drop)]
+struct FirstTextAlone {
+    stored: bool,
+    failed: u64,
+}
+
+impl ConfStore for FirstTextAlone {
+    ghost failure_count = { λ store. store.failed };
+
+    fn load(&mut self) -> Result<FileText, LoadFault> {
+        Err(LoadFault::NoMemory)
+    }
+
+    fn replace(&mut self, _text: &[u8]) -> Result<(), StoreRefused> {
+        if self.stored {
+            self.failed += 1;
+            return Err(StoreRefused);
+        }
+        self.stored = true;
+        Ok(())
+    }
+
+    fn failures(&self) -> u64 {
+        self.failed
+    }
+}
+
+#[test]
+fn answers_before_a_refused_store_are_written(rt: HostRuntime) -> Result<(), Fail> {
+    let mut store = FirstTextAlone {
+        stored: false,
+        failed: 0,
+    };
+    let conf = read(rt.alloc(), CONF)?;
+    let mut written = Vec::new(rt.alloc());
+    let result = serve_votes(
+        rt.alloc(),
+        &conf,
+        &mut store,
+        &mut Cursor::new(FOUR_ASKS),
+        &mut written,
+    );
+    assert_eq!(rt; result, Err(ServeFault::Halted));
+    assert_eq!(rt; written.as_slice(), &FOUR_ANSWERS[..2 * ANSWER_LEN]);
+    Ok(())
+}
+
+/// Two masters: the second one's asks are for 127.0.0.1:7000.
+const TWO_MASTERS: &[u8] = b"sentinel myid 0000000000000000000000000000000000000000\n\
+sentinel monitor first 127.0.0.1 6379 1\n\
+sentinel monitor second 127.0.0.1 7000 1\n";
+
+const ASKS_OF_TWO: &[u8] =
+    b"*6\r\n$8\r\nSENTINEL\r\n$22\r\nIS-MASTER-DOWN-BY-ADDR\r\n$9\r\n127.0.0.1\r\n$4\r\n6379\r\n$1\r\n1\r\n$40\r\naaaaaaaaaaaaaaaaaaaaaaaaaaaaaaaaaaaaaaaa\r\n\
+*6\r\n$8\r\nSENTINEL\r\n$22\r\nIS-MASTER-DOWN-BY-ADDR\r\n$9\r\n127.0.0.1\r\n$4\r\n7000\r\n$1\r\n2\r\n$40\r\nbbbbbbbbbbbbbbbbbbbbbbbbbbbbbbbbbbbbbbbb\r\n\
+*6\r\n$8\r\nSENTINEL\r\n$22\r\nIS-MASTER-DOWN-BY-ADDR\r\n$9\r\n127.0.0.1\r\n$4\r\n6379\r\n$1\r\n1\r\n$40\r\ncccccccccccccccccccccccccccccccccccccccc\r\n";
+
+#[test]
+fn each_master_has_its_own_votes(rt: HostRuntime) -> Result<(), Fail> {
+    let outcome = serve_file(rt.alloc(), TWO_MASTERS, None, ASKS_OF_TWO).ok_or("refused")?;
+    assert_eq!(rt; outcome.result, Ok(Served { answers: 3 }));
+    assert_eq!(rt;
+        outcome.written.as_slice(),
+        b"*3\r\n:0\r\n$40\r\naaaaaaaaaaaaaaaaaaaaaaaaaaaaaaaaaaaaaaaa\r\n:1\r\n*3\r\n:0\r\n$40\r\nbbbbbbbbbbbbbbbbbbbbbbbbbbbbbbbbbbbbbbbb\r\n:2\r\n*3\r\n:0\r\n$40\r\naaaaaaaaaaaaaaaaaaaaaaaaaaaaaaaaaaaaaaaa\r\n:1\r\n".as_slice()
+    );
+    let stored = read(rt.alloc(), outcome.store.text())?;
+    assert_eq!(rt; stored.kept().current, 2);
+    let votes = stored
+        .kept()
+        .masters
+        .as_slice()
+        .iter()
+        .map(|master| master.voted);
+    let votes: Vec<u64> = votes.collect(rt.alloc())?;
+    assert_eq!(rt; votes.as_slice(), [1, 2].as_slice());
+    Ok(())
+}
+
+#[test]
+fn a_file_is_replaced(rt: HostRuntime) -> Result<(), Fail> {
+    let mut store = FileStore::at(rt, rt.alloc(), "file_store_test.conf")?;
+    assert_eq!(rt; store.replace(b"port 26379\n"), Ok(()));
+    assert_eq!(rt; store.replace(b"port 26380\n"), Ok(()));
+    let text = store.load().map_err(|_| "unreadable")?;
+    assert_eq!(rt; text.as_slice(), b"port 26380\n".as_slice());
+    assert_eq!(rt; store.failures(), 0);
+    Ok(())
+}
+
+#[test]
+fn a_file_that_cannot_be_written_is_a_refused_store(rt: HostRuntime) -> Result<(), Fail> {
+    let mut store = FileStore::at(rt, rt.alloc(), "no_such_folder/sentinel.conf")?;
+    assert_eq!(rt; store.replace(b"port 26379\n"), Err(StoreRefused));
+    assert_eq!(rt; store.failures(), 1);
+    assert_eq!(rt; store.load().err(), Some(LoadFault::Failed));
+    assert_eq!(rt; store.failures(), 2);
     Ok(())
 }

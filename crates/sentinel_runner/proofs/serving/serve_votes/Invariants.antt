@@ -1,10 +1,11 @@
-use Rattle.std.proofs.Common.{List, ℕ, ◌+◌, ◌*◌, ◌≤◌}
+use Rattle.std.proofs.Common.{◌≡◌, List, ℕ, ◌+◌, ◌*◌, ◌≤◌}
 use Rattle.std.specs.Io.KnownBytes.{Consumes, Appends}
 use Rattle.resp2.specs.Stream.{held_size}
+use Rattle.sentinel_conf.specs.Rewritten.{IsKeptPart}
 use Rattle.sentinel_runner.specs.Serving.{IsIdle}
 use Rattle.sentinel_runner.proofs.serving.serve_votes.Given as goal
 
--- what was read so far was answered, and all answers were written
+-- what was read so far was answered, all answers were written, and the store holds what they rest on
 abbrev pub invariant-loop-turn : goal.invariant-loop-turn
 invariant-loop-turn g l =
     (l.connection.answers + held_size l.connection.frames ≤ l.turn * 16384)
@@ -12,4 +13,6 @@ invariant-loop-turn g l =
     × (written : List ℕ)
     × Consumes (g.R.Read.remaining l.fn.reader) (g.R.Read.remaining l.reader) input
     × Appends (g.W.Write.contents l.fn.writer) (g.W.Write.contents l.writer) written
-    × IsIdle input written l.connection.frames l.connection.desk l.connection.text l.connection.answers)
+    × IsIdle l.fn.conf (g.S.ConfStore.held l.fn.store) input written l.connection.frames l.connection.desk l.connection.text l.connection.answers (g.S.ConfStore.held l.store))
+    × IsKeptPart l.fn.conf l.connection.desk.kept
+    × (g.S.ConfStore.failure_count l.store ≡ g.S.ConfStore.failure_count l.fn.store)

@@ -1,5 +1,5 @@
 use Rattle.sentinel_runner.proofs.serving.Connection.answer_whole.Goals as goal
 
-pub returns-then-not-branch-clause-answered : goal.returns-then-not-branch-clause-answered
-returns-then-not-branch-clause-answered c = λ input written before.
-    rw c.if-not-branch.true at (c.in_ok-answer_next.ensures.answered input written (c.loop.invariant.1 input written before))
+pub returns-in-Ok-false-clause-answered : goal.returns-in-Ok-false-clause-answered
+returns-in-Ok-false-clause-answered g c = λ before input written a.
+    rw c.in-Ok-false.field-0-test at (c.in-Ok-false.ensures.answered before input written (c.loop-fault.invariant.1 before input written a))
