@@ -23,10 +23,9 @@ const REFUSED_FILE: u8 = 3;
 
 /// The command line of the program.
 fn command<'a>(alloc: Global) -> Result<Command<'a>, AllocError> {
-    let conf = Arg::new(alloc, "conf")
-        .long("conf")
-        .value_name("file")
-        .help("The sentinel.conf that is read and rewritten; without it the votes are kept in memory");
+    let conf = Arg::new(alloc, "conf").long("conf").value_name("file").help(
+        "The sentinel.conf that is read and rewritten; without it the votes are kept in memory",
+    );
     let answer = Command::new(alloc, "answer")
         .about("Answers the vote requests of standard input on standard output")
         .arg(conf)?;
@@ -52,7 +51,12 @@ fn fail(rt: &impl Eprint, fault: ServeFault) -> io::Result<ExitCode> {
 }
 
 /// Tells what is wrong with a file, and at which line.
-fn refuse_file<D: Display + Drop>(rt: &impl Eprint, path: &str, line: u64, kind: D) -> io::Result<ExitCode> {
+fn refuse_file<D: Display + Drop>(
+    rt: &impl Eprint,
+    path: &str,
+    line: u64,
+    kind: D,
+) -> io::Result<ExitCode> {
     eprintln!(rt; "sentinel_group: {path}:{line}: {kind}")?;
     Ok(ExitCode::from(REFUSED_FILE))
 }
@@ -75,13 +79,7 @@ fn refuse_words<R: Print + Eprint>(rt: &R, error: &Error) -> io::Result<ExitCode
 fn serve<S: ConfStore>(rt: HostRuntime, conf: &Conf, store: &mut S) -> io::Result<ExitCode>
     requires { S.failure_count store.old < 2 ^ 64 - 1 }
 {
-    match serve_votes(
-        rt.alloc(),
-        conf,
-        store,
-        &mut rt.stdin(),
-        &mut rt.stdout(),
-    ) {
+    match serve_votes(rt.alloc(), conf, store, &mut rt.stdin(), &mut rt.stdout()) {
         Ok(_) => Ok(ExitCode::SUCCESS),
         Err(fault) => fail(&rt, fault),
     }
