@@ -1,1 +1,3 @@
 pub mod Jumps
+pub mod ReportSteps
+pub mod WatchSteps

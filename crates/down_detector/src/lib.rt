@@ -7,7 +7,8 @@
 //! - [`Tilt`] watches the clock. After a jump a Sentinel is in TILT mode: it goes on to gather news and acts on none.
 //!
 //! Each keeps a few words in place of all that it was told. The contracts say, for every list of calls made so far, that
-//! these words are what the definitions over the whole list tell (`Watches`, `Reports` and `Tilts` of `ballot_law`).
+//! these words are what the definitions over the whole list tell (`Watches`, `Reports` and `Tilts` of `ballot_law`). They
+//! also say what each call makes of these words alone (`WatchSteps`, `ReportSteps` and `Jumps`).
 //!
 //! All moments are milliseconds of the Sentinel's clock; a reading above 2^62 counts as 2^62, and a moment that is later
 //! than `now` is no time ago. Nothing wraps, whatever the readings and settings. Only [`DownReports::new`] takes memory.

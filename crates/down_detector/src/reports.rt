@@ -1,8 +1,9 @@
 //! What the other Sentinels say of one master.
 
-ghost use Rattle.std.specs.Prelude.{◌≡◌, ℕ, ◌+◌, ◌<◌, ◌^◌, nat_le, ◌∷◌, List, [], None, IfOk, length};
+ghost use Rattle.std.specs.Prelude.{◌≡◌, ℕ, ◌+◌, ◌<◌, ◌^◌, nat_le, ◌∷◌, List, [], None, IfOk, length, replicate};
 ghost use Rattle.ballot_law.specs.Clocks.{clock};
 ghost use Rattle.ballot_law.specs.Reports.{ReportCall, Reported, Cleared, last_report, down_count, is_odown_by, kept_at, StandsForReports};
+ghost use Rattle.down_detector.specs.ReportSteps.{with_report, without_reports};
 
 use ballot_law::{DownReport, clock_of};
 use std::alloc::{AllocError, Global};
@@ -48,7 +49,8 @@ fn count_of(reports: &[Option<DownReport>], now: u64) -> u32
 
 /// Forgets each report.
 fn clear_all(reports: &mut [Option<DownReport>])
-    ensures { (place : ℕ) → kept_at reports.new place ≡ None }
+    ensures none { (place : ℕ) → kept_at reports.new place ≡ None }
+    ensures kept { reports.new ≡ without_reports reports.old }
 {
     for report in reports.iter_mut() {
         *report = None;
@@ -60,10 +62,18 @@ impl DownReports {
     pub fn new(alloc: Global, n: u16) -> Result<DownReports, AllocError>
         ensures sentinels { IfOk result (λ reports. length reports ≡ n) }
         ensures none { IfOk result (λ reports. StandsForReports reports []) }
+        ensures kept { IfOk result (λ reports. reports ≡ replicate n None) }
     {
         Ok(DownReports {
             reports: vec![in alloc; None; n as usize]?,
         })
+    }
+
+    /// For how many Sentinels there is room.
+    pub fn sentinels(&self) -> usize
+        ensures { result ≡ length self.now }
+    {
+        self.reports.len()
     }
 
     /// The Sentinel at a place answered whether it finds the master down. Its earlier reports no longer count.
@@ -73,6 +83,7 @@ impl DownReports {
         ensures reported { (calls : List ReportCall) → StandsForReports self.old calls
             → StandsForReports self.new
             (Reported place (record { down = down; at = clock now }) ∷ calls) }
+        ensures kept { self.new ≡ with_report place (record { down = down; at = clock now }) self.old }
     {
         self.reports[place as usize] = Some(DownReport {
             down,
@@ -85,15 +96,17 @@ impl DownReports {
         ensures sentinels { length self.new ≡ length self.old }
         ensures cleared { (calls : List ReportCall) → StandsForReports self.old calls
             → StandsForReports self.new (Cleared ∷ calls) }
+        ensures kept { self.new ≡ without_reports self.old }
     {
         clear_all(&mut self.reports);
     }
 
     /// Whether this Sentinel, with those whose last report says down and is fresh, makes a quorum.
     fn make_quorum(&self, now: u64, quorum: u32) -> bool
-        ensures { (calls : List ReportCall) → StandsForReports self.now calls
+        ensures quorum { (calls : List ReportCall) → StandsForReports self.now calls
             → result
             ≡ nat_le quorum (1 + down_count (clock now) (last_report calls) (length self.now)) }
+        ensures kept { result ≡ nat_le quorum (1 + down_count (clock now) (kept_at self.now) (length self.now)) }
     {
         quorum <= 1 + count_of(&self.reports, clock_of(now))
     }
@@ -103,8 +116,9 @@ impl DownReports {
 /// Sentinel finds it subjectively down, which `own` tells, and with the others whose last report says so and is at most
 /// 5,000 ms old they are at least `quorum`. The reports are those of others: a Sentinel reports nothing to itself.
 pub fn is_odown(own: bool, reports: &DownReports, now: u64, quorum: u32) -> bool
-    ensures { (calls : List ReportCall) → StandsForReports reports.now calls
+    ensures odown { (calls : List ReportCall) → StandsForReports reports.now calls
         → result ≡ is_odown_by own (last_report calls) (length reports.now) (clock now) quorum }
+    ensures kept { result ≡ is_odown_by own (kept_at reports.now) (length reports.now) (clock now) quorum }
 {
     own && reports.make_quorum(now, quorum)
 }

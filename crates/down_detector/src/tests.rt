@@ -63,13 +63,16 @@ fn only_valid_replies_end_the_silence(rt: HostRuntime) {
 #[test]
 fn tilt_holds_for_30_seconds_after_the_last_jump(rt: HostRuntime) {
     let mut tilt = Tilt::new(0);
+    assert!(rt; !tilt.holds());
     for (now, holds) in [(1_000, false), (3_000, false), (5_001, true), (4_000, true)] {
         assert_eq!(rt; tilt.turn(now), holds, "at {now}");
     }
     for second in 5..34 {
         assert!(rt; tilt.turn(second * 1_000), "at second {second}");
     }
+    assert!(rt; tilt.holds());
     assert!(rt; !tilt.turn(34_000));
+    assert!(rt; !tilt.holds());
 }
 
 #[test]

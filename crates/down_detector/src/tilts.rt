@@ -1,9 +1,9 @@
 //! Whether a Sentinel's clock is to be trusted.
 
-ghost use Rattle.std.specs.Prelude.{◌≡◌, ℕ, ◌∷◌, List, []};
+ghost use Rattle.std.specs.Prelude.{◌≡◌, ℕ, ◌∷◌, List, [], is_some};
 ghost use Rattle.ballot_law.specs.Clocks.{clock};
 ghost use Rattle.ballot_law.specs.Tilts.{in_tilt, StandsForReadings};
-ghost use Rattle.down_detector.specs.Jumps.{entered_at};
+ghost use Rattle.down_detector.specs.Jumps.{entered_at, opened_clock, turned_at};
 
 use ballot_law::clock_of;
 use std::marker::Model;
@@ -47,7 +47,8 @@ fn entered(before: u64, entered: Option<u64>, now: u64) -> Option<u64>
 impl Tilt {
     /// A clock that is trusted. The opening counts as a turn.
     pub fn new(now: u64) -> Tilt
-        ensures { StandsForReadings result (clock now ∷ []) }
+        ensures stands { StandsForReadings result (clock now ∷ []) }
+        ensures kept { result ≡ opened_clock (clock now) }
     {
         Tilt {
             last: clock_of(now),
@@ -63,10 +64,22 @@ impl Tilt {
             → StandsForReadings self.new (clock now ∷ readings) }
         ensures tilt { (readings : List ℕ) → StandsForReadings self.old readings
             → result ≡ in_tilt (clock now ∷ readings) }
+        ensures kept { self.new ≡ turned_at (clock now) self.old }
+        ensures now { result ≡ is_some self.new.entered }
     {
         let now = clock_of(now);
-        self.entered = entered(self.last, self.entered, now);
+        let jump = entered(self.last, self.entered, now);
         self.last = now;
+        self.entered = jump;
+        jump.is_some()
+    }
+
+    /// Whether TILT held after the last turn. The opening counts as one, and after it TILT doesn't hold.
+    pub fn holds(&self) -> bool
+        ensures now { result ≡ is_some self.now.entered }
+        ensures tilt { (readings : List ℕ) → StandsForReadings self.now readings
+            → result ≡ in_tilt readings }
+    {
         self.entered.is_some()
     }
 }

@@ -3,6 +3,7 @@
 ghost use Rattle.std.specs.Prelude.{◌≡◌, ℕ, ◌+◌, ◌∷◌, List, [], is_some};
 ghost use Rattle.ballot_law.specs.Clocks.{clock};
 ghost use Rattle.ballot_law.specs.Watches.{WatchCall, HeardReply, ReportedRole, ChangedCard, passed_at, down_since, StandsForCalls};
+ghost use Rattle.down_detector.specs.WatchSteps.{opened_at, after_reply, after_role, after_change, down_since_of};
 
 use ballot_law::{DataRole, PingReply, clock_of};
 use std::marker::Model;
@@ -49,7 +50,8 @@ fn passed(began: u64, bound: u64, more: u64, now: u64) -> Option<u64>
 impl Watch {
     /// The watch of a node of which nothing was heard yet. Its silence counts from now.
     pub fn new(now: u64) -> Watch
-        ensures { StandsForCalls result (clock now) [] }
+        ensures stands { StandsForCalls result (clock now) [] }
+        ensures kept { result ≡ opened_at (clock now) }
     {
         Watch {
             silent_from: clock_of(now),
@@ -59,8 +61,9 @@ impl Watch {
 
     /// The node answered a PING. A valid answer ends its silence, any other changes nothing.
     pub fn heard(&mut self, now: u64, reply: PingReply)
-        ensures { (opened : ℕ) (calls : List WatchCall) → StandsForCalls self.old opened calls
+        ensures stands { (opened : ℕ) (calls : List WatchCall) → StandsForCalls self.old opened calls
             → StandsForCalls self.new opened (HeardReply (clock now) reply ∷ calls) }
+        ensures kept { self.new ≡ after_reply (clock now) reply self.old }
     {
         match reply {
             PingReply::Pong | PingReply::Loading | PingReply::MasterDown => {
@@ -72,8 +75,9 @@ impl Watch {
 
     /// The node's INFO told its role.
     pub fn reported(&mut self, now: u64, role: DataRole)
-        ensures { (opened : ℕ) (calls : List WatchCall) → StandsForCalls self.old opened calls
+        ensures stands { (opened : ℕ) (calls : List WatchCall) → StandsForCalls self.old opened calls
             → StandsForCalls self.new opened (ReportedRole (clock now) role ∷ calls) }
+        ensures kept { self.new ≡ after_role (clock now) role self.old }
     {
         self.replica_since = match role {
             DataRole::Master => None,
@@ -84,8 +88,9 @@ impl Watch {
     /// The address of the node's master changed: a node that last reported itself a replica counts as having done so
     /// since now.
     pub fn card_changed(&mut self, now: u64)
-        ensures { (opened : ℕ) (calls : List WatchCall) → StandsForCalls self.old opened calls
+        ensures stands { (opened : ℕ) (calls : List WatchCall) → StandsForCalls self.old opened calls
             → StandsForCalls self.new opened (ChangedCard (clock now) ∷ calls) }
+        ensures kept { self.new ≡ after_change (clock now) self.old }
     {
         if self.replica_since.is_some() {
             self.replica_since = Some(clock_of(now));
@@ -96,8 +101,9 @@ impl Watch {
     /// been silent for more than `after_ms` milliseconds, or it is to be a master and has reported itself a replica
     /// without a break for more than `after_ms` and 20,000.
     pub fn is_sdown(&self, now: u64, after_ms: u64, as_master: bool) -> bool
-        ensures { (opened : ℕ) (calls : List WatchCall) → StandsForCalls self.now opened calls
+        ensures down { (opened : ℕ) (calls : List WatchCall) → StandsForCalls self.now opened calls
             → result ≡ is_some (down_since opened calls (clock now) after_ms as_master) }
+        ensures kept { result ≡ is_some (down_since_of self.now (clock now) after_ms as_master) }
     {
         self.sdown_since(now, after_ms, as_master).is_some()
     }
@@ -105,8 +111,9 @@ impl Watch {
     /// Since when the node is subjectively down, in milliseconds: the end of the time that it was allowed, the earlier
     /// one where it is down for both causes. None where it isn't down.
     pub fn sdown_since(&self, now: u64, after_ms: u64, as_master: bool) -> Option<u64>
-        ensures { (opened : ℕ) (calls : List WatchCall) → StandsForCalls self.now opened calls
+        ensures since { (opened : ℕ) (calls : List WatchCall) → StandsForCalls self.now opened calls
             → result ≡ down_since opened calls (clock now) after_ms as_master }
+        ensures kept { result ≡ down_since_of self.now (clock now) after_ms as_master }
     {
         let now = clock_of(now);
         let silent = passed(self.silent_from, after_ms, 0, now);

@@ -1,6 +1,6 @@
 //! The failover of one master.
 
-ghost use Rattle.std.specs.Prelude.{◌≡◌, ℕ, ◌*◌, None, Some, IfOk, replicate};
+ghost use Rattle.std.specs.Prelude.{◌≡◌, ℕ, ◌*◌, None, Some, IfOk, length, replicate};
 ghost use Rattle.ballot_law.specs.Clocks.{clock};
 ghost use Rattle.failover_states.specs.Calls.{epoch_of, choice_of, promoted_card, promoted, reconfigured};
 ghost use Rattle.failover_states.specs.Failovers.{entering, ended};
@@ -113,6 +113,13 @@ impl Failover {
             State::ReconfReplicas { choice, .. } => Some(choice.place),
             State::UpdateConfig { choice, .. } => Some(choice.place),
         }
+    }
+
+    /// How many nodes the master has.
+    pub fn node_count(&self) -> usize
+        ensures { result ≡ length self.now.replicas }
+    {
+        self.replicas.len()
     }
 
     /// Whether the last turn tells the node at a place to follow the new master, by REPLICAOF with the address of its

@@ -15,5 +15,6 @@ pub mod Written
 pub mod Adding
 pub mod Canonical
 pub mod Counts
+pub mod NameWords
 pub mod AskFrames
 pub mod Asks

@@ -4,9 +4,9 @@ use Rattle.ballot_law.specs.declared.addresses.Addr.{Addr}
 use Rattle.ballot_law.specs.declared.addresses.RunId.{RunId}
 use Rattle.ballot_law.specs.declared.cards.TheConstants.{MAX_EPOCH}
 use Rattle.ballot_law.specs.declared.commands.Command.{Command}
-use Rattle.ballot_law.specs.declared.commands.Command.TheVariants.{IsMasterDownByAddr}
+use Rattle.ballot_law.specs.declared.commands.Command.TheVariants.{Ping, IsMasterDownByAddr, GetMasterAddrByName, Masters, Master, Replicas, Sentinels, MyId, CkQuorum, FlushConfig}
 use Rattle.ballot_law.specs.Hellos.{IsRunId}
-use Rattle.ballot_law.specs.Words.{then_some, canonical_within, canonical_address, run_id, lower, ip_text, id_text}
+use Rattle.ballot_law.specs.Words.{then_some, canonical_within, canonical_address, run_id, name, lower, ip_text, id_text}
 use Rattle.resp2.specs.declared.command.CommandFault.{CommandFault}
 use Rattle.resp2.specs.declared.command.CommandFault.TheVariants.{NotACommand, UnknownCommand, WrongArguments, BadAddress, BadEpoch, BadRunId}
 use Rattle.resp2.specs.Frame.{Frame, FrameList, bulk, items, no_frames, frame}
@@ -54,14 +54,56 @@ is_master_down_by_addr (ip ∷ port ∷ epoch ∷ id ∷ []) =
     Ok (IsMasterDownByAddr addr epoch candidate))))
 is_master_down_by_addr _ = Err WrongArguments
 
+-- the one word as a master's name; a word that can't be a name names no master
+abbrev pub master_of : List (List ℕ) → Result (Option (List ℕ)) CommandFault
+master_of (word ∷ []) = Ok (name word)
+master_of _ = Err WrongArguments
+
+-- a command about the master that its one word names
+abbrev pub about_master : (Option (List ℕ) → Command) → List (List ℕ) → Result Command CommandFault
+about_master command args = elim (master_of args) [ Ok named ↦ Ok (command named) | Err refusal ↦ Err refusal ]
+
+-- a command of no further words
+abbrev pub alone : Command → List (List ℕ) → Result Command CommandFault
+alone command [] = Ok command
+alone command _ = Err WrongArguments
+
+-- a name in lower case, and what the words behind it make
+abbrev pub Entry : Type 0
+Entry = List ℕ × (List (List ℕ) → Result Command CommandFault)
+
+-- the command of the entry that is called so
+abbrev pub called_in : List Entry → List ℕ → List (List ℕ) → Result Command CommandFault
+called_in [] word args = Err UnknownCommand
+called_in (entry ∷ entries) word args = if is_called entry.0 word then entry.1 args else called_in entries word args
+
+-- the subcommands of SENTINEL
+abbrev pub subcommands : List Entry
+subcommands =
+    (codes "is-master-down-by-addr", is_master_down_by_addr)
+    ∷ (codes "get-master-addr-by-name", about_master GetMasterAddrByName)
+    ∷ (codes "masters", alone Masters)
+    ∷ (codes "master", about_master Master)
+    ∷ (codes "replicas", about_master Replicas)
+    ∷ (codes "slaves", about_master Replicas)
+    ∷ (codes "sentinels", about_master Sentinels)
+    ∷ (codes "myid", alone MyId)
+    ∷ (codes "ckquorum", about_master CkQuorum)
+    ∷ (codes "flushconfig", alone FlushConfig)
+    ∷ []
+
 -- what stands behind SENTINEL
 abbrev pub sentinel_command : List (List ℕ) → Result Command CommandFault
 sentinel_command [] = Err UnknownCommand
-sentinel_command (name ∷ args) = if is_called (codes "is-master-down-by-addr") name then is_master_down_by_addr args else Err UnknownCommand
+sentinel_command (name ∷ args) = called_in subcommands name args
+
+-- the commands
+abbrev pub commands : List Entry
+commands = (codes "ping", alone Ping) ∷ (codes "sentinel", sentinel_command) ∷ []
 
 abbrev pub command_of_words : List (List ℕ) → Result Command CommandFault
 command_of_words [] = Err NotACommand
-command_of_words (name ∷ args) = if is_called (codes "sentinel") name then sentinel_command args else Err UnknownCommand
+command_of_words (name ∷ args) = called_in commands name args
 
 -- a command is a nonempty array of bulk strings
 abbrev pub command_of : Frame → Result Command CommandFault

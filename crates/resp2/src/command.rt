@@ -1,11 +1,12 @@
 //! The commands of a Sentinel's port, as values.
 ghost use Rattle.std.specs.Prelude.{◌≡◌, IfOk};
+ghost use Rattle.ballot_law.specs.Words.{name};
 ghost use Rattle.resp2.specs.Commands as commands;
 ghost use Rattle.resp2.specs.Frame as frames;
 ghost use Rattle.resp2.specs.Frame.{view, frames_view};
 
 use crate::value::Value;
-use ballot_law::{Command, MAX_EPOCH, RunId};
+use ballot_law::{Command, MAX_EPOCH, Name, RunId};
 use thiserror::Error;
 use words::{canonical_address_of, canonical_number_of, run_id_of};
 
@@ -103,16 +104,65 @@ fn is_master_down_by_addr(args: &[Value]) -> Result<Command, CommandFault>
     })
 }
 
+/// The name that the word is, or none where it can't be one.
+fn name_of(word: &[u8]) -> Option<Name>
+    ensures { result ≡ name word.now }
+{
+    Name::from_slice(word)
+}
+
+/// The name of a master that is the one word.
+#[tactic(auto, using(crate::proofs::Counts::not_one_word))]
+fn master_of(args: &[Value]) -> Result<Option<Name>, CommandFault>
+    ensures { result ≡ commands.master_of (commands.words (frames_view args.now)) }
+{
+    match args {
+        [word] => Ok(name_of(word_of(word))),
+        _ => Err(CommandFault::WrongArguments),
+    }
+}
+
+/// The command, where no word stands behind its name.
+#[tactic(auto, using(crate::proofs::Counts::more_words))]
+fn alone(command: Command, args: &[Value]) -> Result<Command, CommandFault>
+    requires { commands.IsWithin command }
+    ensures within { IfOk result commands.IsWithin }
+    ensures command { result ≡ commands.alone command (commands.words (frames_view args.now)) }
+{
+    if args.is_empty() {
+        Ok(command)
+    } else {
+        Err(CommandFault::WrongArguments)
+    }
+}
+
 /// The command of `SENTINEL` and these words.
 fn sentinel_command(words: &[Value]) -> Result<Command, CommandFault>
     ensures within { IfOk result commands.IsWithin }
     ensures command { result ≡ commands.sentinel_command (commands.words (frames_view words.now)) }
 {
-    let Some((name, args)) = words.split_first() else {
+    let Some((first, args)) = words.split_first() else {
         return Err(CommandFault::UnknownCommand);
     };
-    if word_of(name).eq_ignore_ascii_case(b"is-master-down-by-addr") {
+    let name = word_of(first);
+    if name.eq_ignore_ascii_case(b"is-master-down-by-addr") {
         is_master_down_by_addr(args)
+    } else if name.eq_ignore_ascii_case(b"get-master-addr-by-name") {
+        Ok(Command::GetMasterAddrByName(master_of(args)?))
+    } else if name.eq_ignore_ascii_case(b"masters") {
+        alone(Command::Masters, args)
+    } else if name.eq_ignore_ascii_case(b"master") {
+        Ok(Command::Master(master_of(args)?))
+    } else if name.eq_ignore_ascii_case(b"replicas") || name.eq_ignore_ascii_case(b"slaves") {
+        Ok(Command::Replicas(master_of(args)?))
+    } else if name.eq_ignore_ascii_case(b"sentinels") {
+        Ok(Command::Sentinels(master_of(args)?))
+    } else if name.eq_ignore_ascii_case(b"myid") {
+        alone(Command::MyId, args)
+    } else if name.eq_ignore_ascii_case(b"ckquorum") {
+        Ok(Command::CkQuorum(master_of(args)?))
+    } else if name.eq_ignore_ascii_case(b"flushconfig") {
+        alone(Command::FlushConfig, args)
     } else {
         Err(CommandFault::UnknownCommand)
     }
@@ -130,6 +180,8 @@ fn command_of_items(words: &[Value]) -> Result<Command, CommandFault>
     };
     if word_of(name).eq_ignore_ascii_case(b"sentinel") {
         sentinel_command(args)
+    } else if word_of(name).eq_ignore_ascii_case(b"ping") {
+        alone(Command::Ping, args)
     } else {
         Err(CommandFault::UnknownCommand)
     }
@@ -137,8 +189,10 @@ fn command_of_items(words: &[Value]) -> Result<Command, CommandFault>
 
 /// The command that a value spells, or the first fault that fits. No memory is taken.
 ///
-/// Names of commands and subcommands ignore ASCII case, as in Redis. For now the one command is
-/// `SENTINEL IS-MASTER-DOWN-BY-ADDR <ip> <port> <epoch> <runid>`; every other is `UnknownCommand`.
+/// The commands are `PING` and the subcommands of `SENTINEL` that docs/RESP2.md lists, by the names that the Redis Sentinel
+/// documentation gives them; `SLAVES` is the former name of `REPLICAS`. Names of commands and subcommands ignore ASCII case,
+/// as in Redis; all other words are taken as they are. A word in the place of a master's name that can't be a name
+/// is no fault: the command names no master.
 pub fn command_of(value: &Value) -> Result<Command, CommandFault>
     ensures command { result ≡ commands.command_of (view value.now) }
     ensures within { IfOk result commands.IsWithin }

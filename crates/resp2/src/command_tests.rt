@@ -1,7 +1,7 @@
 //! Words and the command that they are, or its first fault.
 
 use crate::{ByteText, Command, CommandFault, Frames, NoMemory, Value, command_of};
-use ballot_law::{Addr, RunId};
+use ballot_law::{Addr, Name, RunId};
 use std::alloc::Global;
 use std::test::Fail;
 
@@ -72,11 +72,57 @@ fn star_asks_for_no_vote(rt: HostRuntime) -> Result<(), Fail> {
     Ok(())
 }
 
+/// Each command once, its names in mixed case.
+const EACH_COMMAND: &[u8] = b"*1\r\n$4\r\npInG\r\n\
+*6\r\n$8\r\nsEntinel\r\n$22\r\nIs-Master-Down-By-Addr\r\n$9\r\n127.0.0.1\r\n$1\r\n1\r\n$1\r\n0\r\n$1\r\n*\r\n\
+*3\r\n$8\r\nSentinel\r\n$23\r\nGET-Master-addr-BY-Name\r\n$8\r\nMyMaster\r\n\
+*2\r\n$8\r\nSENTINEL\r\n$7\r\nMasters\r\n\
+*3\r\n$8\r\nsentinel\r\n$6\r\nMASTER\r\n$8\r\nMyMaster\r\n\
+*3\r\n$8\r\nsenTINEL\r\n$8\r\nreplicaS\r\n$8\r\nMyMaster\r\n\
+*3\r\n$8\r\nSENTINEL\r\n$6\r\nsLAVES\r\n$8\r\nMyMaster\r\n\
+*3\r\n$8\r\nSENTInel\r\n$9\r\nSentinels\r\n$8\r\nMyMaster\r\n\
+*2\r\n$8\r\nsentinel\r\n$4\r\nmyID\r\n\
+*3\r\n$8\r\nSENTINEL\r\n$8\r\nckQuorum\r\n$8\r\nMyMaster\r\n\
+*2\r\n$8\r\nSeNtInEl\r\n$11\r\nFlushConfig\r\n";
+
 #[test]
-fn names_ignore_case(rt: HostRuntime) -> Result<(), Fail> {
-    let line = b"sEntinel Is-Master-Down-By-Addr 127.0.0.1 1 0 *";
-    let value = array(rt.alloc(), line)?;
-    assert_eq!(rt; command_of(&value), ask(1, 0, None));
+fn each_command_is_read_in_any_case(rt: HostRuntime) -> Result<(), Fail> {
+    let name = Name::from_slice(b"MyMaster");
+    assert!(rt; name.is_some());
+    let commands = [
+        Ok(Command::Ping),
+        ask(1, 0, None),
+        Ok(Command::GetMasterAddrByName(name)),
+        Ok(Command::Masters),
+        Ok(Command::Master(name)),
+        Ok(Command::Replicas(name)),
+        Ok(Command::Replicas(name)),
+        Ok(Command::Sentinels(name)),
+        Ok(Command::MyId),
+        Ok(Command::CkQuorum(name)),
+        Ok(Command::FlushConfig),
+    ];
+    let mut frames = Frames::new(rt.alloc());
+    frames.feed(EACH_COMMAND)?;
+    for command in &commands {
+        let value = frames.next()?.ok_or("no value")?;
+        assert_eq!(rt; command_of(&value), *command);
+    }
+    assert!(rt; frames.next()?.is_none());
+    Ok(())
+}
+
+#[test]
+fn words_that_cannot_be_names_name_no_master(rt: HostRuntime) -> Result<(), Fail> {
+    let lines = [
+        b"SENTINEL master bad/name".as_slice(),
+        b"SENTINEL master ".as_slice(),
+        b"SENTINEL master aaaaaaaaaaaaaaaaaaaaaaaaaaaaaaaaaaaaaaaaaaaaaaaaaaaaaaaaaaaaaaaaa".as_slice(),
+    ];
+    for line in &lines {
+        let value = array(rt.alloc(), line)?;
+        assert_eq!(rt; command_of(&value), Ok(Command::Master(None)));
+    }
     Ok(())
 }
 
@@ -106,6 +152,8 @@ fn other_values_are_no_commands(rt: HostRuntime) -> Result<(), Fail> {
         bulk(alloc, b"PING")?,
         Value::Items(vec![in alloc; bulk(alloc, b"SENTINEL")?, Value::NullBulk]?),
         Value::Items(vec![in alloc; bulk(alloc, b"unknown")?, Value::Int(1)]?),
+        Value::Items(vec![in alloc; Value::Simple(ByteText::from_slice(alloc, b"PING")?)]?),
+        Value::Items(vec![in alloc; bulk(alloc, b"PING")?, Value::NullItems]?),
     ]?;
     for value in &values {
         assert_eq!(rt; command_of(value), Err(CommandFault::NotACommand));
@@ -117,9 +165,12 @@ fn other_values_are_no_commands(rt: HostRuntime) -> Result<(), Fail> {
 fn other_names_are_unknown(rt: HostRuntime) -> Result<(), Fail> {
     let lines = [
         b"SENTINEL".as_slice(),
-        b"PING".as_slice(),
+        b"PONG".as_slice(),
+        b"MASTER mymaster".as_slice(),
         b"".as_slice(),
         b"SENTINEL FAILOVER mymaster".as_slice(),
+        b"SENTINEL HELP".as_slice(),
+        b"SENTINEL REPLICA mymaster".as_slice(),
         b"SENTINEL  IS-MASTER-DOWN-BY-ADDR".as_slice(),
     ];
     assert!(rt; are_refused(rt.alloc(), &lines, CommandFault::UnknownCommand)?);
@@ -129,9 +180,20 @@ fn other_names_are_unknown(rt: HostRuntime) -> Result<(), Fail> {
 #[test]
 fn number_of_words_is_judged_before_them(rt: HostRuntime) -> Result<(), Fail> {
     let lines = [
+        b"PING x".as_slice(),
         b"SENTINEL IS-MASTER-DOWN-BY-ADDR".as_slice(),
         b"SENTINEL IS-MASTER-DOWN-BY-ADDR nowhere 6379 1".as_slice(),
         b"SENTINEL IS-MASTER-DOWN-BY-ADDR nowhere 6379 1 * *".as_slice(),
+        b"SENTINEL GET-MASTER-ADDR-BY-NAME".as_slice(),
+        b"SENTINEL MASTERS mymaster".as_slice(),
+        b"SENTINEL MASTER".as_slice(),
+        b"SENTINEL MASTER a b".as_slice(),
+        b"SENTINEL REPLICAS".as_slice(),
+        b"SENTINEL SLAVES bad/name b".as_slice(),
+        b"SENTINEL SENTINELS".as_slice(),
+        b"SENTINEL MYID x".as_slice(),
+        b"SENTINEL CKQUORUM".as_slice(),
+        b"SENTINEL FLUSHCONFIG ".as_slice(),
     ];
     assert!(rt; are_refused(rt.alloc(), &lines, CommandFault::WrongArguments)?);
     Ok(())

@@ -162,7 +162,7 @@ apart_rises before same o s (x ∷ xs) r = (
   apart_rises before same o s xs r.1,
 )
 
-none_any : {X : Type 0} (p : X → Bool) (xs : List X) → list_any p xs ≡ false → (x : X) → In x xs → p x ≡ false
+pub none_any : {X : Type 0} (p : X → Bool) (xs : List X) → list_any p xs ≡ false → (x : X) → In x xs → p x ≡ false
 none_any p [] h x i = absurd i
 none_any p (y ∷ xs) h x (inl e) = ap p e ∙ (or_parts (p y) (list_any p xs) h).0
 none_any p (y ∷ xs) h x (inr i) = none_any p xs (or_parts (p y) (list_any p xs) h).1 x i

@@ -19,3 +19,4 @@ pub mod TextLemmas
 pub mod ReadAgain
 pub mod ValidLines
 pub mod ReadConf
+pub mod SoundConf

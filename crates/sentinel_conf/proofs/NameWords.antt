@@ -42,3 +42,10 @@ not_by bytes h false e = refl
 
 pub name_not : (bytes : List ℕ) → ¬ (IsName bytes) → name bytes ≡ None
 name_not bytes h = not_by bytes h (nat_lt 0 (length bytes) && (nat_le (length bytes) 64 && list_all is_name_byte bytes)) refl
+
+name_by : (bytes : List ℕ) (t : Bool) → (nat_lt 0 (length bytes) && (nat_le (length bytes) 64 && list_all is_name_byte bytes)) ≡ t → some_if t bytes ≡ Some bytes → IsName bytes
+name_by bytes true e h = fits_back bytes e
+name_by bytes false e h = cc
+
+pub is_name : (bytes : List ℕ) → name bytes ≡ Some bytes → IsName bytes
+is_name bytes h = name_by bytes (nat_lt 0 (length bytes) && (nat_le (length bytes) 64 && list_all is_name_byte bytes)) refl h

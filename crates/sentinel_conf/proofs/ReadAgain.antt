@@ -87,11 +87,26 @@ none_fits [] h = tt
 none_fits (t ∷ ts) h = let both = none_fits_by t.0 t.1 ts h in (both.0, none_fits ts both.1)
 
 pub record NoFault (plan : RosterPlan) : Type 0 where
+  pub some_sentinel : eqb (length plan.sentinels) 0 ≡ false
+  pub few_sentinels : ltb 64 (length plan.sentinels) ≡ false
   pub some : eqb (length plan.masters) 0 ≡ false
+  pub few_masters : ltb 16 (length plan.masters) ≡ false
+  pub some_node : list_any (λ (master : MasterPlan). eqb (length master.nodes) 0) plan.masters ≡ false
+  pub few_nodes : list_any (λ (master : MasterPlan). ltb 256 (length master.nodes)) plan.masters ≡ false
   pub ids : repeats (λ (a b : Member). same_id a.id b.id) plan.sentinels ≡ false
 
 pub no_fault : (plan : RosterPlan) → fault_of plan ≡ None → NoFault plan
-no_fault plan h = let all = none_fits (tests plan) h in record { some = all.1.1.0; ids = all.1.1.1.1.1.1.1.1.0 }
+no_fault plan h =
+    let all = none_fits (tests plan) h in
+    record {
+      some_sentinel = all.0;
+      few_sentinels = all.1.0;
+      some = all.1.1.0;
+      few_masters = all.1.1.1.0;
+      some_node = all.1.1.1.1.1.0;
+      few_nodes = all.1.1.1.1.1.1.0;
+      ids = all.1.1.1.1.1.1.1.1.0;
+    }
 
 pub map_map : {X Y Z : Type 0} (f : X → Y) (g : Y → Z) (xs : List X) → map (λ x. g (f x)) xs ≡ map g (map f xs)
 map_map f g [] = refl

@@ -6,3 +6,4 @@ pub mod Stores
 pub mod Meaning
 pub mod Rewritten
 pub mod Reading
+pub mod Facts

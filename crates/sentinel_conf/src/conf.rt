@@ -1,12 +1,13 @@
 //! What a file says, and the file that keeps a Sentinel's part.
 
-ghost use Rattle.std.specs.Prelude.{◌≡◌, ◌<◌, ◌⊎◌, [], Ok, Err, length, MatchResult, MatchOption, IfOk, IfSome, IfNone, slice_index_or, ◌≤◌, nat_lt};
+ghost use Rattle.std.specs.Prelude.{◌≡◌, ◌<◌, ◌⊎◌, [], Ok, Err, length, MatchResult, MatchOption, Some, IfOk, IfSome, IfNone, slice_index_or, ◌≤◌, nat_lt};
 ghost use Rattle.ballot_law.specs.declared.cards.Kept.{Kept as KeptPlan};
 ghost use Rattle.ballot_law.specs.Rosters.{id_of};
 ghost use Rattle.sentinel_conf.specs.Meaning.{ConfPlan};
 ghost use Rattle.sentinel_conf.specs.Rewritten.{rewritten, IsKeptPart};
 ghost use Rattle.sentinel_conf.specs.Reading.{conf_of_bytes, no_memory};
 ghost use Rattle.sentinel_conf.specs.Room.{bounded};
+ghost use Rattle.sentinel_conf.specs.Facts.{IsSoundConf, no_settings};
 
 use crate::conf_text::{ConfText, FILE_MAX};
 use crate::faults::{ConfFault, ConfKind, NoMemory};
@@ -42,9 +43,11 @@ impl Model for Conf {
 }
 
 impl Conf {
-    /// The Sentinels and the masters with their nodes, in order.
+    /// The Sentinels and the masters with their nodes, in order: 1 to 64 Sentinels, each with a run id of its own, and 1 to
+    /// 16 masters, each with a name of its own and 1 to 256 nodes, of which no two are the same.
     pub fn roster(&self) -> &Roster
-        ensures { result.now ≡ self.now.roster }
+        ensures value { result.now ≡ self.now.roster }
+        ensures sound { IsSoundConf self.now }
     {
         self.parts.roster()
     }
@@ -85,6 +88,8 @@ impl Conf {
         ensures some { IfSome result (λ settings. (m < length self.now.roster.masters)
             × (slice_index_or self.now.settings m settings ≡ settings)) }
         ensures none { IfNone result (length self.now.roster.masters ≤ m) }
+        ensures known { m < length self.now.roster.masters → result
+            ≡ Some (slice_index_or self.now.settings m no_settings) }
     {
         let settings = self.parts.settings();
         if m as usize >= settings.len() {

@@ -6,8 +6,8 @@
 //! - `ConfStore` is the place where the file is held; `MemoryStore` is one for tests.
 //!
 //! The definitions stand in `specs/`: `Words` (lines and words), `Lines` (what a line is), `Meaning` (what all lines mean
-//! together), `Reading` (the conf or the first fault), `Rewritten` (the file that is written). `law_read_again` says of
-//! them that a rewritten file is read as the conf that it was written for.
+//! together), `Reading` (the conf or the first fault), `Facts` (what is known of each conf), `Rewritten` (the file that is
+//! written). `law_read_again` says of them that a rewritten file is read as the conf that it was written for.
 #![tactic(auto)]
 
 mod arguments;

@@ -1,7 +1,8 @@
 //! The votes that were heard of for one master, one of each voter.
 
-ghost use Rattle.std.specs.Prelude.{◌≡◌, ℕ, ◌<◌, ◌≤◌, ◌^◌, ◌∷◌, ◌↔◌, List, [], IfOk, IsTrue, length};
+ghost use Rattle.std.specs.Prelude.{◌≡◌, ℕ, ◌<◌, ◌≤◌, ◌^◌, ◌∷◌, ◌↔◌, List, [], None, IfOk, IsTrue, length, replicate};
 ghost use Rattle.ballot_law.specs.VotesHeard.{Hearing, hearing_of, latest, leads, leader_below, count_in, pick_in, own_votes, IsElectedIn, kept_at, StandsFor};
+ghost use Rattle.vote_book.specs.HeardSteps.{with_hearing};
 
 use crate::VoteBook;
 use ballot_law::{HeardVote, RunId};
@@ -14,6 +15,7 @@ use std::marker::Model;
 /// voter counts once, and what it is heard to say later of the same epoch changes nothing. Voters go by their places.
 ///
 /// The contracts speak of the whole list of votes that were heard, the latest first: what is kept stands for that list.
+/// They also say what each call makes of what is kept (`HeardSteps`).
 #[derive(Drop)]
 pub struct Heard {
     votes: Vec<Option<HeardVote>>,
@@ -96,10 +98,18 @@ impl Heard {
     pub fn new(alloc: Global, n: u16) -> Result<Heard, AllocError>
         ensures voters { IfOk result (λ heard. length heard ≡ n) }
         ensures nothing_heard { IfOk result (λ heard. StandsFor heard []) }
+        ensures kept { IfOk result (λ heard. heard ≡ replicate n None) }
     {
         Ok(Heard {
             votes: vec![in alloc; None; n as usize]?,
         })
+    }
+
+    /// For how many voters there is room.
+    pub fn voters(&self) -> usize
+        ensures { result ≡ length self.now }
+    {
+        self.votes.len()
     }
 
     /// Hears that the voter at this place, one of those that there is room for, voted so. It replaces the vote that is
@@ -109,6 +119,7 @@ impl Heard {
         ensures voters { length self.new ≡ length self.old }
         ensures heard { (heard : List Hearing) → StandsFor self.old heard →
             StandsFor self.new (hearing_of voter epoch candidate ∷ heard) }
+        ensures kept { self.new ≡ with_hearing voter epoch candidate self.old }
     {
         let kept = &mut self.votes[voter as usize];
         let is_newer = match *kept {
@@ -125,6 +136,7 @@ impl Heard {
         ensures few { result < 2 ^ 16 }
         ensures count { (heard : List Hearing) → StandsFor self.now heard →
             result ≡ count_in (latest heard) (length self.now) epoch candidate }
+        ensures kept { result ≡ count_in (kept_at self.now) (length self.now) epoch candidate }
     {
         count_of(&self.votes, epoch, candidate)
     }
@@ -132,8 +144,9 @@ impl Heard {
     /// The candidate with most votes of the epoch, the smaller run id on a tie; `me` where none was heard of that epoch.
     /// A Sentinel that has not voted in the epoch votes for this candidate.
     pub fn pick(&self, epoch: u64, me: RunId) -> RunId
-        ensures { (heard : List Hearing) → StandsFor self.now heard →
+        ensures pick { (heard : List Hearing) → StandsFor self.now heard →
             result ≡ pick_in (latest heard) (length self.now) epoch me }
+        ensures kept { result ≡ pick_in (kept_at self.now) (length self.now) epoch me }
     {
         pick_among(&self.votes, epoch, me)
     }
@@ -155,9 +168,11 @@ fn own_vote(book: &VoteBook, epoch: u64, candidate: RunId) -> u32
 /// The epoch is the campaign's own: votes of any other epoch don't count, also where the current epoch has passed it
 /// since. `need` is the greater of the majority of all Sentinels and the quorum (`Roster::need`).
 pub fn elected(book: &VoteBook, heard: &Heard, epoch: u64, me: RunId, need: u32) -> bool
-    ensures { (hearings : List Hearing) → StandsFor heard.now hearings →
+    ensures elected { (hearings : List Hearing) → StandsFor heard.now hearings →
         IsTrue result ↔
         IsElectedIn (latest hearings) book.now (length heard.now) epoch me need }
+    ensures kept { IsTrue result ↔
+        IsElectedIn (kept_at heard.now) book.now (length heard.now) epoch me need }
 {
     heard.count(epoch, me) + own_vote(book, epoch, me) >= need
 }

@@ -1,4 +1,4 @@
 use Rattle.down_detector.proofs.reports.is_odown.Goals as goal
 
-pub returns-then-own : goal.returns-then-own
-returns-then-own c calls stands = rw c.if-own.true (c.make_quorum.ensures calls stands)
+pub returns-then-own-clause-odown : goal.returns-then-own-clause-odown
+returns-then-own-clause-odown c calls stands = rw c.if-own.true (c.make_quorum.ensures.quorum calls stands)

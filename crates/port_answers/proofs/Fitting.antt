@@ -1,0 +1,60 @@
+-- Every answer has room.
+use Rattle.std.proofs.Common.{ℕ, ◌+◌, ◌*◌, ◌≤◌, length, arith}
+use Rattle.std.specs.Prelude.{codes}
+use Rattle.ballot_law.specs.declared.addresses.RunId.{RunId}
+use Rattle.ballot_law.specs.Words.{id_text}
+use Rattle.resp2.specs.Frame.{Frame, spelling}
+use Rattle.resp2.specs.declared.command.CommandFault.{CommandFault}
+use Rattle.resp2.specs.declared.command.CommandFault.TheVariants.{NotACommand, UnknownCommand, WrongArguments, BadAddress, BadEpoch, BadRunId}
+use Rattle.port_answers.specs.declared.rows.SentinelRow.{SentinelRow}
+use Rattle.port_answers.specs.Room.{ANSWER_MAX}
+use Rattle.port_answers.specs.Answers.{master_frame, replica_frame, sentinel_frame, masters_frame, replicas_frame, sentinels_frame, no_such_master, ok_line, quorum_reached, no_quorum, id_frame, command_fault, protocol_error}
+use Rattle.port_answers.specs.Limits.{IsPlace, IsMasterRow, IsReplicaRow, Fits, MasterFits, MastersFit, ReplicasFit, SentinelsFit, LinesFit}
+use Rattle.port_answers.proofs.RoomLemmas.{bounded_all}
+use Rattle.port_answers.proofs.Sizes.{master_size, replica_size, sentinel_size, rows_array, counted_size, bulk_size, id_size}
+
+fits : (frame : Frame) (most : ℕ) → length (spelling frame) ≤ most → most ≤ ANSWER_MAX → Fits frame
+fits frame most size room =
+    let short : length (spelling frame) ≤ ANSWER_MAX = omega arith in
+    record { short = short; whole = bounded_all (spelling frame) short }
+
+pub master_fits : MasterFits
+master_fits row h = fits (master_frame row) 560 (master_size row h) (omega arith)
+
+pub masters_fit : MastersFit
+masters_fit rows few all =
+    fits (masters_frame rows) (length rows * 560 + 23) (rows_array master_frame IsMasterRow 560 master_size rows (omega arith) all) (omega arith)
+
+pub replicas_fit : ReplicasFit
+replicas_fit rows few all =
+    fits (replicas_frame rows) (length rows * 228 + 23) (rows_array replica_frame IsReplicaRow 228 replica_size rows (omega arith) all) (omega arith)
+
+pub sentinels_fit : SentinelsFit
+sentinels_fit rows few all =
+    fits (sentinels_frame rows) (length rows * 210 + 23)
+    (rows_array sentinel_frame (λ (row : SentinelRow). IsPlace row.addr) 210 sentinel_size rows (omega arith) all) (omega arith)
+
+fault_fits : (refusal : CommandFault) → Fits (command_fault refusal)
+fault_fits NotACommand = fits (command_fault NotACommand) 100 (omega arith) (omega arith)
+fault_fits UnknownCommand = fits (command_fault UnknownCommand) 100 (omega arith) (omega arith)
+fault_fits WrongArguments = fits (command_fault WrongArguments) 100 (omega arith) (omega arith)
+fault_fits BadAddress = fits (command_fault BadAddress) 100 (omega arith) (omega arith)
+fault_fits BadEpoch = fits (command_fault BadEpoch) 100 (omega arith) (omega arith)
+fault_fits BadRunId = fits (command_fault BadRunId) 100 (omega arith) (omega arith)
+
+id_fits : (id : RunId) → Fits (id_frame id)
+id_fits id =
+    let size = id_size id in
+    fits (id_frame id) (length (id_text id) + 7) (bulk_size (id_text id) (omega arith)) (omega arith)
+
+pub lines_fit : LinesFit
+lines_fit = record {
+  no_such_master = fits no_such_master 100 (omega arith) (omega arith);
+  ok_line = fits ok_line 100 (omega arith) (omega arith);
+  quorum_reached = λ usable h. fits (quorum_reached usable) 79
+      (counted_size 43 (codes "OK ") (codes " usable Sentinels, quorum and majority can be reached") usable h) (omega arith);
+  no_quorum = λ usable h. fits (no_quorum usable) 49 (counted_size 45 (codes "NOQUORUM ") (codes " usable Sentinels") usable h) (omega arith);
+  id_frame = id_fits;
+  command_fault = fault_fits;
+  protocol_error = fits protocol_error 100 (omega arith) (omega arith);
+}

@@ -1,0 +1,5 @@
+pub mod RoomLemmas
+pub mod FieldLemmas
+pub mod RowLemmas
+pub mod Sizes
+pub mod Fitting

@@ -1,0 +1,8 @@
+use Rattle.std.specs.Prelude.{codes, decimal}
+use Rattle.resp2.specs.Frame.{line_end}
+use Rattle.port_answers.proofs.RoomLemmas.{line_of}
+use Rattle.port_answers.proofs.answer_text.AnswerText.add_no_quorum.Goals as goal
+
+pub returns : goal.returns
+returns c =
+    line_of c.args.self.now c.add_counted.new.self (codes "-NOQUORUM ") (decimal c.args.usable) (codes " usable Sentinels") line_end c.add_counted.ensures

@@ -1,0 +1,8 @@
+use Rattle.std.specs.Prelude.{codes, decimal}
+use Rattle.resp2.specs.Frame.{line_end}
+use Rattle.port_answers.proofs.RoomLemmas.{line_of}
+use Rattle.port_answers.proofs.answer_text.AnswerText.add_quorum_reached.Goals as goal
+
+pub returns : goal.returns
+returns c =
+    line_of c.args.self.now c.add_counted.new.self (codes "+OK ") (decimal c.args.usable) (codes " usable Sentinels, quorum and majority can be reached") line_end c.add_counted.ensures

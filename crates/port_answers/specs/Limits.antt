@@ -1,0 +1,66 @@
+-- What is short enough to have room.
+use Rattle.std.specs.Prelude.{◌≡◌, ℕ, ◌<◌, ◌≤◌, ◌^◌, List, length}
+use Rattle.std.specs.List.{AllByRecursion}
+use Rattle.ballot_law.specs.declared.addresses.Addr.{Addr}
+use Rattle.ballot_law.specs.declared.addresses.RunId.{RunId}
+use Rattle.resp2.specs.Frame.{Frame, spelling}
+use Rattle.resp2.specs.declared.command.CommandFault.{CommandFault}
+use Rattle.port_answers.specs.declared.rows.MasterRow.{MasterRow}
+use Rattle.port_answers.specs.declared.rows.ReplicaRow.{ReplicaRow}
+use Rattle.port_answers.specs.declared.rows.SentinelRow.{SentinelRow}
+use Rattle.port_answers.specs.Room.{ANSWER_MAX, bounded}
+use Rattle.port_answers.specs.Answers.{master_frame, masters_frame, replicas_frame, sentinels_frame, no_such_master, ok_line, quorum_reached, no_quorum, id_frame, command_fault, protocol_error}
+
+-- an IPv4 address and a TCP port
+pub record IsPlace (addr : Addr) : Type 0 where
+  pub ip : addr.ip < 2 ^ 32
+  pub port : addr.port ≤ 65535
+
+-- a name of at most 64 bytes, and numbers of 64 bits
+pub record IsMasterRow (row : MasterRow) : Type 0 where
+  pub name : length row.name ≤ 64
+  pub addr : IsPlace row.addr
+  pub replicas : row.replicas < 2 ^ 64
+  pub others : row.others < 2 ^ 64
+  pub quorum : row.quorum < 2 ^ 64
+  pub after_ms : row.after_ms < 2 ^ 64
+  pub timeout : row.timeout < 2 ^ 64
+  pub parallel_syncs : row.parallel_syncs < 2 ^ 64
+  pub epoch : row.epoch < 2 ^ 64
+
+-- numbers of 64 bits
+pub record IsReplicaRow (row : ReplicaRow) : Type 0 where
+  pub addr : IsPlace row.addr
+  pub priority : row.priority < 2 ^ 64
+  pub offset : row.offset < 2 ^ 64
+
+-- the spelling is no longer than the room, which so holds all of it
+pub record Fits (frame : Frame) : Type 0 where
+  pub short : length (spelling frame) ≤ ANSWER_MAX
+  pub whole : bounded (spelling frame) ≡ spelling frame
+
+-- one master
+abbrev pub MasterFits : Type 0
+MasterFits = (row : MasterRow) → IsMasterRow row → Fits (master_frame row)
+
+-- up to 16 masters
+abbrev pub MastersFit : Type 0
+MastersFit = (rows : List MasterRow) → length rows ≤ 16 → AllByRecursion IsMasterRow rows → Fits (masters_frame rows)
+
+-- up to 256 replicas
+abbrev pub ReplicasFit : Type 0
+ReplicasFit = (rows : List ReplicaRow) → length rows ≤ 256 → AllByRecursion IsReplicaRow rows → Fits (replicas_frame rows)
+
+-- up to 64 Sentinels
+abbrev pub SentinelsFit : Type 0
+SentinelsFit = (rows : List SentinelRow) → length rows ≤ 64 → AllByRecursion (λ (row : SentinelRow). IsPlace row.addr) rows → Fits (sentinels_frame rows)
+
+-- every line, whatever its number of 64 bits, its run id or its fault
+pub record LinesFit : Type 0 where
+  pub no_such_master : Fits no_such_master
+  pub ok_line : Fits ok_line
+  pub quorum_reached : (usable : ℕ) → usable < 2 ^ 64 → Fits (quorum_reached usable)
+  pub no_quorum : (usable : ℕ) → usable < 2 ^ 64 → Fits (no_quorum usable)
+  pub id_frame : (id : RunId) → Fits (id_frame id)
+  pub command_fault : (refusal : CommandFault) → Fits (command_fault refusal)
+  pub protocol_error : Fits protocol_error

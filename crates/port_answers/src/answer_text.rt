@@ -1,0 +1,89 @@
+//! The text of answers, in room that was made beforehand.
+
+ghost use Rattle.std.specs.Prelude.{◌≡◌, ◌≤◌, ◌++◌, [], IfOk, IfSome, vec_capacity};
+ghost use Rattle.port_answers.specs.Room.{ANSWER_MAX, bounded};
+
+use ballot_law::Text;
+use std::alloc::{AllocError, Global};
+use std::marker::Model;
+
+/// The greatest number of bytes of an answer, which is that of every value of the port.
+pub const ANSWER_MAX: usize = 65_536;
+
+/// Answers, one behind the other, in room of `ANSWER_MAX` bytes that was made beforehand, so that writing them takes no
+/// memory. What has no room is cut. Contracts see the list of the bytes.
+#[derive(Drop)]
+pub struct AnswerText {
+    bytes: Vec<u8>,
+}
+
+impl Model for AnswerText {
+    ghost use Rattle.std.specs.Prelude.{◌≤◌, List, ℕ, vec_len, vec_capacity};
+    ghost use Rattle.port_answers.specs.Room.{ANSWER_MAX};
+
+    ghost Value = { List ℕ };
+
+    ghost view = { λ text. text.bytes.items };
+
+    ghost invariant = { λ text. (vec_len text.bytes ≤ ANSWER_MAX)
+        × (ANSWER_MAX ≤ vec_capacity text.bytes) };
+}
+
+impl AnswerText {
+    /// An empty text with its room; `AllocError` where there is no memory for it.
+    pub fn with_room(alloc: Global) -> Result<AnswerText, AllocError>
+        ensures { IfOk result (λ answers. answers ≡ []) }
+    {
+        let bytes = Vec::with_capacity(alloc, ANSWER_MAX)?;
+        Ok(AnswerText { bytes })
+    }
+
+    /// The bytes of the answers, at most `ANSWER_MAX`.
+    #[tactic(auto, using(crate::proofs::RoomLemmas::bounded_all))]
+    pub fn as_slice(&self) -> &[u8]
+        ensures value { result.now ≡ self.now }
+        ensures whole { bounded self.now ≡ self.now }
+    {
+        self.bytes.as_slice()
+    }
+
+    /// The answers as a text, with the room they stand in. No memory is taken.
+    #[tactic(auto, using(crate::proofs::RoomLemmas::bounded_all))]
+    pub fn into_text(self) -> Text
+        ensures value { result ≡ self }
+        ensures whole { bounded self ≡ self }
+    {
+        Text::from_vec(self.bytes)
+    }
+
+    /// An empty text in the room of this one; none where that is less than `ANSWER_MAX` bytes, and then the text is gone.
+    /// No memory is taken.
+    pub fn from_text(text: Text) -> Option<AnswerText>
+        ensures { IfSome result (λ answers. answers ≡ []) }
+    {
+        let bytes = text.into_vec();
+        if bytes.capacity() < ANSWER_MAX {
+            return None;
+        }
+        Some(AnswerText::from_vec(bytes))
+    }
+
+    /// An empty text in the room of these bytes, which are gone. No memory is taken.
+    pub fn from_vec(bytes: Vec<u8>) -> AnswerText
+        requires { ANSWER_MAX ≤ vec_capacity bytes }
+        ensures { result ≡ [] }
+    {
+        let mut bytes = bytes;
+        bytes.clear();
+        AnswerText { bytes }
+    }
+
+    /// Adds what there is room for.
+    pub(crate) fn add(&mut self, piece: &[u8])
+        ensures { self.new ≡ bounded (self.old ++ piece.now) }
+    {
+        let count = piece.len().min(ANSWER_MAX - self.bytes.len());
+        let (fits, _) = piece.split_at(count);
+        let _ = self.bytes.extend_from_slice(fits);
+    }
+}

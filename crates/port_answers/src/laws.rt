@@ -1,0 +1,13 @@
+//! What is known of every answer.
+
+ghost use Rattle.port_answers.specs.Limits.{MasterFits, MastersFit, ReplicasFit, SentinelsFit, LinesFit};
+
+/// The answers to the port's commands have room in an `AnswerText` that was empty: one master, a list of up to 16
+/// masters, of up to 256 replicas or of up to 64 Sentinels, and each line.
+pub fn law_answers_fit()
+    ensures master { MasterFits }
+    ensures masters { MastersFit }
+    ensures replicas { ReplicasFit }
+    ensures sentinels { SentinelsFit }
+    ensures lines { LinesFit }
+{}

@@ -1,0 +1,19 @@
+//! The answers of a Sentinel's port about its masters, their replicas and the other Sentinels, and the port's short
+//! answers, written as RESP2 with no memory taken.
+//!
+//! Nothing here knows a Sentinel's state: the caller gives plain rows, and an `AnswerText`, whose room was made
+//! beforehand, takes their bytes. The fields, the flags and the lines stand in docs/ANSWERS.md.
+#![tactic(auto)]
+
+mod answer_text;
+mod laws;
+mod line_answers;
+mod parts;
+mod row_answers;
+mod rows;
+#[cfg(test)]
+mod tests;
+
+pub use answer_text::{ANSWER_MAX, AnswerText};
+pub use laws::law_answers_fit;
+pub use rows::{MasterRow, ReplicaRow, SentinelRow};

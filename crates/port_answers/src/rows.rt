@@ -1,0 +1,56 @@
+//! What an answer says of one node.
+
+use ballot_law::{Addr, Name, RunId};
+
+/// A master, as the answers to MASTER and MASTERS show it.
+#[derive(Clone, Copy, Debug, PartialEq, Eq)]
+pub struct MasterRow {
+    /// The name by which clients ask for the master.
+    pub name: Name,
+    /// Where the current configuration has the master.
+    pub addr: Addr,
+    /// Whether this Sentinel finds the master down by itself.
+    pub down: bool,
+    /// Whether enough Sentinels agree that the master is down.
+    pub odown: bool,
+    /// Whether this Sentinel runs a failover of the master.
+    pub failing_over: bool,
+    /// How many replicas of the master are known.
+    pub replicas: u64,
+    /// How many other Sentinels watch the master.
+    pub others: u64,
+    /// How many Sentinels have to agree that the master is down.
+    pub quorum: u32,
+    /// After how many milliseconds without a valid reply a node is down.
+    pub after_ms: u64,
+    /// How many milliseconds a step of a failover may take.
+    pub timeout: u64,
+    /// To how many replicas at a time the new master is told.
+    pub parallel_syncs: u64,
+    /// The epoch of the configuration.
+    pub epoch: u64,
+}
+
+/// A replica of a master, as the answer to REPLICAS shows it.
+#[derive(Clone, Copy, Debug, PartialEq, Eq)]
+pub struct ReplicaRow {
+    /// Where the replica can be reached.
+    pub addr: Addr,
+    /// Whether this Sentinel finds the replica down.
+    pub down: bool,
+    /// The priority that the replica gave for its own promotion; the smaller goes first, and 0 is never promoted.
+    pub priority: u64,
+    /// How many bytes of the replication stream the replica has processed.
+    pub offset: u64,
+}
+
+/// Another Sentinel, as the answer to SENTINELS shows it.
+#[derive(Clone, Copy, Debug, PartialEq, Eq)]
+pub struct SentinelRow {
+    /// The Sentinel's run id, which is also its name in the answer.
+    pub id: RunId,
+    /// Where the Sentinel can be reached.
+    pub addr: Addr,
+    /// Whether this Sentinel finds the other one down.
+    pub down: bool,
+}

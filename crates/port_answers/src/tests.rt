@@ -1,0 +1,215 @@
+//! The bytes of each answer, as a client of the port would see them.
+
+use crate::{AnswerText, MasterRow, ReplicaRow, SentinelRow};
+use ballot_law::{Addr, Name, RunId, Text};
+use resp2::CommandFault;
+use std::test::Fail;
+
+/// A master that is down by all accounts, and whose failover runs.
+const FAILING_MASTER: &str = "*22\r\n\
+$4\r\nname\r\n$8\r\nmymaster\r\n\
+$2\r\nip\r\n$9\r\n127.0.0.1\r\n\
+$4\r\nport\r\n$4\r\n6379\r\n\
+$5\r\nflags\r\n$41\r\ns_down,o_down,master,failover_in_progress\r\n\
+$10\r\nnum-slaves\r\n$1\r\n2\r\n\
+$19\r\nnum-other-sentinels\r\n$1\r\n4\r\n\
+$6\r\nquorum\r\n$1\r\n3\r\n\
+$23\r\ndown-after-milliseconds\r\n$5\r\n30000\r\n\
+$16\r\nfailover-timeout\r\n$6\r\n180000\r\n\
+$14\r\nparallel-syncs\r\n$1\r\n1\r\n\
+$12\r\nconfig-epoch\r\n$15\r\n281474976710655\r\n";
+
+/// A master that is up.
+const RUNNING_MASTER: &str = "*22\r\n\
+$4\r\nname\r\n$3\r\nm.1\r\n\
+$2\r\nip\r\n$13\r\n192.168.0.254\r\n\
+$4\r\nport\r\n$5\r\n16379\r\n\
+$5\r\nflags\r\n$6\r\nmaster\r\n\
+$10\r\nnum-slaves\r\n$1\r\n0\r\n\
+$19\r\nnum-other-sentinels\r\n$2\r\n12\r\n\
+$6\r\nquorum\r\n$10\r\n4294967295\r\n\
+$23\r\ndown-after-milliseconds\r\n$1\r\n1\r\n\
+$16\r\nfailover-timeout\r\n$10\r\n4294967295\r\n\
+$14\r\nparallel-syncs\r\n$1\r\n0\r\n\
+$12\r\nconfig-epoch\r\n$1\r\n0\r\n";
+
+const REPLICAS: &str = "*2\r\n\
+*12\r\n\
+$4\r\nname\r\n$14\r\n127.0.0.1:6380\r\n\
+$2\r\nip\r\n$9\r\n127.0.0.1\r\n\
+$4\r\nport\r\n$4\r\n6380\r\n\
+$5\r\nflags\r\n$12\r\ns_down,slave\r\n\
+$14\r\nslave-priority\r\n$3\r\n100\r\n\
+$17\r\nslave-repl-offset\r\n$5\r\n14243\r\n\
+*12\r\n\
+$4\r\nname\r\n$14\r\n127.0.0.1:6381\r\n\
+$2\r\nip\r\n$9\r\n127.0.0.1\r\n\
+$4\r\nport\r\n$4\r\n6381\r\n\
+$5\r\nflags\r\n$5\r\nslave\r\n\
+$14\r\nslave-priority\r\n$1\r\n0\r\n\
+$17\r\nslave-repl-offset\r\n$1\r\n0\r\n";
+
+const SENTINELS: &str = "*2\r\n\
+*10\r\n\
+$4\r\nname\r\n$40\r\naaaaaaaaaaaaaaaaaaaaaaaaaaaaaaaaaaaaaaaa\r\n\
+$2\r\nip\r\n$9\r\n127.0.0.1\r\n\
+$4\r\nport\r\n$5\r\n26380\r\n\
+$5\r\nrunid\r\n$40\r\naaaaaaaaaaaaaaaaaaaaaaaaaaaaaaaaaaaaaaaa\r\n\
+$5\r\nflags\r\n$15\r\ns_down,sentinel\r\n\
+*10\r\n\
+$4\r\nname\r\n$40\r\nbbbbbbbbbbbbbbbbbbbbbbbbbbbbbbbbbbbbbbbb\r\n\
+$2\r\nip\r\n$9\r\n127.0.0.1\r\n\
+$4\r\nport\r\n$5\r\n26381\r\n\
+$5\r\nrunid\r\n$40\r\nbbbbbbbbbbbbbbbbbbbbbbbbbbbbbbbbbbbbbbbb\r\n\
+$5\r\nflags\r\n$8\r\nsentinel\r\n";
+
+const LINES: &str = "-ERR No such master with that name\r\n\
++OK\r\n\
++OK 3 usable Sentinels, quorum and majority can be reached\r\n\
+-NOQUORUM 1 usable Sentinels\r\n\
+$40\r\naaaaaaaaaaaaaaaaaaaaaaaaaaaaaaaaaaaaaaaa\r\n\
+-ERR not a command\r\n\
+-ERR unknown command\r\n\
+-ERR wrong number of arguments\r\n\
+-ERR bad address\r\n\
+-ERR bad epoch\r\n\
+-ERR bad run id\r\n\
+-ERR Protocol error\r\n";
+
+/// The run id of forty `a`.
+const A: RunId = RunId {
+    hi: 0xaaaa_aaaa_aaaa_aaaa_aaaa_aaaa_aaaa_aaaa,
+    lo: 0xaaaa_aaaa,
+};
+
+/// The run id of forty `b`.
+const B: RunId = RunId {
+    hi: 0xbbbb_bbbb_bbbb_bbbb_bbbb_bbbb_bbbb_bbbb,
+    lo: 0xbbbb_bbbb,
+};
+
+/// An address at 127.0.0.1.
+fn local(port: u16) -> Addr {
+    Addr {
+        ip: 2_130_706_433,
+        port,
+    }
+}
+
+#[test]
+fn a_master_with_all_flags(rt: HostRuntime) -> Result<(), Fail> {
+    let mut answers = AnswerText::with_room(rt.alloc())?;
+    let name = Name::from_slice(b"mymaster").ok_or("refused")?;
+    answers.add_master(&MasterRow {
+        name,
+        addr: local(6379),
+        down: true,
+        odown: true,
+        failing_over: true,
+        replicas: 2,
+        others: 4,
+        quorum: 3,
+        after_ms: 30_000,
+        timeout: 180_000,
+        parallel_syncs: 1,
+        epoch: 281_474_976_710_655,
+    });
+    assert!(rt; answers.as_slice() == FAILING_MASTER.as_bytes());
+    Ok(())
+}
+
+#[test]
+fn a_master_with_no_flags(rt: HostRuntime) -> Result<(), Fail> {
+    let mut answers = AnswerText::with_room(rt.alloc())?;
+    let name = Name::from_slice(b"m.1").ok_or("refused")?;
+    answers.add_master(&MasterRow {
+        name,
+        addr: Addr {
+            ip: 3_232_235_774,
+            port: 16_379,
+        },
+        down: false,
+        odown: false,
+        failing_over: false,
+        replicas: 0,
+        others: 12,
+        quorum: 4_294_967_295,
+        after_ms: 1,
+        timeout: 4_294_967_295,
+        parallel_syncs: 0,
+        epoch: 0,
+    });
+    assert!(rt; answers.as_slice() == RUNNING_MASTER.as_bytes());
+    Ok(())
+}
+
+#[test]
+fn a_list_of_replicas(rt: HostRuntime) -> Result<(), Fail> {
+    let mut answers = AnswerText::with_room(rt.alloc())?;
+    answers.add_count(2);
+    answers.add_replica(&ReplicaRow {
+        addr: local(6380),
+        down: true,
+        priority: 100,
+        offset: 14_243,
+    });
+    answers.add_replica(&ReplicaRow {
+        addr: local(6381),
+        down: false,
+        priority: 0,
+        offset: 0,
+    });
+    assert!(rt; answers.as_slice() == REPLICAS.as_bytes());
+    Ok(())
+}
+
+#[test]
+fn a_list_of_sentinels(rt: HostRuntime) -> Result<(), Fail> {
+    let mut answers = AnswerText::with_room(rt.alloc())?;
+    answers.add_count(2);
+    answers.add_sentinel(&SentinelRow {
+        id: A,
+        addr: local(26_380),
+        down: true,
+    });
+    answers.add_sentinel(&SentinelRow {
+        id: B,
+        addr: local(26_381),
+        down: false,
+    });
+    assert!(rt; answers.as_slice() == SENTINELS.as_bytes());
+    Ok(())
+}
+
+#[test]
+fn each_line(rt: HostRuntime) -> Result<(), Fail> {
+    let mut answers = AnswerText::with_room(rt.alloc())?;
+    answers.add_no_such_master();
+    answers.add_ok();
+    answers.add_quorum_reached(3);
+    answers.add_no_quorum(1);
+    answers.add_id(A);
+    answers.add_command_fault(CommandFault::NotACommand);
+    answers.add_command_fault(CommandFault::UnknownCommand);
+    answers.add_command_fault(CommandFault::WrongArguments);
+    answers.add_command_fault(CommandFault::BadAddress);
+    answers.add_command_fault(CommandFault::BadEpoch);
+    answers.add_command_fault(CommandFault::BadRunId);
+    answers.add_protocol_error();
+    assert!(rt; answers.as_slice() == LINES.as_bytes());
+    Ok(())
+}
+
+#[test]
+fn room_is_used_again(rt: HostRuntime) -> Result<(), Fail> {
+    let mut answers = AnswerText::with_room(rt.alloc())?;
+    answers.add_ok();
+    let text = answers.into_text();
+    assert!(rt; text.as_slice() == b"+OK\r\n".as_slice());
+    let mut again = AnswerText::from_text(text).ok_or("too small")?;
+    again.add_no_quorum(0);
+    assert!(rt; again.as_slice() == b"-NOQUORUM 0 usable Sentinels\r\n".as_slice());
+    let small = Text::from_slice(rt.alloc(), b"+OK\r\n")?;
+    assert!(rt; AnswerText::from_text(small).is_none());
+    Ok(())
+}

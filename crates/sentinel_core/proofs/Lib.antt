@@ -1,0 +1,5 @@
+pub mod Answering
+pub mod Holding
+pub mod KnownBytes
+pub mod NewsSteps
+pub mod Steps

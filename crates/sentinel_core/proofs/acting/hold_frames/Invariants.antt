@@ -1,0 +1,17 @@
+use Rattle.std.proofs.Common.{◌≡◌, ◌≤◌, ◌+◌, ◌++◌, length, map}
+use Rattle.std.specs.List.{AllByRecursion}
+use Rattle.sentinel_rules.specs.Named.{IsNamed}
+use Rattle.sentinel_rules.specs.Parts.{output_of}
+use Rattle.sentinel_core.proofs.acting.hold_frames.Given as goal
+
+abbrev pub invariant-loop-left : goal.invariant-loop-left
+invariant-loop-left l =
+    (l.outbox.held ++ map (output_of l.plan l.state) l.left ≡ map (output_of l.plan l.state) l.frames)
+    × AllByRecursion (IsNamed l.plan) l.left
+    × (length l.outbox.held + length l.left ≤ 1536)
+    × (1536 ≤ l.outbox.held_room)
+    × (1536 ≤ l.outbox.shown_room)
+    × (l.outbox.shown ≡ l.initial.outbox.shown)
+
+abbrev pub decreases-loop-left : goal.decreases-loop-left
+decreases-loop-left l = length l.left

@@ -1,0 +1,4 @@
+pub mod MessageTexts
+pub mod Outboxes
+pub mod Sentinels
+pub mod Serving

@@ -1,0 +1,333 @@
+//! One Sentinel: it takes an input, stores what the input changed, and then sends what rests on it.
+
+ghost use Rattle.std.specs.Prelude.{◌≡◌, ◌≢◌, ◌↔◌, ◌≤◌, ◌<◌, ◌⊎◌, ◌+◌, ◌-◌, ◌^◌, ◌++◌, [], ◌||◌, true, false, length, OnOk, OnErr, IsOk, IfOk, IfErr, IfSome, IfNone, IsTrue, IsFalse, IsErrOf, Some, None, vec_capacity};
+ghost use Rattle.ballot_law.specs.Ballots.{Parts, card_of};
+ghost use Rattle.sentinel_conf.specs.Rewritten.{rewritten};
+ghost use Rattle.sentinel_rules.specs.Facts.{IsWithinEvent};
+ghost use Rattle.sentinel_rules.specs.Plans.{master_count};
+ghost use Rattle.sentinel_rules.specs.Parts.{output_of};
+ghost use Rattle.sentinel_rules.specs.States.{opened};
+ghost use Rattle.sentinel_rules.specs.Steps.{IsPartsOf, IsTake};
+ghost use Rattle.sentinel_rules.specs.Takes.{next};
+ghost use Rattle.sentinel_core.specs.Outboxes.{Fits, room_of_sentinel};
+ghost use Rattle.sentinel_core.specs.Sentinels.{IsWhole, is_busy, is_pending, is_flush};
+
+use crate::acting::act;
+use crate::faults::{OpenFault, ReleaseFault, StoreFault, TakeFault};
+use crate::outbox::Outbox;
+use crate::phase::Phase;
+use crate::room::Room;
+use ballot_law::{Card, Command, Event, Input, Kept, KeptMaster, KeptMasters};
+use sentinel_conf::{Conf, ConfStore, ConfText, rewrite_into};
+use sentinel_rules::{law_inputs_are_steps, law_opening_is_sound};
+use sentinel_state::{FrameList, Plan, State};
+use std::alloc::Global;
+use std::marker::Model;
+use std::mem;
+
+/// What an input did.
+#[derive(Clone, Copy, Debug, PartialEq, Eq)]
+pub struct Took {
+    /// Whether what the file is to hold changed.
+    pub changed: bool,
+}
+
+/// One Sentinel of a group, as Redis Sentinel 7.2 works.
+///
+/// Each input goes through three calls: `take` changes what the Sentinel keeps and holds back what it has to say, `store` writes the
+/// file where something in it changed, `release` lets out what was held. So nothing leaves a Sentinel that doesn't rest on its file
+/// (documentation of Redis Sentinel, "Sentinel persistent state"). Only `open` takes memory.
+#[derive(Drop)]
+pub struct Sentinel {
+    plan: Plan,
+    state: State,
+    stored: Kept,
+    phase: Phase,
+    frames: FrameList,
+    file: ConfText,
+    alloc: Global,
+}
+
+impl Model for Sentinel {
+    ghost use Rattle.sentinel_core.specs.Sentinels.{Whole, IsWhole};
+
+    ghost Value = { Whole };
+
+    ghost view = { λ sentinel. record {
+      plan = sentinel.plan;
+      core = sentinel.state;
+      stored = sentinel.stored;
+      phase = sentinel.phase;
+    } };
+
+    ghost invariant = { λ sentinel. IsWhole (record {
+      plan = sentinel.plan;
+      core = sentinel.state;
+      stored = sentinel.stored;
+      phase = sentinel.phase;
+    }) };
+}
+
+/// A copy of what a file holds; the only error is want of memory.
+fn copy_kept(alloc: Global, kept: &Kept) -> Result<Kept, OpenFault>
+    ensures { IfOk result (λ copy. copy ≡ kept.now) }
+{
+    match Vec::from_slice(alloc, kept.masters.as_slice()) {
+        Ok(masters) => Ok(Kept {
+            current: kept.current,
+            masters: KeptMasters::from_vec(masters),
+        }),
+        Err(_) => Err(OpenFault::NoMemory),
+    }
+}
+
+/// Puts one into the room of the other, for as many masters. No memory is taken.
+fn copy_into(alloc: Global, kept: &Kept, copy: &mut Kept)
+    requires { length copy.old.masters ≡ length kept.now.masters }
+    ensures { copy.new ≡ kept.now }
+{
+    let none = KeptMasters::from_vec(Vec::new(alloc));
+    let mut masters = mem::replace(&mut copy.masters, none).into_vec();
+    masters.copy_from_slice(kept.masters.as_slice());
+    copy.masters = KeptMasters::from_vec(masters);
+    copy.current = kept.current;
+}
+
+/// Whether the event is FLUSHCONFIG, which has the file written though nothing changed.
+fn is_flush(event: &Event) -> bool
+    ensures { result ≡ is_flush event.now }
+{
+    match event {
+        Event::Command { command, .. } => *command == Command::FlushConfig,
+        _ => false,
+    }
+}
+
+/// Whether two lists of masters are the same.
+fn are_same(some: &[KeptMaster], others: &[KeptMaster]) -> bool
+    ensures same { IsTrue result → some.now ≡ others.now }
+    ensures other { IsFalse result → some.now ≢ others.now }
+{
+    if some.len() != others.len() {
+        return false;
+    }
+    for place in 0..some.len() {
+        if some[place] != others[place] {
+            return false;
+        }
+    }
+    true
+}
+
+/// Whether two files hold the same.
+fn is_same(one: &Kept, other: &Kept) -> bool
+    ensures same { IsTrue result → one.now ≡ other.now }
+    ensures other { IsFalse result → one.now ≢ other.now }
+{
+    if one.current != other.current {
+        return false;
+    }
+    are_same(one.masters.as_slice(), other.masters.as_slice())
+}
+
+impl Sentinel {
+    /// Opens a Sentinel with what its file says, at a reading of its clock in milliseconds: what the file holds is kept, the epochs of the
+    /// last votes among it, and nothing else. `NoMemory` drops the conf.
+    pub fn open(alloc: Global, conf: Conf, now: u64) -> Result<Sentinel, OpenFault>
+        ensures plan { IfOk result (λ sentinel. sentinel.plan.conf ≡ conf) }
+        ensures core { IfOk result (λ sentinel. sentinel.core ≡ opened sentinel.plan now) }
+        ensures stored { IfOk result (λ sentinel. sentinel.stored ≡ conf.kept) }
+        ensures phase { IfOk result (λ sentinel. sentinel.phase ≡ Phase.Ready) }
+    {
+        law_opening_is_sound();
+        let Ok(file) = ConfText::room_for(alloc, &conf) else {
+            return Err(OpenFault::NoMemory);
+        };
+        let stored = copy_kept(alloc, conf.kept())?;
+        let plan = Plan::new(conf);
+        let Ok(state) = State::open(alloc, &plan, now) else {
+            return Err(OpenFault::NoMemory);
+        };
+        let Ok(frames) = FrameList::with_room(alloc) else {
+            return Err(OpenFault::NoMemory);
+        };
+        Ok(Sentinel {
+            plan,
+            state,
+            stored,
+            phase: Phase::Ready,
+            frames,
+            file,
+            alloc,
+        })
+    }
+
+    /// What is known of a Sentinel at each moment.
+    pub(crate) fn is_whole(&self)
+        ensures { IsWhole self.now }
+    {
+        let _ = &self.phase;
+    }
+
+    /// Enough room for the outputs of any one input; the same from the opening on.
+    pub fn room(&self) -> Room
+        ensures { result ≡ room_of_sentinel }
+    {
+        Room::of_sentinel()
+    }
+
+    /// Stops the Sentinel for good. Its file, opened anew, starts it again.
+    pub fn stop(&mut self)
+        ensures { self.new ≡ record self.old { phase = Phase.Stopped } }
+    {
+        self.phase = Phase::Stopped;
+    }
+
+    /// The stored configuration of the master with this number: where the file says that the master is. None where there is no such
+    /// master.
+    pub fn address_now(&self, m: u16) -> Option<Card>
+        ensures some { IfSome result (λ card. (m < length self.now.stored.masters) × (card ≡ card_of self.now.stored m)) }
+        ensures none { IfNone result (length self.now.stored.masters ≤ m) }
+    {
+        let master = self.stored.masters.as_slice().get(m as usize)?;
+        Some(master.card)
+    }
+
+    /// The master and the epoch of the election that the last input brought this Sentinel.
+    pub fn won(&self) -> Option<(u16, u64)>
+        ensures won { IfSome result (λ won. self.now.core.won ≡ Some (record { master = won.0; epoch = won.1 })) }
+        ensures none { IfNone result (self.now.core.won ≡ None) }
+    {
+        let win = self.state.won()?;
+        Some((win.master, win.epoch))
+    }
+
+    /// Why no input can be taken now; of several faults the first.
+    fn check_taking(&self, outbox: &Outbox) -> Result<(), TakeFault>
+        ensures busy { IsErrOf result TakeFault.Busy ↔ (is_busy self.now.phase ≡ true) }
+        ensures halted { IsErrOf result TakeFault.Halted ↔ (self.now.phase ≡ Phase.Halted) }
+        ensures stopped { IsErrOf result TakeFault.Stopped ↔ (self.now.phase ≡ Phase.Stopped) }
+        ensures no_room { IsErrOf result TakeFault.NoRoom
+            ↔ ((self.now.phase ≡ Phase.Ready) × (¬ Fits outbox.now room_of_sentinel)) }
+        ensures ready { OnOk result (self.now.phase ≡ Phase.Ready) }
+        ensures fits { OnOk result (Fits outbox.now room_of_sentinel) }
+    {
+        match self.phase {
+            Phase::Pending { .. } => Err(TakeFault::Busy),
+            Phase::Stored => Err(TakeFault::Busy),
+            Phase::Halted => Err(TakeFault::Halted),
+            Phase::Stopped => Err(TakeFault::Stopped),
+            Phase::Ready => {
+                if !outbox.fits(&self.room()) {
+                    return Err(TakeFault::NoRoom);
+                }
+                Ok(())
+            }
+        }
+    }
+
+    /// Takes an input: what the Sentinel keeps is what the rules make of it, and the outputs stand in the outbox as held, in their order,
+    /// no more and no fewer. They show what is kept at the end of the input. To the model of the whole group an input is at most six
+    /// steps of this Sentinel.
+    ///
+    /// The faults are those of [`TakeFault`], in its order; then nothing has changed. The epoch of a command is at most `MAX_EPOCH`, as
+    /// `command_of` gives it. No memory is taken.
+    pub fn take(&mut self, input: &Input, outbox: &mut Outbox) -> Result<Took, TakeFault>
+        requires { IsWithinEvent input.now.event }
+        ensures busy { IsErrOf result TakeFault.Busy ↔ (is_busy self.old.phase ≡ true) }
+        ensures halted { IsErrOf result TakeFault.Halted ↔ (self.old.phase ≡ Phase.Halted) }
+        ensures stopped { IsErrOf result TakeFault.Stopped ↔ (self.old.phase ≡ Phase.Stopped) }
+        ensures no_room { IsErrOf result TakeFault.NoRoom
+            ↔ ((self.old.phase ≡ Phase.Ready) × (¬ Fits outbox.old room_of_sentinel)) }
+        ensures refused { OnErr result ((self.new ≡ self.old) × (outbox.new ≡ outbox.old)) }
+        ensures core { OnOk result
+            (self.new.core ≡ (next self.old.plan self.old.core input.entry.now.now input.entry.now.event).core) }
+        ensures outputs { OnOk result
+            (outbox.new.held ≡ (next self.old.plan self.old.core input.entry.now.now input.entry.now.event).outputs) }
+        ensures shown { OnOk result (outbox.new.shown ≡ outbox.old.shown) }
+        ensures room { OnOk result (length outbox.new.held ≤ outbox.new.shown_room) }
+        ensures changed { IfOk result (λ took. IsTrue took.changed
+            ↔ (self.new.core.kept ≢ self.old.core.kept)) }
+        ensures phase { IfOk result (λ took. self.new.phase
+            ≡ Phase.Pending (took.changed || is_flush input.entry.now.event)) }
+        ensures plan { OnOk result (self.new.plan ≡ self.old.plan) }
+        ensures stored { OnOk result (self.new.stored ≡ self.old.stored) }
+        ensures steps { OnOk result ((parts : Parts) → IsPartsOf self.old.core parts
+            → IsTake self.old.plan self.old.core parts input.entry.now.event self.new.core outbox.new.held) }
+    {
+        self.check_taking(outbox)?;
+        law_inputs_are_steps();
+        act(&self.plan, &mut self.state, &mut self.frames, input, outbox);
+        let changed = !is_same(self.state.kept(), &self.stored);
+        self.phase = Phase::Pending {
+            must_store: changed || is_flush(&input.event),
+        };
+        Ok(Took { changed })
+    }
+
+    /// Stores what the last input changed: the file is written anew where something in it changed, or FLUSHCONFIG was taken, and the store
+    /// isn't called otherwise. It holds the conf's own lines and what is kept.
+    ///
+    /// `Nothing` where no input waits to be stored: nothing has changed. `Refused` where the store refused the file, which counts as one
+    /// failure of it: the Sentinel is halted, what it held is never released, and the file holds the old text or the new one. No memory is
+    /// taken but what the store itself takes.
+    pub fn store<S: ConfStore>(&mut self, store: &mut S) -> Result<(), StoreFault>
+        requires { S.failure_count store.old < 2 ^ 64 - 1 }
+        ensures nothing { IsErrOf result StoreFault.Nothing ↔ (is_pending self.old.phase ≡ false) }
+        ensures nothing_left { IsErrOf result StoreFault.Nothing → (self.new ≡ self.old) × (store.new ≡ store.old) }
+        ensures stored { OnOk result (self.new
+            ≡ record self.old { stored = self.old.core.kept; phase = Phase.Stored }) }
+        ensures untouched { self.old.phase ≡ Phase.Pending false → OnOk result (store.new ≡ store.old) × IsOk result }
+        ensures written { self.old.phase ≡ Phase.Pending true → OnOk result (IfSome (S.held store.new)
+            (λ text. text ≡ rewritten self.old.plan.conf self.old.core.kept)) }
+        ensures counted { OnOk result (S.failure_count store.new ≡ S.failure_count store.old) }
+        ensures halted { IsErrOf result StoreFault.Refused
+            → self.new ≡ record self.old { phase = Phase.Halted } }
+        ensures refused { IsErrOf result StoreFault.Refused
+            → S.failure_count store.new ≡ S.failure_count store.old + 1 }
+        ensures either { IsErrOf result StoreFault.Refused → (S.held store.new ≡ S.held store.old)
+            ⊎ IfSome (S.held store.new) (λ text. text ≡ rewritten self.old.plan.conf self.old.core.kept) }
+    {
+        let Phase::Pending { must_store } = self.phase else {
+            return Err(StoreFault::Nothing);
+        };
+        if must_store {
+            rewrite_into(self.plan.conf(), self.state.kept(), &mut self.file);
+            if store.replace(self.file.as_slice()).is_err() {
+                self.phase = Phase::Halted;
+                return Err(StoreFault::Refused);
+            }
+        }
+        copy_into(self.alloc, self.state.kept(), &mut self.stored);
+        self.phase = Phase::Stored;
+        Ok(())
+    }
+
+    /// Releases the outputs of the input that was stored last: they move to the end of what the outbox shows, and the next input can be
+    /// taken. The outbox is the one of that input, with what it held.
+    ///
+    /// The faults are those of [`ReleaseFault`], in its order; then nothing has changed. No memory is taken.
+    pub fn release(&mut self, outbox: &mut Outbox) -> Result<(), ReleaseFault>
+        requires { length outbox.old.held ≤ outbox.old.shown_room }
+        ensures halted { IsErrOf result ReleaseFault.Halted ↔ (self.old.phase ≡ Phase.Halted) }
+        ensures unstored { IsErrOf result ReleaseFault.Unstored
+            ↔ ((self.old.phase ≢ Phase.Halted) × (self.old.phase ≢ Phase.Stored)) }
+        ensures refused { OnErr result ((self.new ≡ self.old) × (outbox.new ≡ outbox.old)) }
+        ensures ready { OnOk result (self.new ≡ record self.old { phase = Phase.Ready }) }
+        ensures was_stored { OnOk result (self.old.phase ≡ Phase.Stored) }
+        ensures shown { OnOk result (outbox.new.shown ≡ outbox.old.shown ++ outbox.old.held) }
+        ensures held { OnOk result (outbox.new.held ≡ []) }
+    {
+        match self.phase {
+            Phase::Stored => {
+                outbox.release();
+                self.phase = Phase::Ready;
+                Ok(())
+            }
+            Phase::Halted => Err(ReleaseFault::Halted),
+            Phase::Ready => Err(ReleaseFault::Unstored),
+            Phase::Pending { .. } => Err(ReleaseFault::Unstored),
+            Phase::Stopped => Err(ReleaseFault::Unstored),
+        }
+    }
+}

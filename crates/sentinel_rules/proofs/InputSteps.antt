@@ -1,0 +1,180 @@
+-- Each input by steps of the ballot model.
+use Rattle.std.proofs.Common.{◌≡◌, ℕ, ◌<◌, ◌≤◌, Bool, false, Option, Some, None, List, [], ◌∷◌, length, map, refl, sym, ap, subst, arith}
+use Rattle.std.specs.Prelude.{All, codes, not, ◌&&◌}
+use Rattle.std.proofs.lemmas.List.Elements.{All-nil, All-cons}
+use Rattle.std.proofs.lemmas.List.Quantifiers.{position-Some}
+use Rattle.ballot_law.specs.declared.addresses.Addr.{Addr}
+use Rattle.ballot_law.specs.declared.addresses.RunId.{RunId}
+use Rattle.ballot_law.specs.declared.cards.Kept.{Kept}
+use Rattle.ballot_law.specs.declared.cards.KeptMaster.{KeptMaster}
+use Rattle.ballot_law.specs.declared.commands.Command.{Command}
+use Rattle.ballot_law.specs.declared.commands.Command.TheVariants.{Ping, IsMasterDownByAddr, GetMasterAddrByName, Masters, Master, Replicas, Sentinels, MyId, CkQuorum, FlushConfig}
+use Rattle.ballot_law.specs.declared.events.Event.{Event}
+use Rattle.ballot_law.specs.declared.events.Event.TheVariants.{Tick, Command as Commanded, Answered as AnswerCame, Pinged, InfoRead, HelloRead, Become, Handed}
+use Rattle.ballot_law.specs.declared.messages.Body.{Body}
+use Rattle.ballot_law.specs.declared.messages.Body.TheVariants.{Answer, PingText, AddressAnswer}
+use Rattle.ballot_law.specs.declared.messages.NodeName.{NodeName}
+use Rattle.ballot_law.specs.Ballots.{Parts, voted_of, no_kept}
+use Rattle.ballot_law.specs.Clocks.{clock}
+use Rattle.ballot_law.specs.Orders.{same_addr}
+use Rattle.ballot_law.specs.Worlds.{IsRightOutput}
+use Rattle.node_texts.specs.Hellos.{hello_of}
+use Rattle.node_texts.specs.Infos.{info_of}
+use Rattle.resp2.specs.Frame.{Frame as Reply}
+use Rattle.port_answers.specs.Answers.{master_frame, masters_frame, replicas_frame, sentinels_frame, no_such_master, ok_line, id_frame}
+use Rattle.sentinel_rules.specs.Plans.{Plan, roster_of, me, master_count}
+use Rattle.sentinel_rules.specs.States.{Core, master_of, is_tilted, is_master_down}
+use Rattle.sentinel_rules.specs.Parts.{Part, quiet, send, shown_of}
+use Rattle.sentinel_rules.specs.Votes.{requested}
+use Rattle.sentinel_rules.specs.News.{answered, pinged, info_read, hello_read}
+use Rattle.sentinel_rules.specs.Answers.{Answered, master_with_card, asked_at, asked_of, master_row, replica_rows, sentinel_rows, all_masters, quorum_frame, reply, named, about, address_of, commanded}
+use Rattle.sentinel_rules.specs.Takes.{Next, next_at, shown_after, answer_to, cleared}
+use Rattle.sentinel_rules.specs.Ticks.{tick}
+use Rattle.sentinel_rules.specs.Facts.{IsSoundPlan, IsSound, IsWithinEvent}
+use Rattle.sentinel_rules.specs.Steps.{IsPartsOf, IsTake, InputsAreSteps}
+use Rattle.sentinel_rules.proofs.FineTicks.{tick_fine}
+use Rattle.sentinel_rules.proofs.FineNews.{hello_fine, answered_sound, pinged_sound, info_fine}
+use Rattle.sentinel_rules.proofs.FineInputs.{commanded_sound}
+use Rattle.sentinel_rules.proofs.Framing.{sound_alike}
+use Rattle.sentinel_rules.proofs.Leads.{Led, Leads}
+use Rattle.sentinel_rules.proofs.LeadNews.{stay_leads, within_core, requested_leads, hello_leads, answered_leads, pinged_leads, info_leads}
+use Rattle.sentinel_rules.proofs.LeadTicks.{tick_leads}
+use Rattle.sentinel_rules.proofs.Rights.{AreFrames, no_frames, frames_right, silent, showing, answer_right, shown_right}
+use Rattle.sentinel_rules.proofs.FrameParts.{tick_frames, hello_frames, info_frames}
+
+-- Commands
+
+card_master : (masters : List KeptMaster) (addr : Addr) (m : ℕ) → master_with_card masters addr ≡ Some m → m < length masters
+card_master masters addr m e = (position-Some (λ (master : KeptMaster). same_addr addr master.card.addr) masters m no_kept e).0
+
+asked_at_leads : (plan : Plan) (event : Event) (m now : ℕ) (addr : Addr) (epoch : ℕ) (down : Bool) (candidate : Option RunId) (core : Core) → IsSound plan core → m < master_count plan → Leads plan event 2 core (asked_at plan m now addr epoch down candidate core).core
+asked_at_leads plan event m now addr epoch down None core s lt = stay_leads plan event 2 core
+asked_at_leads plan event m now addr epoch down (Some candidate) core s lt = requested_leads plan event m now epoch candidate core (within_core plan core m s lt) lt
+
+asked_of_leads : (plan : Plan) (event : Event) (now : ℕ) (addr : Addr) (epoch : ℕ) (candidate : Option RunId) (m : Option ℕ) (core : Core) → IsSound plan core → ((j : ℕ) → m ≡ Some j → j < master_count plan) → Leads plan event 2 core (asked_of plan now addr epoch candidate m core).core
+asked_of_leads plan event now addr epoch candidate None core s f = stay_leads plan event 2 core
+asked_of_leads plan event now addr epoch candidate (Some m) core s f = asked_at_leads plan event m now addr epoch (is_master_down plan core m now && not (is_tilted core)) candidate core s (f m refl)
+
+card_within : (plan : Plan) (core : Core) (addr : Addr) → IsSound plan core → (j : ℕ) → master_with_card core.kept.masters addr ≡ Some j → j < master_count plan
+card_within plan core addr s j e = subst (λ (n : ℕ). j < n) s.kept_masters (card_master core.kept.masters addr j e)
+
+commanded_leads : (plan : Plan) (event : Event) (now : ℕ) (command : Command) (core : Core) → IsSound plan core → Leads plan event 2 core (commanded plan now command core).core
+commanded_leads plan event now (IsMasterDownByAddr addr epoch candidate) core s = asked_of_leads plan event now addr epoch candidate (master_with_card core.kept.masters addr) core s (card_within plan core addr s)
+commanded_leads plan event now Ping core s = stay_leads plan event 2 core
+commanded_leads plan event now (GetMasterAddrByName name) core s = stay_leads plan event 2 core
+commanded_leads plan event now Masters core s = stay_leads plan event 2 core
+commanded_leads plan event now (Master name) core s = stay_leads plan event 2 core
+commanded_leads plan event now (Replicas name) core s = stay_leads plan event 2 core
+commanded_leads plan event now (Sentinels name) core s = stay_leads plan event 2 core
+commanded_leads plan event now MyId core s = stay_leads plan event 2 core
+commanded_leads plan event now (CkQuorum name) core s = stay_leads plan event 2 core
+commanded_leads plan event now FlushConfig core s = stay_leads plan event 2 core
+
+-- Answers
+
+abbrev IsRightBody : Plan → Parts → NodeName → Body → Type 0
+IsRightBody plan parts target body = IsRightOutput (roster_of plan) plan.place parts (send plan target body)
+
+asked_at_right : (plan : Plan) (parts : Parts) (target : NodeName) (m now : ℕ) (addr : Addr) (epoch : ℕ) (down : Bool) (candidate : Option RunId) (core : Core) → m < master_count plan
+    → IsSound plan (asked_at plan m now addr epoch down candidate core).core → IsPartsOf (asked_at plan m now addr epoch down candidate core).core parts
+    → IsRightBody plan parts target (asked_at plan m now addr epoch down candidate core).body
+asked_at_right plan parts target m now addr epoch down None core lt s is = silent plan parts target (Answer m addr down None 0) refl refl refl refl
+asked_at_right plan parts target m now addr epoch down (Some candidate) core lt s is =
+    let after : Core = requested plan m now epoch candidate core in
+    answer_right plan parts target m addr down (master_of after m).leader (voted_of after.kept m)
+    (ap (λ (kept : Kept). voted_of kept m) (sym is.kept))
+    (is.each m (within_core plan after m s lt)).candidate
+
+asked_of_right : (plan : Plan) (parts : Parts) (target : NodeName) (now : ℕ) (addr : Addr) (epoch : ℕ) (candidate : Option RunId) (m : Option ℕ) (core : Core) → ((j : ℕ) → m ≡ Some j → j < master_count plan)
+    → IsSound plan (asked_of plan now addr epoch candidate m core).core → IsPartsOf (asked_of plan now addr epoch candidate m core).core parts
+    → IsRightBody plan parts target (asked_of plan now addr epoch candidate m core).body
+asked_of_right plan parts target now addr epoch candidate None core f s is = silent plan parts target (asked_of plan now addr epoch candidate None core).body refl refl refl refl
+asked_of_right plan parts target now addr epoch candidate (Some m) core f s is = asked_at_right plan parts target m now addr epoch (is_master_down plan core m now && not (is_tilted core)) candidate core (f m refl) s is
+
+reply_right : (plan : Plan) (core : Core) (parts : Parts) (target : NodeName) (masters : List ℕ) (frame : Reply) → IsPartsOf core parts → IsRightBody plan parts target (reply core masters frame)
+reply_right plan core parts target masters frame is = showing plan parts target (reply core masters frame) (shown_right core parts masters is) refl refl refl
+
+about_right : (plan : Plan) (core : Core) (parts : Parts) (target : NodeName) (m : Option ℕ) (body : ℕ → Body) → IsPartsOf core parts → ((j : ℕ) → IsRightBody plan parts target (body j)) → IsRightBody plan parts target (about core m body)
+about_right plan core parts target None body is f = reply_right plan core parts target [] no_such_master is
+about_right plan core parts target (Some m) body is f = f m
+
+address_right : (plan : Plan) (core : Core) (parts : Parts) (target : NodeName) (m : Option ℕ) → IsPartsOf core parts → IsRightBody plan parts target (AddressAnswer (address_of core m))
+address_right plan core parts target None is = silent plan parts target (AddressAnswer None) refl refl refl refl
+address_right plan core parts target (Some m) is = showing plan parts target (AddressAnswer (Some (shown_of core m))) (shown_right core parts (m ∷ []) is) refl refl refl
+
+commanded_right : (plan : Plan) (parts : Parts) (target : NodeName) (now : ℕ) (command : Command) (core : Core) → IsSound plan core → IsSound plan (commanded plan now command core).core → IsPartsOf (commanded plan now command core).core parts
+    → IsRightBody plan parts target (commanded plan now command core).body
+commanded_right plan parts target now (IsMasterDownByAddr addr epoch candidate) core s t is = asked_of_right plan parts target now addr epoch candidate (master_with_card core.kept.masters addr) core (card_within plan core addr s) t is
+commanded_right plan parts target now Ping core s t is = silent plan parts target (PingText false (codes "PONG")) refl refl refl refl
+commanded_right plan parts target now (GetMasterAddrByName name) core s t is = address_right plan core parts target (named plan name) is
+commanded_right plan parts target now Masters core s t is = reply_right plan core parts target (all_masters plan) (masters_frame (map (master_row plan core now) (all_masters plan))) is
+commanded_right plan parts target now (Master name) core s t is =
+    about_right plan core parts target (named plan name) (λ m. reply core (m ∷ []) (master_frame (master_row plan core now m))) is (λ m. reply_right plan core parts target (m ∷ []) (master_frame (master_row plan core now m)) is)
+commanded_right plan parts target now (Replicas name) core s t is =
+    about_right plan core parts target (named plan name) (λ m. reply core [] (replicas_frame (replica_rows plan core now m))) is (λ m. reply_right plan core parts target [] (replicas_frame (replica_rows plan core now m)) is)
+commanded_right plan parts target now (Sentinels name) core s t is =
+    about_right plan core parts target (named plan name) (λ m. reply core [] (sentinels_frame (sentinel_rows plan core now))) is (λ m. reply_right plan core parts target [] (sentinels_frame (sentinel_rows plan core now)) is)
+commanded_right plan parts target now MyId core s t is = reply_right plan core parts target [] (id_frame (me plan)) is
+commanded_right plan parts target now (CkQuorum name) core s t is =
+    about_right plan core parts target (named plan name) (λ m. reply core [] (quorum_frame plan core now m)) is (λ m. reply_right plan core parts target [] (quorum_frame plan core now m) is)
+commanded_right plan parts target now FlushConfig core s t is = reply_right plan core parts target [] ok_line is
+
+-- One input
+
+abbrev emptied : Parts → Parts
+emptied parts = record parts { casts = []; wins = [] }
+
+cleared_parts : (core : Core) (parts : Parts) → IsPartsOf core parts → IsPartsOf (cleared core) (emptied parts)
+cleared_parts core parts is = record { kept = is.kept; count = is.count; each = is.each; wins = refl }
+
+take_by : (plan : Plan) (core : Core) (parts : Parts) (event : Event) (most : ℕ) (done : Next) → most ≤ 6 → IsPartsOf core parts
+    → IsSound plan done.core
+    → Leads plan event most (cleared core) done.core
+    → ((last : Parts) → IsPartsOf done.core last → All (IsRightOutput (roster_of plan) plan.place last) done.outputs)
+    → IsTake plan core parts event done.core done.outputs
+take_by plan core parts event most done few is sound leads right =
+    let led : Led plan event most done.core (emptied parts) = leads (emptied parts) (cleared_parts core parts is) in
+    record {
+      ballots = led.ballots;
+      moved_to = led.last;
+      few = let l : length led.ballots ≤ most = led.few in omega arith;
+      moved = led.moved;
+      parts_after = led.are_parts;
+      right = right led.last led.are_parts;
+      sound = sound;
+    }
+
+take_of_part : (plan : Plan) (core : Core) (parts : Parts) (event : Event) (most : ℕ) (part : Part) → most ≤ 6 → IsSoundPlan plan → IsPartsOf core parts
+    → IsSound plan part.core → Leads plan event most (cleared core) part.core → AreFrames plan part.frames
+    → IsTake plan core parts event (shown_after plan part).core (shown_after plan part).outputs
+take_of_part plan core parts event most part few p is sound leads frames =
+    take_by plan core parts event most (shown_after plan part) few is sound leads (λ last l. frames_right plan part.core last part.frames p sound l frames)
+
+input_by : (plan : Plan) (core : Core) (parts : Parts) (now : ℕ) (event : Event) → IsSoundPlan plan → IsSound plan (cleared core) → IsPartsOf core parts → IsWithinEvent event
+    → IsTake plan core parts event (next_at plan now event (cleared core)).core (next_at plan now event (cleared core)).outputs
+input_by plan core parts now (Tick m random) p s is h =
+    take_of_part plan core parts (Tick m random) 3 (tick plan m random now (cleared core)) (omega arith) p is (tick_fine plan m random now (cleared core) p s).sound (tick_leads plan (Tick m random) m random now (cleared core) p s refl) (tick_frames plan m random now (cleared core))
+input_by plan core parts now (Commanded sender command) p s is h =
+    let done : Answered = commanded plan now command (cleared core) in
+    let t : IsSound plan done.core = commanded_sound plan now command (cleared core) h s in
+    take_by plan core parts (Commanded sender command) 2 (answer_to plan sender done) (omega arith) is t (commanded_leads plan (Commanded sender command) now command (cleared core) s)
+    (λ last l. All-cons (IsRightOutput (roster_of plan) plan.place last) (send plan sender done.body) [] (commanded_right plan last sender now command (cleared core) s t l) (All-nil (IsRightOutput (roster_of plan) plan.place last)))
+input_by plan core parts now (AnswerCame voter m addr down leader epoch) p s is h =
+    take_of_part plan core parts (AnswerCame voter m addr down leader epoch) 1 (quiet (answered plan voter m now addr down leader epoch (cleared core))) (omega arith) p is
+    (answered_sound plan voter m now addr down leader epoch (cleared core) s) (answered_leads plan voter m now addr down leader epoch (cleared core) s) (no_frames plan)
+input_by plan core parts now (Pinged node reply) p s is h =
+    take_of_part plan core parts (Pinged node reply) 0 (quiet (pinged plan node now reply (cleared core))) (omega arith) p is
+    (pinged_sound plan node now reply (cleared core) s) (pinged_leads plan (Pinged node reply) node now reply (cleared core) s) (no_frames plan)
+input_by plan core parts now (InfoRead node text) p s is h =
+    take_of_part plan core parts (InfoRead node text) 1 (info_read plan node now (info_of text) (cleared core)) (omega arith) p is
+    (info_fine plan node now (info_of text) (cleared core) s).sound (info_leads plan (InfoRead node text) node now (info_of text) (cleared core) s) (info_frames plan node now (info_of text) (cleared core))
+input_by plan core parts now (HelloRead text) p s is h =
+    take_of_part plan core parts (HelloRead text) 2 (hello_read plan now (hello_of text) (cleared core)) (omega arith) p is
+    (hello_fine plan now text (cleared core) s).sound (hello_leads plan now text (cleared core) s) (hello_frames plan now (hello_of text) (cleared core))
+input_by plan core parts now (Become priority offset link_down) p s is h =
+    take_of_part plan core parts (Become priority offset link_down) 0 (quiet (cleared core)) (omega arith) p is s (stay_leads plan (Become priority offset link_down) 0 (cleared core)) (no_frames plan)
+input_by plan core parts now (Handed message) p s is h =
+    take_of_part plan core parts (Handed message) 0 (quiet (cleared core)) (omega arith) p is s (stay_leads plan (Handed message) 0 (cleared core)) (no_frames plan)
+
+pub inputs_are_steps : InputsAreSteps
+inputs_are_steps plan core parts now event p s is h = input_by plan core parts (clock now) event p (sound_alike plan core (cleared core) refl refl refl s) is h

@@ -1,0 +1,16 @@
+pub mod KeptParts
+pub mod Framing
+pub mod Opening
+pub mod Turns
+pub mod Choices
+pub mod FineTicks
+pub mod FineNews
+pub mod FineInputs
+pub mod Leads
+pub mod LeadNews
+pub mod LeadTicks
+pub mod Rights
+pub mod FrameParts
+pub mod InputSteps
+pub mod NamedFrames
+pub mod WorkedRows

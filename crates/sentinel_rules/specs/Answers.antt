@@ -1,0 +1,160 @@
+-- The commands of a Sentinel's port, and what they answer.
+use Rattle.std.specs.Prelude.{ℕ, suc, zero, ◌+◌, ◌-◌, Bool, true, false, not, ◌&&◌, nat_le, ◌==◌, Option, Some, None, unwrap_or, List, [], ◌∷◌, map, length, position, codes, if◌then◌else◌}
+use Rattle.std.specs.List.{list_any}
+use Rattle.ballot_law.specs.declared.addresses.Addr.{Addr}
+use Rattle.ballot_law.specs.declared.addresses.RunId.{RunId}
+use Rattle.ballot_law.specs.declared.cards.KeptMaster.{KeptMaster}
+use Rattle.ballot_law.specs.declared.cards.Shown.{Shown}
+use Rattle.ballot_law.specs.declared.commands.Command.{Command}
+use Rattle.ballot_law.specs.declared.commands.Command.TheVariants.{Ping, IsMasterDownByAddr, GetMasterAddrByName, Masters, Master, Replicas, Sentinels, MyId, CkQuorum, FlushConfig}
+use Rattle.ballot_law.specs.declared.messages.Body.{Body}
+use Rattle.ballot_law.specs.declared.messages.Body.TheVariants.{Answer, PingText, AddressAnswer, PortReply}
+use Rattle.ballot_law.specs.Ballots.{card_of}
+use Rattle.ballot_law.specs.Counts.{count_below}
+use Rattle.ballot_law.specs.Orders.{same_addr}
+use Rattle.ballot_law.specs.Rosters.{MasterPlan, master_at, master_named, need, id_of, no_member}
+use Rattle.resp2.specs.Frame.{Frame, spelling}
+use Rattle.port_answers.specs.declared.rows.MasterRow.{MasterRow}
+use Rattle.port_answers.specs.declared.rows.ReplicaRow.{ReplicaRow}
+use Rattle.port_answers.specs.declared.rows.SentinelRow.{SentinelRow}
+use Rattle.port_answers.specs.Answers.{master_frame, masters_frame, replicas_frame, sentinels_frame, no_such_master, ok_line, quorum_reached, no_quorum, id_frame}
+use Rattle.sentinel_rules.specs.Plans.{Plan, roster_of, me, group_size, master_count, settings_at, nodes_of, addr_at}
+use Rattle.sentinel_rules.specs.States.{Core, node_of, card_place, is_failing_over, is_tilted, is_node_down, is_master_down, is_peer_down, is_odown_at}
+use Rattle.sentinel_rules.specs.Parts.{shown_of}
+use Rattle.sentinel_rules.specs.Ticks.{unknown_info}
+use Rattle.sentinel_rules.specs.Votes.{book_of, requested}
+
+-- what a command leaves, and its answer
+pub record Answered : Type 0 where
+  pub core : Core
+  pub body : Body
+
+abbrev pub unchanged : Core → Body → Answered
+unchanged core body = record { core = core; body = body }
+
+-- Questions whether a master is down, and requests for votes
+
+-- the first master whose configuration has the address
+abbrev pub master_with_card : List KeptMaster → Addr → Option ℕ
+master_with_card masters addr = position (λ (master : KeptMaster). same_addr addr master.card.addr) masters
+
+-- the first master whose list has the address
+abbrev pub master_listing : List MasterPlan → Addr → Option ℕ
+master_listing masters addr = position (λ (master : MasterPlan). list_any (same_addr addr) master.nodes) masters
+
+-- the vote that is kept
+abbrev pub vote_answer : (m : ℕ) → Addr → (down : Bool) → Core → Answered
+vote_answer m addr down core = unchanged core (Answer m addr down (book_of core m).leader (book_of core m).voted)
+
+abbrev pub asked_at : Plan → (m now : ℕ) → Addr → (epoch : ℕ) → (down : Bool) → Option RunId → Core → Answered
+asked_at plan m now addr epoch down None core = unchanged core (Answer m addr down None 0)
+asked_at plan m now addr epoch down (Some candidate) core = vote_answer m addr down (requested plan m now epoch candidate core)
+
+-- of an address that no configuration has nothing is said; votes are given in TILT too
+abbrev pub asked_of : Plan → (now : ℕ) → Addr → (epoch : ℕ) → Option RunId → Option ℕ → Core → Answered
+asked_of plan now addr epoch candidate None core =
+    unchanged core (Answer (unwrap_or (master_listing (roster_of plan).masters addr) 0) addr false None 0)
+asked_of plan now addr epoch candidate (Some m) core =
+    asked_at plan m now addr epoch (is_master_down plan core m now && not (is_tilted core)) candidate core
+
+-- Rows
+
+abbrev pub master_row : Plan → Core → (now m : ℕ) → MasterRow
+master_row plan core now m =
+    record {
+      name = (master_at (roster_of plan) m).name;
+      addr = (card_of core.kept m).addr;
+      down = is_master_down plan core m now;
+      odown = is_odown_at plan core m now;
+      failing_over = is_failing_over core m;
+      replicas = length (nodes_of plan m) - 1;
+      others = group_size plan - 1;
+      quorum = (master_at (roster_of plan) m).quorum;
+      after_ms = (settings_at plan m).after_ms;
+      timeout = (settings_at plan m).timeout;
+      parallel_syncs = (settings_at plan m).parallel_syncs;
+      epoch = (card_of core.kept m).epoch;
+    }
+
+-- a replica that sent no INFO shows priority 100 and offset 0
+abbrev pub replica_row : Plan → Core → (now m k : ℕ) → ReplicaRow
+replica_row plan core now m k =
+    let info = unwrap_or (node_of core m k).info unknown_info in
+    record { addr = addr_at plan m k; down = is_node_down plan core m now k; priority = info.priority; offset = info.offset }
+
+abbrev pub sentinel_row : Plan → Core → (now place : ℕ) → SentinelRow
+sentinel_row plan core now place =
+    record {
+      id = id_of (roster_of plan) place;
+      addr = (Rattle.std.specs.Prelude.slice_index_or (roster_of plan).sentinels place no_member).addr;
+      down = is_peer_down plan core now place;
+    }
+
+-- the places below a number, but for one
+abbrev pub places_but : (one place count : ℕ) → List ℕ
+places_but one place zero = []
+places_but one place (suc count) =
+    if place == one then places_but one (place + 1) count else place ∷ places_but one (place + 1) count
+
+-- each node but that of the configuration, by address
+abbrev pub replica_rows : Plan → Core → (now m : ℕ) → List ReplicaRow
+replica_rows plan core now m = map (replica_row plan core now m) (places_but (card_place plan core m) 0 (length (nodes_of plan m)))
+
+-- each other Sentinel, by run id
+abbrev pub sentinel_rows : Plan → Core → (now : ℕ) → List SentinelRow
+sentinel_rows plan core now = map (sentinel_row plan core now) (places_but plan.place 0 (group_size plan))
+
+-- the numbers of all masters
+abbrev pub numbers_from : (first count : ℕ) → List ℕ
+numbers_from first zero = []
+numbers_from first (suc count) = first ∷ numbers_from (first + 1) count
+
+abbrev pub all_masters : Plan → List ℕ
+all_masters plan = numbers_from 0 (master_count plan)
+
+-- a Sentinel that can take part: this one, and each other one that isn't down
+abbrev pub is_usable : Plan → Core → (now place : ℕ) → Bool
+is_usable plan core now place = if place == plan.place then true else not (is_peer_down plan core now place)
+
+abbrev pub usable_count : Plan → Core → (now : ℕ) → ℕ
+usable_count plan core now = count_below (is_usable plan core now) (group_size plan)
+
+abbrev pub quorum_frame : Plan → Core → (now m : ℕ) → Frame
+quorum_frame plan core now m =
+    let usable = usable_count plan core now in if nat_le (need (roster_of plan) m) usable then quorum_reached usable else no_quorum usable
+
+-- Answers
+
+-- an answer that shows the configurations of these masters
+abbrev pub reply : Core → (masters : List ℕ) → Frame → Body
+reply core masters frame = PortReply (map (shown_of core) masters) (spelling frame)
+
+-- the number of the master with this name; a word that can't be a name names none
+abbrev pub named : Plan → Option (List ℕ) → Option ℕ
+named plan None = None
+named plan (Some name) = master_named (roster_of plan) name
+
+abbrev pub about : Core → Option ℕ → (ℕ → Body) → Body
+about core None body = reply core [] no_such_master
+about core (Some m) body = body m
+
+abbrev pub address_of : Core → Option ℕ → Option Shown
+address_of core None = None
+address_of core (Some m) = Some (shown_of core m)
+
+abbrev pub commanded : Plan → (now : ℕ) → Command → Core → Answered
+commanded plan now Ping core = unchanged core (PingText false (codes "PONG"))
+commanded plan now (IsMasterDownByAddr addr epoch candidate) core =
+    asked_of plan now addr epoch candidate (master_with_card core.kept.masters addr) core
+commanded plan now (GetMasterAddrByName name) core = unchanged core (AddressAnswer (address_of core (named plan name)))
+commanded plan now Masters core =
+    unchanged core (reply core (all_masters plan) (masters_frame (map (master_row plan core now) (all_masters plan))))
+commanded plan now (Master name) core =
+    unchanged core (about core (named plan name) (λ m. reply core (m ∷ []) (master_frame (master_row plan core now m))))
+commanded plan now (Replicas name) core =
+    unchanged core (about core (named plan name) (λ m. reply core [] (replicas_frame (replica_rows plan core now m))))
+commanded plan now (Sentinels name) core =
+    unchanged core (about core (named plan name) (λ m. reply core [] (sentinels_frame (sentinel_rows plan core now))))
+commanded plan now MyId core = unchanged core (reply core [] (id_frame (me plan)))
+commanded plan now (CkQuorum name) core = unchanged core (about core (named plan name) (λ m. reply core [] (quorum_frame plan core now m)))
+commanded plan now FlushConfig core = unchanged core (reply core [] ok_line)

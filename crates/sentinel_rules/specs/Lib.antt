@@ -1,0 +1,13 @@
+pub mod Plans
+pub mod States
+pub mod Parts
+pub mod Votes
+pub mod Ticks
+pub mod News
+pub mod Answers
+pub mod Takes
+pub mod Facts
+pub mod Steps
+pub mod Room
+pub mod Named
+pub mod Worked

@@ -1,0 +1,72 @@
+-- What doesn't change while a Sentinel runs: what its file says, and its own place in the roster.
+use Rattle.std.specs.Prelude.{ℕ, zero, suc, ◌+◌, ◌-◌, nat_lt, Option, Some, None, unwrap_or, List, [], ◌∷◌, length, slice_index_or, position, if◌then◌else◌}
+use Rattle.ballot_law.specs.declared.addresses.Addr.{Addr}
+use Rattle.ballot_law.specs.declared.addresses.RunId.{RunId}
+use Rattle.ballot_law.specs.declared.messages.NodeName.{NodeName}
+use Rattle.ballot_law.specs.declared.messages.NodeName.TheVariants.{StoreAt}
+use Rattle.ballot_law.specs.Orders.{same_addr}
+use Rattle.ballot_law.specs.Rosters.{Roster, MasterPlan, master_at, id_of, size, no_addr}
+use Rattle.sentinel_conf.specs.declared.settings.Settings.{Settings}
+use Rattle.sentinel_conf.specs.Meaning.{ConfPlan}
+
+pub record Plan : Type 0 where
+  pub conf : ConfPlan
+  pub place : ℕ
+
+abbrev pub roster_of : Plan → Roster
+roster_of plan = plan.conf.roster
+
+-- the own run id
+abbrev pub me : Plan → RunId
+me plan = id_of (roster_of plan) plan.place
+
+-- how many Sentinels there are, this one among them
+abbrev pub group_size : Plan → ℕ
+group_size plan = size (roster_of plan)
+
+abbrev pub master_count : Plan → ℕ
+master_count plan = length (roster_of plan).masters
+
+-- what sentinel.conf takes where a setting isn't given
+abbrev pub default_settings : Settings
+default_settings = record { after_ms = 30000; parallel_syncs = 1; timeout = 180000 }
+
+abbrev pub settings_at : Plan → (m : ℕ) → Settings
+settings_at plan m = slice_index_or plan.conf.settings m default_settings
+
+-- the data nodes of a master, by address
+abbrev pub nodes_of : Plan → (m : ℕ) → List Addr
+nodes_of plan m = (master_at (roster_of plan) m).nodes
+
+abbrev pub addr_at : Plan → (m k : ℕ) → Addr
+addr_at plan m k = slice_index_or (nodes_of plan m) k no_addr
+
+-- the place of an address among a master's nodes; their number where it is none of them
+abbrev pub node_place : Plan → (m : ℕ) → Addr → ℕ
+node_place plan m addr = unwrap_or (position (same_addr addr) (nodes_of plan m)) (length (nodes_of plan m))
+
+-- the number of a master's first data node among all data nodes
+abbrev pub first_number : List MasterPlan → (m : ℕ) → ℕ
+first_number [] m = 0
+first_number (master ∷ masters) zero = 0
+first_number (master ∷ masters) (suc m) = length master.nodes + first_number masters m
+
+abbrev pub node_name : Plan → (m k : ℕ) → NodeName
+node_name plan m k = StoreAt (first_number (roster_of plan).masters m + k)
+
+-- the number of a master, and the place of a node in its list
+pub record NodePlace : Type 0 where
+  pub master : ℕ
+  pub place : ℕ
+
+-- the data node with a number, where the masters are counted from `first` on
+abbrev pub node_numbered : List MasterPlan → (first number : ℕ) → Option NodePlace
+node_numbered [] first number = None
+node_numbered (master ∷ masters) first number =
+    if nat_lt number (length master.nodes) then Some (record { master = first; place = number })
+    else node_numbered masters (first + 1) (number - length master.nodes)
+
+-- the data node with this name
+abbrev pub node_named : Plan → NodeName → Option NodePlace
+node_named plan (StoreAt number) = node_numbered (roster_of plan).masters 0 number
+node_named plan _ = None

@@ -1,0 +1,191 @@
+-- What a Sentinel keeps: what its file is to hold, and what it heard, found and sent since its start.
+use Rattle.std.specs.Prelude.{ℕ, Bool, false, not, is_some, Option, None, List, length, map, replicate, slice_index_or, slice_set, ◌==◌}
+use Rattle.ballot_law.specs.declared.addresses.RunId.{RunId}
+use Rattle.ballot_law.specs.declared.cards.Card.{Card}
+use Rattle.ballot_law.specs.declared.cards.Kept.{Kept}
+use Rattle.ballot_law.specs.declared.hearings.HeardVote.{HeardVote}
+use Rattle.ballot_law.specs.declared.hearings.DownReport.{DownReport}
+use Rattle.ballot_law.specs.declared.records.Win.{Win}
+use Rattle.ballot_law.specs.declared.replies.Info.{Info}
+use Rattle.ballot_law.specs.Ballots.{card_of, kept_of}
+use Rattle.ballot_law.specs.Clocks.{clock}
+use Rattle.ballot_law.specs.Reports.{is_odown_by, kept_at}
+use Rattle.ballot_law.specs.Rosters.{MasterPlan, master_at}
+use Rattle.ballot_law.specs.Tilts.{Turned}
+use Rattle.ballot_law.specs.Watches.{Watched}
+use Rattle.down_detector.specs.Jumps.{opened_clock}
+use Rattle.down_detector.specs.WatchSteps.{opened_at, down_since_of}
+use Rattle.failover_states.specs.declared.states.State.{State}
+use Rattle.failover_states.specs.declared.states.State.TheVariants.{Idle, WaitStart, SelectReplica, SendPromotion, WaitPromotion, ReconfReplicas, UpdateConfig}
+use Rattle.failover_states.specs.Failovers.{Failover}
+use Rattle.failover_states.specs.Replicas.{untouched}
+use Rattle.sentinel_rules.specs.Plans.{Plan, roster_of, group_size, settings_at, node_place}
+
+-- of a data node: its watch, when its last valid reply to a PING came, its last INFO and when it came, when it was last sent a
+-- PING, an INFO and a hello, and since when it has been wrong: as a master, or with another master
+pub record NodeState : Type 0 where
+  pub watch : Watched
+  pub last_ping : Option ℕ
+  pub info : Option Info
+  pub info_at : Option ℕ
+  pub ping_sent : Option ℕ
+  pub info_sent : Option ℕ
+  pub hello_sent : Option ℕ
+  pub wrong_role : Option ℕ
+  pub wrong_address : Option ℕ
+
+-- of a Sentinel: its watch, and when it was last sent a PING
+pub record PeerState : Type 0 where
+  pub watch : Watched
+  pub ping_sent : Option ℕ
+
+-- of a master: the votes heard, by the voter's place; the candidate of the last vote, where it was given since the start; the
+-- failover; what the other Sentinels last said, by place; its nodes; when the other Sentinels were last asked; whether it was
+-- objectively down at its last tick
+pub record MasterState : Type 0 where
+  pub heard : List (Option HeardVote)
+  pub leader : Option RunId
+  pub failover : Failover
+  pub reports : List (Option DownReport)
+  pub nodes : List NodeState
+  pub ask_sent : Option ℕ
+  pub odown : Bool
+
+-- kept: what the file is to hold. random: that of the last tick. won: the election that the last input brought
+pub record Core : Type 0 where
+  pub kept : Kept
+  pub masters : List MasterState
+  pub peers : List PeerState
+  pub clock : Turned
+  pub random : ℕ
+  pub won : Option Win
+
+-- At the start
+
+abbrev pub new_node : (now : ℕ) → NodeState
+new_node now =
+    record {
+      watch = opened_at now;
+      last_ping = None;
+      info = None;
+      info_at = None;
+      ping_sent = None;
+      info_sent = None;
+      hello_sent = None;
+      wrong_role = None;
+      wrong_address = None;
+    }
+
+abbrev pub new_peer : (now : ℕ) → PeerState
+new_peer now = record { watch = opened_at now; ping_sent = None }
+
+abbrev pub no_failover : (nodes : ℕ) → Failover
+no_failover nodes = record { state = Idle; entered = 0; last_start = None; replicas = replicate nodes untouched; moment = 0 }
+
+abbrev pub new_master : (sentinels nodes now : ℕ) → MasterState
+new_master sentinels nodes now =
+    record {
+      heard = replicate sentinels None;
+      leader = None;
+      failover = no_failover nodes;
+      reports = replicate sentinels None;
+      nodes = replicate nodes (new_node now);
+      ask_sent = None;
+      odown = false;
+    }
+
+-- what the file holds, and nothing else: no vote, no report, no failover
+abbrev pub opened : Plan → (now : ℕ) → Core
+opened plan now =
+    let at = clock now in
+    record {
+      kept = plan.conf.kept;
+      masters = map (λ (master : MasterPlan). new_master (group_size plan) (length master.nodes) at) (roster_of plan).masters;
+      peers = replicate (group_size plan) (new_peer at);
+      clock = opened_clock at;
+      random = 0;
+      won = None;
+    }
+
+-- Reading
+
+abbrev pub no_node : NodeState
+no_node = new_node 0
+
+abbrev pub no_peer : PeerState
+no_peer = new_peer 0
+
+abbrev pub no_master : MasterState
+no_master = new_master 0 0 0
+
+abbrev pub master_of : Core → (m : ℕ) → MasterState
+master_of core m = slice_index_or core.masters m no_master
+
+abbrev pub node_of : Core → (m k : ℕ) → NodeState
+node_of core m k = slice_index_or (master_of core m).nodes k no_node
+
+abbrev pub peer_of : Core → (place : ℕ) → PeerState
+peer_of core place = slice_index_or core.peers place no_peer
+
+abbrev pub failover_of : Core → (m : ℕ) → Failover
+failover_of core m = (master_of core m).failover
+
+-- the place of the node that the configuration names
+abbrev pub card_place : Plan → Core → (m : ℕ) → ℕ
+card_place plan core m = node_place plan m (card_of core.kept m).addr
+
+abbrev pub is_idle : State → Bool
+is_idle Idle = Bool.true
+is_idle (WaitStart epoch) = false
+is_idle (SelectReplica epoch) = false
+is_idle (SendPromotion epoch choice) = false
+is_idle (WaitPromotion epoch choice former) = false
+is_idle (ReconfReplicas epoch choice former) = false
+is_idle (UpdateConfig epoch choice) = false
+
+abbrev pub is_failing_over : Core → (m : ℕ) → Bool
+is_failing_over core m = not (is_idle (failover_of core m).state)
+
+abbrev pub is_tilted : Core → Bool
+is_tilted core = is_some core.clock.entered
+
+-- What is down
+
+-- since when a data node has been subjectively down; that of the configuration also by reporting itself a replica
+abbrev pub node_down_since : Plan → Core → (m now k : ℕ) → Option ℕ
+node_down_since plan core m now k =
+    down_since_of (node_of core m k).watch now (settings_at plan m).after_ms (k == card_place plan core m)
+
+abbrev pub is_node_down : Plan → Core → (m now k : ℕ) → Bool
+is_node_down plan core m now k = is_some (node_down_since plan core m now k)
+
+-- a master is down where the node of its configuration is
+abbrev pub is_master_down : Plan → Core → (m now : ℕ) → Bool
+is_master_down plan core m now = is_node_down plan core m now (card_place plan core m)
+
+-- a Sentinel goes by the first master's setting
+abbrev pub is_peer_down : Plan → Core → (now place : ℕ) → Bool
+is_peer_down plan core now place = is_some (down_since_of (peer_of core place).watch now (settings_at plan 0).after_ms false)
+
+abbrev pub is_odown_at : Plan → Core → (m now : ℕ) → Bool
+is_odown_at plan core m now =
+    is_odown_by (is_master_down plan core m now) (kept_at (master_of core m).reports) (length (master_of core m).reports) now
+    (master_at (roster_of plan) m).quorum
+
+-- Writing
+
+abbrev pub with_master : Core → (m : ℕ) → MasterState → Core
+with_master core m master = record core { masters = slice_set core.masters m master }
+
+abbrev pub with_node : Core → (m k : ℕ) → NodeState → Core
+with_node core m k node = with_master core m (record (master_of core m) { nodes = slice_set (master_of core m).nodes k node })
+
+abbrev pub with_failover : Core → (m : ℕ) → Failover → Core
+with_failover core m failover = with_master core m (record (master_of core m) { failover = failover })
+
+abbrev pub with_current : Core → (epoch : ℕ) → Core
+with_current core epoch = record core { kept = record core.kept { current = epoch } }
+
+abbrev pub with_card : Core → (m : ℕ) → Card → Core
+with_card core m card =
+    record core { kept = record core.kept { masters = slice_set core.kept.masters m (record (kept_of core.kept m) { card = card }) } }

@@ -1,0 +1,294 @@
+-- A tick of one master: the clock, what is due to be sent, what is down, the failover, the questions to the other Sentinels.
+use Rattle.std.specs.Prelude.{ℕ, zero, suc, ◌+◌, ◌-◌, min, Bool, true, false, not, ◌&&◌, ◌||◌, nat_lt, nat_le, ◌==◌, is_some, Option, Some, None, unwrap_or, option_map, List, [], ◌∷◌, ◌++◌, length, if◌then◌else◌}
+use Rattle.ballot_law.specs.declared.addresses.Addr.{Addr}
+use Rattle.ballot_law.specs.declared.addresses.RunId.{RunId}
+use Rattle.ballot_law.specs.declared.messages.NodeName.TheVariants.{SentinelAt}
+use Rattle.ballot_law.specs.declared.replies.DataRole.TheVariants.{Replica}
+use Rattle.ballot_law.specs.declared.replies.Info.{Info}
+use Rattle.ballot_law.specs.Clocks.{age}
+use Rattle.ballot_law.specs.OwnVotes.{asked}
+use Rattle.ballot_law.specs.Rosters.{need}
+use Rattle.ballot_law.specs.VotesHeard.{kept_at, pick_in, count_in}
+use Rattle.down_detector.specs.Jumps.{turned_at}
+use Rattle.replica_choice.specs.declared.candidates.Candidate.{Candidate}
+use Rattle.replica_choice.specs.declared.candidates.Limits.{Limits}
+use Rattle.replica_choice.specs.Choices.{choice_of}
+use Rattle.failover_states.specs.declared.states.Row.{Row}
+use Rattle.failover_states.specs.declared.states.Row.TheVariants.{Elected, Promote}
+use Rattle.failover_states.specs.declared.replicas.Replica.{Replica as ReplicaOrder}
+use Rattle.failover_states.specs.Calls.{epoch_of, choice_of as chosen_place}
+use Rattle.failover_states.specs.Known.{Known}
+use Rattle.failover_states.specs.Table.{Turn, turned}
+use Rattle.sentinel_rules.specs.declared.frames.Frame.{Frame}
+use Rattle.sentinel_rules.specs.declared.frames.Frame.TheVariants.{PingTo, InfoTo, HelloTo, AskTo, PromoteTo, FollowTo}
+use Rattle.sentinel_rules.specs.Plans.{Plan, roster_of, me, master_count, settings_at, nodes_of, addr_at, node_name}
+use Rattle.sentinel_rules.specs.States.{Core, NodeState, PeerState, master_of, node_of, failover_of, with_master, with_failover, with_current, card_place, is_failing_over, is_tilted, node_down_since, is_node_down, is_master_down, is_odown_at}
+use Rattle.sentinel_rules.specs.Parts.{Part, quiet, puts, then_part, part_if, frame_if, changed_from, frames_from}
+use Rattle.sentinel_rules.specs.Votes.{book_of, with_book, mark_for}
+
+-- What is due
+
+-- it was never sent, or at a later reading, or so long ago
+abbrev pub is_due : Option ℕ → (now period : ℕ) → Bool
+is_due None now period = true
+is_due (Some sent) now period = nat_lt now sent || nat_le period (now - sent)
+
+-- the moment of sending, where it is sent now
+abbrev pub sent_at : (due : Bool) → (now : ℕ) → Option ℕ → Option ℕ
+sent_at due now sent = if due then Some now else sent
+
+-- a PING each second, or as often as the master's setting asks
+abbrev pub ping_period : Plan → (m : ℕ) → ℕ
+ping_period plan m = min 1000 (settings_at plan m).after_ms
+
+-- the other Sentinels go by the first master's setting
+abbrev pub is_peer_due : Plan → (now place : ℕ) → PeerState → Bool
+is_peer_due plan now place peer = not (place == plan.place) && is_due peer.ping_sent now (ping_period plan 0)
+
+abbrev pub peer_after : Plan → (now place : ℕ) → PeerState → PeerState
+peer_after plan now place peer = record peer { ping_sent = sent_at (is_peer_due plan now place peer) now peer.ping_sent }
+
+abbrev pub peer_frames : Plan → (now place : ℕ) → PeerState → List Frame
+peer_frames plan now place peer = frame_if (is_peer_due plan now place peer) (PingTo (SentinelAt place))
+
+-- with the first master's tick each other Sentinel is sent its PING
+abbrev pub peers_part : Plan → (m now : ℕ) → Core → Part
+peers_part plan zero now core =
+    puts (record core { peers = changed_from (peer_after plan now) 0 core.peers }) (frames_from (peer_frames plan now) 0 core.peers)
+peers_part plan (suc m) now core = quiet core
+
+abbrev pub had_link_down : Option Info → Bool
+had_link_down None = false
+had_link_down (Some info) = nat_lt 0 info.link_down_s
+
+-- INFO each 10 seconds; each second to a replica whose master is down or fails over, or whose link was down
+abbrev pub info_period : (is_card is_busy : Bool) → NodeState → ℕ
+info_period is_card is_busy node = if not is_card && (is_busy || had_link_down node.info) then 1000 else 10000
+
+-- what the sending to a master's nodes goes by: the reading, the period of PING, the place of the configuration's node, and
+-- whether the master was down at its last tick or fails over
+pub record Sending : Type 0 where
+  pub now : ℕ
+  pub ping_ms : ℕ
+  pub card_place : ℕ
+  pub is_busy : Bool
+
+abbrev pub sending_of : Plan → Core → (m now : ℕ) → Sending
+sending_of plan core m now =
+    record {
+      now = now;
+      ping_ms = ping_period plan m;
+      card_place = card_place plan core m;
+      is_busy = (master_of core m).odown || is_failing_over core m;
+    }
+
+abbrev pub is_ping_due : Sending → NodeState → Bool
+is_ping_due s node = is_due node.ping_sent s.now s.ping_ms
+
+abbrev pub is_info_due : Sending → (k : ℕ) → NodeState → Bool
+is_info_due s k node = is_due node.info_sent s.now (info_period (k == s.card_place) s.is_busy node)
+
+abbrev pub is_hello_due : Sending → NodeState → Bool
+is_hello_due s node = is_due node.hello_sent s.now 2000
+
+abbrev pub node_after : Sending → (k : ℕ) → NodeState → NodeState
+node_after s k node =
+    record node {
+      ping_sent = sent_at (is_ping_due s node) s.now node.ping_sent;
+      info_sent = sent_at (is_info_due s k node) s.now node.info_sent;
+      hello_sent = sent_at (is_hello_due s node) s.now node.hello_sent;
+    }
+
+abbrev pub node_frames : Plan → (m : ℕ) → Sending → (k : ℕ) → NodeState → List Frame
+node_frames plan m s k node =
+    frame_if (is_ping_due s node) (PingTo (node_name plan m k))
+    ++ (frame_if (is_info_due s k node) (InfoTo (node_name plan m k))
+    ++ frame_if (is_hello_due s node) (HelloTo (node_name plan m k) m))
+
+-- node by node, by address: PING, INFO, hello
+abbrev pub nodes_part : Plan → (m now : ℕ) → Core → Part
+nodes_part plan m now core =
+    let s = sending_of plan core m now in
+    puts
+    (with_master core m (record (master_of core m) { nodes = changed_from (node_after s) 0 (master_of core m).nodes }))
+    (frames_from (node_frames plan m s) 0 (master_of core m).nodes)
+
+-- The failover
+
+-- of a replica that sent no INFO yet
+abbrev pub unknown_info : Info
+unknown_info =
+    record { id = None; role = Replica; master = None; link_up = false; link_down_s = 0; priority = 100; offset = 0 }
+
+-- the node of the configuration is no candidate
+abbrev pub candidate_of : Plan → Core → (m now k : ℕ) → Candidate
+candidate_of plan core m now k =
+    let node = node_of core m k in
+    let info = unwrap_or node.info unknown_info in
+    record {
+      sdown = (k == card_place plan core m) || is_node_down plan core m now k;
+      priority = info.priority;
+      link_down_s = info.link_down_s;
+      last_ping = node.last_ping;
+      last_info = node.info_at;
+      offset = info.offset;
+      id = info.id;
+    }
+
+-- the values of a function at so many places from this one on
+abbrev pub at_places : {X : Type 0} → (ℕ → X) → (place count : ℕ) → List X
+at_places f place zero = []
+at_places f place (suc count) = f place ∷ at_places f (place + 1) count
+
+abbrev pub candidates_of : Plan → Core → (m now : ℕ) → List Candidate
+candidates_of plan core m now = at_places (candidate_of plan core m now) 0 (length (nodes_of plan m))
+
+abbrev pub down_for : Option ℕ → (now : ℕ) → ℕ
+down_for None now = 0
+down_for (Some since) now = age since now
+
+-- for how long the master has been down, beside its setting
+abbrev pub limits_of : Plan → Core → (m now : ℕ) → Limits
+limits_of plan core m now =
+    record {
+      after_ms = (settings_at plan m).after_ms;
+      master_down_ms = down_for (node_down_since plan core m now (card_place plan core m)) now;
+    }
+
+-- the best replica, by its place and its address
+abbrev pub best_of : Plan → Core → (m now : ℕ) → Option (ℕ × Addr)
+best_of plan core m now =
+    option_map (λ k. (k, addr_at plan m k)) (choice_of (candidates_of plan core m now) now (limits_of plan core m now))
+
+-- the epoch of the campaign; 0 where no failover runs
+abbrev pub campaign_epoch : Core → (m : ℕ) → ℕ
+campaign_epoch core m = unwrap_or (epoch_of (failover_of core m).state) 0
+
+abbrev pub pick_of : Plan → Core → (m epoch : ℕ) → RunId
+pick_of plan core m epoch =
+    pick_in (kept_at (master_of core m).heard) (length (master_of core m).heard) epoch (me plan)
+
+abbrev pub count_of : Plan → Core → (m epoch : ℕ) → ℕ
+count_of plan core m epoch =
+    count_in (kept_at (master_of core m).heard) (length (master_of core m).heard) epoch (me plan)
+
+abbrev pub known_of : Plan → Core → (m now : ℕ) → (odown : Bool) → Known
+known_of plan core m now odown =
+    record {
+      now = now;
+      random = core.random;
+      odown = odown;
+      current = core.kept.current;
+      voted = (book_of core m).voted;
+      own = (master_of core m).leader;
+      me = me plan;
+      need = need (roster_of plan) m;
+      pick = pick_of plan core m (campaign_epoch core m);
+      count = count_of plan core m (campaign_epoch core m);
+      best = best_of plan core m now;
+      card_place = card_place plan core m;
+      down = at_places (is_node_down plan core m now) 0 (length (nodes_of plan m));
+      timeout = (settings_at plan m).timeout;
+      parallel_syncs = (settings_at plan m).parallel_syncs;
+    }
+
+abbrev pub turn_of : Plan → Core → (m now : ℕ) → (odown : Bool) → Turn
+turn_of plan core m now odown = turned (failover_of core m) (known_of plan core m now odown)
+
+-- the vote that a row gives, to itself or to the candidate with most votes
+abbrev pub with_vote : Plan → (m now epoch : ℕ) → Option RunId → Core → Core
+with_vote plan m now epoch None core = core
+with_vote plan m now epoch (Some candidate) core =
+    mark_for plan m now candidate (with_book core m (asked (book_of core m) epoch candidate))
+
+-- an election is noted
+abbrev pub with_win : (m epoch : ℕ) → Option Row → Core → Core
+with_win m epoch (Some Elected) core = record core { won = Some (record { master = m; epoch = epoch }) }
+with_win m epoch _ core = core
+
+-- the choice is told that it is the master
+abbrev pub promote_frames : Plan → (m : ℕ) → Option Row → (choice : Option ℕ) → List Frame
+promote_frames plan m (Some Promote) (Some k) = PromoteTo (node_name plan m k) ∷ []
+promote_frames plan m row choice = []
+
+-- those that the row orders to follow the new master, by address
+abbrev pub order_frames : Plan → (m k : ℕ) → ReplicaOrder → List Frame
+order_frames plan m k replica = frame_if replica.ordered (FollowTo (node_name plan m k) m)
+
+-- the first row that fits
+abbrev pub row_part : Plan → (m now : ℕ) → Core → Part
+row_part plan m now core =
+    let turn = turn_of plan core m now false in
+    let epoch = campaign_epoch core m in
+    puts
+    (with_win m epoch turn.row (with_vote plan m now epoch turn.vote (with_failover core m turn.failover)))
+    (promote_frames plan m turn.row (chosen_place turn.failover.state)
+    ++ frames_from (order_frames plan m) 0 turn.failover.replicas)
+
+-- where no failover runs one may start: its campaign opens the epoch after the current one
+abbrev pub after_start : (m : ℕ) → Turn → Core → Core
+after_start m turn core =
+    let after = with_failover core m turn.failover in if is_some turn.row then with_current after (core.kept.current + 1) else after
+
+abbrev pub start_turn : Plan → Core → (m now : ℕ) → Turn
+start_turn plan core m now = turn_of plan core m now (master_of core m).odown
+
+abbrev pub starts_now : Plan → Core → (m now : ℕ) → Bool
+starts_now plan core m now = not (is_failing_over core m) && is_some (start_turn plan core m now).row
+
+abbrev pub start_part : Plan → (m now : ℕ) → Core → Part
+start_part plan m now core =
+    part_if (not (is_failing_over core m)) core (λ c. quiet (after_start m (start_turn plan c m now) c))
+
+-- The questions to the other Sentinels
+
+-- at a start, where none was sent yet, and one second after the last
+abbrev pub is_ask_due : (started : Bool) → Option ℕ → (now : ℕ) → Bool
+is_ask_due started None now = true
+is_ask_due started (Some sent) now = started || nat_le 1000 (age sent now)
+
+-- with the own run id while a failover runs, which asks for a vote
+abbrev pub ask_candidate : Plan → Core → (m : ℕ) → Option RunId
+ask_candidate plan core m = if is_failing_over core m then Some (me plan) else None
+
+abbrev pub ask_frames : Plan → (m : ℕ) → Option RunId → (place : ℕ) → PeerState → List Frame
+ask_frames plan m candidate place peer = frame_if (not (place == plan.place)) (AskTo place m candidate)
+
+abbrev pub ask_part : Plan → (m now : ℕ) → (started : Bool) → Core → Part
+ask_part plan m now started core =
+    part_if
+    (is_master_down plan core m now && is_ask_due started (master_of core m).ask_sent now)
+    core
+    (λ c. puts
+    (with_master c m (record (master_of c m) { ask_sent = Some now }))
+    (frames_from (ask_frames plan m (ask_candidate plan c m)) 0 c.peers))
+
+-- The tick
+
+abbrev pub odown_part : Plan → (m now : ℕ) → Core → Part
+odown_part plan m now core = quiet (with_master core m (record (master_of core m) { odown = is_odown_at plan core m now }))
+
+-- a start where one is due, a row where a failover runs, the questions
+abbrev pub failover_part : Plan → (m now : ℕ) → Core → Part
+failover_part plan m now core =
+    let started = starts_now plan core m now in
+    then_part
+    (then_part (start_part plan m now core) (λ c. part_if (is_failing_over c m) c (row_part plan m now)))
+    (ask_part plan m now started)
+
+-- in TILT nothing is judged
+abbrev pub judging_part : Plan → (m now : ℕ) → Core → Part
+judging_part plan m now core =
+    part_if (not (is_tilted core)) core (λ c. then_part (odown_part plan m now c) (failover_part plan m now))
+
+abbrev pub master_part : Plan → (m now : ℕ) → Core → Part
+master_part plan m now core =
+    then_part (then_part (peers_part plan m now core) (nodes_part plan m now)) (judging_part plan m now)
+
+abbrev pub with_reading : (now random : ℕ) → Core → Core
+with_reading now random core = record core { clock = turned_at now core.clock; random = random }
+
+-- a tick of a master that isn't in the roster is a turn of the clock alone
+abbrev pub tick : Plan → (m random now : ℕ) → Core → Part
+tick plan m random now core =
+    part_if (nat_lt m (master_count plan)) (with_reading now random core) (master_part plan m now)

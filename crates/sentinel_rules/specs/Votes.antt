@@ -1,0 +1,35 @@
+-- What a vote does to a Sentinel.
+use Rattle.std.specs.Prelude.{ℕ, ◌+◌, ◌%◌, Some, slice_set, if◌then◌else◌}
+use Rattle.ballot_law.specs.declared.addresses.RunId.{RunId}
+use Rattle.ballot_law.specs.Ballots.{kept_of, voted_of}
+use Rattle.ballot_law.specs.Clocks.{clock}
+use Rattle.ballot_law.specs.Orders.{same_id}
+use Rattle.ballot_law.specs.OwnVotes.{Book, grants, asked}
+use Rattle.failover_states.specs.Failovers.{Failover}
+use Rattle.sentinel_rules.specs.Plans.{Plan, me}
+use Rattle.sentinel_rules.specs.States.{Core, master_of, failover_of, with_master, with_failover}
+
+-- the own vote for a master
+abbrev pub book_of : Core → (m : ℕ) → Book
+book_of core m = record { current = core.kept.current; voted = voted_of core.kept m; leader = (master_of core m).leader }
+
+abbrev pub with_book : Core → (m : ℕ) → Book → Core
+with_book core m book =
+    record
+    (with_master core m (record (master_of core m) { leader = book.leader }))
+    { kept = record { current = book.current; masters = slice_set core.kept.masters m (record (kept_of core.kept m) { voted = book.voted }) } }
+
+-- a failover counts as started now, and a random part of a second later
+abbrev pub marked : (now random : ℕ) → Failover → Failover
+marked now random f = record f { last_start = Some (clock (now + random % 1000)) }
+
+-- a vote for another candidate counts as a start of its failover, so that the own one waits
+abbrev pub mark_for : Plan → (m now : ℕ) → RunId → Core → Core
+mark_for plan m now candidate core =
+    if same_id candidate (me plan) then core else with_failover core m (marked now core.random (failover_of core m))
+
+-- a request for a vote: the vote is given, or the current epoch raised at most
+abbrev pub requested : Plan → (m now epoch : ℕ) → RunId → Core → Core
+requested plan m now epoch candidate core =
+    let asked_core = with_book core m (asked (book_of core m) epoch candidate) in
+    if grants (book_of core m) epoch then mark_for plan m now candidate asked_core else asked_core

@@ -1,0 +1,593 @@
+-- Worked examples: what one Sentinel does with given inputs, one after another. The definitions themselves compute each.
+use Rattle.std.specs.Prelude.{◌≡◌, ℕ, zero, suc, ◌+◌, ◌*◌, Bool, true, false, nat_le, Option, Some, None, List, [], ◌∷◌, ◌++◌, map, filter, codes, decimal, Err}
+use Rattle.ballot_law.specs.declared.addresses.Addr.{Addr}
+use Rattle.ballot_law.specs.declared.addresses.RunId.{RunId}
+use Rattle.ballot_law.specs.declared.cards.Card.{Card}
+use Rattle.ballot_law.specs.declared.cards.Kept.{Kept}
+use Rattle.ballot_law.specs.declared.cards.TheConstants.{MAX_EPOCH}
+use Rattle.ballot_law.specs.declared.commands.Command.{Command}
+use Rattle.ballot_law.specs.declared.commands.Command.TheVariants.{Ping as PingCommand, IsMasterDownByAddr, GetMasterAddrByName, MyId, CkQuorum, FlushConfig}
+use Rattle.ballot_law.specs.declared.events.Event.{Event}
+use Rattle.ballot_law.specs.declared.events.Event.TheVariants.{Tick, Command as Commanded, Answered, Pinged, InfoRead, HelloRead}
+use Rattle.ballot_law.specs.declared.messages.Body.{Body}
+use Rattle.ballot_law.specs.declared.messages.Body.TheVariants.{Ask, Answer, Ping, PingText, InfoAsk, Publish, ReplicaOf, AddressAnswer, PortReply}
+use Rattle.ballot_law.specs.declared.messages.NodeName.{NodeName}
+use Rattle.ballot_law.specs.declared.messages.NodeName.TheVariants.{SentinelAt, StoreAt, PortAt}
+use Rattle.ballot_law.specs.declared.messages.Output.{Output}
+use Rattle.ballot_law.specs.declared.messages.Output.TheVariants.{Send, Tell}
+use Rattle.ballot_law.specs.declared.replies.Hello.{Hello}
+use Rattle.ballot_law.specs.declared.replies.PingReply.TheVariants.{Pong}
+use Rattle.ballot_law.specs.declared.rosters.Member.{Member}
+use Rattle.ballot_law.specs.Hellos.{hello_text}
+use Rattle.ballot_law.specs.Rosters.{need}
+use Rattle.ballot_law.specs.VotesHeard.{own_votes}
+use Rattle.failover_states.specs.declared.states.Choice.{Choice}
+use Rattle.failover_states.specs.declared.states.State.{State}
+use Rattle.failover_states.specs.declared.states.State.TheVariants.{Idle, WaitStart, SelectReplica, SendPromotion, WaitPromotion, ReconfReplicas, UpdateConfig}
+use Rattle.node_texts.specs.declared.faults.TextFault.TheVariants.{FieldCount, EpochTooLarge}
+use Rattle.node_texts.specs.Hellos.{hello_of}
+use Rattle.sentinel_conf.specs.declared.settings.Settings.{Settings}
+use Rattle.sentinel_rules.specs.Plans.{Plan, roster_of, default_settings}
+use Rattle.sentinel_rules.specs.States.{Core, opened, master_of, failover_of}
+use Rattle.sentinel_rules.specs.Votes.{book_of}
+use Rattle.sentinel_rules.specs.Ticks.{count_of}
+use Rattle.sentinel_rules.specs.Answers.{master_row, replica_rows, sentinel_rows, usable_count}
+use Rattle.sentinel_rules.specs.Takes.{next}
+
+-- The nodes
+
+-- a run id of 40 times the same digit
+abbrev pub id_of_digit : (digit : ℕ) → RunId
+id_of_digit digit = record { hi = digit * 22685491128062564230891640495451214097; lo = digit * 286331153 }
+
+abbrev pub id_a : RunId
+id_a = id_of_digit 10
+
+abbrev pub id_b : RunId
+id_b = id_of_digit 11
+
+abbrev pub id_c : RunId
+id_c = id_of_digit 12
+
+-- a port of 127.0.0.1
+abbrev pub local : (port : ℕ) → Addr
+local port = record { ip = 2130706433; port = port }
+
+abbrev pub mymaster : List ℕ
+mymaster = codes "mymaster"
+
+-- the Sentinels with these digits, at the ports from this one on
+abbrev pub members_from : (port : ℕ) → (digits : List ℕ) → List Member
+members_from port [] = []
+members_from port (digit ∷ digits) = record { id = id_of_digit digit; addr = local port } ∷ members_from (port + 1) digits
+
+abbrev pub kept_with : (current : ℕ) → Card → (voted : ℕ) → Kept
+kept_with current card voted = record { current = current; masters = record { card = card; voted = voted } ∷ [] }
+
+-- a file of this epoch, in which nobody was voted for and the master is at port 6379
+abbrev pub kept_at_epoch : (current : ℕ) → Kept
+kept_at_epoch current = kept_with current (record { epoch = 0; addr = local 6379 }) 0
+
+-- the first of these Sentinels watches one master with these nodes, at quorum 2
+abbrev pub plan_of : (digit : ℕ) → (others ports : List ℕ) → Settings → Kept → Plan
+plan_of digit others ports settings kept =
+    record {
+      conf =
+          record {
+            kept_lines = [];
+            roster =
+                record {
+                  sentinels = members_from 26379 (digit ∷ others);
+                  masters = record { name = mymaster; nodes = map local ports; quorum = 2 } ∷ [];
+                };
+            id = id_of_digit digit;
+            port = 26379;
+            settings = settings ∷ [];
+            kept = kept;
+          };
+      place = 0;
+    }
+
+-- four Sentinels and a master without replicas, as without a file
+abbrev pub default_plan : Kept → Plan
+default_plan kept = plan_of 0 (10 ∷ 11 ∷ 12 ∷ []) (6379 ∷ []) default_settings kept
+
+-- three Sentinels, a master and two replicas, down after 5 seconds
+abbrev pub group_plan : Kept → Plan
+group_plan kept = plan_of 10 (11 ∷ 12 ∷ []) (6379 ∷ 6380 ∷ 6381 ∷ []) (record default_settings { after_ms = 5000 }) kept
+
+-- the same with five Sentinels
+abbrev pub five_plan : Kept → Plan
+five_plan kept = plan_of 10 (11 ∷ 12 ∷ 13 ∷ 14 ∷ []) (6379 ∷ 6380 ∷ 6381 ∷ []) (record default_settings { after_ms = 5000 }) kept
+
+-- Inputs, each with its reading of the clock
+
+abbrev pub tick_at : (now : ℕ) → ℕ × Event
+tick_at now = (now, Tick 0 0)
+
+-- so many ticks, one each second, from this reading on
+abbrev pub ticks_from : (now count : ℕ) → List (ℕ × Event)
+ticks_from now zero = []
+ticks_from now (suc count) = tick_at now ∷ ticks_from (now + 1000) count
+
+-- a client's command
+abbrev pub command_at : (now : ℕ) → Command → ℕ × Event
+command_at now command = (now, Commanded (PortAt 0) command)
+
+abbrev pub ask_at : (now port epoch : ℕ) → Option RunId → ℕ × Event
+ask_at now port epoch candidate = command_at now (IsMasterDownByAddr (local port) epoch candidate)
+
+abbrev pub address_ask_at : (now : ℕ) → ℕ × Event
+address_ask_at now = command_at now (GetMasterAddrByName (Some mymaster))
+
+-- another Sentinel says that the master is down, and whom it voted for
+abbrev pub answer_at : (now voter : ℕ) → Option RunId → (epoch : ℕ) → ℕ × Event
+answer_at now voter leader epoch = (now, Answered (SentinelAt voter) 0 (local 6379) true leader epoch)
+
+abbrev pub pong_at : (now number : ℕ) → ℕ × Event
+pong_at now number = (now, Pinged (StoreAt number) Pong)
+
+-- the four nodes from number 1 on
+abbrev pub pongs_at : (now : ℕ) → List (ℕ × Event)
+pongs_at now = pong_at now 1 ∷ pong_at now 2 ∷ pong_at now 3 ∷ pong_at now 4 ∷ []
+
+abbrev pub line : List ℕ → List ℕ
+line text = text ++ 13 ∷ 10 ∷ []
+
+-- the INFO of a replica of the master at this port, whose link is up
+abbrev pub replica_at : (now number port offset : ℕ) → ℕ × Event
+replica_at now number port offset = (
+  now,
+  InfoRead
+      (StoreAt number)
+      (line (codes "role:slave")
+      ++ (line (codes "master_host:127.0.0.1")
+      ++ (line (codes "master_port:" ++ decimal port)
+      ++ (line (codes "master_link_status:up") ++ line (codes "slave_repl_offset:" ++ decimal offset))))),
+)
+
+abbrev pub master_at : (now number : ℕ) → ℕ × Event
+master_at now number = (now, InfoRead (StoreAt number) (line (codes "role:master")))
+
+-- a hello of the second Sentinel, with its current epoch, and the port and the epoch of its configuration
+abbrev pub hello_at : (now current port epoch : ℕ) → ℕ × Event
+hello_at now current port epoch = (
+  now,
+  HelloRead
+      (codes "127.0.0.1,26380,bbbbbbbbbbbbbbbbbbbbbbbbbbbbbbbbbbbbbbbb,"
+      ++ (decimal current ++ (codes ",mymaster,127.0.0.1," ++ (decimal port ++ (codes "," ++ decimal epoch))))),
+)
+
+-- Runs
+
+-- the core after the inputs
+abbrev pub core_after : Plan → Core → List (ℕ × Event) → Core
+core_after plan core [] = core
+core_after plan core (input ∷ inputs) = core_after plan (next plan core input.0 input.1).core inputs
+
+-- what each input puts out
+abbrev pub all_outputs : Plan → Core → List (ℕ × Event) → List (List Output)
+all_outputs plan core [] = []
+all_outputs plan core (input ∷ inputs) =
+    let after = next plan core input.0 input.1 in after.outputs ∷ all_outputs plan after.core inputs
+
+-- from the start on
+abbrev pub outputs_of : Plan → List (ℕ × Event) → List (List Output)
+outputs_of plan inputs = all_outputs plan (opened plan 0) inputs
+
+abbrev pub core_of : Plan → List (ℕ × Event) → Core
+core_of plan inputs = core_after plan (opened plan 0) inputs
+
+-- neither PING nor INFO nor a hello
+abbrev pub is_rare_body : Body → Bool
+is_rare_body Ping = false
+is_rare_body InfoAsk = false
+is_rare_body (Publish hello) = false
+is_rare_body _ = true
+
+abbrev pub is_rare : Output → Bool
+is_rare (Send message) = is_rare_body message.body
+is_rare (Tell note) = true
+
+-- without what is sent all the time
+abbrev pub rare_of : List (List Output) → List (List Output)
+rare_of outputs = map (filter is_rare) outputs
+
+-- with its reading, where there is any
+abbrev pub with_any : (now : ℕ) → List Output → List (ℕ × List Output) → List (ℕ × List Output)
+with_any now [] later = later
+with_any now (output ∷ outputs) later = (now, output ∷ outputs) ∷ later
+
+-- from a core on, the readings of the inputs that put out more than what is sent all the time, and what they put out
+abbrev pub rare_from : Plan → Core → List (ℕ × Event) → List (ℕ × List Output)
+rare_from plan core [] = []
+rare_from plan core (input ∷ inputs) =
+    let after = next plan core input.0 input.1 in with_any input.0 (filter is_rare after.outputs) (rare_from plan after.core inputs)
+
+-- Outputs
+
+abbrev pub sent : NodeName → Body → Output
+sent target body = Send (record { sender = SentinelAt 0; target = target; body = body })
+
+-- the answer to a client's command
+abbrev pub answer : Body → List Output
+answer body = sent (PortAt 0) body ∷ []
+
+abbrev pub vote_answer : (leader : Option RunId) → (epoch : ℕ) → List Output
+vote_answer leader epoch = answer (Answer 0 (local 6379) false leader epoch)
+
+abbrev pub address_answer : Card → List Output
+address_answer card = answer (AddressAnswer (Some (record { master = 0; card = card })))
+
+-- the bytes of an answer that shows no configuration
+abbrev pub text_answer : List ℕ → List Output
+text_answer text = answer (PortReply [] (line text))
+
+-- to the second and the third Sentinel
+abbrev pub asks : (epoch : ℕ) → Option RunId → List Output
+asks epoch candidate =
+    sent (SentinelAt 1) (Ask (local 6379) epoch candidate) ∷ sent (SentinelAt 2) (Ask (local 6379) epoch candidate) ∷ []
+
+-- Votes
+
+-- one vote in an epoch, to the first that asks; the next epoch brings another one
+abbrev pub OneVoteAnEpoch : Type 0
+OneVoteAnEpoch =
+    outputs_of
+    (default_plan (kept_at_epoch 0))
+    (ask_at 0 6379 1 (Some id_a) ∷ ask_at 0 6379 1 (Some id_b) ∷ ask_at 0 6379 2 (Some id_b) ∷ ask_at 0 6379 1 (Some id_c) ∷ [])
+    ≡ vote_answer (Some id_a) 1 ∷ vote_answer (Some id_a) 1 ∷ vote_answer (Some id_b) 2 ∷ vote_answer (Some id_b) 2 ∷ []
+
+-- a question without a candidate raises no epoch
+abbrev pub QuestionsRaiseNothing : Type 0
+QuestionsRaiseNothing =
+    outputs_of (default_plan (kept_at_epoch 0)) (ask_at 0 6379 9 None ∷ ask_at 0 6379 1 (Some id_a) ∷ [])
+    ≡ vote_answer None 0 ∷ vote_answer (Some id_a) 1 ∷ []
+
+-- of an address and of a name that no master has nothing is known
+abbrev pub NothingOfNobody : Type 0
+NothingOfNobody =
+    outputs_of
+    (default_plan (kept_at_epoch 0))
+    (ask_at 0 6399 1 (Some id_a) ∷ command_at 0 (GetMasterAddrByName (Some (codes "nobody"))) ∷ address_ask_at 0 ∷ [])
+    ≡ answer (Answer 0 (local 6399) false None 0)
+    ∷ answer (AddressAnswer None)
+    ∷ address_answer (record { epoch = 0; addr = local 6379 })
+    ∷ []
+
+-- after a restart the epoch of the vote is known, and its candidate isn't; no second vote is given
+abbrev pub VoteAfterARestart : Type 0
+VoteAfterARestart =
+    outputs_of
+    (default_plan (core_of (default_plan (kept_at_epoch 0)) (ask_at 0 6379 1 (Some id_a) ∷ [])).kept)
+    (ask_at 0 6379 1 (Some id_a) ∷ [])
+    ≡ vote_answer None 1 ∷ []
+
+-- the short answers
+abbrev pub ShortAnswers : Type 0
+ShortAnswers =
+    outputs_of
+    (default_plan (kept_at_epoch 0))
+    (command_at 0 MyId
+    ∷ command_at 0 (CkQuorum (Some mymaster))
+    ∷ command_at 0 (CkQuorum (Some (codes "nobody")))
+    ∷ command_at 0 FlushConfig
+    ∷ command_at 0 PingCommand
+    ∷ [])
+    ≡ text_answer (line (codes "$40") ++ codes "0000000000000000000000000000000000000000")
+    ∷ text_answer (codes "+OK 4 usable Sentinels, quorum and majority can be reached")
+    ∷ text_answer (codes "-ERR No such master with that name")
+    ∷ text_answer (codes "+OK")
+    ∷ answer (PingText false (codes "PONG"))
+    ∷ []
+
+-- A failover
+
+-- the master is silent, both replicas answer with these offsets, the second Sentinel finds the master down too and then votes in the
+-- epoch, up to the tick at which the best replica is told that it is the master
+abbrev pub until_promotion : (first second epoch : ℕ) → List (ℕ × Event)
+until_promotion first second epoch =
+    tick_at 1000 ∷ tick_at 2000 ∷ tick_at 3000 ∷ tick_at 4000 ∷ tick_at 5000
+    ∷ pong_at 5500 1 ∷ pong_at 5500 2 ∷ replica_at 5500 1 6379 first ∷ replica_at 5500 2 6379 second
+    ∷ tick_at 6000
+    ∷ answer_at 6100 1 None 0
+    ∷ tick_at 7000
+    ∷ answer_at 7100 1 (Some id_a) epoch
+    ∷ tick_at 8000 ∷ tick_at 9000 ∷ tick_at 10000
+    ∷ []
+
+abbrev pub failover_inputs : List (ℕ × Event)
+failover_inputs =
+    until_promotion 100 200 1
+    ++ (pong_at 10050 1 ∷ pong_at 10050 2 ∷ address_ask_at 10050
+    ∷ master_at 10100 2
+    ∷ address_ask_at 10150
+    ∷ tick_at 11000
+    ∷ replica_at 11100 1 6381 100
+    ∷ tick_at 12000 ∷ tick_at 13000
+    ∷ [])
+
+-- the other Sentinels are asked, then asked for votes; the second replica is promoted, and the first one follows it
+abbrev pub AFailover : Type 0
+AFailover =
+    rare_of (outputs_of (group_plan (kept_at_epoch 0)) failover_inputs)
+    ≡ [] ∷ [] ∷ [] ∷ [] ∷ []
+    ∷ [] ∷ [] ∷ [] ∷ []
+    ∷ asks 0 None
+    ∷ []
+    ∷ asks 1 (Some id_a)
+    ∷ []
+    ∷ asks 1 (Some id_a) ∷ asks 1 (Some id_a) ∷ (sent (StoreAt 2) (ReplicaOf None) ∷ asks 1 (Some id_a))
+    ∷ [] ∷ [] ∷ address_answer (record { epoch = 0; addr = local 6379 })
+    ∷ (Tell (record { master = 0; old = local 6379; card = record { epoch = 1; addr = local 6381 } }) ∷ [])
+    ∷ address_answer (record { epoch = 1; addr = local 6381 })
+    ∷ (sent (StoreAt 1) (ReplicaOf (Some (local 6381))) ∷ [])
+    ∷ []
+    ∷ [] ∷ []
+    ∷ []
+
+abbrev pub failover_plan : Plan
+failover_plan = group_plan (kept_at_epoch 0)
+
+-- the core of that failover at a reading
+abbrev pub failing_at : (now : ℕ) → Core
+failing_at now = core_of failover_plan (filter (λ (input : ℕ × Event). nat_le input.0 now) failover_inputs)
+
+abbrev pub state_at : (now : ℕ) → State
+state_at now = (failover_of (failing_at now) 0).state
+
+abbrev pub second_replica : Choice
+second_replica = record { place = 2; addr = local 6381 }
+
+-- its steps: each tick takes one, and the INFO of the chosen replica makes it the configuration
+pub record FailoverGoesOn : Type 0 where
+  pub before : state_at 6100 ≡ Idle
+  pub started : state_at 7000 ≡ WaitStart 1
+  pub elected : state_at 8000 ≡ SelectReplica 1
+  pub won : (failing_at 8000).won ≡ Some (record { master = 0; epoch = 1 })
+  pub chosen : state_at 9000 ≡ SendPromotion 1 second_replica
+  pub told : state_at 10000 ≡ WaitPromotion 1 second_replica 0
+  pub same_card : (failing_at 10050).kept ≡ kept_with 1 (record { epoch = 0; addr = local 6379 }) 1
+  pub promoted : state_at 10100 ≡ ReconfReplicas 1 second_replica 0
+  pub new_card : (failing_at 10150).kept ≡ kept_with 1 (record { epoch = 1; addr = local 6381 }) 1
+  pub updating : state_at 12000 ≡ UpdateConfig 1 second_replica
+  pub ended : state_at 13000 ≡ Idle
+
+abbrev pub new_hello : Hello
+new_hello =
+    record { addr = local 26379; id = id_a; current = 1; master = mymaster; card = record { epoch = 1; addr = local 6381 } }
+
+-- all that the tick after the promotion puts out: the hellos are due at once, and the INFO of the new master isn't due
+abbrev pub ATickInFull : Type 0
+ATickInFull =
+    (next failover_plan (failing_at 10150) 11000 (Tick 0 0)).outputs
+    ≡ sent (SentinelAt 1) Ping
+    ∷ sent (SentinelAt 2) Ping
+    ∷ sent (StoreAt 0) Ping
+    ∷ sent (StoreAt 0) InfoAsk
+    ∷ sent (StoreAt 0) (Publish new_hello)
+    ∷ sent (StoreAt 1) Ping
+    ∷ sent (StoreAt 1) InfoAsk
+    ∷ sent (StoreAt 1) (Publish new_hello)
+    ∷ sent (StoreAt 2) Ping
+    ∷ sent (StoreAt 2) (Publish new_hello)
+    ∷ sent (StoreAt 1) (ReplicaOf (Some (local 6381)))
+    ∷ []
+
+-- the bytes of these hellos
+abbrev pub HelloInBytes : Type 0
+HelloInBytes =
+    hello_text new_hello ≡ codes "127.0.0.1,26379,aaaaaaaaaaaaaaaaaaaaaaaaaaaaaaaaaaaaaaaa,1,mymaster,127.0.0.1,6381,1"
+
+-- Campaigns that come to nothing
+
+-- up to the tick that opens a campaign: the master is silent, and the second Sentinel finds it down too
+abbrev pub until_campaign : List (ℕ × Event)
+until_campaign =
+    tick_at 1000 ∷ tick_at 2000 ∷ tick_at 3000 ∷ tick_at 4000 ∷ tick_at 5000 ∷ tick_at 6000
+    ∷ answer_at 6100 1 None 0
+    ∷ tick_at 7000
+    ∷ []
+
+abbrev pub overtaken_plan : Plan
+overtaken_plan = five_plan (kept_at_epoch 4)
+
+-- a hello raises the current epoch, and three Sentinels vote for this one in the new epoch
+abbrev pub overtaken_inputs : List (ℕ × Event)
+overtaken_inputs =
+    until_campaign
+    ++ (hello_at 7100 7 6379 0
+    ∷ answer_at 7200 1 (Some id_a) 7
+    ∷ answer_at 7200 2 (Some id_a) 7
+    ∷ answer_at 7200 3 (Some id_a) 7
+    ∷ [])
+
+-- votes of another epoch don't count in the campaign: it has one of the three that it needs
+pub record VotesOfAnotherEpoch : Type 0 where
+  pub campaign : (failover_of (core_of overtaken_plan until_campaign) 0).state ≡ WaitStart 5
+  pub raised : (core_of overtaken_plan overtaken_inputs).kept.current ≡ 7
+  pub counted : count_of overtaken_plan (core_of overtaken_plan overtaken_inputs) 0 5 + own_votes (book_of (core_of overtaken_plan overtaken_inputs) 0) 5 id_a ≡ 1
+  pub needed : need (roster_of overtaken_plan) 0 ≡ 3
+  pub not_won : (core_of overtaken_plan (overtaken_inputs ++ tick_at 8000 ∷ [])).won ≡ None
+  pub waiting : (failover_of (core_of overtaken_plan (overtaken_inputs ++ tick_at 8000 ∷ [])) 0).state ≡ WaitStart 5
+
+-- a campaign whose own vote wasn't stored: after the restart the vote of that epoch is free
+pub record VoteThatWasNotStored : Type 0 where
+  pub voted : (core_of failover_plan until_campaign).kept ≡ kept_with 1 (record { epoch = 0; addr = local 6379 }) 1
+  pub not_won : (core_of failover_plan until_campaign).won ≡ None
+  pub free : all_outputs failover_plan (opened failover_plan 7000) (ask_at 7100 6379 1 (Some id_b) ∷ []) ≡ vote_answer (Some id_b) 1 ∷ []
+
+abbrev pub last_epoch_plan : Plan
+last_epoch_plan = group_plan (kept_at_epoch MAX_EPOCH)
+
+-- behind the greatest epoch no campaign is opened, and nobody is asked for a vote
+pub record NoEpochIsLeft : Type 0 where
+  pub outputs : rare_of (outputs_of last_epoch_plan until_campaign) ≡ [] ∷ [] ∷ [] ∷ [] ∷ [] ∷ asks MAX_EPOCH None ∷ [] ∷ asks MAX_EPOCH None ∷ []
+  pub odown : (master_of (core_of last_epoch_plan until_campaign) 0).odown ≡ true
+  pub none : (failover_of (core_of last_epoch_plan until_campaign) 0).state ≡ Idle
+  pub kept : (core_of last_epoch_plan until_campaign).kept ≡ kept_at_epoch MAX_EPOCH
+
+-- Hellos
+
+abbrev pub adopting_plan : Plan
+adopting_plan = group_plan (kept_at_epoch 4)
+
+-- the first replica was told that it is the master, in epoch 5
+abbrev pub told_inputs : List (ℕ × Event)
+told_inputs = until_promotion 200 100 5
+
+abbrev pub adopting_inputs : List (ℕ × Event)
+adopting_inputs = told_inputs ++ hello_at 10100 7 6379 7 ∷ []
+
+abbrev pub adopted_kept : Kept
+adopted_kept = kept_with 7 (record { epoch = 7; addr = local 6379 }) 5
+
+-- a newer configuration ends the failover: that the told replica says now that it is the master changes nothing
+pub record AdoptionEndsAFailover : Type 0 where
+  pub told : (failover_of (core_of adopting_plan told_inputs) 0).state ≡ WaitPromotion 5 (record { place = 1; addr = local 6380 }) 0
+  pub adopted : (core_of adopting_plan adopting_inputs).kept ≡ adopted_kept
+  pub ended : (failover_of (core_of adopting_plan adopting_inputs) 0).state ≡ Idle
+  pub stays : (core_of adopting_plan (adopting_inputs ++ master_at 10200 1 ∷ [])).kept ≡ adopted_kept
+  pub silent : all_outputs adopting_plan (core_of adopting_plan adopting_inputs) (master_at 10200 1 ∷ []) ≡ [] ∷ []
+
+-- a configuration of the same epoch isn't newer, whatever its address; a text that is no hello is passed over
+pub record OnlyNewerIsAdopted : Type 0 where
+  pub equal : (core_of adopting_plan (adopting_inputs ++ hello_at 10200 7 6380 7 ∷ [])).kept ≡ adopted_kept
+  pub too_large : (core_of adopting_plan (adopting_inputs ++ hello_at 10200 7 6380 281474976710656 ∷ [])).kept ≡ adopted_kept
+  pub why_too_large : hello_of (codes "127.0.0.1,26380,bbbbbbbbbbbbbbbbbbbbbbbbbbbbbbbbbbbbbbbb,7,mymaster,127.0.0.1,6380,281474976710656") ≡ Err EpochTooLarge
+  pub why_too_short : hello_of (codes "127.0.0.1,26380,bbbbbbbbbbbbbbbbbbbbbbbbbbbbbbbbbbbbbbbb,7,mymaster,127.0.0.1,6380") ≡ Err FieldCount
+
+-- A clock that jumps
+
+abbrev pub six_ticks : Core
+six_ticks = core_of failover_plan (ticks_from 1000 6)
+
+-- a tick comes more than 2 seconds after the one before: for 30 seconds nobody is asked and nobody is called down, but votes are given
+abbrev pub NothingIsJudgedInTilt : Type 0
+NothingIsJudgedInTilt =
+    rare_from
+    failover_plan
+    six_ticks
+    (ask_at 6500 6379 9 None ∷ tick_at 8001 ∷ ask_at 8100 6379 9 None ∷ ask_at 8200 6379 1 (Some id_b) ∷ ticks_from 9001 30)
+    ≡ (6500, answer (Answer 0 (local 6379) true None 0))
+    ∷ (8100, vote_answer None 0)
+    ∷ (8200, vote_answer (Some id_b) 1)
+    ∷ (38001, asks 1 None)
+    ∷ []
+
+-- A vote for another candidate
+
+abbrev pub short_timeout_plan : Plan
+short_timeout_plan =
+    plan_of
+    10
+    (11 ∷ 12 ∷ [])
+    (6379 ∷ 6380 ∷ 6381 ∷ [])
+    (record { after_ms = 5000; parallel_syncs = 1; timeout = 1000 })
+    (kept_at_epoch 0)
+
+-- it counts as a start at 6,050 and 950 ms: the own campaign waits for two timeouts from then on, which have passed at 9,000
+abbrev pub AVoteDelaysTheOwnCampaign : Type 0
+AVoteDelaysTheOwnCampaign =
+    rare_from
+    short_timeout_plan
+    (core_of short_timeout_plan (ticks_from 1000 5 ++ (6000, Tick 0 1950) ∷ []))
+    (ask_at 6050 6379 1 (Some id_b) ∷ answer_at 6100 1 None 0 ∷ ticks_from 7000 3)
+    ≡ (6050, answer (Answer 0 (local 6379) true (Some id_b) 1))
+    ∷ (7000, asks 1 None)
+    ∷ (8000, asks 1 None)
+    ∷ (9000, asks 2 (Some id_a))
+    ∷ []
+
+-- Replicas
+
+-- a master and four replicas
+abbrev pub wide_plan : Plan
+wide_plan =
+    plan_of
+    10
+    (11 ∷ 12 ∷ [])
+    (6379 ∷ 6380 ∷ 6381 ∷ 6382 ∷ 6383 ∷ [])
+    (record default_settings { after_ms = 5000 })
+    (kept_at_epoch 0)
+
+-- the fourth replica is promoted
+abbrev pub wide_inputs : List (ℕ × Event)
+wide_inputs =
+    ticks_from 1000 5
+    ++ (pongs_at 5500
+    ++ (replica_at 5500 1 6379 100 ∷ replica_at 5500 2 6379 100 ∷ replica_at 5500 3 6379 100 ∷ replica_at 5500 4 6379 200
+    ∷ tick_at 6000
+    ∷ answer_at 6100 1 None 0
+    ∷ tick_at 7000
+    ∷ answer_at 7100 1 (Some id_a) 1
+    ∷ (ticks_from 8000 3 ++ (pongs_at 10050 ++ master_at 10100 4 ∷ []))))
+
+-- one replica at a time is told to follow the new master; one that never does is given 10 seconds
+abbrev pub ReplicasOneByOne : Type 0
+ReplicasOneByOne =
+    rare_from
+    wide_plan
+    (core_of wide_plan wide_inputs)
+    (ticks_from 11000 2
+    ++ (replica_at 12500 1 6383 100
+    ∷ (ticks_from 13000 2
+    ++ (pongs_at 14500 ++ (ticks_from 15000 5 ++ (pongs_at 19000 ++ (ticks_from 20000 4 ++ (pongs_at 23500 ++ ticks_from 24000 1))))))))
+    ≡ (11000, sent (StoreAt 1) (ReplicaOf (Some (local 6383))) ∷ [])
+    ∷ (13000, sent (StoreAt 2) (ReplicaOf (Some (local 6383))) ∷ [])
+    ∷ (24000, sent (StoreAt 3) (ReplicaOf (Some (local 6383))) ∷ [])
+    ∷ []
+
+-- the former master comes back as a master: after more than 8 seconds of that it is told to follow the new one, and its time starts anew
+abbrev pub AFormerMasterFollows : Type 0
+AFormerMasterFollows =
+    rare_from
+    failover_plan
+    (failing_at 13000)
+    (master_at 14000 0 ∷ pong_at 21000 2 ∷ master_at 22000 0 ∷ master_at 22001 0 ∷ master_at 23000 0 ∷ [])
+    ≡ (22001, sent (StoreAt 0) (ReplicaOf (Some (local 6381))) ∷ []) ∷ []
+
+-- a replica that follows the former master is told after more than the failover timeout; one INFO in between that is right breaks the time
+abbrev pub AReplicaOfAnotherFollows : Type 0
+AReplicaOfAnotherFollows =
+    rare_from
+    failover_plan
+    (failing_at 13000)
+    (replica_at 13500 1 6379 100
+    ∷ replica_at 13700 1 6381 100
+    ∷ replica_at 14000 1 6379 100
+    ∷ pong_at 193000 2
+    ∷ replica_at 194000 1 6379 100
+    ∷ replica_at 194001 1 6379 100
+    ∷ [])
+    ≡ (194001, sent (StoreAt 1) (ReplicaOf (Some (local 6381))) ∷ []) ∷ []
+
+-- What clients are shown
+
+-- during the failover: the Sentinels that never answered a PING are down
+pub record ShownInAFailover : Type 0 where
+  pub master :
+      master_row failover_plan (failing_at 7100) 7100 0
+      ≡ record {
+        name = mymaster;
+        addr = local 6379;
+        down = true;
+        odown = true;
+        failing_over = true;
+        replicas = 2;
+        others = 2;
+        quorum = 2;
+        after_ms = 5000;
+        timeout = 180000;
+        parallel_syncs = 1;
+        epoch = 0;
+      }
+  pub replicas :
+      replica_rows failover_plan (failing_at 7100) 7100 0
+      ≡ record { addr = local 6380; down = false; priority = 100; offset = 100 }
+      ∷ record { addr = local 6381; down = false; priority = 100; offset = 200 }
+      ∷ []
+  pub sentinels :
+      sentinel_rows failover_plan (failing_at 7100) 7100
+      ≡ record { id = id_b; addr = local 26380; down = true } ∷ record { id = id_c; addr = local 26381; down = true } ∷ []
+  pub usable : usable_count failover_plan (failing_at 7100) 7100 ≡ 1

@@ -1,0 +1,36 @@
+//! What an input has a Sentinel put out, before it shows what is kept.
+
+use ballot_law::{Addr, NodeName, RunId};
+
+/// What an input has a Sentinel put out. The epochs and the configurations that it shows are those that are kept at the end of the
+/// input, so they aren't written here. `master` is the number of a master in the roster.
+#[derive(Clone, Copy, Debug, PartialEq, Eq)]
+pub enum Frame {
+    /// PING to a data node or a Sentinel.
+    PingTo(NodeName),
+    /// INFO to a data node.
+    InfoTo(NodeName),
+    /// A hello of a master, for the channel of a data node.
+    HelloTo {
+        target: NodeName,
+        master: u16,
+    },
+    /// The question whether a master is down to the Sentinel at a place; with a candidate a request for its vote.
+    AskTo {
+        place: u16,
+        master: u16,
+        candidate: Option<RunId>,
+    },
+    /// REPLICAOF NO ONE to a data node.
+    PromoteTo(NodeName),
+    /// REPLICAOF with the address of a master's configuration, to a data node.
+    FollowTo {
+        target: NodeName,
+        master: u16,
+    },
+    /// The note that a master's address is no longer the old one.
+    NoteOf {
+        master: u16,
+        old: Addr,
+    },
+}

@@ -1,0 +1,26 @@
+//! What the definitions of one Sentinel come to.
+
+ghost use Rattle.sentinel_rules.specs.Named.{FramesAreNamed};
+ghost use Rattle.sentinel_rules.specs.Room.{InputsKeepFew};
+ghost use Rattle.sentinel_rules.specs.Steps.{InputsAreSteps, OpenedIsSound};
+
+/// The core at the start is sound, and stands for what the ballot model restores from the file.
+pub fn law_opening_is_sound()
+    ensures { OpenedIsSound }
+{}
+
+/// A sound core stays sound by each input, and no input puts out more than 1,536 frames.
+pub fn law_inputs_keep_sound()
+    ensures { InputsKeepFew }
+{}
+
+/// Each input is at most six steps of the ballot model, and all that it puts out shows what is kept at its end.
+pub fn law_inputs_are_steps()
+    ensures { InputsAreSteps }
+{}
+
+/// Each hello that an input puts out is of a master of the roster.
+#[tactic(auto, using(crate::proofs::NamedFrames::frames_are_named))]
+pub fn law_frames_are_named()
+    ensures { FramesAreNamed }
+{}

@@ -1,0 +1,108 @@
+-- A failover keeps its places few, whatever is done to it.
+use Rattle.std.proofs.Common.{◌≡◌, ℕ, ◌+◌, ◌≤◌, Bool, true, false, cond, List, [], ◌∷◌, length, map, Option, Some, None, refl, ap, sym, subst, arith}
+use Rattle.std.specs.Prelude.{IfSome, unwrap_or}
+use Rattle.std.proofs.Math.ListN.{length-set}
+use Rattle.ballot_law.specs.declared.addresses.Addr.{Addr}
+use Rattle.ballot_law.specs.declared.addresses.RunId.{RunId}
+use Rattle.failover_states.specs.declared.states.State.{State}
+use Rattle.failover_states.specs.declared.states.State.TheVariants.{Idle, WaitStart, SelectReplica, SendPromotion, WaitPromotion, ReconfReplicas, UpdateConfig}
+use Rattle.failover_states.specs.declared.states.Row.{Row}
+use Rattle.failover_states.specs.declared.replicas.Replica.{Replica}
+use Rattle.failover_states.specs.Calls.{choice_of, promoted, reconfigured}
+use Rattle.failover_states.specs.Failovers.{Failover, ended}
+use Rattle.failover_states.specs.Known.{Known}
+use Rattle.failover_states.specs.Replicas.{by_place, told, sent_now, forgotten, unordered, expired, followed, replica_at, is_due, is_next}
+use Rattle.failover_states.specs.Table.{TableRow, Turn, table, first_that_fits, vote_of, turn_in, turned, quieted, expiring, chosen, can_be_told, busy_count}
+use Rattle.sentinel_state.specs.Places.{HasFewPlaces}
+
+length-map-any : {X Y : Type 0} (f : X → Y) (xs : List X) → length (map f xs) ≡ length xs
+length-map-any f [] = refl
+length-map-any f (x ∷ xs) = omega (arith, length-map-any f xs)
+
+length-by_place : (change : ℕ → Replica → Replica) (place : ℕ) (xs : List Replica) → length (by_place change place xs) ≡ length xs
+length-by_place change place [] = refl
+length-by_place change place (x ∷ xs) = omega (arith, length-by_place change (place + 1) xs)
+
+length-told : (test : ℕ → Bool) (now : ℕ) (xs : List Replica) → length (told test now xs) ≡ length xs
+unfolding told
+length-told test now xs = length-by_place (λ place replica. cond (test place) (sent_now now) replica) 0 xs
+
+mapped : (change : Replica → Replica) (xs : List Replica) → length xs ≤ 256 → length (map change xs) ≤ 256
+mapped change xs h = omega (arith, h, length-map-any change xs)
+
+pub few_ended : (f : Failover) → HasFewPlaces f → HasFewPlaces (ended f)
+few_ended f h = (mapped forgotten f.replicas h.0, omega arith)
+
+pub few_promoted : (state : State) (f : Failover) → unwrap_or (choice_of state) 0 ≤ 256 → HasFewPlaces f → HasFewPlaces (promoted state f)
+few_promoted Idle f c h = h
+few_promoted (WaitStart epoch) f c h = h
+few_promoted (SelectReplica epoch) f c h = h
+few_promoted (SendPromotion epoch choice) f c h = h
+few_promoted (WaitPromotion epoch choice former) f c h = (mapped forgotten f.replicas h.0, c)
+few_promoted (ReconfReplicas epoch choice former) f c h = h
+few_promoted (UpdateConfig epoch choice) f c h = h
+
+pub few_reconfigured : (state : State) (f : Failover) (place : ℕ) → HasFewPlaces f → HasFewPlaces (reconfigured state f place)
+few_reconfigured Idle f place h = h
+few_reconfigured (WaitStart epoch) f place h = h
+few_reconfigured (SelectReplica epoch) f place h = h
+few_reconfigured (SendPromotion epoch choice) f place h = h
+few_reconfigured (WaitPromotion epoch choice former) f place h = h
+few_reconfigured (ReconfReplicas epoch choice former) f place h = (omega (arith, h.0, length-set f.replicas place (followed (replica_at f.replicas place))), h.1)
+few_reconfigured (UpdateConfig epoch choice) f place h = h
+
+-- each row leaves few places
+abbrev LeaveFew : List TableRow → Type 0
+LeaveFew [] = Unit {0}
+LeaveFew (row ∷ rows) = HasFewPlaces row.leaves × LeaveFew rows
+
+either : (b : Bool) (t u : Turn) → HasFewPlaces t.failover → HasFewPlaces u.failover → HasFewPlaces (cond b t u).failover
+either true t u h k = h
+either false t u h k = k
+
+first_few : (f : Failover) (vote : Option RunId) (rows : List TableRow) → HasFewPlaces f → LeaveFew rows → HasFewPlaces (first_that_fits f vote rows).failover
+first_few f vote [] h r = h
+first_few f vote (row ∷ rows) h r =
+    either row.fits (record { failover = row.leaves; row = Some row.row; vote = vote }) (first_that_fits f vote rows) r.0 (first_few f vote rows h r.1)
+
+few_chosen : (epoch : ℕ) (best : Option (ℕ × Addr)) (f : Failover) (k : Known) → IfSome best (λ b. b.0 ≤ 256) → HasFewPlaces f → HasFewPlaces (chosen epoch best f k)
+few_chosen epoch None f k b h = h
+few_chosen epoch (Some best) f k b h = (h.0, b)
+
+few_in : (state : State) (f : Failover) (k : Known) → IfSome k.best (λ b. b.0 ≤ 256) → unwrap_or (choice_of state) 0 ≤ 256 → HasFewPlaces f → HasFewPlaces (turn_in state f k).failover
+few_in Idle f k b c h = first_few f (vote_of Idle k) (table Idle f k) h ((h.0, omega arith), tt)
+few_in (WaitStart epoch) f k b c h =
+    first_few f (vote_of (WaitStart epoch) k) (table (WaitStart epoch) f k) h ((h.0, omega arith), (few_ended f h, (h, tt)))
+few_in (SelectReplica epoch) f k b c h =
+    first_few f (vote_of (SelectReplica epoch) k) (table (SelectReplica epoch) f k) h (few_chosen epoch k.best f k b h, (few_ended f h, tt))
+few_in (SendPromotion epoch choice) f k b c h =
+    first_few f (vote_of (SendPromotion epoch choice) k) (table (SendPromotion epoch choice) f k) h (few_ended f h, (h, ((h.0, c), tt)))
+few_in (WaitPromotion epoch choice former) f k b c h =
+    first_few f (vote_of (WaitPromotion epoch choice former) k) (table (WaitPromotion epoch choice former) f k) h (few_ended f h, (h, tt))
+few_in (ReconfReplicas epoch choice former) f k b c h =
+    let can = can_be_told choice former k in
+    let all : length (told (is_due can f.replicas) k.now f.replicas) ≤ 256 = omega (arith, h.0, length-told (is_due can f.replicas) k.now f.replicas) in
+    let next = is_next can (busy_count f.replicas) k.parallel_syncs f.replicas in
+    let some : length (told next k.now f.replicas) ≤ 256 = omega (arith, h.0, length-told next k.now f.replicas) in
+    first_few f (vote_of (ReconfReplicas epoch choice former) k) (table (ReconfReplicas epoch choice former) f k) h ((all, c), ((h.0, c), ((some, h.1), tt)))
+few_in (UpdateConfig epoch choice) f k b c h =
+    first_few f (vote_of (UpdateConfig epoch choice) k) (table (UpdateConfig epoch choice) f k) h (few_ended f h, tt)
+
+few_expiring : (state : State) (now : ℕ) (f : Failover) → HasFewPlaces f → HasFewPlaces (expiring state now f)
+few_expiring Idle now f h = h
+few_expiring (WaitStart epoch) now f h = h
+few_expiring (SelectReplica epoch) now f h = h
+few_expiring (SendPromotion epoch choice) now f h = h
+few_expiring (WaitPromotion epoch choice former) now f h = h
+few_expiring (ReconfReplicas epoch choice former) now f h = (mapped (expired now) f.replicas h.0, h.1)
+few_expiring (UpdateConfig epoch choice) now f h = h
+
+few_turned : (f : Failover) (k : Known) → IfSome k.best (λ b. b.0 ≤ 256) → HasFewPlaces f → HasFewPlaces (turned f k).failover
+few_turned f k b h =
+    few_in f.state (expiring f.state k.now (quieted f)) k b h.1 (few_expiring f.state k.now (quieted f) (mapped unordered f.replicas h.0, h.1))
+
+pub few_after : (f after : Failover) (k : Known) (row : Option Row) (vote : Option RunId) → record { failover = after; row = row; vote = vote } ≡ turned f k
+    → IfSome k.best (λ b. b.0 ≤ 256) → HasFewPlaces f → HasFewPlaces after
+few_after f after k row vote e b h =
+    let same : (turned f k).failover ≡ after = sym (ap (λ (t : Turn). t.failover) e) in
+    subst (λ (x : Failover). HasFewPlaces x) same (few_turned f k b h)

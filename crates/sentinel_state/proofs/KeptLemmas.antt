@@ -1,0 +1,35 @@
+-- How many masters a file holds, and which master a search finds.
+use Rattle.std.proofs.Common.{◌≡◌, ◌≢◌, ℕ, suc, ◌<◌, ◌≤◌, Option, Some, None, List, [], ◌∷◌, length, IfSome, IfNone, refl, ap, sym, subst, ◌∙◌, arith}
+use Rattle.std.specs.List.{AllZip}
+use Rattle.ballot_law.specs.Rosters.{Roster, master_at, master_named, HasDistinctNames}
+use Rattle.ballot_law.proofs.RosterLemmas.{number_of_name, no_number_of_name}
+use Rattle.sentinel_conf.specs.Facts.{IsSoundConf}
+use Rattle.sentinel_conf.specs.Meaning.{ConfPlan}
+
+as_many : {A B : Type 0} (R : A → B → Type 0) (xs : List A) (ys : List B) → AllZip R xs ys → length xs ≡ length ys
+as_many R [] [] h = refl
+as_many R [] (y ∷ ys) h = absurd h
+as_many R (x ∷ xs) [] h = absurd h
+as_many R (x ∷ xs) (y ∷ ys) h = ap suc (as_many R xs ys h.1)
+
+-- a file holds as much of each master as there are masters
+pub few_kept : (conf : ConfPlan) → IsSoundConf conf → length conf.kept.masters ≤ 16
+few_kept conf sound =
+    let same : length conf.roster.masters ≡ length conf.kept.masters = as_many _ conf.roster.masters conf.kept.masters sound.kept.masters in
+    let few : length conf.roster.masters ≤ 16 = sound.few_masters in
+    omega arith
+
+-- the number that a search by name gives
+number_by : (roster : Roster) (name : List ℕ) (found : Option ℕ) → HasDistinctNames roster → IfSome found (λ m. (m < length roster.masters) × ((master_at roster m).name ≡ name))
+    → IfNone found ((m : ℕ) → m < length roster.masters → (master_at roster m).name ≢ name) → found ≡ master_named roster name
+number_by roster name None distinct some none = sym (no_number_of_name roster name none)
+number_by roster name (Some m) distinct some none = sym (number_of_name roster name m distinct some.0 some.1)
+
+pub number_found : (kept conf : ConfPlan) (roster : Roster) (name : List ℕ) (found : Option ℕ) → conf ≡ kept → roster ≡ conf.roster → IsSoundConf conf
+    → IfSome found (λ m. (m < length roster.masters) × ((master_at roster m).name ≡ name))
+    → IfNone found ((m : ℕ) → m < length roster.masters → (master_at roster m).name ≢ name)
+    → found ≡ master_named kept.roster name
+number_found kept conf roster name found same e sound some none =
+    number_by roster name found (subst HasDistinctNames (sym e) sound.names) some none
+    ∙ ap (λ r. master_named r name) e
+    ∙ ap (λ (c : ConfPlan). master_named c.roster name) same

@@ -1,0 +1,11 @@
+pub mod AtPlaces
+pub mod Books
+pub mod FewBest
+pub mod FewPlaces
+pub mod PartSteps
+pub mod PlaceLoops
+pub mod PlanLemmas
+pub mod RoomLemmas
+pub mod NewsLemmas
+pub mod KeptLemmas
+pub mod AnswerRows

@@ -1,0 +1,4 @@
+pub mod Places
+pub mod Room
+pub mod Rows
+pub mod Plain

@@ -1,0 +1,74 @@
+//! What is kept of a master.
+
+ghost use Rattle.std.specs.Prelude.{◌≡◌, ◌≤◌, length, IfOk};
+ghost use Rattle.ballot_law.specs.Clocks.{clock};
+ghost use Rattle.sentinel_rules.specs.States.{new_master};
+
+use crate::nodes::Node;
+use ballot_law::RunId;
+use down_detector::DownReports;
+use failover_states::Failover;
+use std::alloc::{AllocError, Global};
+use std::marker::Model;
+use vote_book::Heard;
+
+/// What is kept of a master.
+#[derive(Drop)]
+pub(crate) struct Master {
+    /// The votes of the other Sentinels, by their places.
+    pub(crate) heard: Heard,
+    /// The candidate of the last vote, where it was given since the start.
+    pub(crate) leader: Option<RunId>,
+    pub(crate) failover: Failover,
+    /// What the other Sentinels last said of it, by their places.
+    pub(crate) reports: DownReports,
+    /// Its data nodes, by address.
+    pub(crate) nodes: Vec<Node>,
+    /// When the other Sentinels were last asked whether it is down.
+    pub(crate) ask_sent: Option<u64>,
+    /// Whether it was objectively down at its last tick.
+    pub(crate) odown: bool,
+}
+
+impl Model for Master {
+    ghost use Rattle.std.specs.Prelude.{◌≤◌, length};
+    ghost use Rattle.sentinel_rules.specs.States.{MasterState};
+    ghost use Rattle.sentinel_state.specs.Places.{HasFewPlaces};
+
+    ghost Value = { MasterState };
+
+    ghost view = { λ master. record {
+      heard = master.heard;
+      leader = master.leader;
+      failover = master.failover;
+      reports = master.reports;
+      nodes = master.nodes.items;
+      ask_sent = master.ask_sent;
+      odown = master.odown;
+    } };
+
+    ghost invariant = { λ master. (length master.nodes.items ≤ 256) × HasFewPlaces master.failover };
+}
+
+impl Master {
+    /// A master of so many nodes, of which nothing was heard yet, in a group of so many Sentinels.
+    pub(crate) fn new(
+        alloc: Global,
+        sentinels: u16,
+        nodes: u16,
+        now: u64,
+    ) -> Result<Master, AllocError>
+        requires { nodes ≤ 256 }
+        ensures { IfOk result (λ master. master ≡ new_master sentinels nodes (clock now)) }
+    {
+        Ok(Master {
+            heard: Heard::new(alloc, sentinels)?,
+            leader: None,
+            failover: Failover::new(alloc, nodes)?,
+            reports: DownReports::new(alloc, sentinels)?,
+            nodes: vec![in alloc; Node::new(now); nodes as usize]?,
+            ask_sent: None,
+            odown: false,
+        })
+    }
+}

@@ -1,0 +1,37 @@
+//! What is kept of a Sentinel of the roster.
+
+ghost use Rattle.std.specs.Prelude.{◌≡◌};
+ghost use Rattle.ballot_law.specs.Clocks.{clock};
+ghost use Rattle.sentinel_rules.specs.States.{new_peer};
+
+use down_detector::Watch;
+use std::marker::Model;
+
+/// What is kept of a Sentinel of the roster: its watch, and when it was last sent a PING.
+#[derive(Clone, Copy)]
+pub(crate) struct Peer {
+    pub(crate) watch: Watch,
+    pub(crate) ping_sent: Option<u64>,
+}
+
+impl Model for Peer {
+    ghost use Rattle.sentinel_rules.specs.States.{PeerState};
+
+    ghost Value = { PeerState };
+
+    ghost view = { λ peer. record { watch = peer.watch; ping_sent = peer.ping_sent } };
+
+    ghost inverse = { λ peer. record { watch = peer.watch; ping_sent = peer.ping_sent } };
+}
+
+impl Peer {
+    /// A Sentinel of which nothing was heard yet.
+    pub(crate) fn new(now: u64) -> Peer
+        ensures { result ≡ new_peer (clock now) }
+    {
+        Peer {
+            watch: Watch::new(now),
+            ping_sent: None,
+        }
+    }
+}

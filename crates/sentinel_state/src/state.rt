@@ -1,0 +1,276 @@
+//! What a Sentinel keeps while it runs.
+
+ghost use Rattle.std.specs.Prelude.{◌≡◌, ◌<◌, ◌≤◌, length, map, IfOk, slice_set};
+ghost use Rattle.ballot_law.specs.Ballots.{card_of, kept_of, voted_of};
+ghost use Rattle.ballot_law.specs.Clocks.{clock};
+ghost use Rattle.sentinel_rules.specs.States.{opened, is_tilted, card_place, node_down_since, is_node_down, is_master_down, is_peer_down, is_odown_at, is_failing_over, is_idle, new_master, with_current, with_card, node_of, peer_of};
+ghost use Rattle.sentinel_rules.specs.Plans.{roster_of, group_size, master_count};
+
+use crate::masters::Master;
+use crate::nodes::Node;
+use crate::peers::Peer;
+use crate::plan::Plan;
+use ballot_law::{Addr, Card, Kept, KeptMaster, KeptMasters, Win};
+use down_detector::{Tilt, is_odown};
+use failover_states::State as Stage;
+use std::alloc::{AllocError, Global};
+use std::marker::Model;
+use std::mem;
+
+/// What a Sentinel keeps while it runs: what its file is to hold, and what it heard, found and sent since its start, which a stop
+/// loses.
+#[derive(Drop)]
+pub struct State {
+    pub(crate) kept: Kept,
+    pub(crate) masters: Vec<Master>,
+    pub(crate) peers: Vec<Peer>,
+    pub(crate) clock: Tilt,
+    pub(crate) random: u64,
+    pub(crate) won: Option<Win>,
+}
+
+impl Model for State {
+    ghost use Rattle.std.specs.Prelude.{◌≤◌, length};
+    ghost use Rattle.sentinel_rules.specs.States.{Core};
+
+    ghost Value = { Core };
+
+    ghost view = { λ state. record {
+      kept = state.kept;
+      masters = state.masters.items;
+      peers = state.peers.items;
+      clock = state.clock;
+      random = state.random;
+      won = state.won;
+    } };
+
+    ghost invariant = { λ state. (length state.masters.items ≤ 16)
+        × ((length state.peers.items ≤ 64) × (length state.kept.masters ≤ 16)) };
+}
+
+/// Each master of the plan, of which nothing was heard yet.
+fn opened_masters(alloc: Global, plan: &Plan, now: u64) -> Result<Vec<Master>, AllocError>
+    ensures value { IfOk result (λ masters. masters.items ≡ map (λ master.
+        new_master (group_size plan.now) (length master.nodes) (clock now)) (roster_of plan.now).masters) }
+    ensures few { IfOk result (λ masters. length masters.items ≤ 16) }
+{
+    let mut masters = Vec::with_capacity(alloc, plan.master_count() as usize)?;
+    for m in 0..plan.master_count() {
+        let nodes = plan.nodes(m).len() as u16;
+        masters.push(Master::new(alloc, plan.group_size(), nodes, now)?)?;
+    }
+    Ok(masters)
+}
+
+/// A copy of what a file holds.
+fn copy_of(alloc: Global, kept: &Kept) -> Result<Kept, AllocError>
+    ensures { IfOk result (λ copy. copy ≡ kept.now) }
+{
+    let masters = Vec::from_slice(alloc, kept.masters.as_slice())?;
+    Ok(Kept {
+        current: kept.current,
+        masters: KeptMasters::from_vec(masters),
+    })
+}
+
+/// A copy of what the plan's file holds.
+#[tactic(auto, using(crate::proofs::KeptLemmas::few_kept))]
+fn opened_kept(alloc: Global, plan: &Plan) -> Result<Kept, AllocError>
+    ensures value { IfOk result (λ kept. kept ≡ plan.now.conf.kept) }
+    ensures few { IfOk result (λ kept. length kept.masters ≤ 16) }
+{
+    let conf = plan.conf();
+    let _sound = conf.roster();
+    copy_of(alloc, conf.kept())
+}
+
+/// Whether no failover is under way.
+fn is_idle(stage: Stage) -> bool
+    ensures { result ≡ is_idle stage }
+{
+    match stage {
+        Stage::Idle => true,
+        Stage::WaitStart { .. } => false,
+        Stage::SelectReplica { .. } => false,
+        Stage::SendPromotion { .. } => false,
+        Stage::WaitPromotion { .. } => false,
+        Stage::ReconfReplicas { .. } => false,
+        Stage::UpdateConfig { .. } => false,
+    }
+}
+
+impl State {
+    /// What a Sentinel keeps at its start: what its file holds, and nothing else. The only error is want of memory.
+    pub fn open(alloc: Global, plan: &Plan, now: u64) -> Result<State, AllocError>
+        ensures { IfOk result (λ state. state ≡ opened plan.now now) }
+    {
+        let masters = opened_masters(alloc, plan, now)?;
+        let kept = opened_kept(alloc, plan)?;
+        Ok(State {
+            kept,
+            masters,
+            peers: vec![in alloc; Peer::new(now); plan.group_size() as usize]?,
+            clock: Tilt::new(now),
+            random: 0,
+            won: None,
+        })
+    }
+
+    /// What the file is to hold.
+    pub fn kept(&self) -> &Kept
+        ensures { result.now ≡ self.now.kept }
+    {
+        &self.kept
+    }
+
+    /// The election that the last input brought.
+    pub fn won(&self) -> Option<Win>
+        ensures { result ≡ self.now.won }
+    {
+        self.won
+    }
+
+    /// The election of the input before is over.
+    pub fn forget_win(&mut self)
+        ensures { self.new ≡ record self.old { won = None } }
+    {
+        self.won = None;
+    }
+
+    /// Whether the clock is not to be trusted (TILT).
+    pub(crate) fn is_tilted(&self) -> bool
+        ensures { result ≡ is_tilted self.now }
+    {
+        self.clock.holds()
+    }
+
+    /// A master's configuration.
+    pub fn card(&self, m: u16) -> Card
+        ensures { result ≡ card_of self.now.kept m }
+    {
+        match self.kept.masters.as_slice().get(m as usize) {
+            Some(master) => master.card,
+            None => Card {
+                epoch: 0,
+                addr: Addr { ip: 0, port: 0 },
+            },
+        }
+    }
+
+    pub(crate) fn card_place(&self, plan: &Plan, m: u16) -> usize
+        ensures value { result ≡ card_place plan.now self.now m }
+        ensures within { result ≤ 256 }
+    {
+        plan.node_place(m, self.card(m).addr)
+    }
+
+    pub(crate) fn is_failing_over(&self, m: u16) -> bool
+        ensures { result ≡ is_failing_over self.now m }
+    {
+        match self.masters.get(m as usize) {
+            Some(master) => !is_idle(master.failover.state()),
+            None => false,
+        }
+    }
+
+    pub(crate) fn node_down_since(&self, plan: &Plan, m: u16, now: u64, k: usize) -> Option<u64>
+        ensures { result ≡ node_down_since plan.now self.now m (clock now) k }
+    {
+        let as_master = k == self.card_place(plan, m);
+        let after_ms = plan.settings(m).after_ms;
+        self.node(m, k).watch.sdown_since(now, after_ms, as_master)
+    }
+
+    pub(crate) fn is_node_down(&self, plan: &Plan, m: u16, now: u64, k: usize) -> bool
+        ensures { result ≡ is_node_down plan.now self.now m (clock now) k }
+    {
+        self.node_down_since(plan, m, now, k).is_some()
+    }
+
+    pub(crate) fn is_master_down(&self, plan: &Plan, m: u16, now: u64) -> bool
+        ensures { result ≡ is_master_down plan.now self.now m (clock now) }
+    {
+        self.is_node_down(plan, m, now, self.card_place(plan, m))
+    }
+
+    pub(crate) fn is_peer_down(&self, plan: &Plan, now: u64, place: usize) -> bool
+        ensures { result ≡ is_peer_down plan.now self.now (clock now) place }
+    {
+        self.peer(place)
+            .watch
+            .is_sdown(now, plan.settings(0).after_ms, false)
+    }
+
+    pub(crate) fn is_odown(&self, plan: &Plan, m: u16, now: u64) -> bool
+        requires { m < master_count plan.now }
+        ensures { result ≡ is_odown_at plan.now self.now m (clock now) }
+    {
+        let own = self.is_master_down(plan, m, now);
+        match self.masters.get(m as usize) {
+            Some(master) => is_odown(own, &master.reports, now, plan.quorum(m)),
+            None => own && plan.quorum(m) <= 1,
+        }
+    }
+
+    pub(crate) fn set_current(&mut self, epoch: u64)
+        ensures { self.new ≡ with_current self.old epoch }
+    {
+        self.kept.current = epoch;
+    }
+
+    /// The card of a master; nothing where there is no such master.
+    pub(crate) fn set_card(&mut self, m: u16, card: Card)
+        ensures { self.new ≡ with_card self.old m card }
+    {
+        self.set_kept(m, card, self.voted(m));
+    }
+
+    /// The epoch of the last vote for a master.
+    pub(crate) fn set_voted(&mut self, m: u16, voted: u64)
+        ensures { self.new ≡ record self.old { kept = record self.old.kept { masters = slice_set self.old.kept.masters m (record (kept_of self.old.kept m) { voted = voted }) } } }
+    {
+        self.set_kept(m, self.card(m), voted);
+    }
+
+    /// What is kept of a data node; what is kept of a new one at 0 where there is no such node.
+    pub(crate) fn node(&self, m: u16, k: usize) -> Node
+        ensures { result ≡ node_of self.now m k }
+    {
+        match self.masters.get(m as usize) {
+            Some(master) => *master.nodes.get(k).unwrap_or(&Node::new(0)),
+            None => Node::new(0),
+        }
+    }
+
+    /// What is kept of a Sentinel; what is kept of a new one at 0 where there is no such Sentinel.
+    pub(crate) fn peer(&self, place: usize) -> Peer
+        ensures { result ≡ peer_of self.now place }
+    {
+        match self.peers.get(place) {
+            Some(peer) => *peer,
+            None => Peer::new(0),
+        }
+    }
+
+    /// The epoch of the last vote for a master.
+    pub(crate) fn voted(&self, m: u16) -> u64
+        ensures { result ≡ voted_of self.now.kept m }
+    {
+        match self.kept.masters.as_slice().get(m as usize) {
+            Some(master) => master.voted,
+            None => 0,
+        }
+    }
+
+    /// Keeps this of a master; nothing where there is no such master.
+    fn set_kept(&mut self, m: u16, card: Card, voted: u64)
+        ensures { self.new ≡ record self.old { kept = record self.old.kept { masters = slice_set self.old.kept.masters m (record { card = card; voted = voted }) } } }
+    {
+        let none = KeptMasters::from_vec(Vec::new(*self.masters.allocator()));
+        let mut masters = mem::replace(&mut self.kept.masters, none).into_vec();
+        if let Some(master) = masters.get_mut(m as usize) {
+            *master = KeptMaster { card, voted };
+        }
+        self.kept.masters = KeptMasters::from_vec(masters);
+    }
+}
