@@ -28,3 +28,5 @@ pub use serving::{READS_MAX, Served};
 mod message_tests;
 #[cfg(test)]
 mod outbox_tests;
+#[cfg(test)]
+mod serving_tests;

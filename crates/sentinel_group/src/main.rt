@@ -5,7 +5,8 @@ ghost use Rattle.std.specs.Prelude.{◌<◌, ◌-◌, ◌^◌};
 
 use clap::{Arg, Command, Error};
 use sentinel_conf::{Conf, ConfFault, ConfKind, ConfStore, LoadFault, MemoryStore, read};
-use sentinel_runner::{FileStore, ServeFault, serve_votes};
+use sentinel_core::{Sentinel, ServeFault};
+use sentinel_runner::FileStore;
 use std::alloc::{AllocError, Global};
 use std::fmt::Display;
 use std::process::ExitCode;
@@ -24,10 +25,10 @@ const REFUSED_FILE: u8 = 3;
 /// The command line of the program.
 fn command<'a>(alloc: Global) -> Result<Command<'a>, AllocError> {
     let conf = Arg::new(alloc, "conf").long("conf").value_name("file").help(
-        "The sentinel.conf that is read and rewritten; without it the votes are kept in memory",
+        "The sentinel.conf that is read and rewritten; without it what it holds is kept in memory",
     );
     let answer = Command::new(alloc, "answer")
-        .about("Answers the vote requests of standard input on standard output")
+        .about("Answers the commands of standard input on standard output")
         .arg(conf)?;
     Command::new(alloc, "sentinel_group")
         .about("A failover group with the behaviour of Redis Sentinel")
@@ -75,11 +76,14 @@ fn refuse_words<R: Print + Eprint>(rt: &R, error: &Error) -> io::Result<ExitCode
     Ok(ExitCode::from(error.exit_code() as u8))
 }
 
-/// Serves standard input on standard output.
-fn serve<S: ConfStore>(rt: HostRuntime, conf: &Conf, store: &mut S) -> io::Result<ExitCode>
+/// Opens the Sentinel of this configuration at clock 0, and serves standard input on standard output.
+fn serve<S: ConfStore>(rt: HostRuntime, conf: Conf, store: &mut S) -> io::Result<ExitCode>
     requires { S.failure_count store.old < 2 ^ 64 - 1 }
 {
-    match serve_votes(rt.alloc(), conf, store, &mut rt.stdin(), &mut rt.stdout()) {
+    let Ok(mut sentinel) = Sentinel::open(rt.alloc(), conf, 0) else {
+        return fail(&rt, ServeFault::NoMemory);
+    };
+    match sentinel.serve(rt.alloc(), 0, &mut rt.stdin(), &mut rt.stdout(), store) {
         Ok(_) => Ok(ExitCode::SUCCESS),
         Err(fault) => fail(&rt, fault),
     }
@@ -93,10 +97,10 @@ fn answer_in_memory(rt: HostRuntime) -> io::Result<ExitCode> {
     let Ok(mut store) = MemoryStore::holding(rt.alloc(), DEFAULT_CONF) else {
         return fail(&rt, ServeFault::NoMemory);
     };
-    serve(rt, &conf, &mut store)
+    serve(rt, conf, &mut store)
 }
 
-/// Serves with the configuration of the file at the path, which is rewritten as the votes change.
+/// Serves with the configuration of the file at the path, which is rewritten as what it holds changes.
 fn answer_from(rt: HostRuntime, path: &str) -> io::Result<ExitCode> {
     let Ok(mut store) = FileStore::at(rt, rt.alloc(), path) else {
         return fail(&rt, ServeFault::NoMemory);
@@ -107,7 +111,7 @@ fn answer_from(rt: HostRuntime, path: &str) -> io::Result<ExitCode> {
         Err(LoadFault::Failed) => return refuse_file(&rt, path, 0, "Unreadable"),
     };
     match read(rt.alloc(), text.as_slice()) {
-        Ok(conf) => serve(rt, &conf, &mut store),
+        Ok(conf) => serve(rt, conf, &mut store),
         Err(fault) => refuse_conf(&rt, path, fault),
     }
 }
