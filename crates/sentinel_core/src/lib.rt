@@ -25,8 +25,12 @@ pub use sentinel::{Sentinel, Took};
 pub use serving::{READS_MAX, Served};
 
 #[cfg(test)]
+mod failover_tests;
+#[cfg(test)]
 mod message_tests;
 #[cfg(test)]
 mod outbox_tests;
+#[cfg(test)]
+mod sentinel_tests;
 #[cfg(test)]
 mod serving_tests;
