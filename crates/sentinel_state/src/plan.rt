@@ -56,12 +56,14 @@ impl Plan {
         Plan { conf, place }
     }
 
+    /// What the file says.
     pub fn conf(&self) -> &Conf
         ensures { result.now ≡ self.now.conf }
     {
         &self.conf
     }
 
+    /// The Sentinels and the masters of the group, in the roster's order.
     pub fn roster(&self) -> &Roster
         ensures { result.now ≡ roster_of self.now }
     {
@@ -144,6 +146,7 @@ impl Plan {
         self.roster().need(m)
     }
 
+    /// How many Sentinels have to find the master with this number down, as its `monitor` line says.
     pub fn quorum(&self, m: u16) -> u32
         requires { m < master_count self.now }
         ensures { result ≡ (master_at (roster_of self.now) m).quorum }
@@ -160,6 +163,7 @@ impl Plan {
         self.roster().master_named(name)
     }
 
+    /// The name of the master with this number.
     pub fn name(&self, m: u16) -> Name
         requires { m < master_count self.now }
         ensures { result ≡ (master_at (roster_of self.now) m).name }
