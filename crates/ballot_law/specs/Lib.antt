@@ -4,6 +4,7 @@ pub mod Counts
 pub mod Hellos
 pub mod Law
 pub mod Messages
+pub mod NameWords
 pub mod Names
 pub mod NamesAgain
 pub mod Ordered

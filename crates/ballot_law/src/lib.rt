@@ -9,9 +9,11 @@ mod addresses;
 mod cards;
 mod clocks;
 mod commands;
+mod comparisons;
 mod events;
 mod hearings;
 mod laws;
+mod memory;
 mod messages;
 mod names;
 mod ordering;
@@ -25,14 +27,17 @@ pub use addresses::{Addr, RunId};
 pub use cards::{Card, Kept, KeptMaster, KeptMasters, MAX_EPOCH, Shown, ShownList};
 pub use clocks::{LAST_READING, clock_of};
 pub use commands::Command;
+pub use comparisons::is_same_bytes;
 pub use events::{Event, Input};
 pub use hearings::{DownReport, HeardVote};
 pub use laws::{
     law_elected_may_win, law_failover_happens, law_never_falls, law_one_address, law_one_leader,
     law_runs_join,
 };
+pub use memory::NoMemory;
 pub use messages::{Body, Message, NodeName, Note, Output};
 pub use names::{NAME_MAX, Name};
+pub use ordering::{Placed, ordered};
 pub use records::{Elected, Said, Win};
 pub use replies::{DataRole, Hello, Info, PingReply, Role};
 pub use rosters::{Member, Roster, RosterFault, Watched};

@@ -2,8 +2,11 @@
 
 ghost use Rattle.std.specs.Prelude.{◌≡◌, ◌↔◌, ◌≤◌, ◌<◌, ◌++◌, ◌-◌, length, IsSome, IfSome, IsTrue};
 ghost use Rattle.ballot_law.specs.Names.{IsName, IsNameByte};
+ghost use Rattle.ballot_law.specs.Orders.{bytes_before};
 ghost use Rattle.ballot_law.specs.Padding.{zeros};
 
+use crate::comparisons::is_bytes_before;
+use crate::ordering::Placed;
 use std::marker::Model;
 
 /// The greatest length of a name, in bytes.
@@ -82,5 +85,13 @@ impl Name {
         ensures { IsTrue result ↔ (self ≡ other) }
     {
         self == other
+    }
+}
+
+impl Placed for Name {
+    ghost before = { bytes_before };
+
+    fn is_before(&self, other: &Name) -> bool {
+        is_bytes_before(self.as_slice(), other.as_slice())
     }
 }

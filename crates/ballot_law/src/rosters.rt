@@ -8,6 +8,7 @@ ghost use Rattle.ballot_law.specs.declared.rosters.RosterFault.TheVariants.{NoMe
 ghost use Rattle.ballot_law.specs.RosterFaults.{Makes, fault_of, first_that_fits, first_tests, last_tests, addresses};
 
 use crate::addresses::{Addr, RunId};
+use crate::comparisons::is_same_bytes;
 use crate::names::Name;
 use crate::ordering::{Keyed, Placed, has_repeats, ordered};
 use std::alloc::{AllocError, Global};
@@ -106,43 +107,11 @@ impl Keyed for Member {
     }
 }
 
-/// Whether the first text stands before the second.
-fn is_bytes_before(first: &[u8], second: &[u8]) -> bool
-    ensures { result ≡ bytes_before first.now second.now }
-{
-    match first {
-        [] => match second {
-            [] => false,
-            [_, ..] => true,
-        },
-        [x, xs @ ..] => match second {
-            [] => false,
-            [y, ys @ ..] => *x < *y || (*x == *y && is_bytes_before(xs, ys)),
-        },
-    }
-}
-
-/// Whether the two texts are the same.
-fn is_same_bytes(first: &[u8], second: &[u8]) -> bool
-    ensures { result ≡ same_bytes first.now second.now }
-{
-    match first {
-        [] => match second {
-            [] => true,
-            [_, ..] => false,
-        },
-        [x, xs @ ..] => match second {
-            [] => false,
-            [y, ys @ ..] => *x == *y && is_same_bytes(xs, ys),
-        },
-    }
-}
-
 impl Placed for Watched {
     ghost before = { λ a b. bytes_before a.name b.name };
 
     fn is_before(&self, other: &Watched) -> bool {
-        is_bytes_before(self.name.as_slice(), other.name.as_slice())
+        self.name.is_before(&other.name)
     }
 }
 

@@ -135,6 +135,25 @@ fn names_are_short_and_plain(rt: HostRuntime) -> Result<(), Fail> {
 }
 
 #[test]
+fn names_are_in_the_order_of_their_bytes(rt: HostRuntime) -> Result<(), Fail> {
+    let mut names = Vec::new(rt.alloc());
+    for letter in b"bab-B" {
+        names.push(Name::from_slice(&[*letter]).ok_or("refused")?)?;
+    }
+    names.push(Name::from_slice(b"ab").ok_or("refused")?)?;
+    let names = ordered(rt.alloc(), names)?;
+    let mut text = Vec::new(rt.alloc());
+    for name in &names {
+        text.extend_from_slice(name.as_slice())?;
+        text.push(b' ')?;
+    }
+    assert_eq!(rt; text.as_slice(), b"- B a ab b ".as_slice());
+    assert!(rt; is_same_bytes(b"ab", b"ab"));
+    assert!(rt; !is_same_bytes(b"a", b"ab"));
+    Ok(())
+}
+
+#[test]
 fn texts_keep_their_bytes(rt: HostRuntime) -> Result<(), Fail> {
     let text = Text::from_slice(rt.alloc(), b"# group")?;
     assert_eq!(rt; text.as_slice(), b"# group".as_slice());

@@ -8,12 +8,12 @@ use Rattle.std.proofs.lemmas.Str.Ascii.{IsAscii-cons}
 use Rattle.ballot_law.specs.declared.cards.TheConstants.{MAX_EPOCH}
 use Rattle.ballot_law.specs.declared.replies.Hello.{Hello}
 use Rattle.ballot_law.specs.Hellos.{hello_fields, hello_text, IsHello, SpellsHello}
+use Rattle.ballot_law.specs.NameWords.{name_is}
 use Rattle.ballot_law.specs.Words.{with_first, ip_text, id_text}
 use Rattle.ballot_law.proofs.HelloLemmas.{fields_of, fields_of-hello_text}
 use Rattle.ballot_law.proofs.WordLemmas.{ip-ip_text, run_id-id_text}
 use Rattle.node_texts.specs.Faults.{◌>>=◌, wanted, unless_not}
 use Rattle.node_texts.specs.Hellos.{comma_parts, sender_of, master_of, hello_from, hello_of_parts, hello_of}
-use Rattle.node_texts.proofs.NameLemmas.{name-name}
 use Rattle.node_texts.proofs.WordsAgain.{ascii_ip, ascii_id, ascii_name, port_again, epoch_again}
 
 -- ---- the encoding
@@ -54,7 +54,7 @@ sender_again h w =
 
 master_again : (h : Hello) → IsHello h → master_of h.master (ip_text h.card.addr.ip) (decimal h.card.addr.port) (decimal h.card.epoch) ≡ Ok (record { name = h.master; addr = h.card.addr; epoch = Some h.card.epoch })
 master_again h w =
-    let n = name-name h.master w.master in
+    let n = name_is h.master w.master in
     let i = ip-ip_text h.card.addr.ip w.card_addr.ip in
     let p = port_again h.card.addr.port w.card_addr.port_low w.card_addr.port_high in
     let e = epoch_again h.card.epoch w.epoch in

@@ -10,6 +10,7 @@ use Rattle.ballot_law.specs.declared.addresses.RunId.{RunId}
 use Rattle.ballot_law.specs.declared.cards.TheConstants.{MAX_EPOCH}
 use Rattle.ballot_law.specs.declared.replies.Hello.{Hello}
 use Rattle.ballot_law.specs.Hellos.{with_commas, IsHello, SpellsHello}
+use Rattle.ballot_law.specs.NameWords as words
 use Rattle.ballot_law.specs.Names.{IsName}
 use Rattle.ballot_law.specs.Words.{number, number_within, name, with_first, ip, ip_text, run_id, id_text}
 use Rattle.ballot_law.proofs.WordLemmas.{some_if-some}
@@ -20,7 +21,6 @@ use Rattle.node_texts.specs.declared.hello_fields.OfMaster.{OfMaster}
 use Rattle.node_texts.specs.Faults.{◌>>=◌, wanted, unless_not}
 use Rattle.node_texts.specs.Hellos.{comma_parts, are_digits, has_leading_zero, is_decimal, epoch, canonical_port, sender_of, master_of, within_epochs, hello_from, hello_of_parts, hello_of}
 use Rattle.node_texts.proofs.CommaLemmas.{some_parts}
-use Rattle.node_texts.proofs.NameLemmas.{is_name, name_is}
 use Rattle.node_texts.proofs.WordsBack.{some_if-value, then_within, IsWithin, canonical_is, ip_is, run_id_is}
 
 -- ---- the commas
@@ -67,9 +67,7 @@ pub record IsNamed (bytes found : List ℕ) : Type 0 where
   pub valid : IsName found
 
 pub name_found : (bytes found : List ℕ) → name bytes ≡ Some found → IsNamed bytes found
-name_found bytes found h =
-    let same : bytes ≡ found = some_if-value (is_name bytes) bytes found h in
-    record { text = same; valid = subst IsName same (name_is bytes (some_if-some (is_name bytes) bytes found h)) }
+name_found bytes found h = let both = words.name_found bytes found h in record { text = both.0; valid = both.1 }
 
 -- ---- readings that went well
 

@@ -5,7 +5,6 @@ pub mod InfoAgain
 pub mod InfoLines
 pub mod LabelLemmas
 pub mod LineLemmas
-pub mod NameLemmas
 pub mod NewestLemmas
 pub mod RoleAgain
 pub mod Utf8Lemmas

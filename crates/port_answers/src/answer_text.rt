@@ -1,6 +1,6 @@
 //! The text of answers, in room that was made beforehand.
 
-ghost use Rattle.std.specs.Prelude.{◌≡◌, ◌≤◌, ◌++◌, [], IfOk, IfSome, vec_capacity};
+ghost use Rattle.std.specs.Prelude.{◌≡◌, ◌≤◌, ◌++◌, [], IfOk, vec_capacity};
 ghost use Rattle.port_answers.specs.Room.{ANSWER_MAX, bounded};
 
 use ballot_law::Text;
@@ -54,18 +54,6 @@ impl AnswerText {
         ensures whole { bounded self ≡ self }
     {
         Text::from_vec(self.bytes)
-    }
-
-    /// An empty text in the room of this one; none where that is less than `ANSWER_MAX` bytes, and then the text is gone.
-    /// No memory is taken.
-    pub fn from_text(text: Text) -> Option<AnswerText>
-        ensures { IfSome result (λ answers. answers ≡ []) }
-    {
-        let bytes = text.into_vec();
-        if bytes.capacity() < ANSWER_MAX {
-            return None;
-        }
-        Some(AnswerText::from_vec(bytes))
     }
 
     /// An empty text in the room of these bytes, which are gone. No memory is taken.

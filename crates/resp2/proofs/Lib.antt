@@ -15,6 +15,5 @@ pub mod Written
 pub mod Adding
 pub mod Canonical
 pub mod Counts
-pub mod NameWords
 pub mod AskFrames
 pub mod Asks

@@ -4,6 +4,7 @@ ghost use Rattle.resp2.specs.declared.fault.FrameFault.TheVariants.{NoMemory};
 ghost use Rattle.resp2.specs.declared.fault.Unread.TheVariants.{Faulty};
 ghost use Rattle.resp2.specs.declared.fault.Stopped.TheVariants.{At, Memory};
 
+use ballot_law::NoMemory;
 use std::alloc::{AllocError, AllocFailed};
 use thiserror::Error;
 
@@ -104,22 +105,5 @@ impl Stopped {
         ensures { result ≡ At (Faulty fault) }
     {
         Stopped::At(Unread::Faulty(fault))
-    }
-}
-
-/// Memory was refused, and nothing that the caller can see has changed.
-#[derive(Clone, Copy, Debug, PartialEq, Eq, Error)]
-#[error("NoMemory")]
-pub struct NoMemory;
-
-impl From<AllocError> for NoMemory {
-    fn from(_error: AllocError) -> NoMemory {
-        NoMemory
-    }
-}
-
-impl<T: Drop> From<AllocFailed<T>> for NoMemory {
-    fn from(_error: AllocFailed<T>) -> NoMemory {
-        NoMemory
     }
 }

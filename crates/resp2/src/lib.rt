@@ -17,9 +17,9 @@ mod text;
 mod value;
 mod writing;
 
-pub use ballot_law::Command;
+pub use ballot_law::{Command, NoMemory};
 pub use command::{CommandFault, command_of};
-pub use fault::{FrameFault, NoMemory, Unread};
+pub use fault::{FrameFault, Unread};
 pub use frames::Frames;
 pub use laws::{
     law_ask_is_read_again, law_fault_and_value_stay, law_no_value_behind_a_fault, law_one_spelling,

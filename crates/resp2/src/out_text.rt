@@ -1,7 +1,7 @@
 //! Text that is written piece by piece.
 ghost use Rattle.std.specs.Prelude.{◌≡◌, ℕ, ◌++◌, List, [], length, take, OnOk, OnErr};
 
-use crate::fault::NoMemory;
+use ballot_law::NoMemory;
 use std::alloc::Global;
 use std::marker::Model;
 

@@ -4,9 +4,9 @@ ghost use Rattle.resp2.specs.Frame as frames;
 ghost use Rattle.resp2.specs.Frame.{view, frames_view, spelling, spellings, line_end, HasLines};
 ghost use Rattle.resp2.specs.Writing.{Adds};
 
-use crate::fault::NoMemory;
 use crate::out_text::OutText;
 use crate::value::Value;
+use ballot_law::NoMemory;
 use itoa::Buffer;
 
 /// Adds these bytes.

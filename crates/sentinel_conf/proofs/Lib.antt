@@ -8,7 +8,6 @@ pub mod RosterAgain
 pub mod ListSteps
 pub mod FileWalks
 pub mod DirectiveSteps
-pub mod NameWords
 pub mod SetLemmas
 pub mod OrderLemmas
 pub mod StateLemmas

@@ -7,6 +7,7 @@ use Rattle.ballot_law.specs.declared.addresses.Addr.{Addr}
 use Rattle.ballot_law.specs.declared.addresses.RunId.{RunId}
 use Rattle.ballot_law.specs.declared.rosters.Member.{Member}
 use Rattle.ballot_law.specs.Hellos.{IsAddr, IsRunId}
+use Rattle.ballot_law.specs.NameWords.{name_found}
 use Rattle.ballot_law.specs.Rosters.{MasterPlan, no_addr, no_member, no_master}
 use Rattle.ballot_law.specs.Orders.{same_id, same_bytes, same_addr, addr_before, bytes_before}
 use Rattle.sentinel_conf.specs.Meaning.{ConfPlan}
@@ -16,7 +17,6 @@ use Rattle.sentinel_conf.proofs.SetLemmas.{In, each_in}
 use Rattle.sentinel_conf.proofs.OrderLemmas.{IsSame, addr_order, bytes_order, addr_same, id_same, bytes_same}
 use Rattle.sentinel_conf.proofs.StateLemmas as state
 use Rattle.sentinel_conf.proofs.FileLemmas.{Apart, apart_rises, apart_back, apart_from_repeats, repeats_key, none_any}
-use Rattle.sentinel_conf.proofs.NameWords.{is_name}
 use Rattle.sentinel_conf.proofs.ReadAgain.{names, IsMaster, IsMember, IsConf, no_fault}
 use Rattle.sentinel_conf.proofs.ReadConf.{conf_is}
 use Rattle.sentinel_conf.proofs.Fitting.{all_set}
@@ -102,7 +102,7 @@ module _ (conf : ConfPlan) (c : IsConf conf) where
         members = λ i l. let m = member_is i l in
             (addr_is (get_or conf.roster.sentinels i no_member).addr m.addr, id_is (get_or conf.roster.sentinels i no_member).id m.id);
         listed = λ m k l r. addr_is (get_or (at m).nodes k no_addr) (each_in state.IsAddr (at m).nodes (master_is m l).nodes (get_or (at m).nodes k no_addr) (in_at (at m).nodes no_addr k r));
-        named = λ m l. is_name (at m).name (master_is m l).name;
+        named = λ m l. (name_found (at m).name (at m).name (master_is m l).name).1;
         kept = c.kept;
       }
 

@@ -65,7 +65,7 @@ pub fn four_words(text: &[u8]) -> Result<(&[u8], &[u8], &[u8], &[u8]), ConfKind>
 }
 
 /// A master's name.
-#[tactic(auto, using(crate::proofs::NameWords::name_is, crate::proofs::NameWords::name_not))]
+#[tactic(auto, using(ballot_law::specs::NameWords::name_is, ballot_law::specs::NameWords::name_not))]
 pub fn name_word(word: &[u8]) -> Result<Name, ConfKind>
     ensures { MatchResult result (λ n. name word.now ≡ Some n)
         (λ kind. (kind ≡ BadName) × (name word.now ≡ None)) }

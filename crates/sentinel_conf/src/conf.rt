@@ -10,11 +10,11 @@ ghost use Rattle.sentinel_conf.specs.Room.{bounded};
 ghost use Rattle.sentinel_conf.specs.Facts.{IsSoundConf, no_settings};
 
 use crate::conf_text::{ConfText, FILE_MAX};
-use crate::faults::{ConfFault, ConfKind, NoMemory};
+use crate::faults::{ConfFault, ConfKind};
 use crate::parts::Parts;
 use crate::reading::{check_size, parts_of, place_of};
 use crate::settings::Settings;
-use ballot_law::{Kept, Roster};
+use ballot_law::{Kept, NoMemory, Roster};
 use std::alloc::Global;
 use std::marker::Model;
 use std::str;

@@ -4,7 +4,7 @@ ghost use Rattle.std.specs.Prelude.{◌≡◌, ◌++◌, [], nat_lt, length, IfO
 ghost use Rattle.sentinel_conf.specs.Room.{bounded};
 ghost use Rattle.sentinel_conf.specs.Reading.{FILE_MAX};
 
-use crate::faults::NoMemory;
+use ballot_law::NoMemory;
 use std::alloc::Global;
 use std::marker::Model;
 

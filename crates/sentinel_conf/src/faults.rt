@@ -52,8 +52,3 @@ pub struct ConfFault {
     pub line: u64,
     pub kind: ConfKind,
 }
-
-/// A growth was refused, and nothing that the caller can see has changed.
-#[derive(Clone, Copy, Debug, PartialEq, Eq, Error)]
-#[error("NoMemory")]
-pub struct NoMemory;

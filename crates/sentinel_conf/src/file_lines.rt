@@ -14,8 +14,7 @@ use crate::directives::line_of;
 use crate::faults::{ConfFault, ConfKind};
 use crate::line_words::next_line;
 use crate::lines::{Line, Setting, State};
-use crate::texts::is_same_text;
-use ballot_law::Name;
+use ballot_law::{Name, is_same_bytes};
 use std::alloc::{AllocError, Global};
 
 /// What the lines of a file say, in order.
@@ -84,18 +83,18 @@ fn is_same_key(state: &State, other: &State) -> bool
         State::MyId(_) => matches!(other, State::MyId(_)),
         State::CurrentEpoch(_) => matches!(other, State::CurrentEpoch(_)),
         State::Monitor { name, .. } => match other {
-            State::Monitor { name: other, .. } => is_same_text(name.as_slice(), other.as_slice()),
+            State::Monitor { name: other, .. } => is_same_bytes(name.as_slice(), other.as_slice()),
             _ => false,
         },
         State::ConfigEpoch { name, .. } => match other {
-            State::ConfigEpoch { name: other, .. } => is_same_text(
+            State::ConfigEpoch { name: other, .. } => is_same_bytes(
                 name.as_slice(),
                 other.as_slice(),
             ),
             _ => false,
         },
         State::LeaderEpoch { name, .. } => match other {
-            State::LeaderEpoch { name: other, .. } => is_same_text(
+            State::LeaderEpoch { name: other, .. } => is_same_bytes(
                 name.as_slice(),
                 other.as_slice(),
             ),
@@ -105,7 +104,7 @@ fn is_same_key(state: &State, other: &State) -> bool
             State::KnownReplica {
                 name: other,
                 addr: at,
-            } => { is_same_text(name.as_slice(), other.as_slice()) && addr.is_same(at) }
+            } => { is_same_bytes(name.as_slice(), other.as_slice()) && addr.is_same(at) }
             _ => false,
         },
         State::KnownSentinel { name, id, .. } => match other {
@@ -113,7 +112,7 @@ fn is_same_key(state: &State, other: &State) -> bool
                 name: other,
                 id: of,
                 ..
-            } => { is_same_text(name.as_slice(), other.as_slice()) && id.is_same(of) }
+            } => { is_same_bytes(name.as_slice(), other.as_slice()) && id.is_same(of) }
             _ => false,
         },
     }
@@ -190,7 +189,7 @@ fn is_among(names: &[Name], name: &Name) -> bool
 {
     names
         .iter()
-        .any(|other| is_same_text(name.as_slice(), other.as_slice()))
+        .any(|other| is_same_bytes(name.as_slice(), other.as_slice()))
 }
 
 /// The fault of a line that speaks of a master that isn't among these.

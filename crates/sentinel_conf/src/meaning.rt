@@ -6,10 +6,9 @@ ghost use Rattle.ballot_law.specs.Rosters.{no_addr};
 ghost use Rattle.sentinel_conf.specs.Meaning.{name_of, my_id_of, node_of, quorum_of, monitored_at, config_of, voted_of, epoch_of, known_of, first, first_given, last, greatest, master_of, kept_master_of, members_of, port_of, announce_ip_of, announce_port_of, after_of, syncs_of, timeout_of, own_port, own_addr, settings_of};
 
 use crate::lines::{Setting, State};
-use crate::ordering::ordered;
+use crate::listed::{Listed, members_in_order};
 use crate::settings::Settings;
-use crate::texts::is_same_text;
-use ballot_law::{Addr, Card, KeptMaster, Member, Name, RunId, Watched};
+use ballot_law::{Addr, Card, KeptMaster, Member, Name, RunId, Watched, is_same_bytes, ordered};
 use std::alloc::{AllocError, Global};
 
 /// The port of a Sentinel that names none.
@@ -57,13 +56,13 @@ fn node_of(state: &State, name: &Name) -> Option<Addr>
             addr,
             ..
         } => {
-            if is_same_text(name.as_slice(), other.as_slice()) {
+            if is_same_bytes(name.as_slice(), other.as_slice()) {
                 return Some(*addr);
             }
             None
         }
         State::KnownReplica { name: other, addr } => {
-            if is_same_text(name.as_slice(), other.as_slice()) {
+            if is_same_bytes(name.as_slice(), other.as_slice()) {
                 return Some(*addr);
             }
             None
@@ -103,7 +102,7 @@ fn quorum_of(states: &[State], name: &Name) -> u32
             ..
         } = state
         {
-            if is_same_text(name.as_slice(), other.as_slice()) {
+            if is_same_bytes(name.as_slice(), other.as_slice()) {
                 return *quorum;
             }
         }
@@ -124,7 +123,7 @@ fn monitored_at(states: &[State], name: &Name) -> Addr
             ..
         } = state
         {
-            if is_same_text(name.as_slice(), other.as_slice()) {
+            if is_same_bytes(name.as_slice(), other.as_slice()) {
                 return *addr;
             }
         }
@@ -140,7 +139,7 @@ fn config_of(states: &[State], name: &Name) -> u64
     let mut rest = states;
     while let [state, more @ ..] = rest {
         if let State::ConfigEpoch { name: other, epoch } = state {
-            if is_same_text(name.as_slice(), other.as_slice()) {
+            if is_same_bytes(name.as_slice(), other.as_slice()) {
                 return *epoch;
             }
         }
@@ -156,7 +155,7 @@ fn voted_of(states: &[State], name: &Name) -> u64
     let mut rest = states;
     while let [state, more @ ..] = rest {
         if let State::LeaderEpoch { name: other, epoch } = state {
-            if is_same_text(name.as_slice(), other.as_slice()) {
+            if is_same_bytes(name.as_slice(), other.as_slice()) {
                 return *epoch;
             }
         }
@@ -255,18 +254,18 @@ pub fn members_of(alloc: Global, own: Member, states: &[State]) -> Result<Vec<Me
     ensures { IfOk result (λ members. members.items ≡ members_of own states.now) }
 {
     let mut members = Vec::new(alloc);
-    members.push(own)?;
+    members.push(Listed::new(own))?;
     let mut rest = states;
     while let [state, more @ ..] = rest {
         if let State::KnownSentinel { addr, id, .. } = state {
-            members.push(Member {
+            members.push(Listed::new(Member {
                 id: *id,
                 addr: *addr,
-            })?;
+            }))?;
         }
         rest = more;
     }
-    ordered(alloc, members)
+    members_in_order(alloc, members)
 }
 
 /// The port of the last port line.
@@ -334,7 +333,7 @@ fn with_setting(settings: Settings, name: &Name, setting: &Setting) -> Settings
 {
     match setting {
         Setting::DownAfter { name: other, ms } => {
-            if is_same_text(name.as_slice(), other.as_slice()) {
+            if is_same_bytes(name.as_slice(), other.as_slice()) {
                 return Settings {
                     after_ms: *ms,
                     ..settings
@@ -343,7 +342,7 @@ fn with_setting(settings: Settings, name: &Name, setting: &Setting) -> Settings
             settings
         }
         Setting::ParallelSyncs { name: other, count } => {
-            if is_same_text(name.as_slice(), other.as_slice()) {
+            if is_same_bytes(name.as_slice(), other.as_slice()) {
                 return Settings {
                     parallel_syncs: *count,
                     ..settings
@@ -352,7 +351,7 @@ fn with_setting(settings: Settings, name: &Name, setting: &Setting) -> Settings
             settings
         }
         Setting::FailoverTimeout { name: other, ms } => {
-            if is_same_text(name.as_slice(), other.as_slice()) {
+            if is_same_bytes(name.as_slice(), other.as_slice()) {
                 return Settings {
                     timeout: *ms,
                     ..settings

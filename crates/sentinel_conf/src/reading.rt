@@ -21,10 +21,10 @@ use crate::meaning::{
     all_settings_of, greatest_epoch, kept_masters_of, masters_of, members_of, my_id, names_given,
     own_addr, own_port,
 };
-use crate::ordering::ordered;
 use crate::parts::Parts;
 use ballot_law::{
     Card, Kept, KeptMaster, KeptMasters, MAX_EPOCH, Member, Name, Roster, RosterFault, RunId,
+    ordered,
 };
 use std::alloc::{AllocError, Global};
 

@@ -1,8 +1,8 @@
 //! Where a file is kept.
 
-ghost use Rattle.std.specs.Prelude.{◌≡◌, ◌+◌, ◌-◌, ◌^◌, ◌<◌, ◌⊎◌, Bool, ℕ, List, Option, None, Some, OnOk, OnErr, IsErrOf, IfSome, IfOk, is_ok, if◌then◌else◌};
+ghost use Rattle.std.specs.Prelude.{◌≡◌, ◌+◌, ◌-◌, ◌^◌, ◌<◌, ◌⊎◌, Bool, ℕ, List, Option, None, Some, OnOk, OnErr, IsErr, IsErrOf, IfSome, IfOk, IfErr, is_ok, true, if◌then◌else◌};
 
-use crate::faults::NoMemory;
+use ballot_law::NoMemory;
 use std::alloc::{AllocError, Global};
 use std::marker::Model;
 use thiserror::Error;
@@ -151,14 +151,31 @@ impl ConfStore for MemoryStore {
 
     ghost failure_count = { λ store. store.failed };
 
-    fn load(&mut self) -> Result<FileText, LoadFault> {
+    fn load(&mut self) -> Result<FileText, LoadFault>
+        requires { self.old.failed < 2 ^ 64 - 1 }
+        // The text that is held, or `NoMemory`, and nothing changes.
+        ensures text { IfOk result (λ text. text ≡ self.old.text) }
+        ensures fault { IfErr result (λ fault. fault ≡ LoadFault.NoMemory) }
+        ensures same { self.new ≡ self.old }
+    {
         match self.text.clone() {
             Ok(bytes) => Ok(FileText { bytes }),
             Err(_) => Err(LoadFault::NoMemory),
         }
     }
 
-    fn replace(&mut self, text: &[u8]) -> Result<(), StoreRefused> {
+    fn replace(&mut self, text: &[u8]) -> Result<(), StoreRefused>
+        requires { self.old.failed < 2 ^ 64 - 1 }
+        ensures stored { OnOk result (self.new.text ≡ text.now) }
+        ensures counted { self.new.failed
+            ≡ (if is_ok result then self.old.failed else self.old.failed + 1) }
+        // A refusal that was asked for comes, and is used up.
+        ensures asked { IfSome self.old.refusal (λ new. IsErr result) }
+        ensures used_up { self.new.refusal ≡ None }
+        // The new text stands behind a refusal only where that was asked for.
+        ensures refused { OnErr result ((self.new.text ≡ self.old.text)
+            ⊎ ((self.old.refusal ≡ Some true) × (self.new.text ≡ text.now))) }
+    {
         match self.refusal {
             Some(new) => {
                 self.refusal = None;

@@ -1,4 +1,4 @@
-use Rattle.node_texts.proofs.NameLemmas.{name_of_slice}
+use Rattle.ballot_law.specs.NameWords.{name_of_slice}
 use Rattle.node_texts.proofs.hello_fields.name_of.Goals as goal
 
 pub returns : goal.returns

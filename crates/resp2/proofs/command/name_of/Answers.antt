@@ -1,4 +1,4 @@
-use Rattle.resp2.proofs.NameWords.{name_of_slice}
+use Rattle.ballot_law.specs.NameWords.{name_of_slice}
 use Rattle.resp2.proofs.command.name_of.Goals as goal
 
 pub returns : goal.returns

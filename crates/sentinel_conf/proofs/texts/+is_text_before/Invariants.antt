@@ -1,5 +1,0 @@
-use Rattle.std.proofs.Common.{length}
-use Rattle.sentinel_conf.proofs.texts.+is_text_before.Given as goal
-
-abbrev pub decreases-is_text_before : goal.decreases-is_text_before
-decreases-is_text_before l = length l.first.now
