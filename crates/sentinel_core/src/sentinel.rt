@@ -8,7 +8,8 @@ ghost use Rattle.sentinel_rules.specs.Plans.{master_count};
 ghost use Rattle.sentinel_rules.specs.Parts.{output_of};
 ghost use Rattle.sentinel_rules.specs.States.{opened};
 ghost use Rattle.sentinel_rules.specs.Steps.{IsPartsOf, IsTake};
-ghost use Rattle.sentinel_rules.specs.Takes.{next};
+ghost use Rattle.sentinel_rules.specs.Takes.{next, cleared};
+ghost use Rattle.sentinel_rules.specs.Ignored.{is_noticed};
 ghost use Rattle.sentinel_core.specs.Outboxes.{Fits, room_of_sentinel};
 ghost use Rattle.sentinel_core.specs.Sentinels.{IsWhole, is_busy, is_pending, is_flush};
 
@@ -19,7 +20,9 @@ use crate::phase::Phase;
 use crate::room::Room;
 use ballot_law::{Card, Command, Event, Input, Kept, KeptMaster, KeptMasters};
 use sentinel_conf::{Conf, ConfStore, ConfText, rewrite_into};
-use sentinel_rules::{law_inputs_are_steps, law_opening_is_sound};
+use sentinel_rules::{
+    law_ignored_inputs_change_nothing, law_inputs_are_steps, law_opening_is_sound,
+};
 use sentinel_state::{FrameList, Plan, State};
 use std::alloc::Global;
 use std::marker::Model;
@@ -228,7 +231,8 @@ impl Sentinel {
 
     /// Takes an input: what the Sentinel keeps is what the rules make of it, and the outputs stand in the outbox as held, in their order,
     /// no more and no fewer. They show what is kept at the end of the input. To the model of the whole group an input is at most six
-    /// steps of this Sentinel.
+    /// steps of this Sentinel. An input that isn't noticed leaves all that is kept as it was, and has no outputs: what can't be read, what
+    /// comes from no node of the roster or from this Sentinel itself, a hello or an answer about no master, and what is meant for others.
     ///
     /// The faults are those of [`TakeFault`], in its order; then nothing has changed. The epoch of a command is at most `MAX_EPOCH`, as
     /// `command_of` gives it. No memory is taken.
@@ -254,9 +258,12 @@ impl Sentinel {
         ensures stored { OnOk result (self.new.stored ≡ self.old.stored) }
         ensures steps { OnOk result ((parts : Parts) → IsPartsOf self.old.core parts
             → IsTake self.old.plan self.old.core parts input.entry.now.event self.new.core outbox.new.held) }
+        ensures ignored { OnOk result (is_noticed self.old.plan input.entry.now.event ≡ false
+            → (self.new.core ≡ cleared self.old.core) × (outbox.new.held ≡ [])) }
     {
         self.check_taking(outbox)?;
         law_inputs_are_steps();
+        law_ignored_inputs_change_nothing();
         act(&self.plan, &mut self.state, &mut self.frames, input, outbox);
         let changed = !is_same(self.state.kept(), &self.stored);
         self.phase = Phase::Pending {

@@ -14,3 +14,4 @@ pub mod FrameParts
 pub mod InputSteps
 pub mod NamedFrames
 pub mod WorkedRows
+pub mod Ignoring

@@ -11,3 +11,4 @@ pub mod Steps
 pub mod Room
 pub mod Named
 pub mod Worked
+pub mod Ignored

@@ -1,5 +1,6 @@
 //! What the definitions of one Sentinel come to.
 
+ghost use Rattle.sentinel_rules.specs.Ignored.{IgnoredChangesNothing};
 ghost use Rattle.sentinel_rules.specs.Named.{FramesAreNamed};
 ghost use Rattle.sentinel_rules.specs.Room.{InputsKeepFew};
 ghost use Rattle.sentinel_rules.specs.Steps.{InputsAreSteps, OpenedIsSound};
@@ -23,4 +24,11 @@ pub fn law_inputs_are_steps()
 #[tactic(auto, using(crate::proofs::NamedFrames::frames_are_named))]
 pub fn law_frames_are_named()
     ensures { FramesAreNamed }
+{}
+
+/// An input that isn't noticed leaves all that is kept as it was, and puts out nothing: what can't be read, what comes from a node that
+/// isn't in the roster or from this Sentinel itself, a hello or an answer about no master of the roster, and what is meant for data nodes
+/// and clients.
+pub fn law_ignored_inputs_change_nothing()
+    ensures { IgnoredChangesNothing }
 {}
