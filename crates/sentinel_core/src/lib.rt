@@ -27,6 +27,8 @@ pub use serving::{READS_MAX, Served};
 #[cfg(test)]
 mod failover_tests;
 #[cfg(test)]
+mod lone_sentinel;
+#[cfg(test)]
 mod message_tests;
 #[cfg(test)]
 mod outbox_tests;
@@ -34,3 +36,5 @@ mod outbox_tests;
 mod sentinel_tests;
 #[cfg(test)]
 mod serving_tests;
+#[cfg(test)]
+mod stories;

@@ -1,119 +1,246 @@
-//! One Sentinel alone with its file, from the taking of an input to its release.
+//! What a Sentinel refuses in each of its states, and when its file is written.
 
-ghost use Rattle.std.specs.Prelude.{◌≤◌, length, IfOk};
-ghost use Rattle.resp2.specs.Commands.{IsWithin};
 ghost use Rattle.sentinel_rules.specs.Facts.{IsWithinEvent};
 
-use crate::{Outbox, ReleaseFault, Sentinel, StoreFault, TakeFault, Took};
-use ballot_law::{Addr, Command, Event, Input, NodeName, RunId};
-use sentinel_conf::{ConfStore, MemoryStore, read};
+use crate::lone_sentinel::{A, B, FOUR_SENTINELS, LoneSentinel, card, command, here, request};
+use crate::{ReleaseFault, StoreFault, TakeFault, Took};
+use ballot_law::{Command, Event};
 use std::alloc::Global;
 use std::test::Fail;
 
-/// A Sentinel that watches one master, with three others.
-const FOUR_SENTINELS: &[u8] = b"sentinel myid 0000000000000000000000000000000000000000\n\
+/// The states of a Sentinel.
+#[derive(Clone, Copy, Debug, PartialEq, Eq)]
+enum State {
+    Ready,
+    Pending,
+    Stored,
+    Halted,
+    Stopped,
+}
+
+/// What each call answers in a state.
+#[derive(Clone, Copy, Debug, PartialEq, Eq)]
+struct Answers {
+    state: State,
+    take: Result<Took, TakeFault>,
+    take_without_room: Result<Took, TakeFault>,
+    store: Result<(), StoreFault>,
+    release: Result<(), ReleaseFault>,
+    released: usize,
+}
+
+const TOOK: Took = Took { changed: true };
+
+const ANSWERS: [Answers; 5] = [
+    Answers {
+        state: State::Ready,
+        take: Ok(TOOK),
+        take_without_room: Err(TakeFault::NoRoom),
+        store: Err(StoreFault::Nothing),
+        release: Err(ReleaseFault::Unstored),
+        released: 0,
+    },
+    Answers {
+        state: State::Pending,
+        take: Err(TakeFault::Busy),
+        take_without_room: Err(TakeFault::Busy),
+        store: Ok(()),
+        release: Err(ReleaseFault::Unstored),
+        released: 0,
+    },
+    Answers {
+        state: State::Stored,
+        take: Err(TakeFault::Busy),
+        take_without_room: Err(TakeFault::Busy),
+        store: Err(StoreFault::Nothing),
+        release: Ok(()),
+        released: 1,
+    },
+    Answers {
+        state: State::Halted,
+        take: Err(TakeFault::Halted),
+        take_without_room: Err(TakeFault::Halted),
+        store: Err(StoreFault::Nothing),
+        release: Err(ReleaseFault::Halted),
+        released: 0,
+    },
+    Answers {
+        state: State::Stopped,
+        take: Err(TakeFault::Stopped),
+        take_without_room: Err(TakeFault::Stopped),
+        store: Err(StoreFault::Nothing),
+        release: Err(ReleaseFault::Unstored),
+        released: 0,
+    },
+];
+
+/// A Sentinel that has taken A's request for its vote.
+fn requested(alloc: Global) -> Result<LoneSentinel, Fail> {
+    let mut lone = LoneSentinel::open(alloc, FOUR_SENTINELS, 0)?;
+    lone.take(0, request(1, A))?;
+    Ok(lone)
+}
+
+/// One whose store is refused.
+fn halted(alloc: Global) -> Result<LoneSentinel, Fail> {
+    let mut lone = requested(alloc)?;
+    lone.refuse_next(false);
+    let _ = lone.store();
+    Ok(lone)
+}
+
+/// One that has stored the vote.
+fn stored(alloc: Global) -> Result<LoneSentinel, Fail> {
+    let mut lone = requested(alloc)?;
+    lone.store()?;
+    Ok(lone)
+}
+
+/// One that was stopped.
+fn stopped(alloc: Global) -> Result<LoneSentinel, Fail> {
+    let mut lone = requested(alloc)?;
+    lone.stop();
+    Ok(lone)
+}
+
+/// A Sentinel in this state.
+fn lone_in(alloc: Global, state: State) -> Result<LoneSentinel, Fail> {
+    match state {
+        State::Ready => LoneSentinel::open(alloc, FOUR_SENTINELS, 0),
+        State::Pending => requested(alloc),
+        State::Stored => stored(alloc),
+        State::Halted => halted(alloc),
+        State::Stopped => stopped(alloc),
+    }
+}
+
+/// What `take` answers.
+fn take_in(alloc: Global, state: State) -> Result<Result<Took, TakeFault>, Fail> {
+    let mut lone = lone_in(alloc, state)?;
+    Ok(lone.take(0, request(2, B)))
+}
+
+/// What `take` answers where the outbox has no room.
+fn take_without_room_in(alloc: Global, state: State) -> Result<Result<Took, TakeFault>, Fail> {
+    let mut lone = lone_in(alloc, state)?;
+    lone.lose_room(alloc);
+    Ok(lone.take(0, request(2, B)))
+}
+
+/// What `store` answers.
+fn store_in(alloc: Global, state: State) -> Result<Result<(), StoreFault>, Fail> {
+    let mut lone = lone_in(alloc, state)?;
+    Ok(lone.store())
+}
+
+/// What `release` answers, and how many outputs are then shown.
+fn release_in(alloc: Global, state: State) -> Result<(Result<(), ReleaseFault>, usize), Fail> {
+    let mut lone = lone_in(alloc, state)?;
+    let answer = lone.release();
+    Ok((answer, lone.outputs().len()))
+}
+
+/// What each call answers in this state.
+fn answers_in(alloc: Global, state: State) -> Result<Answers, Fail> {
+    let (release, released) = release_in(alloc, state)?;
+    Ok(Answers {
+        state,
+        take: take_in(alloc, state)?,
+        take_without_room: take_without_room_in(alloc, state)?,
+        store: store_in(alloc, state)?,
+        release,
+        released,
+    })
+}
+
+#[test]
+fn each_call_is_refused_in_its_order(rt: HostRuntime) -> Result<(), Fail> {
+    for answers in &ANSWERS {
+        assert_eq!(rt; answers_in(rt.alloc(), answers.state)?, *answers);
+    }
+    Ok(())
+}
+
+/// The file with the vote of epoch 1.
+const VOTED: &[u8] = b"sentinel myid 0000000000000000000000000000000000000000\n\
+sentinel current-epoch 1\n\
 sentinel monitor mymaster 127.0.0.1 6379 2\n\
+sentinel config-epoch mymaster 0\n\
+sentinel leader-epoch mymaster 1\n\
 sentinel known-sentinel mymaster 127.0.0.1 26380 aaaaaaaaaaaaaaaaaaaaaaaaaaaaaaaaaaaaaaaa\n\
 sentinel known-sentinel mymaster 127.0.0.1 26381 bbbbbbbbbbbbbbbbbbbbbbbbbbbbbbbbbbbbbbbb\n\
 sentinel known-sentinel mymaster 127.0.0.1 26382 cccccccccccccccccccccccccccccccccccccccc\n";
 
-/// The run id of forty `a`.
-pub(crate) const A: RunId = RunId {
-    hi: 0xaaaa_aaaa_aaaa_aaaa_aaaa_aaaa_aaaa_aaaa,
-    lo: 0xaaaa_aaaa,
-};
-
-/// A port of this machine.
-pub(crate) fn here(port: u16) -> Addr {
-    Addr {
-        ip: 2_130_706_433,
-        port,
+#[test]
+fn a_refused_store_halts_with_the_old_text_or_the_new(rt: HostRuntime) -> Result<(), Fail> {
+    for (new, text) in [(false, FOUR_SENTINELS), (true, VOTED)] {
+        let mut lone = LoneSentinel::open(rt.alloc(), FOUR_SENTINELS, 0)?;
+        lone.take(0, request(1, A))?;
+        lone.refuse_next(new);
+        assert_eq!(rt; lone.store(), Err(StoreFault::Refused));
+        assert_eq!(rt; lone.failures(), 1);
+        assert!(rt; lone.text() == text);
+        assert_eq!(rt; lone.address(0), Some(card(0, 6379)));
+        assert_eq!(rt; lone.address(1), None);
+        assert!(rt; lone.outputs().is_empty());
     }
+    Ok(())
 }
 
-/// A command of a client.
-pub(crate) fn command(command: Command) -> Event
-    requires { IsWithin command }
-    ensures { IsWithinEvent result }
-{
-    Event::Command {
-        sender: NodeName::PortAt(0),
-        command,
-    }
+/// What a client or another Sentinel asks.
+#[derive(Clone, Copy, Debug)]
+enum Asked {
+    Ping,
+    Flush,
+    /// Whether the master is down, with this epoch and without a candidate.
+    Down(u8),
+    /// The vote of this epoch for A.
+    Vote(u8),
 }
 
-/// The request for the vote of epoch 1, about the master at this port.
-fn request(port: u16, candidate: RunId) -> Event
-    ensures { IsWithinEvent result }
-{
-    command(Command::IsMasterDownByAddr {
-        addr: here(port),
-        epoch: 1,
-        candidate: Some(candidate),
-    })
-}
-
-/// A Sentinel with its file in memory, and the outputs of its last input.
-#[derive(Drop)]
-pub(crate) struct LoneSentinel {
-    pub(crate) sentinel: Sentinel,
-    outbox: Outbox,
-    store: MemoryStore,
-}
-
-impl LoneSentinel {
-    /// Opens it with this file, at this reading of its clock.
-    pub(crate) fn open(alloc: Global, file: &[u8], now: u64) -> Result<LoneSentinel, Fail>
-        ensures { IfOk result (λ lone. length lone.outbox.held ≤ lone.outbox.shown_room) }
+impl Asked {
+    fn event(self) -> Event
+        ensures { IsWithinEvent result }
     {
-        let sentinel = Sentinel::open(alloc, read(alloc, file)?, now)?;
-        let mut outbox = Outbox::new(alloc);
-        outbox.reserve(&sentinel.room())?;
-        Ok(LoneSentinel {
-            sentinel,
-            outbox,
-            store: MemoryStore::holding(alloc, file)?,
-        })
-    }
-
-    fn take(&mut self, now: u64, event: Event) -> Result<Took, TakeFault>
-        requires within { IsWithinEvent event }
-        requires room { length self.old.outbox.held ≤ self.old.outbox.shown_room }
-        ensures { length self.new.outbox.held ≤ self.new.outbox.shown_room }
-    {
-        self.sentinel.take(&Input { now, event }, &mut self.outbox)
-    }
-
-    fn store(&mut self) -> Result<(), StoreFault>
-        requires { length self.old.outbox.held ≤ self.old.outbox.shown_room }
-        ensures { length self.new.outbox.held ≤ self.new.outbox.shown_room }
-    {
-        if self.store.failures() == u64::MAX {
-            return Err(StoreFault::Refused);
+        match self {
+            Asked::Ping => command(Command::Ping),
+            Asked::Flush => command(Command::FlushConfig),
+            Asked::Down(epoch) => command(Command::IsMasterDownByAddr {
+                addr: here(6379),
+                epoch: u64::from(epoch),
+                candidate: None,
+            }),
+            Asked::Vote(epoch) => request(epoch, A),
         }
-        self.sentinel.store(&mut self.store)
     }
+}
 
-    fn release(&mut self) -> Result<(), ReleaseFault>
-        requires { length self.old.outbox.held ≤ self.old.outbox.shown_room }
-        ensures { length self.new.outbox.held ≤ self.new.outbox.shown_room }
-    {
-        self.sentinel.release(&mut self.outbox)
-    }
+/// Questions, each with how often the file was written after its answer.
+const QUESTIONS: [(Asked, u64); 8] = [
+    (Asked::Ping, 0),
+    (Asked::Flush, 1),
+    (Asked::Vote(1), 2),
+    (Asked::Vote(1), 2),
+    (Asked::Down(9), 2),
+    (Asked::Vote(3), 3),
+    (Asked::Vote(2), 3),
+    (Asked::Flush, 4),
+];
 
-    /// Whether the file holds this text.
-    fn is_stored(&self, text: &[u8]) -> bool {
-        self.store.text() == text
-    }
+/// How often the file was written after the answer to this question.
+fn writes_after(lone: &mut LoneSentinel, asked: Asked) -> Result<u64, Fail> {
+    lone.clear();
+    let _ = lone.take(0, asked.event())?;
+    lone.store()?;
+    lone.release()?;
+    Ok(lone.writes())
 }
 
 #[test]
-fn a_stopped_sentinel_takes_nothing(rt: HostRuntime) -> Result<(), Fail> {
+fn the_file_is_written_where_it_changes_or_for_flushconfig(rt: HostRuntime) -> Result<(), Fail> {
     let mut lone = LoneSentinel::open(rt.alloc(), FOUR_SENTINELS, 0)?;
-    lone.sentinel.stop();
-    assert_eq!(rt; lone.take(0, request(6379, A)), Err(TakeFault::Stopped));
-    assert_eq!(rt; lone.store(), Err(StoreFault::Nothing));
-    assert_eq!(rt; lone.release(), Err(ReleaseFault::Unstored));
-    assert!(rt; lone.is_stored(FOUR_SENTINELS));
+    for (asked, writes) in QUESTIONS {
+        assert_eq!(rt; writes_after(&mut lone, asked)?, writes, "{asked:?}");
+    }
     Ok(())
 }

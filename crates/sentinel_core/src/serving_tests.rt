@@ -1,6 +1,7 @@
 //! Streams of commands with the bytes of their answers.
 
 use super::*;
+use crate::lone_sentinel::FOUR_SENTINELS;
 use resp2::FrameFault;
 use sentinel_conf::{ConfStore, FileText, LoadFault, MemoryStore, StoreRefused, read};
 use std::alloc::Global;
@@ -91,20 +92,16 @@ impl Write for FullWriter {
     }
 }
 
-/// A Sentinel that watches one master, with three others.
-const CONF: &[u8] = b"sentinel myid 0000000000000000000000000000000000000000\n\
-sentinel monitor mymaster 127.0.0.1 6379 2\n\
-sentinel known-sentinel mymaster 127.0.0.1 26380 aaaaaaaaaaaaaaaaaaaaaaaaaaaaaaaaaaaaaaaa\n\
-sentinel known-sentinel mymaster 127.0.0.1 26381 bbbbbbbbbbbbbbbbbbbbbbbbbbbbbbbbbbbbbbbb\n\
-sentinel known-sentinel mymaster 127.0.0.1 26382 cccccccccccccccccccccccccccccccccccccccc\n";
-
 /// Serves a stream with the file in memory.
 fn serve<R: Read, W: Write>(
     alloc: Global,
     reader: &mut R,
     writer: &mut W,
 ) -> Result<Served, ServeFault> {
-    let (Ok(conf), Ok(mut store)) = (read(alloc, CONF), MemoryStore::holding(alloc, CONF)) else {
+    let (Ok(conf), Ok(mut store)) = (
+        read(alloc, FOUR_SENTINELS),
+        MemoryStore::holding(alloc, FOUR_SENTINELS),
+    ) else {
         return Err(ServeFault::NoMemory);
     };
     let Ok(mut sentinel) = Sentinel::open(alloc, conf, 0) else {
@@ -306,7 +303,7 @@ fn start_from(alloc: Global, store: &mut MemoryStore, bytes: &[u8]) -> Option<Ve
 #[test]
 fn a_vote_outlives_the_process(rt: HostRuntime) -> Result<(), Fail> {
     let ask = &FOUR_ASKS[..FOUR_ASKS.len() / 4];
-    let mut store = MemoryStore::holding(rt.alloc(), CONF)?;
+    let mut store = MemoryStore::holding(rt.alloc(), FOUR_SENTINELS)?;
     let first = start_from(rt.alloc(), &mut store, ask).ok_or("not served")?;
     assert_eq!(rt; first.as_slice(), &FOUR_ANSWERS[..ANSWER_LEN]);
     let again = start_from(rt.alloc(), &mut store, ask).ok_or("not served")?;
@@ -320,7 +317,9 @@ fn a_vote_outlives_the_process(rt: HostRuntime) -> Result<(), Fail> {
 #[test]
 fn a_refused_store_leaves_its_vote_unanswered(rt: HostRuntime) -> Result<(), Fail> {
     for new in [false, true] {
-        let outcome = serve_file(rt.alloc(), CONF, Some(new), FOUR_ASKS).ok_or("refused")?;
+        let outcome = serve_file(rt.alloc(), FOUR_SENTINELS, Some(new), FOUR_ASKS).ok_or(
+            "refused",
+        )?;
         assert_eq!(rt; outcome.result, Err(ServeFault::Halted));
         assert!(rt; outcome.written.is_empty());
         assert_eq!(rt; outcome.store.failures(), 1);
@@ -362,7 +361,7 @@ fn answers_before_a_refused_store_are_written(rt: HostRuntime) -> Result<(), Fai
         stored: false,
         failed: 0,
     };
-    let conf = read(rt.alloc(), CONF)?;
+    let conf = read(rt.alloc(), FOUR_SENTINELS)?;
     let mut sentinel = Sentinel::open(rt.alloc(), conf, 0)?;
     let mut written = Vec::new(rt.alloc());
     let result = sentinel.serve(
@@ -405,5 +404,254 @@ fn each_master_has_its_own_votes(rt: HostRuntime) -> Result<(), Fail> {
         .map(|master| master.voted);
     let votes: Vec<u64> = votes.collect(rt.alloc())?;
     assert_eq!(rt; votes.as_slice(), [1, 2].as_slice());
+    Ok(())
+}
+
+/// A Sentinel that watches one master with one replica, with three others.
+const WITH_REPLICA: &[u8] = b"sentinel myid 0000000000000000000000000000000000000000\n\
+sentinel monitor mymaster 127.0.0.1 6379 2\n\
+sentinel known-replica mymaster 127.0.0.1 6380\n\
+sentinel known-sentinel mymaster 127.0.0.1 26380 aaaaaaaaaaaaaaaaaaaaaaaaaaaaaaaaaaaaaaaa\n\
+sentinel known-sentinel mymaster 127.0.0.1 26381 bbbbbbbbbbbbbbbbbbbbbbbbbbbbbbbbbbbbbbbb\n\
+sentinel known-sentinel mymaster 127.0.0.1 26382 cccccccccccccccccccccccccccccccccccccccc\n";
+
+/// The master at 0.
+const MASTER_UP: &[u8] = b"*22\r\n\
+$4\r\nname\r\n$8\r\nmymaster\r\n\
+$2\r\nip\r\n$9\r\n127.0.0.1\r\n\
+$4\r\nport\r\n$4\r\n6379\r\n\
+$5\r\nflags\r\n$6\r\nmaster\r\n\
+$10\r\nnum-slaves\r\n$1\r\n1\r\n\
+$19\r\nnum-other-sentinels\r\n$1\r\n3\r\n\
+$6\r\nquorum\r\n$1\r\n2\r\n\
+$23\r\ndown-after-milliseconds\r\n$5\r\n30000\r\n\
+$16\r\nfailover-timeout\r\n$6\r\n180000\r\n\
+$14\r\nparallel-syncs\r\n$1\r\n1\r\n\
+$12\r\nconfig-epoch\r\n$1\r\n0\r\n";
+
+/// All masters at 40,000, when nothing was heard for longer than 30,000 ms.
+const MASTERS_DOWN: &[u8] = b"*1\r\n\
+*22\r\n\
+$4\r\nname\r\n$8\r\nmymaster\r\n\
+$2\r\nip\r\n$9\r\n127.0.0.1\r\n\
+$4\r\nport\r\n$4\r\n6379\r\n\
+$5\r\nflags\r\n$13\r\ns_down,master\r\n\
+$10\r\nnum-slaves\r\n$1\r\n1\r\n\
+$19\r\nnum-other-sentinels\r\n$1\r\n3\r\n\
+$6\r\nquorum\r\n$1\r\n2\r\n\
+$23\r\ndown-after-milliseconds\r\n$5\r\n30000\r\n\
+$16\r\nfailover-timeout\r\n$6\r\n180000\r\n\
+$14\r\nparallel-syncs\r\n$1\r\n1\r\n\
+$12\r\nconfig-epoch\r\n$1\r\n0\r\n";
+
+/// The replica at 0.
+const REPLICAS_UP: &[u8] = b"*1\r\n\
+*12\r\n\
+$4\r\nname\r\n$14\r\n127.0.0.1:6380\r\n\
+$2\r\nip\r\n$9\r\n127.0.0.1\r\n\
+$4\r\nport\r\n$4\r\n6380\r\n\
+$5\r\nflags\r\n$5\r\nslave\r\n\
+$14\r\nslave-priority\r\n$3\r\n100\r\n\
+$17\r\nslave-repl-offset\r\n$1\r\n0\r\n";
+
+/// The replica at 40,000.
+const REPLICAS_DOWN: &[u8] = b"*1\r\n\
+*12\r\n\
+$4\r\nname\r\n$14\r\n127.0.0.1:6380\r\n\
+$2\r\nip\r\n$9\r\n127.0.0.1\r\n\
+$4\r\nport\r\n$4\r\n6380\r\n\
+$5\r\nflags\r\n$12\r\ns_down,slave\r\n\
+$14\r\nslave-priority\r\n$3\r\n100\r\n\
+$17\r\nslave-repl-offset\r\n$1\r\n0\r\n";
+
+/// The other Sentinels at 0.
+const SENTINELS_UP: &[u8] = b"*3\r\n\
+*10\r\n\
+$4\r\nname\r\n$40\r\naaaaaaaaaaaaaaaaaaaaaaaaaaaaaaaaaaaaaaaa\r\n\
+$2\r\nip\r\n$9\r\n127.0.0.1\r\n\
+$4\r\nport\r\n$5\r\n26380\r\n\
+$5\r\nrunid\r\n$40\r\naaaaaaaaaaaaaaaaaaaaaaaaaaaaaaaaaaaaaaaa\r\n\
+$5\r\nflags\r\n$8\r\nsentinel\r\n\
+*10\r\n\
+$4\r\nname\r\n$40\r\nbbbbbbbbbbbbbbbbbbbbbbbbbbbbbbbbbbbbbbbb\r\n\
+$2\r\nip\r\n$9\r\n127.0.0.1\r\n\
+$4\r\nport\r\n$5\r\n26381\r\n\
+$5\r\nrunid\r\n$40\r\nbbbbbbbbbbbbbbbbbbbbbbbbbbbbbbbbbbbbbbbb\r\n\
+$5\r\nflags\r\n$8\r\nsentinel\r\n\
+*10\r\n\
+$4\r\nname\r\n$40\r\ncccccccccccccccccccccccccccccccccccccccc\r\n\
+$2\r\nip\r\n$9\r\n127.0.0.1\r\n\
+$4\r\nport\r\n$5\r\n26382\r\n\
+$5\r\nrunid\r\n$40\r\ncccccccccccccccccccccccccccccccccccccccc\r\n\
+$5\r\nflags\r\n$8\r\nsentinel\r\n";
+
+/// The other Sentinels at 40,000.
+const SENTINELS_DOWN: &[u8] = b"*3\r\n\
+*10\r\n\
+$4\r\nname\r\n$40\r\naaaaaaaaaaaaaaaaaaaaaaaaaaaaaaaaaaaaaaaa\r\n\
+$2\r\nip\r\n$9\r\n127.0.0.1\r\n\
+$4\r\nport\r\n$5\r\n26380\r\n\
+$5\r\nrunid\r\n$40\r\naaaaaaaaaaaaaaaaaaaaaaaaaaaaaaaaaaaaaaaa\r\n\
+$5\r\nflags\r\n$15\r\ns_down,sentinel\r\n\
+*10\r\n\
+$4\r\nname\r\n$40\r\nbbbbbbbbbbbbbbbbbbbbbbbbbbbbbbbbbbbbbbbb\r\n\
+$2\r\nip\r\n$9\r\n127.0.0.1\r\n\
+$4\r\nport\r\n$5\r\n26381\r\n\
+$5\r\nrunid\r\n$40\r\nbbbbbbbbbbbbbbbbbbbbbbbbbbbbbbbbbbbbbbbb\r\n\
+$5\r\nflags\r\n$15\r\ns_down,sentinel\r\n\
+*10\r\n\
+$4\r\nname\r\n$40\r\ncccccccccccccccccccccccccccccccccccccccc\r\n\
+$2\r\nip\r\n$9\r\n127.0.0.1\r\n\
+$4\r\nport\r\n$5\r\n26382\r\n\
+$5\r\nrunid\r\n$40\r\ncccccccccccccccccccccccccccccccccccccccc\r\n\
+$5\r\nflags\r\n$15\r\ns_down,sentinel\r\n";
+
+/// What is answered where a name is no master's.
+const NO_MASTER: &[u8] = b"-ERR No such master with that name\r\n";
+
+/// What is answered to a command that isn't known.
+const UNKNOWN: &[u8] = b"-ERR unknown command\r\n";
+
+/// A command, the reading of the clock at which it comes, and its answer.
+struct Exchange {
+    now: u64,
+    command: &'static [u8],
+    answer: &'static [u8],
+}
+
+const EXCHANGES: [Exchange; 23] = [
+    Exchange {
+        now: 0,
+        command: b"*1\r\n$4\r\nPING\r\n",
+        answer: b"+PONG\r\n",
+    },
+    Exchange {
+        now: 0,
+        command: b"*2\r\n$8\r\nsentinel\r\n$4\r\nmyid\r\n",
+        answer: b"$40\r\n0000000000000000000000000000000000000000\r\n",
+    },
+    Exchange {
+        now: 0,
+        command: b"*3\r\n$8\r\nSENTINEL\r\n$23\r\nGET-MASTER-ADDR-BY-NAME\r\n$8\r\nmymaster\r\n",
+        answer: b"*2\r\n$9\r\n127.0.0.1\r\n$4\r\n6379\r\n",
+    },
+    Exchange {
+        now: 0,
+        command: b"*3\r\n$8\r\nSENTINEL\r\n$23\r\nGET-MASTER-ADDR-BY-NAME\r\n$6\r\nnobody\r\n",
+        answer: b"*-1\r\n",
+    },
+    Exchange {
+        now: 0,
+        command: b"*3\r\n$8\r\nSENTINEL\r\n$6\r\nMASTER\r\n$8\r\nmymaster\r\n",
+        answer: MASTER_UP,
+    },
+    Exchange {
+        now: 40_000,
+        command: b"*2\r\n$8\r\nSENTINEL\r\n$7\r\nMASTERS\r\n",
+        answer: MASTERS_DOWN,
+    },
+    Exchange {
+        now: 0,
+        command: b"*3\r\n$8\r\nSENTINEL\r\n$8\r\nREPLICAS\r\n$8\r\nmymaster\r\n",
+        answer: REPLICAS_UP,
+    },
+    Exchange {
+        now: 40_000,
+        command: b"*3\r\n$8\r\nSENTINEL\r\n$6\r\nSLAVES\r\n$8\r\nmymaster\r\n",
+        answer: REPLICAS_DOWN,
+    },
+    Exchange {
+        now: 0,
+        command: b"*3\r\n$8\r\nSENTINEL\r\n$9\r\nSENTINELS\r\n$8\r\nmymaster\r\n",
+        answer: SENTINELS_UP,
+    },
+    Exchange {
+        now: 40_000,
+        command: b"*3\r\n$8\r\nSENTINEL\r\n$9\r\nSENTINELS\r\n$8\r\nmymaster\r\n",
+        answer: SENTINELS_DOWN,
+    },
+    Exchange {
+        now: 0,
+        command: b"*3\r\n$8\r\nSENTINEL\r\n$8\r\nCKQUORUM\r\n$8\r\nmymaster\r\n",
+        answer: b"+OK 4 usable Sentinels, quorum and majority can be reached\r\n",
+    },
+    Exchange {
+        now: 40_000,
+        command: b"*3\r\n$8\r\nSENTINEL\r\n$8\r\nCKQUORUM\r\n$8\r\nmymaster\r\n",
+        answer: b"-NOQUORUM 1 usable Sentinels\r\n",
+    },
+    Exchange {
+        now: 40_000,
+        command: b"*6\r\n$8\r\nSENTINEL\r\n$22\r\nIS-MASTER-DOWN-BY-ADDR\r\n$9\r\n127.0.0.1\r\n$4\r\n6379\r\n$1\r\n9\r\n$1\r\n*\r\n",
+        answer: b"*3\r\n:1\r\n$1\r\n*\r\n:0\r\n",
+    },
+    Exchange {
+        now: 40_000,
+        command: b"*6\r\n$8\r\nSENTINEL\r\n$22\r\nIS-MASTER-DOWN-BY-ADDR\r\n$9\r\n127.0.0.1\r\n$4\r\n6380\r\n$1\r\n9\r\n$1\r\n*\r\n",
+        answer: b"*3\r\n:0\r\n$1\r\n*\r\n:0\r\n",
+    },
+    Exchange {
+        now: 0,
+        command: b"*2\r\n$8\r\nSENTINEL\r\n$11\r\nFLUSHCONFIG\r\n",
+        answer: b"+OK\r\n",
+    },
+    Exchange {
+        now: 0,
+        command: b"*3\r\n$8\r\nSENTINEL\r\n$6\r\nMASTER\r\n$6\r\nnobody\r\n",
+        answer: NO_MASTER,
+    },
+    Exchange {
+        now: 0,
+        command: b"*3\r\n$8\r\nSENTINEL\r\n$8\r\nREPLICAS\r\n$6\r\nnobody\r\n",
+        answer: NO_MASTER,
+    },
+    Exchange {
+        now: 0,
+        command: b"*3\r\n$8\r\nSENTINEL\r\n$6\r\nSLAVES\r\n$6\r\nnobody\r\n",
+        answer: NO_MASTER,
+    },
+    Exchange {
+        now: 0,
+        command: b"*3\r\n$8\r\nSENTINEL\r\n$9\r\nSENTINELS\r\n$6\r\nnobody\r\n",
+        answer: NO_MASTER,
+    },
+    Exchange {
+        now: 0,
+        command: b"*3\r\n$8\r\nSENTINEL\r\n$8\r\nCKQUORUM\r\n$6\r\nnobody\r\n",
+        answer: NO_MASTER,
+    },
+    Exchange {
+        now: 0,
+        command: b"*3\r\n$8\r\nSENTINEL\r\n$6\r\nMASTER\r\n$9\r\nno master\r\n",
+        answer: NO_MASTER,
+    },
+    Exchange {
+        now: 0,
+        command: b"*3\r\n$8\r\nSENTINEL\r\n$8\r\nFAILOVER\r\n$8\r\nmymaster\r\n",
+        answer: UNKNOWN,
+    },
+    Exchange {
+        now: 0,
+        command: b"*1\r\n$4\r\nINFO\r\n",
+        answer: UNKNOWN,
+    },
+];
+
+#[test]
+fn every_command_is_answered(rt: HostRuntime) -> Result<(), Fail> {
+    for Exchange {
+        now,
+        command,
+        answer,
+    } in &EXCHANGES {
+        let alloc = rt.alloc();
+        let mut store = MemoryStore::holding(alloc, WITH_REPLICA)?;
+        let mut sentinel = Sentinel::open(alloc, read(alloc, WITH_REPLICA)?, 0)?;
+        let mut written = Vec::new(alloc);
+        let reader = &mut Cursor::new(*command);
+        let result = sentinel.serve(alloc, *now, reader, &mut written, &mut store);
+        assert_eq!(rt; result, Ok(Served { answers: 1 }), "{command:?}");
+        assert_eq!(rt; written.as_slice(), *answer, "{command:?}");
+    }
     Ok(())
 }
