@@ -1,0 +1,67 @@
+//! The words of the command line, by `clap`.
+
+use crate::failures::fail;
+use clap::error::ErrorKind;
+use clap::{Arg, Command, Error};
+use sentinel_core::ServeFault;
+use std::alloc::{AllocError, Global};
+use std::env::{self, Env};
+use std::io;
+use std::process::ExitCode;
+
+/// The exit status of refused words.
+const REFUSED_WORDS: u8 = 2;
+
+/// The version of the program, as `--version` prints it.
+const VERSION: &str = "0.1.0";
+
+/// The command line of the program.
+pub(crate) fn command<'a>(alloc: Global) -> Result<Command<'a>, AllocError> {
+    let conf = Arg::new(alloc, "conf").long("conf").value_name("file").help(
+        "The sentinel.conf that is read and rewritten; without it what it holds is kept in memory",
+    );
+    let answer = Command::new(alloc, "answer")
+        .about("Answers the commands of standard input on standard output")
+        .arg(conf)?;
+    Command::new(alloc, "sentinel_group")
+        .about("A failover group with the behaviour of Redis Sentinel")
+        .version(VERSION)
+        .subcommand_required(true)
+        .subcommand(answer)
+}
+
+/// The words that the program was started with, its own name first.
+pub(crate) fn words<R: Env + Alloc<A = Global>>(rt: &R) -> io::Result<Vec<String>> {
+    Ok(env::args(rt)?.collect(rt.alloc())?)
+}
+
+/// Tells why the words can't be read: a word that isn't UTF-8 is refused with status 2, and a refused allocation ends in status 6.
+pub(crate) fn refuse_unread<R: Print + Eprint>(
+    rt: &R,
+    command: &mut Command<'_>,
+    error: &io::Error,
+) -> ExitCode {
+    if error.kind() == io::ErrorKind::OutOfMemory {
+        return fail(rt, ServeFault::NoMemory);
+    }
+    match command.error(ErrorKind::ValueValidation, "a word is not UTF-8") {
+        Ok(error) => tell_words(rt, &error),
+        Err(_) => fail(rt, ServeFault::NoMemory),
+    }
+}
+
+/// Tells what `clap` says of the words: the help or the version that was asked for on standard output, with status 0, or why the words
+/// are refused on standard error, with status 2. A refused allocation ends in status 6, and a text that can't be written in status 4.
+pub(crate) fn tell_words<R: Print + Eprint>(rt: &R, error: &Error) -> ExitCode {
+    match error.kind() {
+        ErrorKind::OutOfMemory => fail(rt, ServeFault::NoMemory),
+        ErrorKind::DisplayHelp | ErrorKind::DisplayVersion => match error.print(rt) {
+            Ok(()) => ExitCode::SUCCESS,
+            Err(_) => fail(rt, ServeFault::Write),
+        },
+        _ => {
+            let _ = eprint!(rt; "sentinel_group: {error}");
+            ExitCode::from(REFUSED_WORDS)
+        }
+    }
+}

@@ -1,0 +1,43 @@
+//! Why the program ends early: a line on standard error, and the exit status.
+
+use sentinel_conf::{ConfFault, ConfKind};
+use sentinel_core::ServeFault;
+use std::fmt::Display;
+use std::process::ExitCode;
+
+/// The exit status of a file that is refused or can't be read.
+const REFUSED_FILE: u8 = 3;
+
+/// The exit status that tells the fault.
+fn status_of(fault: ServeFault) -> u8 {
+    match fault {
+        ServeFault::Frame(_) | ServeFault::Read | ServeFault::Write => 4,
+        ServeFault::Halted => 5,
+        ServeFault::NoMemory => 6,
+    }
+}
+
+/// Tells the fault in one line, and in the exit status. Where the line can't be written, the status alone tells it.
+pub(crate) fn fail(rt: &impl Eprint, fault: ServeFault) -> ExitCode {
+    let _ = eprintln!(rt; "sentinel_group: {fault}");
+    ExitCode::from(status_of(fault))
+}
+
+/// Tells what is wrong with a file, and at which line; line 0 is the file as a whole.
+pub(crate) fn refuse_file<D: Display + Drop>(
+    rt: &impl Eprint,
+    path: &str,
+    line: u64,
+    kind: D,
+) -> ExitCode {
+    let _ = eprintln!(rt; "sentinel_group: {path}:{line}: {kind}");
+    ExitCode::from(REFUSED_FILE)
+}
+
+/// Tells the fault of a file that was read.
+pub(crate) fn refuse_conf(rt: &impl Eprint, path: &str, fault: ConfFault) -> ExitCode {
+    match fault.kind {
+        ConfKind::NoMemory => fail(rt, ServeFault::NoMemory),
+        kind => refuse_file(rt, path, fault.line, kind),
+    }
+}
