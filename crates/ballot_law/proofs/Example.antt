@@ -106,7 +106,7 @@ abbrev message : (sender target : NodeName) → Body → Message
 message sender target body = record { sender = sender; target = target; body = body }
 
 abbrev asks : Message
-asks = message (SentinelAt 0) (SentinelAt 1) (Ask (addr 6379) 1 (Some (id 0)))
+asks = message (SentinelAt 0) (SentinelAt 1) (Ask 0 (addr 6379) 1 (Some (id 0)))
 
 abbrev grants : Message
 grants = message (SentinelAt 1) (SentinelAt 0) (Answer 0 (addr 6379) true (Some (id 0)) 1)
@@ -304,7 +304,7 @@ run = (
       inl ((lit< tt, refl), refl),
       (
         w4,
-        inl ((lit< tt, refl), (event_from asks, becomes asks, (c4, ok4, refl))),
+        inl (((lit< tt, refl), tt), (event_from asks, becomes asks, (c4, ok4, refl))),
         (
           store_as w4 1,
           inl ((lit< tt, refl), refl),
@@ -313,7 +313,7 @@ run = (
             inl ((lit< tt, refl), refl),
             (
               w7,
-              inl ((lit< tt, refl), (event_from grants, becomes grants, (c7, ok7, refl))),
+              inl (((lit< tt, refl), tt), (event_from grants, becomes grants, (c7, ok7, refl))),
               (
                 store_as w7 0,
                 inl ((lit< tt, refl), refl),
@@ -322,7 +322,7 @@ run = (
                   inl ((lit< tt, refl), refl),
                   (
                     pass_as w9,
-                    inl ((lit< tt, refl), (event_from publishes, becomes publishes, (Send passes ∷ [], pass_ok, refl))),
+                    inl (((lit< tt, refl), tt), (event_from publishes, becomes publishes, (Send passes ∷ [], pass_ok, refl))),
                     (
                       pass_stored (pass_as w9),
                       inl ((lit< tt, refl), refl),
@@ -331,7 +331,7 @@ run = (
                         inl ((lit< tt, refl), refl),
                         (
                           w13,
-                          inl ((lit< tt, refl), (event_from passes, becomes passes, (c13, ok13, refl))),
+                          inl (((lit< tt, refl), tt), (event_from passes, becomes passes, (c13, ok13, refl))),
                           (
                             stop_as w13 2,
                             inl (lit< tt, refl),

@@ -432,7 +432,7 @@ delivered_kept : (t : Group) (picks : List Pick) (w w2 : World) (found : Option 
 delivered_kept t picks w w2 None ok right e = kept_same t picks w w2 ok e
 delivered_kept t picks w w2 (Some message) ok right (inr x) = kept_same t picks w w2 ok x.1
 delivered_kept t picks w w2 (Some message) ok right (inl x) =
-    takes_kept t picks w w2 message.target (x.1).0 ok x.0 (delivered_event t (history w picks) message (x.1).0 (right message refl) (x.1).1) (x.1).2
+    takes_kept t picks w w2 message.target (x.1).0 ok (x.0).0 (delivered_event t (history w picks) message (x.1).0 (right message refl) (x.1).1) (x.1).2
 
 message_ok : (P : Message → Type 0) (messages : List Message) (k : ℕ) (message : Message) → All P messages → slice_get messages k ≡ Some message → P message
 message_ok P messages k message all e =

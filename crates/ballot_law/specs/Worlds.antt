@@ -21,7 +21,7 @@ use Rattle.ballot_law.specs.declared.steps.Step.{Step}
 use Rattle.ballot_law.specs.declared.steps.Step.TheVariants.{Take, Deliver, Store, StoreRefused, Release, Stop, Start, Answer}
 use Rattle.ballot_law.specs.Rosters.{Roster}
 use Rattle.ballot_law.specs.Hellos.{IsHello}
-use Rattle.ballot_law.specs.Messages.{Vote, vote_shown, published, passed_on, advertised, sent, advertised_by, Delivers, hello_handed}
+use Rattle.ballot_law.specs.Messages.{Vote, vote_shown, published, passed_on, advertised, sent, advertised_by, Delivers, IsFor, hello_handed}
 use Rattle.ballot_law.specs.Ballots.{Parts, Ballot, Moved, restored, card_of, voted_of, candidate_of}
 
 pub data State : Type 0 where
@@ -102,7 +102,7 @@ pub record IsRight (roster : Roster) (i : ℕ) (parts : Parts) (message : Messag
 
 abbrev pub IsRightOutput : Roster → ℕ → Parts → Output → Type 0
 IsRightOutput roster i parts (Send message) = IsRight roster i parts message
-IsRightOutput roster i parts (Tell note) = Unit {0}
+IsRightOutput roster i parts (Tell note) = note.card ≡ card_of parts.kept note.master
 
 -- what a take may choose
 pub record Choice : Type 0 where
@@ -285,7 +285,7 @@ AnswersNow roster name m w w2 = w2 ≡ w
 abbrev pub IsDelivered : Roster → Option Message → World → World → Type 0
 IsDelivered roster None w w2 = w2 ≡ w
 IsDelivered roster (Some message) w w2 =
-    OrNothing (IsAt w message.target Ready) ((event : Event) × Delivers message event × Takes roster message.target event w w2) w w2
+    OrNothing (IsAt w message.target Ready × IsFor message.target message.body) ((event : Event) × Delivers message event × Takes roster message.target event w w2) w w2
 
 -- the step may lead from the first world to the second
 abbrev pub Steps : Roster → Step → World → World → Type 0
