@@ -62,7 +62,7 @@ sent (Tell note ∷ outputs) = sent outputs
 abbrev pub advertised_by : Roster → List Output → List Shown
 advertised_by roster [] = []
 advertised_by roster (Send message ∷ outputs) = advertised roster message.body ++ advertised_by roster outputs
-advertised_by roster (Tell note ∷ outputs) = (record { master = note.master; card = note.card }) ∷ advertised_by roster outputs
+advertised_by roster (Tell note ∷ outputs) = advertised_by roster outputs
 
 -- What a message becomes
 
