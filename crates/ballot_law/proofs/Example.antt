@@ -1,7 +1,7 @@
 -- A run of three Sentinels: one asks for votes, another votes for it, it wins, chooses and enacts; a data node passes
 -- its hello on, and the third Sentinel takes the card, is stopped within the store, starts again and shows it.
-use Rattle.std.proofs.Common.{◌≡◌, ℕ, zero, suc, ◌+◌, ◌<◌, ◌≤◌, true, Some, List, [], ◌∷◌, ◌++◌, get_or, refl, sym, ap, subst, ◌∙◌, inl, inr, arith, lit<, lit≤}
-use Rattle.std.specs.Prelude.{All}
+use Rattle.std.proofs.Common.{◌≡◌, ℕ, zero, suc, ◌+◌, ◌<◌, ◌≤◌, true, Some, List, [], ◌∷◌, ◌++◌, get_or, length, refl, sym, ap, subst, ◌∙◌, inl, inr, arith, lit<, lit≤}
+use Rattle.std.specs.Prelude.{All, IfSome}
 use Rattle.std.proofs.lemmas.List.Elements.{All-nil, All-cons}
 use Rattle.ballot_law.specs.declared.addresses.Addr.{Addr}
 use Rattle.ballot_law.specs.declared.addresses.RunId.{RunId}
@@ -24,7 +24,7 @@ use Rattle.ballot_law.specs.declared.rosters.Member.{Member}
 use Rattle.ballot_law.specs.declared.steps.KeptText.TheVariants.{New}
 use Rattle.ballot_law.specs.declared.steps.Step.{Step}
 use Rattle.ballot_law.specs.declared.steps.Step.TheVariants.{Take, Deliver, Store, Release, Stop, Start, Answer as AnswerNow}
-use Rattle.ballot_law.specs.Rosters.{Roster, HasNode}
+use Rattle.ballot_law.specs.Rosters.{Roster, HasNode, master_at}
 use Rattle.ballot_law.specs.RosterFaults.{IsRoster}
 use Rattle.ballot_law.specs.Names.{IsNameByte}
 use Rattle.ballot_law.specs.Hellos.{IsHello, hello_text}
@@ -106,7 +106,7 @@ abbrev message : (sender target : NodeName) → Body → Message
 message sender target body = record { sender = sender; target = target; body = body }
 
 abbrev asks : Message
-asks = message (SentinelAt 0) (SentinelAt 1) (Ask (addr 6379) 1 (Some (id 0)))
+asks = message (SentinelAt 0) (SentinelAt 1) (Ask 0 (addr 6379) 1 (Some (id 0)))
 
 abbrev grants : Message
 grants = message (SentinelAt 1) (SentinelAt 0) (Answer 0 (addr 6379) true (Some (id 0)) 1)
@@ -304,7 +304,7 @@ run = (
       inl ((lit< tt, refl), refl),
       (
         w4,
-        inl ((lit< tt, refl), (event_from asks, becomes asks, (c4, ok4, refl))),
+        inl (((lit< tt, refl), tt), (event_from asks, becomes asks, (c4, ok4, refl))),
         (
           store_as w4 1,
           inl ((lit< tt, refl), refl),
@@ -313,7 +313,7 @@ run = (
             inl ((lit< tt, refl), refl),
             (
               w7,
-              inl ((lit< tt, refl), (event_from grants, becomes grants, (c7, ok7, refl))),
+              inl (((lit< tt, refl), tt), (event_from grants, becomes grants, (c7, ok7, refl))),
               (
                 store_as w7 0,
                 inl ((lit< tt, refl), refl),
@@ -322,7 +322,7 @@ run = (
                   inl ((lit< tt, refl), refl),
                   (
                     pass_as w9,
-                    inl ((lit< tt, refl), (event_from publishes, becomes publishes, (Send passes ∷ [], pass_ok, refl))),
+                    inl (((lit< tt, refl), tt), (event_from publishes, becomes publishes, (Send passes ∷ [], pass_ok, refl))),
                     (
                       pass_stored (pass_as w9),
                       inl ((lit< tt, refl), refl),
@@ -331,7 +331,7 @@ run = (
                         inl ((lit< tt, refl), refl),
                         (
                           w13,
-                          inl ((lit< tt, refl), (event_from passes, becomes passes, (c13, ok13, refl))),
+                          inl (((lit< tt, refl), tt), (event_from passes, becomes passes, (c13, ok13, refl))),
                           (
                             stop_as w13 2,
                             inl (lit< tt, refl),
@@ -363,7 +363,7 @@ starts =
       files = λ i l. subst (λ (s : Sentinel). IsWellFormed roster s.file) (sym (node_same i l)) formed;
       same_cards = λ i j m k l. ap (λ (s : Sentinel). card_of s.file m) (node_same i k) ∙ sym (ap (λ (s : Sentinel). card_of s.file m) (node_same j l));
       stores = All-cons IsFreshOther (record { state = Ready; held = [] }) [] (inl refl, refl) (All-nil IsFreshOther);
-      clients = All-nil IsFreshOther;
+      clients = All-nil (λ client. IfSome client IsFreshOther);
       messages = refl;
       votes = refl;
       elected = refl;
@@ -393,9 +393,13 @@ starts =
         }
 
 -- the members are in order, and no fault fits them
+few_nodes : (m : ℕ) → m < 1 → length (master_at roster m).nodes ≤ 256
+few_nodes zero l = lit≤ tt
+few_nodes (suc m) l = absurd (omega arith)
+
 is_roster : IsRoster roster
 is_roster =
-    record { few_sentinels = lit≤ tt; few_masters = lit≤ tt; made = ∣ record { given = roster; fits = refl; in_order = refl } ∣₁ }
+    record { few_sentinels = lit≤ tt; few_masters = lit≤ tt; few_nodes = few_nodes; made = ∣ record { given = roster; fits = refl; in_order = refl } ∣₁ }
 
 pub failover_happens : FailoverHappens
 failover_happens = (

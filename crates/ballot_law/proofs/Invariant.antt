@@ -1,6 +1,6 @@
 -- The invariant of the whole world, and how the steps keep it.
-use Rattle.std.proofs.Common.{◌≡◌, ◌≢◌, ℕ, ◌<◌, ◌≤◌, Bool, true, false, Option, Some, None, List, [], ◌∷◌, ◌++◌, length, get_or, set, refl, sym, ap, subst, ◌∙◌, inl, inr, ⊎_elim, arith, length-set, get_or-set_same, get_or-set_other}
-use Rattle.std.specs.Prelude.{All, slice_get}
+use Rattle.std.proofs.Common.{◌≡◌, ◌≢◌, ℕ, zero, suc, ◌<◌, ◌≤◌, Bool, true, false, Option, Some, None, List, [], ◌∷◌, ◌++◌, length, get_or, set, refl, sym, ap, subst, ◌∙◌, inl, inr, ⊎_elim, arith, length-set, get_or-set_same, get_or-set_other}
+use Rattle.std.specs.Prelude.{All, IsSome, slice_get, unwrap_or}
 use Rattle.std.proofs.lemmas.Bool.{cases_eq}
 use Rattle.std.proofs.lemmas.Option.{slice_get_within, get_or_from_slice_get}
 use Rattle.std.proofs.lemmas.List.Elements.{All-nil, All-cons, All-head, All-tail, All-weaker, All-push, All-append, All-map, All-get_or}
@@ -40,7 +40,7 @@ pub record Holds (t : Group) (picks : List Pick) (w : World) : Type 0 where
   pub count : length w.sentinels ≡ size t.roster
   pub nodes : (i : ℕ) → i < size t.roster → NodeOk t (history w picks) i (sentinel_at w i)
   pub stores : (k : ℕ) → OtherOk t (history w picks) (StoreAt k) (get_or w.stores k no_other)
-  pub clients : (k : ℕ) → OtherOk t (history w picks) (ClientAt k) (get_or w.clients k no_other)
+  pub clients : (k : ℕ) → OtherOk t (history w picks) (ClientAt k) (other_at w (ClientAt k))
   pub messages : All (MessageOk t (history w picks)) w.messages
   pub elected : All (ElectedOk t (history w picks)) w.elected
   pub said : All (SaidOk t (history w picks)) w.said
@@ -60,7 +60,7 @@ replaced t picks picks2 w i node votes ok place within others new =
       count = length-set w.sentinels i node ∙ ok.count;
       nodes = λ j l. ⊎_elim (here j) (there j l) (cases_eq j i);
       stores = λ k. OtherOk-grows t (history w picks) g2 (StoreAt k) (get_or w.stores k no_other) within (ok.stores k);
-      clients = λ k. OtherOk-grows t (history w picks) g2 (ClientAt k) (get_or w.clients k no_other) within (ok.clients k);
+      clients = λ k. OtherOk-grows t (history w picks) g2 (ClientAt k) (other_at w (ClientAt k)) within (ok.clients k);
       messages = All-weaker (MessageOk t (history w picks)) (MessageOk t g2) (λ m x. MessageOk-grows t (history w picks) g2 m within x) w.messages ok.messages;
       elected = All-weaker (ElectedOk t (history w picks)) (ElectedOk t g2) (λ e x. (x.0, Backed-grows t (history w picks) g2 e.master e.epoch e.sentinel within x.1)) w.elected ok.elected;
       said = All-weaker (SaidOk t (history w picks)) (SaidOk t g2) (λ s x. CardOk-grows t (history w picks) g2 s.master s.card within x) w.said ok.said;
@@ -274,23 +274,28 @@ other_ok t picks w (ClientAt k) ok there = ok.clients k
 other_ok t picks w (SentinelAt k) ok there = absurd there
 other_ok t picks w (PortAt k) ok there = absurd there
 
-others_set : (P : ℕ → Other → Type 0) (xs : List Other) (k : ℕ) (node : Other) → k < length xs → P k node → ((j : ℕ) → P j (get_or xs j no_other)) → (j : ℕ) → P j (get_or (set xs k node) j no_other)
-others_set P xs k node inside new before j = ⊎_elim here there (cases_eq j k)
+nodes_set : {X : Type 0} (d : X) (P : ℕ → X → Type 0) (xs : List X) (k : ℕ) (node : X) → k < length xs → P k node → ((j : ℕ) → P j (get_or xs j d)) → (j : ℕ) → P j (get_or (set xs k node) j d)
+nodes_set {X} d P xs k node inside new before j = ⊎_elim here there (cases_eq j k)
   where
-    here : j ≡ k → P j (get_or (set xs k node) j no_other)
+    here : j ≡ k → P j (get_or (set xs k node) j d)
     here e =
-        subst (λ (n : ℕ). P n (get_or (set xs k node) n no_other)) (sym e)
-        (subst (P k) (sym (get_or-set_same xs k node no_other inside)) new)
+        subst (λ (n : ℕ). P n (get_or (set xs k node) n d)) (sym e)
+        (subst (P k) (sym (get_or-set_same xs k node d inside)) new)
 
-    there : j ≢ k → P j (get_or (set xs k node) j no_other)
-    there apart = subst (P j) (sym (get_or-set_other xs k j node no_other apart)) (before j)
+    there : j ≢ k → P j (get_or (set xs k node) j d)
+    there apart = subst (P j) (sym (get_or-set_other xs k j node d apart)) (before j)
+
+client_within : (clients : List (Option Other)) (k : ℕ) → IsSome (get_or clients k None) → k < length clients
+client_within [] k there = absurd (cc)
+client_within (client ∷ clients) zero there = omega arith
+client_within (client ∷ clients) (suc k) there = let l = client_within clients k there in omega arith
 
 with_other_ok : (t : Group) (picks : List Pick) (w : World) (name : NodeName) (node : Other) → Holds t picks w → IsOther w name → OtherOk t (history w picks) name node → Holds t picks (with_other w name node)
 with_other_ok t picks w (StoreAt k) node ok there new =
     record {
       count = ok.count;
       nodes = ok.nodes;
-      stores = others_set (λ j. OtherOk t (history w picks) (StoreAt j)) w.stores k node there new ok.stores;
+      stores = nodes_set no_other (λ j. OtherOk t (history w picks) (StoreAt j)) w.stores k node there new ok.stores;
       clients = ok.clients;
       messages = ok.messages;
       elected = ok.elected;
@@ -301,7 +306,7 @@ with_other_ok t picks w (ClientAt k) node ok there new =
       count = ok.count;
       nodes = ok.nodes;
       stores = ok.stores;
-      clients = others_set (λ j. OtherOk t (history w picks) (ClientAt j)) w.clients k node there new ok.clients;
+      clients = nodes_set None (λ j client. OtherOk t (history w picks) (ClientAt j) (unwrap_or client no_other)) w.clients k (Some node) (client_within w.clients k there) new ok.clients;
       messages = ok.messages;
       elected = ok.elected;
       said = ok.said;
@@ -432,7 +437,7 @@ delivered_kept : (t : Group) (picks : List Pick) (w w2 : World) (found : Option 
 delivered_kept t picks w w2 None ok right e = kept_same t picks w w2 ok e
 delivered_kept t picks w w2 (Some message) ok right (inr x) = kept_same t picks w w2 ok x.1
 delivered_kept t picks w w2 (Some message) ok right (inl x) =
-    takes_kept t picks w w2 message.target (x.1).0 ok x.0 (delivered_event t (history w picks) message (x.1).0 (right message refl) (x.1).1) (x.1).2
+    takes_kept t picks w w2 message.target (x.1).0 ok (x.0).0 (delivered_event t (history w picks) message (x.1).0 (right message refl) (x.1).1) (x.1).2
 
 message_ok : (P : Message → Type 0) (messages : List Message) (k : ℕ) (message : Message) → All P messages → slice_get messages k ≡ Some message → P message
 message_ok P messages k message all e =

@@ -1,11 +1,34 @@
 -- Lists in order of members of which no fault fits are a roster.
-use Rattle.std.proofs.Common.{◌≡◌, ◌≤◌, List, length, map, None, ap, ◌∙◌, subst, arith}
+use Rattle.std.proofs.Common.{◌≡◌, ◌≤◌, false, List, [], ◌∷◌, length, map, None, ap, sym, ◌∙◌, subst, arith}
+use Rattle.std.specs.Prelude.{nat_lt, All}
+use Rattle.std.specs.List.{list_any}
+use Rattle.std.proofs.lemmas.Bool.{ltb-false, or_parts}
+use Rattle.std.proofs.lemmas.List.Elements.{All-nil, All-cons, All-get_or}
 use Rattle.ballot_law.specs.declared.rosters.Member.{Member}
-use Rattle.ballot_law.specs.Rosters.{Roster, MasterPlan, nodes_in_order}
-use Rattle.ballot_law.specs.Orders.{id_before, bytes_before}
+use Rattle.ballot_law.specs.Rosters.{Roster, MasterPlan, no_master, nodes_in_order}
+use Rattle.ballot_law.specs.Orders.{addr_before, id_before, bytes_before}
 use Rattle.ballot_law.specs.Ordered.{in_order}
-use Rattle.ballot_law.specs.RosterFaults.{fault_of, IsRoster}
-use Rattle.ballot_law.proofs.Placing.{in_order_len, length-map}
+use Rattle.ballot_law.specs.RosterFaults.{tests, fault_of, IsRoster}
+use Rattle.ballot_law.proofs.Fits.{none_fits}
+use Rattle.ballot_law.proofs.Placing.{in_order_len, in_order_all, length-map}
+
+-- no master of the roster has many nodes
+abbrev IsFewNodes : MasterPlan → Type 0
+IsFewNodes master = length master.nodes ≤ 256
+
+few_by : (masters : List MasterPlan) → list_any (λ (master : MasterPlan). nat_lt 256 (length master.nodes)) masters ≡ false → All IsFewNodes (map nodes_in_order masters)
+few_by [] h = All-nil IsFewNodes
+few_by (master ∷ masters) h =
+    let both = or_parts (nat_lt 256 (length master.nodes)) (list_any (λ (master : MasterPlan). nat_lt 256 (length master.nodes)) masters) h in
+    let few : length master.nodes ≤ 256 = ltb-false 256 (length master.nodes) both.0 in
+    let kept : length (in_order addr_before master.nodes) ≤ length master.nodes = in_order_len addr_before master.nodes in
+    All-cons IsFewNodes (nodes_in_order master) (map nodes_in_order masters) (omega arith) (few_by masters both.1)
+
+few_in_order : (given : Roster) → fault_of given ≡ None → All IsFewNodes (in_order (λ (a b : MasterPlan). bytes_before a.name b.name) (map nodes_in_order given.masters))
+few_in_order given fits =
+    let all = none_fits (tests given) fits in
+    in_order_all (λ (a b : MasterPlan). bytes_before a.name b.name) IsFewNodes (map nodes_in_order given.masters)
+    (few_by given.masters all.1.1.1.1.1.1.0)
 
 pub made_in_order : (given seen sentinels : List Member) (given_masters seen_masters sorted masters : List MasterPlan)
     → seen ≡ given → seen_masters ≡ given_masters
@@ -31,6 +54,7 @@ made_in_order given seen sentinels given_masters seen_masters sorted masters s m
     record {
       few_sentinels = omega arith;
       few_masters = omega arith;
+      few_nodes = λ m l. All-get_or IsFewNodes masters m no_master l (subst (λ list. All IsFewNodes list) (sym masters_are) (few_in_order (roster_of given given_masters) given_fits));
       made = ∣ record {
         given = roster_of given given_masters;
         fits = given_fits;

@@ -35,7 +35,7 @@ SentOk t h message = MessageOk t h message × All (ShownOk t h) (advertised t.ro
 
 abbrev pub OutputOk : Group → History → Output → Type 0
 OutputOk t h (Send message) = SentOk t h message
-OutputOk t h (Tell note) = Unit {0}
+OutputOk t h (Tell note) = CardOk t h note.master note.card
 
 ShownOk-grows : (t : Group) (h h2 : History) (xs : List Shown) → Within h h2 → All (ShownOk t h) xs → All (ShownOk t h2) xs
 ShownOk-grows t h h2 xs w ok = All-weaker (ShownOk t h) (ShownOk t h2) (λ s x. CardOk-grows t h h2 s.master s.card w x) xs ok
@@ -43,7 +43,7 @@ ShownOk-grows t h h2 xs w ok = All-weaker (ShownOk t h) (ShownOk t h2) (λ s x. 
 output_grows : (t : Group) (h h2 : History) → Within h h2 → (output : Output) → OutputOk t h output → OutputOk t h2 output
 output_grows t h h2 w (Send message) ok =
     (MessageOk-grows t h h2 message w ok.0, ShownOk-grows t h h2 (advertised t.roster message.body) w ok.1)
-output_grows t h h2 w (Tell note) ok = tt
+output_grows t h h2 w (Tell note) ok = CardOk-grows t h h2 note.master note.card w ok
 
 held_grows : (t : Group) (h h2 : History) (held : List Output) → Within h h2 → All (OutputOk t h) held → All (OutputOk t h2) held
 held_grows t h h2 held w ok = All-weaker (OutputOk t h) (OutputOk t h2) (output_grows t h h2 w) held ok
@@ -83,7 +83,7 @@ right_message t h i parts ok message right =
     )
 
 right_output : (t : Group) (h : History) (i : ℕ) (parts : Parts) → PartsOk t h i parts.kept parts.masters → (output : Output) → IsRightOutput t.roster i parts output → OutputOk t h output
-right_output t h i parts ok (Tell note) right = tt
+right_output t h i parts ok (Tell note) right = subst (CardOk t h note.master) (sym right) (ok.each note.master).card
 right_output t h i parts ok (Send message) right = right_message t h i parts ok message right
 
 pub sent_ok : (t : Group) (h : History) (held : List Output) → All (OutputOk t h) held → All (MessageOk t h) (sent held)
@@ -282,7 +282,7 @@ hands t g message ok =
     record { vote = λ x s. absurd (cc); reads = λ text s. absurd (cc); handed = λ hello s. ok.publishes hello s }
 
 heard_ok : (t : Group) (g : History) (reply : PingReply) (info : List ℕ) (sender target : NodeName) (body : Body) → MessageOk t g (message_of sender target body) → EventOk t g (heard_as reply info (message_of sender target body) sender body)
-heard_ok t g reply info sender target (Ask addr e candidate) ok = silent t g _ refl refl refl
+heard_ok t g reply info sender target (Ask m addr e candidate) ok = silent t g _ refl refl refl
 heard_ok t g reply info (SentinelAt v) target (Answer m addr down (Some c) e) ok =
     record { vote = λ x s. ok.vote x s; reads = λ text s. absurd (cc); handed = λ hello s. absurd (cc) }
 heard_ok t g reply info (SentinelAt v) target (Answer m addr down None e) ok = silent t g _ refl refl refl

@@ -1,6 +1,7 @@
 -- Where `add` puts an element, and steps of the loops that put lists in order.
-use Rattle.std.proofs.Common.{◌≡◌, ℕ, zero, suc, ◌+◌, ◌<◌, ◌≤◌, Bool, true, false, ◌||◌, List, [], ◌∷◌, ◌++◌, length, get_or, take, drop, map, refl, ap, sym, ◌∙◌, arith, append_assoc, add-one}
-use Rattle.std.specs.List.{list_any}
+use Rattle.std.proofs.Common.{◌≡◌, ℕ, zero, suc, ◌+◌, ◌<◌, ◌≤◌, Bool, true, false, ◌||◌, List, [], ◌∷◌, ◌++◌, length, get_or, take, drop, map, refl, ap, sym, ◌∙◌, arith, append_assoc, add-one, subst}
+use Rattle.std.specs.List.{list_any, All}
+use Rattle.std.proofs.lemmas.List.Elements.{All-nil, All-cons, All-head, All-tail}
 use Rattle.std.proofs.lemmas.Bool.{or_left}
 use Rattle.std.proofs.Math.Seq.{drop-cons}
 use Rattle.std.proofs.lemmas.List.{take_more, take-append-drop}
@@ -131,6 +132,24 @@ module _ {X : Type 0} (before : X → X → Bool) where
   pub in_order_len : (xs : List X) → length (in_order before xs) ≤ length xs
   in_order_len [] = omega arith
   in_order_len (x ∷ xs) = let a = add_len x (in_order before xs) in let b = in_order_len xs in omega arith
+
+-- what holds of each element holds of each of the list in order
+module _ {X : Type 0} (before : X → X → Bool) (P : X → Type 0) where
+  add_all_by : (x y : X) (ys : List X) (s t : Bool) → before y x ≡ s → before x y ≡ t → P x → P y → All P ys → All P (add before x ys) → All P (add before x (y ∷ ys))
+  add_all_by x y ys true t e f p q r more = subst (All P) (sym (add_at before x y ys e)) (All-cons P y (add before x ys) q more)
+  add_all_by x y ys false true e f p q r more = subst (All P) (sym (add_before before x y ys e f)) (All-cons P x (y ∷ ys) p (All-cons P y ys q r))
+  add_all_by x y ys false false e f p q r more = subst (All P) (sym (add_tied before x y ys e f)) (All-cons P y ys q r)
+
+  add_all : (x : X) (ys : List X) → P x → All P ys → All P (add before x ys)
+  add_all x [] p all = All-cons P x [] p (All-nil P)
+  add_all x (y ∷ ys) p all =
+      let q = All-head P y ys all in
+      let r = All-tail P y ys all in
+      add_all_by x y ys (before y x) (before x y) refl refl p q r (add_all x ys p r)
+
+  pub in_order_all : (xs : List X) → All P xs → All P (in_order before xs)
+  in_order_all [] all = All-nil P
+  in_order_all (x ∷ xs) all = add_all x (in_order before xs) (All-head P x xs all) (in_order_all xs (All-tail P x xs all))
 
 pub length-map : {X Y : Type 0} (f : X → Y) (xs : List X) → length (map f xs) ≡ length xs
 length-map f [] = refl

@@ -1,13 +1,13 @@
 -- The invariant over whole runs, and the three laws that follow.
-use Rattle.std.proofs.Common.{◌≡◌, ◌⊎◌, ℕ, ◌+◌, ◌<◌, ◌≤◌, List, [], ◌∷◌, length, get_or, map, refl, sym, ap, subst, ◌∙◌, inl, inr, ⊎_elim, arith}
+use Rattle.std.proofs.Common.{◌≡◌, ◌⊎◌, ℕ, zero, suc, ◌+◌, Option, Some, None, ◌<◌, ◌≤◌, List, [], ◌∷◌, length, get_or, map, refl, sym, ap, subst, ◌∙◌, inl, inr, ⊎_elim, arith}
 use Rattle.ballot_law.specs.declared.messages.Message.{Message}
 use Rattle.ballot_law.specs.declared.messages.Output.{Output}
 use Rattle.ballot_law.specs.declared.messages.NodeName.{NodeName}
 use Rattle.ballot_law.specs.declared.messages.NodeName.TheVariants.{StoreAt, ClientAt}
-use Rattle.std.specs.Prelude.{All, Contains}
+use Rattle.std.specs.Prelude.{All, Contains, IfSome, unwrap_or}
 use Rattle.std.proofs.lemmas.Bool.{cases_lt}
 use Rattle.std.proofs.lemmas.List.{get_or_past, map-append}
-use Rattle.std.proofs.lemmas.List.Elements.{All-nil, All-contains, All-get_or}
+use Rattle.std.proofs.lemmas.List.Elements.{All-nil, All-head, All-tail, All-contains, All-get_or}
 use Rattle.ballot_law.specs.declared.cards.Card.{Card}
 use Rattle.ballot_law.specs.Rosters.{Roster, size, id_of, need, HasDistinctIds}
 use Rattle.ballot_law.specs.Ballots.{no_kept, card_of}
@@ -82,6 +82,16 @@ other_at_start t g name others k fresh (inl l) =
 other_at_start t g name others k fresh (inr l) =
     subst (OtherOk t g name) (sym (get_or_past others k no_other l)) (All-nil (PassedOutput t g name))
 
+client_at_start : (t : Group) (g : History) (k : ℕ) (client : Option Other) → IfSome client IsFreshOther → OtherOk t g (ClientAt k) (unwrap_or client no_other)
+client_at_start t g k None fresh = All-nil (PassedOutput t g (ClientAt k))
+client_at_start t g k (Some node) fresh =
+    subst (λ (held : List Output). All (PassedOutput t g (ClientAt k)) held) (sym fresh.1) (All-nil (PassedOutput t g (ClientAt k)))
+
+fresh_client : (xs : List (Option Other)) (k : ℕ) → All (λ (client : Option Other). IfSome client IsFreshOther) xs → IfSome (get_or xs k None) IsFreshOther
+fresh_client [] k fresh = tt
+fresh_client (x ∷ xs) zero fresh = All-head (λ (client : Option Other). IfSome client IsFreshOther) x xs fresh
+fresh_client (x ∷ xs) (suc k) fresh = fresh_client xs k (All-tail (λ (client : Option Other). IfSome client IsFreshOther) x xs fresh)
+
 holds_at_start : (roster : Roster) (w : World) → IsStart roster w → Holds (group_of roster w) [] w
 holds_at_start roster w begins =
     let t : Group = group_of roster w in
@@ -90,7 +100,7 @@ holds_at_start roster w begins =
       count = begins.count;
       nodes = λ i place. node_at_start roster w i begins place (begins.fresh i place);
       stores = λ k. other_at_start t g (StoreAt k) w.stores k begins.stores (cases_lt k (length w.stores));
-      clients = λ k. other_at_start t g (ClientAt k) w.clients k begins.clients (cases_lt k (length w.clients));
+      clients = λ k. client_at_start t g k (get_or w.clients k None) (fresh_client w.clients k begins.clients);
       messages = subst (λ (xs : List Message). All (MessageOk t g) xs) (sym begins.messages) (All-nil (MessageOk t g));
       elected = subst (λ (xs : List Elected). All (ElectedOk t g) xs) (sym begins.elected) (All-nil (ElectedOk t g));
       said = subst (λ (xs : List Said). All (SaidOk t g) xs) (sym begins.said) (All-nil (SaidOk t g));

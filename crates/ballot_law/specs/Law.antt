@@ -1,5 +1,5 @@
 -- Where runs start, and what holds of each.
-use Rattle.std.specs.Prelude.{◌≡◌, ◌≢◌, ℕ, ◌<◌, ◌≤◌, ◌⊎◌, Contains, List, [], ◌++◌, All, length}
+use Rattle.std.specs.Prelude.{◌≡◌, ◌≢◌, ℕ, ◌<◌, ◌≤◌, ◌⊎◌, Contains, IfSome, List, [], ◌++◌, All, length}
 use Rattle.ballot_law.specs.declared.cards.Card.{Card}
 use Rattle.ballot_law.specs.declared.cards.Kept.{Kept}
 use Rattle.ballot_law.specs.declared.records.Elected.{Elected}
@@ -32,7 +32,7 @@ pub record IsStart (roster : Roster) (w : World) : Type 0 where
   pub files : (i : ℕ) → i < size roster → IsWellFormed roster (sentinel_at w i).file
   pub same_cards : (i j m : ℕ) → i < size roster → j < size roster → card_of (sentinel_at w i).file m ≡ card_of (sentinel_at w j).file m
   pub stores : All IsFreshOther w.stores
-  pub clients : All IsFreshOther w.clients
+  pub clients : All (λ client. IfSome client IsFreshOther) w.clients
   pub messages : w.messages ≡ []
   pub votes : w.votes ≡ []
   pub elected : w.elected ≡ []

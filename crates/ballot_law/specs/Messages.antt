@@ -69,7 +69,7 @@ advertised_by roster (Tell note ∷ outputs) = advertised_by roster outputs
 -- at a Sentinel: questions are commands, a hello comes as its bytes; how a PING's answer counts and the bytes of an INFO
 -- aren't tied to the message
 abbrev pub heard_as : PingReply → (info : List ℕ) → Message → NodeName → Body → Event
-heard_as reply info message sender (Ask addr e candidate) = Command sender (IsMasterDownByAddr addr e candidate)
+heard_as reply info message sender (Ask m addr e candidate) = Command sender (IsMasterDownByAddr addr e candidate)
 heard_as reply info message sender (Answer m addr down leader e) = Answered sender m addr down leader e
 heard_as reply info message sender Ping = Command sender AskPing
 heard_as reply info message sender (PingText is_error text) = Pinged sender reply
@@ -82,6 +82,21 @@ heard_as reply info message sender _ = Handed message
 abbrev pub event_at : NodeName → PingReply → (info : List ℕ) → Message → Event
 event_at (SentinelAt i) reply info message = heard_as reply info message message.sender message.body
 event_at _ reply info message = Handed message
+
+-- what a Sentinel takes; any other body is for data nodes and clients
+abbrev pub IsForSentinels : Body → Type 0
+IsForSentinels (Ask m addr e candidate) = Unit {0}
+IsForSentinels (Answer m addr down leader e) = Unit {0}
+IsForSentinels Ping = Unit {0}
+IsForSentinels (PingText is_error text) = Unit {0}
+IsForSentinels (InfoText told) = Unit {0}
+IsForSentinels (HelloText hello) = Unit {0}
+IsForSentinels (AddressAsk name) = Unit {0}
+IsForSentinels _ = ⊥
+
+abbrev pub IsFor : NodeName → Body → Type 0
+IsFor (SentinelAt i) body = IsForSentinels body
+IsFor _ body = Unit {0}
 
 -- the message becomes this event at its target
 pub record Delivers (message : Message) (event : Event) : Type 0 where

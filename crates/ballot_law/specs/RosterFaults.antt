@@ -1,11 +1,11 @@
 -- What keeps a roster from being made: the first of a list of tests that fits.
-use Rattle.std.specs.Prelude.{◌≡◌, ◌≤◌, ◌⊎◌, Result, Ok, Err, Bool, true, false, ◌==◌, nat_lt, List, [], ◌∷◌, ◌++◌, length, map, Option, Some, None}
+use Rattle.std.specs.Prelude.{◌≡◌, ℕ, ◌<◌, ◌≤◌, ◌⊎◌, Result, Ok, Err, Bool, true, false, ◌==◌, nat_lt, List, [], ◌∷◌, ◌++◌, length, map, Option, Some, None}
 use Rattle.std.specs.List.{list_any, flat_map}
 use Rattle.ballot_law.specs.declared.addresses.Addr.{Addr}
 use Rattle.ballot_law.specs.declared.rosters.RosterFault.{RosterFault}
 use Rattle.ballot_law.specs.declared.rosters.RosterFault.TheVariants.{NoSentinel, TooManySentinels, NoMaster, TooManyMasters, SameName, NoNode, TooManyNodes, QuorumZero, SameRunId, SharedAddress, NoMemory}
 use Rattle.ballot_law.specs.Ordered.{repeats}
-use Rattle.ballot_law.specs.Rosters.{Roster, ordered}
+use Rattle.ballot_law.specs.Rosters.{Roster, master_at, ordered}
 use Rattle.ballot_law.specs.Orders.{same_bytes, same_id, same_addr}
 
 -- the first fault whose test fits
@@ -55,4 +55,5 @@ pub record IsMade (roster : Roster) : Type 0 where
 pub record IsRoster (roster : Roster) : Type 0 where
   pub few_sentinels : length roster.sentinels ≤ 64
   pub few_masters : length roster.masters ≤ 16
+  pub few_nodes : (m : ℕ) → m < length roster.masters → length (master_at roster m).nodes ≤ 256
   pub made : ∥ IsMade roster ∥₁

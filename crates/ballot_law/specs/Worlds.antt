@@ -1,5 +1,5 @@
 -- All nodes of a group with everything that they ever sent, and the steps of the whole.
-use Rattle.std.specs.Prelude.{◌≡◌, ◌≢◌, ℕ, ◌-◌, ◌<◌, ◌⊎◌, ◌↔◌, Bool, true, false, Option, Some, None, List, [], ◌∷◌, ◌++◌, map, length, All, slice_get, slice_index_or, slice_set}
+use Rattle.std.specs.Prelude.{◌≡◌, ◌≢◌, ℕ, ◌-◌, ◌<◌, ◌⊎◌, ◌↔◌, Bool, true, false, Option, Some, None, IsSome, unwrap_or, List, [], ◌∷◌, ◌++◌, map, length, All, slice_get, slice_index_or, slice_set}
 use Rattle.ballot_law.specs.declared.cards.Card.{Card}
 use Rattle.ballot_law.specs.declared.cards.Kept.{Kept}
 use Rattle.ballot_law.specs.declared.cards.Shown.{Shown}
@@ -21,7 +21,7 @@ use Rattle.ballot_law.specs.declared.steps.Step.{Step}
 use Rattle.ballot_law.specs.declared.steps.Step.TheVariants.{Take, Deliver, Store, StoreRefused, Release, Stop, Start, Answer}
 use Rattle.ballot_law.specs.Rosters.{Roster}
 use Rattle.ballot_law.specs.Hellos.{IsHello}
-use Rattle.ballot_law.specs.Messages.{Vote, vote_shown, published, passed_on, advertised, sent, advertised_by, Delivers, hello_handed}
+use Rattle.ballot_law.specs.Messages.{Vote, vote_shown, published, passed_on, advertised, sent, advertised_by, Delivers, IsFor, hello_handed}
 use Rattle.ballot_law.specs.Ballots.{Parts, Ballot, Moved, restored, card_of, voted_of, candidate_of}
 
 pub data State : Type 0 where
@@ -46,11 +46,12 @@ pub record Other : Type 0 where
   pub state : State
   pub held : List Output
 
+-- clients: by their numbers, with None where no client has the number.
 -- messages: all that were ever released. votes: each cast from the moment at which the voter's file holds it
 pub record World : Type 0 where
   pub sentinels : List Sentinel
   pub stores : List Other
-  pub clients : List Other
+  pub clients : List (Option Other)
   pub messages : List Message
   pub votes : List Vote
   pub elected : List Elected
@@ -102,7 +103,7 @@ pub record IsRight (roster : Roster) (i : ℕ) (parts : Parts) (message : Messag
 
 abbrev pub IsRightOutput : Roster → ℕ → Parts → Output → Type 0
 IsRightOutput roster i parts (Send message) = IsRight roster i parts message
-IsRightOutput roster i parts (Tell note) = Unit {0}
+IsRightOutput roster i parts (Tell note) = note.card ≡ card_of parts.kept note.master
 
 -- what a take may choose
 pub record Choice : Type 0 where
@@ -188,19 +189,22 @@ after_answer w i m k =
 
 -- Other nodes
 
+abbrev pub client_at : World → ℕ → Option Other
+client_at w k = slice_index_or w.clients k None
+
 abbrev pub other_at : World → NodeName → Other
 other_at w (StoreAt k) = slice_index_or w.stores k no_other
-other_at w (ClientAt k) = slice_index_or w.clients k no_other
+other_at w (ClientAt k) = unwrap_or (client_at w k) no_other
 other_at w _ = no_other
 
 abbrev pub IsOther : World → NodeName → Type 0
 IsOther w (StoreAt k) = k < length w.stores
-IsOther w (ClientAt k) = k < length w.clients
+IsOther w (ClientAt k) = IsSome (client_at w k)
 IsOther w _ = ⊥
 
 abbrev pub with_other : World → NodeName → Other → World
 with_other w (StoreAt k) node = record w { stores = slice_set w.stores k node }
-with_other w (ClientAt k) node = record w { clients = slice_set w.clients k node }
+with_other w (ClientAt k) node = record w { clients = slice_set w.clients k (Some node) }
 with_other w _ node = w
 
 -- another node sends under its own name, publishes nothing, and passes on only the hello that it was handed in this take
@@ -285,7 +289,7 @@ AnswersNow roster name m w w2 = w2 ≡ w
 abbrev pub IsDelivered : Roster → Option Message → World → World → Type 0
 IsDelivered roster None w w2 = w2 ≡ w
 IsDelivered roster (Some message) w w2 =
-    OrNothing (IsAt w message.target Ready) ((event : Event) × Delivers message event × Takes roster message.target event w w2) w w2
+    OrNothing (IsAt w message.target Ready × IsFor message.target message.body) ((event : Event) × Delivers message event × Takes roster message.target event w w2) w w2
 
 -- the step may lead from the first world to the second
 abbrev pub Steps : Roster → Step → World → World → Type 0

@@ -19,8 +19,10 @@ pub enum NodeName {
 /// What a message says.
 #[derive(Debug, Drop)]
 pub enum Body {
-    /// Whether the master at the address is down, and with a candidate a request for a vote.
+    /// Whether the master is down, which isn't named on the wire but by its address, and with a candidate a request for
+    /// a vote.
     Ask {
+        master: u16,
         addr: Addr,
         epoch: u64,
         candidate: Option<RunId>,

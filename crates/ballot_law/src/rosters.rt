@@ -1,14 +1,15 @@
 //! The fixed roster of a group: its Sentinels, its masters, and each master's data nodes.
 
-ghost use Rattle.std.specs.Prelude.{◌≡◌, ◌==◌, ◌<◌, ◌≤◌, ◌++◌, ◌≢◌, ℕ, nat_lt, map, length, IfOk, OnOk, IfErr, IfSome, IfNone, ◌⊎◌, Some, None};
+ghost use Rattle.std.specs.Prelude.{◌≡◌, ◌==◌, ◌<◌, ◌≤◌, ◌++◌, ◌≢◌, ℕ, nat_lt, map, length, slice_index_or, IfOk, OnOk, IfErr, IfSome, IfNone, ◌⊎◌, Some, None};
 ghost use Rattle.std.specs.List.{flat_map, list_any};
-ghost use Rattle.ballot_law.specs.Rosters.{need, HasNode, nodes_in_order, master_at};
+ghost use Rattle.ballot_law.specs.Rosters.{need, HasNode, nodes_in_order, master_at, no_addr};
 ghost use Rattle.ballot_law.specs.Orders.{same_addr, same_bytes, bytes_before};
 ghost use Rattle.ballot_law.specs.declared.rosters.RosterFault.TheVariants.{NoMemory};
 ghost use Rattle.ballot_law.specs.RosterFaults.{Makes, fault_of, first_that_fits, first_tests, last_tests, addresses};
 
 use crate::addresses::{Addr, RunId};
 use crate::comparisons::is_same_bytes;
+use crate::memory::NoMemory as WantOfMemory;
 use crate::names::Name;
 use crate::ordering::{Keyed, Placed, has_repeats, ordered};
 use std::alloc::{AllocError, Global};
@@ -266,6 +267,35 @@ fn has_node(nodes: &[Addr], addr: Addr) -> bool
     nodes.iter().any(|node| addr.is_same(node))
 }
 
+/// The place of an address among the nodes of a master.
+fn place_among(nodes: &[Addr], addr: Addr) -> Option<u16>
+    requires { length nodes.now ≤ 256 }
+    ensures some { IfSome result (λ k. (k < length nodes.now) × (slice_index_or nodes.now k no_addr ≡ addr)) }
+    ensures none { IfNone result ((k : ℕ) → k < length nodes.now → slice_index_or nodes.now k no_addr ≢ addr) }
+{
+    for (k, node) in nodes.iter().enumerate() {
+        if *node == addr {
+            return Some(k as u16);
+        }
+    }
+    None
+}
+
+/// Copies of the masters, in their order.
+fn copies_of(alloc: Global, masters: &[Watched]) -> Result<Vec<Watched>, AllocError>
+    ensures { IfOk result (λ copies. copies.items ≡ masters.now) }
+{
+    let mut copies = Vec::with_capacity(alloc, masters.len())?;
+    for master in masters {
+        copies.push(Watched {
+            name: master.name,
+            nodes: Vec::from_slice(alloc, &master.nodes)?,
+            quorum: master.quorum,
+        })?;
+    }
+    Ok(copies)
+}
+
 /// Refuses the members of which some fault fits.
 #[tactic(auto, using(crate::proofs::Fits::fault_first, crate::proofs::Fits::fault_last))]
 fn judge(alloc: Global, sentinels: &[Member], masters: &[Watched]) -> Result<(), RosterFault>
@@ -352,5 +382,26 @@ impl Roster {
             }
         }
         None
+    }
+
+    /// The place of an address among the data nodes of the master with this number, at most 255. None where the
+    /// master's list doesn't have the address, or no master has the number.
+    pub fn place_of(&self, m: u16, addr: Addr) -> Option<u16>
+        ensures some { IfSome result (λ k. (k < length (master_at self.now m).nodes)
+            × (slice_index_or (master_at self.now m).nodes k no_addr ≡ addr)) }
+        ensures none { IfNone result ((k : ℕ) → k < length (master_at self.now m).nodes
+            → slice_index_or (master_at self.now m).nodes k no_addr ≢ addr) }
+    {
+        let master = self.masters.get(m as usize)?;
+        place_among(&master.nodes, addr)
+    }
+
+    /// A copy with memory of its own, which equals the roster. `NoMemory` is the only error, and changes nothing.
+    pub fn copy(&self, alloc: Global) -> Result<Roster, WantOfMemory>
+        ensures { IfOk result (λ copy. copy ≡ self.now) }
+    {
+        let sentinels = Vec::from_slice(alloc, &self.sentinels)?;
+        let masters = copies_of(alloc, &self.masters)?;
+        Ok(Roster { sentinels, masters })
     }
 }

@@ -45,7 +45,7 @@ address_frame (Some shown) = words_frame (ip_text shown.card.addr.ip ∷ decimal
 
 -- the value that a message is; an answer of the port stands as its bytes already, and no value is asked for
 abbrev pub body_frame : Body → Frame
-body_frame (Ask addr epoch candidate) = ask_frame addr epoch candidate
+body_frame (Ask master addr epoch candidate) = ask_frame addr epoch candidate
 body_frame (Answer master addr down leader epoch) = answer_frame down leader epoch
 body_frame Ping = words_frame (codes "PING" ∷ [])
 body_frame (PingText is_error text) = ping_frame is_error text

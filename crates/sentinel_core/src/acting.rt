@@ -60,6 +60,7 @@ fn output_of(plan: &Plan, state: &State, frame: Frame) -> Output
             candidate,
         } => {
             let ask = Body::Ask {
+                master,
                 addr: state.card(master).addr,
                 epoch: state.kept().current,
                 candidate,

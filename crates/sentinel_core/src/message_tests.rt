@@ -51,6 +51,7 @@ fn asks_and_their_answers(rt: HostRuntime) -> Result<(), Fail> {
     let ask = bytes_of(
         alloc,
         Body::Ask {
+            master: 3,
             addr: addr(),
             epoch: 15,
             candidate: Some(id()),

@@ -177,7 +177,7 @@ fn add_role(role: &Role, text: &mut OutText) -> Result<(), NoMemory>
 
 /// Adds a message as it stands on the wire: a command as a RESP2 array of bulk strings, a reply as a RESP2 value.
 ///
-/// Of an answer to an Ask the master and the address aren't written, since the link that carries it knows them. The
+/// The master of an Ask isn't written, nor are the master and the address of the answer to it: the link knows them. The
 /// caller sees to it that no CR or LF stands in the answer to a PING, that a hello, an INFO and a ROLE can be read
 /// again, and that the epoch of an answer is at most `MAX_EPOCH`. `NoMemory` leaves the text unchanged.
 pub fn message_text(alloc: Global, message: &Message, text: &mut OutText) -> Result<(), NoMemory>
@@ -190,6 +190,7 @@ pub fn message_text(alloc: Global, message: &Message, text: &mut OutText) -> Res
             addr,
             epoch,
             candidate,
+            ..
         } => write_value(&ask(alloc, *addr, *epoch, *candidate)?, text),
         Body::Answer {
             down,

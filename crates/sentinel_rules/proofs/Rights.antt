@@ -133,10 +133,10 @@ frame_right plan core parts (PingTo target) p s is f = silent plan parts target 
 frame_right plan core parts (InfoTo target) p s is f = silent plan parts target InfoAsk refl refl refl refl
 frame_right plan core parts (HelloTo target m) p s is f = hello_right plan core parts target m p s is f
 frame_right plan core parts (AskTo place m candidate) p s is f =
-    silent plan parts (SentinelAt place) (Ask (card_of core.kept m).addr core.kept.current candidate) refl refl refl refl
+    silent plan parts (SentinelAt place) (Ask m (card_of core.kept m).addr core.kept.current candidate) refl refl refl refl
 frame_right plan core parts (PromoteTo target) p s is f = silent plan parts target (ReplicaOf None) refl refl refl refl
 frame_right plan core parts (FollowTo target m) p s is f = silent plan parts target (ReplicaOf (Some (card_of core.kept m).addr)) refl refl refl refl
-frame_right plan core parts (NoteOf m old) p s is f = tt
+frame_right plan core parts (NoteOf m old) p s is f = ap (λ (kept : Kept). card_of kept m) (sym is.kept)
 
 pub frames_right : (plan : Plan) (core : Core) (parts : Parts) (frames : List Frame) → IsSoundPlan plan → IsSound plan core → IsPartsOf core parts → AreFrames plan frames
     → All (IsRightOutput (roster_of plan) plan.place parts) (map (output_of plan core) frames)

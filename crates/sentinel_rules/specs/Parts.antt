@@ -41,7 +41,7 @@ output_of plan core (PingTo target) = send plan target Ping
 output_of plan core (InfoTo target) = send plan target InfoAsk
 output_of plan core (HelloTo target m) = send plan target (Publish (hello_of_master plan core m))
 output_of plan core (AskTo place m candidate) =
-    send plan (SentinelAt place) (Ask (card_of core.kept m).addr core.kept.current candidate)
+    send plan (SentinelAt place) (Ask m (card_of core.kept m).addr core.kept.current candidate)
 output_of plan core (PromoteTo target) = send plan target (ReplicaOf None)
 output_of plan core (FollowTo target m) = send plan target (ReplicaOf (Some (card_of core.kept m).addr))
 output_of plan core (NoteOf m old) = Tell (record { master = m; old = old; card = card_of core.kept m })

@@ -226,7 +226,7 @@ text_answer text = answer (PortReply [] (line text))
 -- to the second and the third Sentinel
 abbrev pub asks : (epoch : ℕ) → Option RunId → List Output
 asks epoch candidate =
-    sent (SentinelAt 1) (Ask (local 6379) epoch candidate) ∷ sent (SentinelAt 2) (Ask (local 6379) epoch candidate) ∷ []
+    sent (SentinelAt 1) (Ask 0 (local 6379) epoch candidate) ∷ sent (SentinelAt 2) (Ask 0 (local 6379) epoch candidate) ∷ []
 
 -- Votes
 
