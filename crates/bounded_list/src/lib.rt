@@ -11,10 +11,14 @@
 //! }
 //! ```
 //!
-//! Contracts see the list; `bounded LIMIT` is what the room holds of a list, and each call that adds ends as
-//! `bounded LIMIT (self.old ++ ..)`. The facts about it stand in `proofs::Bounded` and serve any limit: `bounded_more`
-//! and `added_both` join two parts, `bounded_all` says that what has room is whole. A crate that writes its limit often
-//! gives it a short name, `abbrev bounded text = BoundedLists.bounded ANSWER_MAX text`, for which these facts hold too.
+//! Contracts see the list. `bounded LIMIT` is what the room holds of a list, and each call that adds ends as
+//! `bounded LIMIT (self.old ++ ..)`. A crate that writes its limit often gives that a short name, for which all facts
+//! hold as well: `abbrev pub bounded : List ℕ → List ℕ`, `bounded text = lists.bounded ANSWER_MAX text`, with
+//! `use Rattle.bounded_list.specs.BoundedLists as lists`.
+//!
+//! The facts stand in `proofs::Bounded` and take the limit first. `bounded_more` and `added_both` join two parts,
+//! `two_adds` two calls that add, `bounded_all` says that what has room is whole. A function that adds twice is proved by
+//! `#[tactic(auto, using(bounded_list::proofs::Bounded::added_both))]`.
 #![tactic(auto)]
 
 mod lists;
