@@ -37,9 +37,9 @@ impl<T: Drop, const LIMIT: usize> BoundedList<T, LIMIT> {
         requires { LIMIT ≤ vec_capacity items }
         ensures { result ≡ [] }
     {
-        let mut held = items;
-        held.clear();
-        BoundedList { held }
+        let mut room = items;
+        room.clear();
+        BoundedList { held: room }
     }
 
     /// The items with the room they stand in. No memory is taken.
