@@ -1,6 +1,7 @@
 pub mod Ballots
 pub mod Clocks
 pub mod Counts
+pub mod Cuts
 pub mod Hellos
 pub mod Law
 pub mod Messages
@@ -13,6 +14,7 @@ pub mod OwnVotes
 pub mod Padding
 pub mod PingReplies
 pub mod Reports
+pub mod Results
 pub mod RosterFaults
 pub mod Rosters
 pub mod ShortTexts

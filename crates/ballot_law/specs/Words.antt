@@ -1,29 +1,42 @@
 -- Numbers, names, addresses and run ids as words: how each is read, and how it is spelled.
-use Rattle.std.specs.Prelude.{ℕ, zero, suc, ◌+◌, ◌-◌, ◌*◌, ◌/◌, ◌%◌, Bool, true, false, ◌||◌, ◌&&◌, ◌==◌, nat_lt, nat_le, List, [], ◌∷◌, ◌++◌, length, map, take, drop, Option, Some, None, decimal}
+use Rattle.std.specs.Prelude.{ℕ, zero, suc, ◌+◌, ◌-◌, ◌*◌, ◌/◌, ◌%◌, Bool, true, false, not, ◌||◌, ◌&&◌, ◌==◌, nat_lt, nat_le, slice_index, List, [], ◌∷◌, ◌++◌, length, map, take, drop, Option, Some, None, option_and_then, decimal}
 use Rattle.std.specs.List.{list_all}
 use Rattle.std.specs.Char.{to_ascii_lowercase}
 use Rattle.ballot_law.specs.declared.addresses.Addr.{Addr}
 use Rattle.ballot_law.specs.declared.addresses.RunId.{RunId}
 use Rattle.ballot_law.specs.Orders.{same_bytes}
+pub use Rattle.ballot_law.specs.Cuts.{with_first, cut_at}
 
 -- the value where the test holds
 abbrev pub some_if : {X : Type 0} → Bool → X → Option X
 some_if test x = elim test [ true ↦ Some x | false ↦ None ]
 
+-- std's word with the value first, as readings in turn are written
 abbrev pub then_some : {X Y : Type 0} → Option X → (X → Option Y) → Option Y
-then_some None f = None
-then_some (Some x) f = f x
+then_some found f = option_and_then f found
 
 abbrev pub is_digit : ℕ → Bool
 is_digit b = nat_le 48 b && nat_le b 57
 
+-- one or more digits
+abbrev pub are_digits : List ℕ → Bool
+are_digits bytes = nat_lt 0 (length bytes) && list_all is_digit bytes
+
+abbrev pub has_leading_zero : List ℕ → Bool
+has_leading_zero bytes = nat_lt 1 (length bytes) && (slice_index bytes 0 == 48)
+
+-- a decimal number of any size, without leading zeros
+abbrev pub is_decimal : List ℕ → Bool
+is_decimal bytes = are_digits bytes && not (has_leading_zero bytes)
+
+-- the number of these digits behind a number of others
 abbrev pub number_on : ℕ → List ℕ → ℕ
 number_on n [] = n
 number_on n (b ∷ bs) = number_on (n * 10 + (b - 48)) bs
 
--- one or more digits
+-- the number of one or more digits
 abbrev pub number : List ℕ → Option ℕ
-number bytes = some_if (nat_lt 0 (length bytes) && list_all is_digit bytes) (number_on 0 bytes)
+number bytes = some_if (are_digits bytes) (number_on 0 bytes)
 
 abbrev pub number_within : ℕ → ℕ → List ℕ → Option ℕ
 number_within low high bytes = then_some (number bytes) (λ n. some_if (nat_le low n && nat_le n high) n)
@@ -40,14 +53,9 @@ is_name_byte b =
 abbrev pub name : List ℕ → Option (List ℕ)
 name bytes = some_if (nat_lt 0 (length bytes) && (nat_le (length bytes) 64 && list_all is_name_byte bytes)) bytes
 
-abbrev pub with_first : ℕ → List (List ℕ) → List (List ℕ)
-with_first b [] = (b ∷ []) ∷ []
-with_first b (part ∷ parts) = (b ∷ part) ∷ parts
-
 -- the parts around the dots
 abbrev pub parts : List ℕ → List (List ℕ)
-parts [] = [] ∷ []
-parts (b ∷ bs) = elim (b == 46) [ true ↦ [] ∷ parts bs | false ↦ with_first b (parts bs) ]
+parts = cut_at 46
 
 -- a number to 255 without leading zeros
 abbrev pub ip_part : List ℕ → Option ℕ
@@ -64,16 +72,21 @@ ip bytes = ip_of_parts (parts bytes)
 abbrev pub ip_text : ℕ → List ℕ
 ip_text n = decimal (n / 256 / 256 / 256) ++ 46 ∷ (decimal (n / 256 / 256 % 256) ++ 46 ∷ (decimal (n / 256 % 256) ++ 46 ∷ decimal (n % 256)))
 
+-- leading zeros allowed
 abbrev pub port : List ℕ → Option ℕ
 port = number_within 1 65535
 
 abbrev pub address : List ℕ → List ℕ → Option Addr
 address ip_bytes port_bytes = then_some (ip ip_bytes) (λ i. then_some (port port_bytes) (λ p. Some (record { ip = i; port = p })))
 
+-- a port without leading zeros
+abbrev pub canonical_port : List ℕ → Option ℕ
+canonical_port = canonical_within 1 65535
+
 -- an address whose port has no leading zeros
 abbrev pub canonical_address : List ℕ → List ℕ → Option Addr
 canonical_address ip_bytes port_bytes =
-    then_some (ip ip_bytes) (λ i. then_some (canonical_within 1 65535 port_bytes) (λ p. Some (record { ip = i; port = p })))
+    then_some (ip ip_bytes) (λ i. then_some (canonical_port port_bytes) (λ p. Some (record { ip = i; port = p })))
 
 -- a lower case hex digit
 abbrev pub is_hex : ℕ → Bool

@@ -5,10 +5,12 @@ ghost use Rattle.std.specs.Cmp.{partial_equiv_from_equiv};
 ghost use Rattle.std.specs.Cmp.Lexicographic.{pointwise, nat_list_eq_equiv};
 ghost use Rattle.ballot_law.specs.Padding.{zeros};
 
-use std::alloc::{AllocError, Global};
+use crate::memory::NoMemory;
+use std::alloc::Global;
 use std::marker::Model;
 
-/// A text of any length.
+/// A text of any length, as a bulk string of RESP2, the text of a message or the text of a file. Contracts see the list of
+/// its bytes.
 #[derive(Debug, Drop)]
 pub struct Text {
     bytes: Vec<u8>,
@@ -23,8 +25,8 @@ impl Model for Text {
 }
 
 impl Text {
-    /// A copy of the bytes; the only error is want of memory.
-    pub fn from_slice(alloc: Global, bytes: &[u8]) -> Result<Text, AllocError>
+    /// A copy of the bytes, or `NoMemory`.
+    pub fn from_slice(alloc: Global, bytes: &[u8]) -> Result<Text, NoMemory>
         ensures { IfOk result (λ text. text ≡ bytes.now) }
     {
         Ok(Text {

@@ -7,10 +7,11 @@ use Rattle.ballot_law.specs.declared.addresses.RunId.{RunId}
 use Rattle.ballot_law.specs.declared.cards.TheConstants.{MAX_EPOCH}
 use Rattle.ballot_law.specs.declared.commands.Command.TheVariants.{IsMasterDownByAddr}
 use Rattle.ballot_law.specs.Hellos.{IsAddr, IsRunId}
+use Rattle.ballot_law.specs.Results.{◌>>=◌, wanted}
 use Rattle.ballot_law.specs.Words.{then_some, canonical_within, canonical_address, ip_text, id_text, run_id, hex}
 use Rattle.ballot_law.proofs.WordLemmas.{ip-ip_text, run_id-id_text, spells_hex}
 use Rattle.resp2.specs.declared.command.CommandFault.TheVariants.{BadAddress, BadEpoch, BadRunId}
-use Rattle.resp2.specs.Commands.{wanted, candidate, candidate_text, ask_frame, command_of, IsCandidate}
+use Rattle.resp2.specs.Commands.{candidate, candidate_text, ask_frame, command_of, IsCandidate}
 use Rattle.resp2.specs.Frame.{spelling, IsFrame}
 use Rattle.resp2.specs.Reading.{frame_at}
 use Rattle.resp2.proofs.AskFrames.{decimal_short, short_array}
@@ -42,9 +43,9 @@ candidate_again (Some id) is =
 pub ask_again : (addr : Addr) (epoch : ℕ) (c : Option RunId) → IsAddr addr → epoch ≤ MAX_EPOCH → IsCandidate c → command_of (ask_frame addr epoch c) ≡ Ok (IsMasterDownByAddr addr epoch c)
 ask_again addr epoch c is_addr most is_candidate =
     let read_epoch : canonical_within 0 MAX_EPOCH (decimal epoch) ≡ Some epoch = canonical_decimal 0 MAX_EPOCH epoch (omega arith) (omega arith) most in
-    ap (λ (o : Option Addr). wanted BadAddress o (λ a. wanted BadEpoch (canonical_within 0 MAX_EPOCH (decimal epoch)) (λ e. wanted BadRunId (candidate (candidate_text c)) (λ k. Ok (IsMasterDownByAddr a e k))))) (address_again addr is_addr)
-    ∙ ap (λ (o : Option ℕ). wanted BadEpoch o (λ e. wanted BadRunId (candidate (candidate_text c)) (λ k. Ok (IsMasterDownByAddr addr e k)))) read_epoch
-    ∙ ap (λ (o : Option (Option RunId)). wanted BadRunId o (λ k. Ok (IsMasterDownByAddr addr epoch k))) (candidate_again c is_candidate)
+    ap (λ (o : Option Addr). wanted BadAddress o >>= λ a. wanted BadEpoch (canonical_within 0 MAX_EPOCH (decimal epoch)) >>= λ e. wanted BadRunId (candidate (candidate_text c)) >>= λ k. Ok (IsMasterDownByAddr a e k)) (address_again addr is_addr)
+    ∙ ap (λ (o : Option ℕ). wanted BadEpoch o >>= λ e. wanted BadRunId (candidate (candidate_text c)) >>= λ k. Ok (IsMasterDownByAddr addr e k)) read_epoch
+    ∙ ap (λ (o : Option (Option RunId)). wanted BadRunId o >>= λ k. Ok (IsMasterDownByAddr addr epoch k)) (candidate_again c is_candidate)
 
 ip_short : (n : ℕ) → n < 2 ^ 32 → length (ip_text n) ≤ 100
 ip_short n small =

@@ -6,15 +6,11 @@ use Rattle.ballot_law.specs.declared.cards.TheConstants.{MAX_EPOCH}
 use Rattle.ballot_law.specs.declared.commands.Command.{Command}
 use Rattle.ballot_law.specs.declared.commands.Command.TheVariants.{Ping, IsMasterDownByAddr, GetMasterAddrByName, Masters, Master, Replicas, Sentinels, MyId, CkQuorum, FlushConfig}
 use Rattle.ballot_law.specs.Hellos.{IsRunId}
+use Rattle.ballot_law.specs.Results.{◌>>=◌, wanted}
 use Rattle.ballot_law.specs.Words.{then_some, canonical_within, canonical_address, run_id, name, lower, ip_text, id_text}
 use Rattle.resp2.specs.declared.command.CommandFault.{CommandFault}
 use Rattle.resp2.specs.declared.command.CommandFault.TheVariants.{NotACommand, UnknownCommand, WrongArguments, BadAddress, BadEpoch, BadRunId}
 use Rattle.resp2.specs.Frame.{Frame, FrameList, bulk, items, no_frames, frame}
-
--- what was read, or this fault
-abbrev pub wanted : {X Y : Type 0} → CommandFault → Option X → (X → Result Y CommandFault) → Result Y CommandFault
-wanted refusal None f = Err refusal
-wanted refusal (Some x) f = f x
 
 -- ---- words
 
@@ -48,10 +44,10 @@ candidate word = if bytes_eq word (codes "*") then Some None else then_some (run
 -- whether a master is down, and a vote unless the run id is `*`: ip, port, epoch, run id
 abbrev pub is_master_down_by_addr : List (List ℕ) → Result Command CommandFault
 is_master_down_by_addr (ip ∷ port ∷ epoch ∷ id ∷ []) =
-    wanted BadAddress (canonical_address ip port) (λ addr.
-    wanted BadEpoch (canonical_within 0 MAX_EPOCH epoch) (λ epoch.
-    wanted BadRunId (candidate id) (λ candidate.
-    Ok (IsMasterDownByAddr addr epoch candidate))))
+    wanted BadAddress (canonical_address ip port) >>= λ addr.
+    wanted BadEpoch (canonical_within 0 MAX_EPOCH epoch) >>= λ epoch.
+    wanted BadRunId (candidate id) >>= λ candidate.
+    Ok (IsMasterDownByAddr addr epoch candidate)
 is_master_down_by_addr _ = Err WrongArguments
 
 -- the one word as a master's name; a word that can't be a name names no master

@@ -1,12 +1,12 @@
 //! Words and the command that they are, or its first fault.
 
-use crate::{ByteText, Command, CommandFault, Frames, NoMemory, Value, command_of};
-use ballot_law::{Addr, Name, RunId};
+use crate::{Command, CommandFault, Frames, NoMemory, Value, command_of};
+use ballot_law::{Addr, Name, RunId, Text};
 use std::alloc::Global;
 use std::test::Fail;
 
 fn bulk(alloc: Global, bytes: &[u8]) -> Result<Value, NoMemory> {
-    Ok(Value::Bulk(ByteText::from_slice(alloc, bytes)?))
+    Ok(Value::Bulk(Text::from_slice(alloc, bytes)?))
 }
 
 /// The words of this line as an array of bulk strings, with a space between two words.
@@ -152,7 +152,7 @@ fn other_values_are_no_commands(rt: HostRuntime) -> Result<(), Fail> {
         bulk(alloc, b"PING")?,
         Value::Items(vec![in alloc; bulk(alloc, b"SENTINEL")?, Value::NullBulk]?),
         Value::Items(vec![in alloc; bulk(alloc, b"unknown")?, Value::Int(1)]?),
-        Value::Items(vec![in alloc; Value::Simple(ByteText::from_slice(alloc, b"PING")?)]?),
+        Value::Items(vec![in alloc; Value::Simple(Text::from_slice(alloc, b"PING")?)]?),
         Value::Items(vec![in alloc; bulk(alloc, b"PING")?, Value::NullItems]?),
     ]?;
     for value in &values {

@@ -13,11 +13,10 @@ mod laws;
 mod out_text;
 mod pieces;
 mod reading;
-mod text;
 mod value;
 mod writing;
 
-pub use ballot_law::{Command, NoMemory};
+pub use ballot_law::{Command, NoMemory, Text};
 pub use command::{CommandFault, command_of};
 pub use fault::{FrameFault, Unread};
 pub use frames::Frames;
@@ -27,7 +26,6 @@ pub use laws::{
 };
 pub use out_text::OutText;
 pub use pieces::values_of_pieces;
-pub use text::ByteText;
 pub use value::Value;
 pub use writing::write_value;
 

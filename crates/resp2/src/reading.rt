@@ -1,14 +1,15 @@
 //! Reads a value from the front of a list of bytes.
 ghost use Rattle.std.specs.Prelude.{◌≡◌, ◌+◌, ◌-◌, ◌^◌, length, map, min, Some, None, Result, if◌then◌else◌};
 ghost use Rattle.std.specs.Str.{all_ascii_digits};
+ghost use Rattle.ballot_law.specs.Words.{number_on};
 ghost use Rattle.resp2.specs.Frame as frames;
 ghost use Rattle.resp2.specs.Frame.{view, frames_view, simple, fault};
 ghost use Rattle.resp2.specs.Reading as read;
 ghost use Rattle.resp2.specs.Reading.{Gives};
 
 use crate::fault::{FrameFault, Stopped, Unread};
-use crate::text::ByteText;
 use crate::value::Value;
+use ballot_law::Text;
 use std::alloc::Global;
 
 /// How many items an array may have.
@@ -64,7 +65,7 @@ fn line_of(bytes: &[u8]) -> Result<(&[u8], &[u8]), Stopped>
 /// The number of a text of digits, or the greatest number.
 fn digits_of(line: &[u8]) -> Option<u64>
     ensures { result ≡ (if all_ascii_digits line.now
-        then Some (min (read.number_on 0 line.now) (2 ^ 64 - 1)) else None) }
+        then Some (min (number_on 0 line.now) (2 ^ 64 - 1)) else None) }
 {
     let mut number: u64 = 0;
     for digit in line {
@@ -83,8 +84,7 @@ fn digits_of(line: &[u8]) -> Option<u64>
 pub fn number_of(line: &[u8]) -> Option<u64>
     ensures { result ≡ read.number_of line.now }
 {
-    let (first, rest) = line.split_first()?;
-    if *first == b'0' && !rest.is_empty() {
+    if line.is_empty() || (line.len() > 1 && line[0] == b'0') {
         return None;
     }
     digits_of(line)
@@ -134,7 +134,7 @@ fn simple_of(alloc: Global, bytes: &[u8]) -> Result<(Value, &[u8]), Stopped>
     ensures { Gives (λ x. (view x.0, x.1.now)) result (read.text_at simple bytes.now) }
 {
     let (line, rest) = line_of(bytes)?;
-    Ok((Value::Simple(ByteText::from_slice(alloc, line)?), rest))
+    Ok((Value::Simple(Text::from_slice(alloc, line)?), rest))
 }
 
 #[tactic(auto, unfolding(crate::specs::Reading::text_at))]
@@ -142,7 +142,7 @@ fn fault_of(alloc: Global, bytes: &[u8]) -> Result<(Value, &[u8]), Stopped>
     ensures { Gives (λ x. (view x.0, x.1.now)) result (read.text_at fault bytes.now) }
 {
     let (line, rest) = line_of(bytes)?;
-    Ok((Value::Fault(ByteText::from_slice(alloc, line)?), rest))
+    Ok((Value::Fault(Text::from_slice(alloc, line)?), rest))
 }
 
 #[tactic(auto, unfolding(crate::specs::Reading::integer_at))]
@@ -170,7 +170,7 @@ fn block_of(alloc: Global, bytes: &[u8], more: usize, size: u64) -> Result<(Valu
     }
     let (block, tail) = bytes.split_at(size as usize);
     let after = behind_end(tail)?;
-    Ok((Value::Bulk(ByteText::from_slice(alloc, block)?), after))
+    Ok((Value::Bulk(Text::from_slice(alloc, block)?), after))
 }
 
 #[tactic(auto, unfolding(crate::specs::Reading::bulk_at))]

@@ -2,9 +2,8 @@
 ghost use Rattle.std.specs.Prelude.{IfOk, IfSome};
 ghost use Rattle.resp2.specs.Frame.{view, HasLines};
 
-use crate::{
-    ByteText, FrameFault, Frames, NoMemory, OutText, Value, values_of_pieces, write_value,
-};
+use crate::{FrameFault, Frames, NoMemory, OutText, Value, values_of_pieces, write_value};
+use ballot_law::Text;
 use std::alloc::Global;
 use std::test::Fail;
 
@@ -18,7 +17,7 @@ fn answer(alloc: Global, bytes: &[u8]) -> Result<Option<Value>, FrameFault>
 }
 
 fn bulk(alloc: Global, bytes: &[u8]) -> Result<Value, NoMemory> {
-    Ok(Value::Bulk(ByteText::from_slice(alloc, bytes)?))
+    Ok(Value::Bulk(Text::from_slice(alloc, bytes)?))
 }
 
 /// Four asks for a vote, in epochs 1, 1, 2 and 1.

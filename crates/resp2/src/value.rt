@@ -1,5 +1,5 @@
 //! A value of the Redis serialization protocol, version 2.
-use crate::text::ByteText;
+use ballot_law::Text;
 
 /// A value of the Redis serialization protocol, version 2 (RESP2).
 ///
@@ -8,13 +8,13 @@ use crate::text::ByteText;
 #[derive(Debug, Drop, PartialEq)]
 pub enum Value {
     /// A simple string, `+` and a line without CR and LF: the answer to a command that went well.
-    Simple(ByteText),
+    Simple(Text),
     /// An error, `-` and a line without CR and LF, as `ERR unknown command`.
-    Fault(ByteText),
+    Fault(Text),
     /// An integer, `:`.
     Int(i64),
     /// A bulk string, `$`: any bytes.
-    Bulk(ByteText),
+    Bulk(Text),
     /// The null bulk string, `$-1`.
     NullBulk,
     /// An array, `*`.

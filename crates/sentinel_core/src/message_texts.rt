@@ -13,7 +13,7 @@ ghost use Rattle.sentinel_core.specs.MessageTexts.{words_frame, answer_frame, pi
 
 use ballot_law::{Addr, Body, Hello, Info, Message, Name, Role, RunId, Shown};
 use node_texts::{write_hello, write_info, write_role};
-use resp2::{ByteText, NoMemory, OutText, Value, write_value};
+use resp2::{NoMemory, OutText, Text, Value, write_value};
 use std::alloc::Global;
 use words::{add_number, ip_text, run_id_text};
 
@@ -21,7 +21,7 @@ use words::{add_number, ip_text, run_id_text};
 fn bulk(alloc: Global, bytes: &[u8]) -> Result<Value, NoMemory>
     ensures { IfOk result (λ value. view value ≡ frames.bulk bytes.now) }
 {
-    Ok(Value::Bulk(ByteText::from_slice(alloc, bytes)?))
+    Ok(Value::Bulk(Text::from_slice(alloc, bytes)?))
 }
 
 /// A number as a bulk string.
@@ -93,7 +93,7 @@ fn answer(alloc: Global, down: bool, leader: Option<RunId>, epoch: u64) -> Resul
 fn ping_answer(alloc: Global, is_error: bool, text: &[u8]) -> Result<Value, NoMemory>
     ensures { IfOk result (λ value. view value ≡ ping_frame is_error text.now) }
 {
-    let text = ByteText::from_slice(alloc, text)?;
+    let text = Text::from_slice(alloc, text)?;
     if is_error {
         Ok(Value::Fault(text))
     } else {
@@ -212,6 +212,6 @@ pub fn message_text(alloc: Global, message: &Message, text: &mut OutText) -> Res
         Body::PortReply { text: bytes, .. } => text.add(bytes.as_slice()),
         Body::RoleAsk => write_value(&command(alloc, b"ROLE")?, text),
         Body::RoleText(role) => add_role(role, text),
-        Body::Done => write_value(&Value::Simple(ByteText::from_slice(alloc, b"OK")?), text),
+        Body::Done => write_value(&Value::Simple(Text::from_slice(alloc, b"OK")?), text),
     }
 }

@@ -1,0 +1,17 @@
+-- A text cut at each byte of one value.
+use Rattle.std.specs.Prelude.{ℕ, true, false, ◌==◌, List, [], ◌∷◌}
+
+-- one byte before the first part
+abbrev pub with_first : ℕ → List (List ℕ) → List (List ℕ)
+with_first b [] = (b ∷ []) ∷ []
+with_first b (part ∷ parts) = (b ∷ part) ∷ parts
+
+-- the parts around this byte: one more than it stands there
+abbrev pub cut_at : ℕ → List ℕ → List (List ℕ)
+cut_at stop [] = [] ∷ []
+cut_at stop (b ∷ bs) = elim (b == stop) [ true ↦ [] ∷ cut_at stop bs | false ↦ with_first b (cut_at stop bs) ]
+
+-- the lines, each ended by LF, which the last may lack
+abbrev pub lines : List ℕ → List (List ℕ)
+lines [] = []
+lines (b ∷ bs) = elim (b == 10) [ true ↦ [] ∷ lines bs | false ↦ with_first b (lines bs) ]
