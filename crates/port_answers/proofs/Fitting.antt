@@ -10,13 +10,13 @@ use Rattle.port_answers.specs.declared.rows.SentinelRow.{SentinelRow}
 use Rattle.port_answers.specs.Room.{ANSWER_MAX}
 use Rattle.port_answers.specs.Answers.{master_frame, replica_frame, sentinel_frame, masters_frame, replicas_frame, sentinels_frame, no_such_master, ok_line, quorum_reached, no_quorum, id_frame, command_fault, protocol_error}
 use Rattle.port_answers.specs.Limits.{IsPlace, IsMasterRow, IsReplicaRow, Fits, MasterFits, MastersFit, ReplicasFit, SentinelsFit, LinesFit}
-use Rattle.port_answers.proofs.RoomLemmas.{bounded_all}
+use Rattle.bounded_list.proofs.Bounded.{bounded_all}
 use Rattle.port_answers.proofs.Sizes.{master_size, replica_size, sentinel_size, rows_array, counted_size, bulk_size, id_size}
 
 fits : (frame : Frame) (most : ℕ) → length (spelling frame) ≤ most → most ≤ ANSWER_MAX → Fits frame
 fits frame most size room =
     let short : length (spelling frame) ≤ ANSWER_MAX = omega arith in
-    record { short = short; whole = bounded_all (spelling frame) short }
+    record { short = short; whole = bounded_all ANSWER_MAX (spelling frame) short }
 
 pub master_fits : MasterFits
 master_fits row h = fits (master_frame row) 560 (master_size row h) (omega arith)

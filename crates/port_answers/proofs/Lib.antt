@@ -1,4 +1,3 @@
-pub mod RoomLemmas
 pub mod FieldLemmas
 pub mod RowLemmas
 pub mod Sizes

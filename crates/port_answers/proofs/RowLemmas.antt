@@ -2,9 +2,9 @@
 use Rattle.std.proofs.Common.{◌≡◌, ℕ, suc, List, [], ◌∷◌, ◌++◌, length, map, refl, ap, sym, ◌∙◌, append-nil, decimal}
 use Rattle.std.specs.List.{flat_map}
 use Rattle.resp2.specs.Frame.{Frame, items, frames_of, count, spelling, spellings, line_end}
-use Rattle.port_answers.specs.Room.{bounded}
+use Rattle.port_answers.specs.Room.{ANSWER_MAX, bounded}
 use Rattle.port_answers.specs.Answers.{header}
-use Rattle.port_answers.proofs.RoomLemmas.{added_both}
+use Rattle.bounded_list.proofs.Bounded.{added_both}
 
 pub count_rows : {X : Type 0} (frame_of : X → Frame) (rows : List X) → count (frames_of (map frame_of rows)) ≡ length rows
 count_rows frame_of [] = refl
@@ -26,14 +26,14 @@ pub row_added : {X : Type 0} (frame_of : X → Frame) (row : X) (rest : List X) 
     → bounded (new ++ flat_map (λ row. spelling (frame_of row)) rest) ≡ bounded (old ++ flat_map (λ row. spelling (frame_of row)) (row ∷ rest))
 row_added frame_of row rest old new e =
     let others = flat_map (λ row. spelling (frame_of row)) rest in
-    ap (λ t. bounded (t ++ others)) e ∙ added_both old (spelling (frame_of row)) others
+    ap (λ t. bounded (t ++ others)) e ∙ added_both ANSWER_MAX old (spelling (frame_of row)) others
 
 -- the beginning of an array, before its rows
 pub count_added : {X : Type 0} (frame_of : X → Frame) (rows : List X) (old new : List ℕ) → new ≡ bounded (old ++ header (length rows))
     → bounded (new ++ flat_map (λ row. spelling (frame_of row)) rows) ≡ bounded (old ++ spelling (items (frames_of (map frame_of rows))))
 count_added frame_of rows old new e =
     let all = flat_map (λ row. spelling (frame_of row)) rows in
-    ap (λ t. bounded (t ++ all)) e ∙ added_both old (header (length rows)) all ∙ ap (λ t. bounded (old ++ t)) (sym (rows_text frame_of rows))
+    ap (λ t. bounded (t ++ all)) e ∙ added_both ANSWER_MAX old (header (length rows)) all ∙ ap (λ t. bounded (old ++ t)) (sym (rows_text frame_of rows))
 
 -- no row is left
 pub rows_done : {X : Type 0} (frame_of : X → Frame) (rows : List X) (start out : List ℕ) → bounded out ≡ out

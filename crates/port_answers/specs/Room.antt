@@ -1,9 +1,10 @@
 -- The room of an answer's text: as many bytes as a value of the port may have.
-use Rattle.std.specs.Prelude.{ℕ, List, take}
+use Rattle.std.specs.Prelude.{ℕ, List}
+use Rattle.bounded_list.specs.BoundedLists as lists
 
 abbrev pub ANSWER_MAX : ℕ
 ANSWER_MAX = 65536
 
 -- what the room holds of the text
-unfoldable pub bounded : List ℕ → List ℕ
-bounded text = take ANSWER_MAX text
+abbrev pub bounded : List ℕ → List ℕ
+bounded text = lists.bounded ANSWER_MAX text

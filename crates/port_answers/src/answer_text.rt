@@ -4,6 +4,7 @@ ghost use Rattle.std.specs.Prelude.{◌≡◌, ◌≤◌, ◌++◌, [], IfOk, ve
 ghost use Rattle.port_answers.specs.Room.{ANSWER_MAX, bounded};
 
 use ballot_law::Text;
+use bounded_list::BoundedList;
 use std::alloc::{AllocError, Global};
 use std::marker::Model;
 
@@ -14,19 +15,15 @@ pub const ANSWER_MAX: usize = 65_536;
 /// memory. What has no room is cut. Contracts see the list of the bytes.
 #[derive(Drop)]
 pub struct AnswerText {
-    bytes: Vec<u8>,
+    bytes: BoundedList<u8, ANSWER_MAX>,
 }
 
 impl Model for AnswerText {
-    ghost use Rattle.std.specs.Prelude.{◌≤◌, List, ℕ, vec_len, vec_capacity};
-    ghost use Rattle.port_answers.specs.Room.{ANSWER_MAX};
+    ghost use Rattle.std.specs.Prelude.{List, ℕ};
 
     ghost Value = { List ℕ };
 
-    ghost view = { λ text. text.bytes.items };
-
-    ghost invariant = { λ text. (vec_len text.bytes ≤ ANSWER_MAX)
-        × (ANSWER_MAX ≤ vec_capacity text.bytes) };
+    ghost view = { λ text. text.bytes };
 }
 
 impl AnswerText {
@@ -34,12 +31,11 @@ impl AnswerText {
     pub fn with_room(alloc: Global) -> Result<AnswerText, AllocError>
         ensures { IfOk result (λ answers. answers ≡ []) }
     {
-        let bytes = Vec::with_capacity(alloc, ANSWER_MAX)?;
+        let bytes = BoundedList::with_room(alloc)?;
         Ok(AnswerText { bytes })
     }
 
     /// The bytes of the answers, at most `ANSWER_MAX`.
-    #[tactic(auto, using(crate::proofs::RoomLemmas::bounded_all))]
     pub fn as_slice(&self) -> &[u8]
         ensures value { result.now ≡ self.now }
         ensures whole { bounded self.now ≡ self.now }
@@ -48,12 +44,11 @@ impl AnswerText {
     }
 
     /// The answers as a text, with the room they stand in. No memory is taken.
-    #[tactic(auto, using(crate::proofs::RoomLemmas::bounded_all))]
     pub fn into_text(self) -> Text
         ensures value { result ≡ self }
         ensures whole { bounded self ≡ self }
     {
-        Text::from_vec(self.bytes)
+        Text::from_vec(self.bytes.into_vec())
     }
 
     /// An empty text in the room of these bytes, which are gone. No memory is taken.
@@ -61,17 +56,15 @@ impl AnswerText {
         requires { ANSWER_MAX ≤ vec_capacity bytes }
         ensures { result ≡ [] }
     {
-        let mut bytes = bytes;
-        bytes.clear();
-        AnswerText { bytes }
+        AnswerText {
+            bytes: BoundedList::from_vec(bytes),
+        }
     }
 
     /// Adds what there is room for.
     pub(crate) fn add(&mut self, piece: &[u8])
         ensures { self.new ≡ bounded (self.old ++ piece.now) }
     {
-        let count = piece.len().min(ANSWER_MAX - self.bytes.len());
-        let (fits, _) = piece.split_at(count);
-        let _ = self.bytes.extend_from_slice(fits);
+        self.bytes.extend_from_slice(piece);
     }
 }

@@ -27,7 +27,7 @@ fn fault_text(fault: CommandFault) -> &'static [u8]
 
 impl AnswerText {
     /// Adds a text, a number, another text, and CR LF.
-    #[tactic(auto, using(crate::proofs::RoomLemmas::added_both))]
+    #[tactic(auto, using(bounded_list::proofs::Bounded::added_both))]
     fn add_counted(&mut self, before: &[u8], number: u64, behind: &[u8])
         ensures { self.new
             ≡ bounded (self.old ++ (before.now ++ (decimal number ++ (behind.now ++ line_end)))) }
@@ -79,7 +79,7 @@ impl AnswerText {
     }
 
     /// Adds the answer to a value that is no command of the port. What has no room is cut.
-    #[tactic(auto, using(crate::proofs::RoomLemmas::added_both))]
+    #[tactic(auto, using(bounded_list::proofs::Bounded::added_both))]
     pub fn add_command_fault(&mut self, fault: CommandFault)
         ensures { self.new ≡ bounded (self.old ++ spelling (command_fault fault)) }
     {

@@ -14,7 +14,7 @@ use words::{ip_text, run_id_text};
 
 impl AnswerText {
     /// Adds bytes and CR LF.
-    #[tactic(auto, using(crate::proofs::RoomLemmas::added_both))]
+    #[tactic(auto, using(bounded_list::proofs::Bounded::added_both))]
     pub(crate) fn add_line(&mut self, line: &[u8])
         ensures { self.new ≡ bounded (self.old ++ (line.now ++ line_end)) }
     {
@@ -23,7 +23,7 @@ impl AnswerText {
     }
 
     /// Adds the byte of a kind, a number, and CR LF.
-    #[tactic(auto, using(crate::proofs::RoomLemmas::added_both))]
+    #[tactic(auto, using(bounded_list::proofs::Bounded::added_both))]
     pub(crate) fn add_size(&mut self, kind: u8, size: u64)
         ensures { self.new ≡ bounded (self.old ++ kind ∷ (decimal size ++ line_end)) }
     {
@@ -33,7 +33,7 @@ impl AnswerText {
     }
 
     /// Adds a bulk string.
-    #[tactic(auto, using(crate::proofs::RoomLemmas::added_both))]
+    #[tactic(auto, using(bounded_list::proofs::Bounded::added_both))]
     pub(crate) fn add_bulk(&mut self, bytes: &[u8])
         ensures { self.new ≡ bounded (self.old ++ spelling (frames.bulk bytes.now)) }
     {
@@ -74,7 +74,7 @@ impl AnswerText {
     }
 
     /// Adds a bulk string of an address, as `ip:port`.
-    #[tactic(auto, using(crate::proofs::RoomLemmas::added_both))]
+    #[tactic(auto, using(bounded_list::proofs::Bounded::added_both))]
     pub(crate) fn add_addr_text(&mut self, addr: Addr)
         ensures { self.new ≡ bounded (self.old ++ spelling (frames.bulk (addr_text addr))) }
     {

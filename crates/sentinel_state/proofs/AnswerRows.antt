@@ -7,11 +7,11 @@ use Rattle.resp2.specs.Frame.{Frame, items, frames_of, spelling}
 use Rattle.port_answers.specs.declared.rows.MasterRow.{MasterRow}
 use Rattle.port_answers.specs.declared.rows.ReplicaRow.{ReplicaRow}
 use Rattle.port_answers.specs.declared.rows.SentinelRow.{SentinelRow}
-use Rattle.port_answers.specs.Room.{bounded}
+use Rattle.port_answers.specs.Room.{ANSWER_MAX, bounded}
 use Rattle.port_answers.specs.Answers.{header, master_frame, masters_frame, replica_frame, replicas_frame, sentinel_frame, sentinels_frame, no_such_master, ok_line, quorum_reached, no_quorum, id_frame}
 use Rattle.port_answers.specs.Limits.{IsPlace, IsMasterRow, IsReplicaRow, Fits}
 use Rattle.port_answers.proofs.Fitting.{master_fits, masters_fit, replicas_fit, sentinels_fit, lines_fit}
-use Rattle.port_answers.proofs.RoomLemmas.{added_both}
+use Rattle.bounded_list.proofs.Bounded.{added_both}
 use Rattle.port_answers.proofs.RowLemmas.{rows_text}
 use Rattle.sentinel_rules.specs.Plans.{Plan, group_size, master_count, nodes_of}
 use Rattle.sentinel_rules.specs.States.{Core, card_place}
@@ -39,7 +39,7 @@ none_written start text n e = ap bounded (sym (append-nil start)) ∙ ap (λ k. 
 pub one_written : (start : List ℕ) (text : ℕ → List ℕ) (n : ℕ) (mid new : List ℕ) → mid ≡ bounded (start ++ text_below text n) → new ≡ bounded (mid ++ text n)
     → new ≡ bounded (start ++ text_below text (n + 1))
 one_written start text n mid new e f =
-    f ∙ ap (λ t. bounded (t ++ text n)) e ∙ added_both start (text_below text n) (text n) ∙ ap (λ t. bounded (start ++ t)) (sym (next_text text n))
+    f ∙ ap (λ t. bounded (t ++ text n)) e ∙ added_both ANSWER_MAX start (text_below text n) (text n) ∙ ap (λ t. bounded (start ++ t)) (sym (next_text text n))
 
 -- one row more
 pub row_written : {X : Type 0} (frame_of : X → Frame) (row_of : ℕ → X) (start : List ℕ) (n : ℕ) (row : X) (mid new : List ℕ) → row ≡ row_of n
