@@ -1,1 +1,2 @@
+pub mod Elections
 pub mod HeardSteps
