@@ -2,8 +2,7 @@
 
 ghost use Rattle.std.specs.Prelude.{◌≡◌, ℕ, ◌+◌, ◌<◌, ◌^◌, nat_le, ◌∷◌, List, [], None, IfOk, length, replicate};
 ghost use Rattle.ballot_law.specs.Clocks.{clock};
-ghost use Rattle.ballot_law.specs.Reports.{ReportCall, Reported, Cleared, last_report, down_count, is_odown_by, kept_at, StandsForReports};
-ghost use Rattle.down_detector.specs.ReportSteps.{with_report, without_reports};
+ghost use Rattle.ballot_law.specs.Reports.{ReportCall, Reported, Cleared, last_report, down_count, is_odown_by, kept_at, StandsForReports, with_report, without_reports};
 
 use ballot_law::{DownReport, NoMemory, clock_of};
 use std::alloc::Global;

@@ -9,7 +9,7 @@ use Rattle.ballot_law.specs.Clocks.{age}
 use Rattle.ballot_law.specs.OwnVotes.{asked}
 use Rattle.ballot_law.specs.Rosters.{need}
 use Rattle.ballot_law.specs.VotesHeard.{kept_at, pick_in, count_in}
-use Rattle.down_detector.specs.Jumps.{turned_at}
+use Rattle.ballot_law.specs.Tilts.{turned_at}
 use Rattle.vote_book.specs.Elections.{next_epoch}
 use Rattle.replica_choice.specs.declared.candidates.Candidate.{Candidate}
 use Rattle.replica_choice.specs.declared.candidates.Limits.{Limits}

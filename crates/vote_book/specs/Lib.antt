@@ -1,2 +1,1 @@
 pub mod Elections
-pub mod HeardSteps

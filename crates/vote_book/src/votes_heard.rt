@@ -1,8 +1,7 @@
 //! The votes that were heard of for one master, one of each voter.
 
 ghost use Rattle.std.specs.Prelude.{◌≡◌, ℕ, ◌<◌, ◌≤◌, ◌^◌, ◌∷◌, ◌↔◌, List, [], None, IfOk, IsTrue, length, replicate};
-ghost use Rattle.ballot_law.specs.VotesHeard.{Hearing, hearing_of, latest, leads, leader_below, count_in, pick_in, IsElectedIn, kept_at, StandsFor};
-ghost use Rattle.vote_book.specs.HeardSteps.{with_hearing};
+ghost use Rattle.ballot_law.specs.VotesHeard.{Hearing, hearing_of, latest, leads, leader_below, count_in, pick_in, IsElectedIn, kept_at, StandsFor, with_hearing};
 
 use crate::VoteBook;
 use ballot_law::{HeardVote, NoMemory, RunId};
@@ -15,7 +14,8 @@ use std::marker::Model;
 /// voter counts once, and what it is heard to say later of the same epoch changes nothing. Voters go by their places.
 ///
 /// The contracts speak of the whole list of votes that were heard, the latest first: what is kept stands for that list.
-/// They also say what each call makes of what is kept (`HeardSteps`).
+/// They also say what each call makes of what is kept; that this stands for the longer list is a law of its own
+/// ([`law_heard_keeps_the_latest`](crate::law_heard_keeps_the_latest)).
 #[derive(Drop)]
 pub struct Heard {
     votes: Vec<Option<HeardVote>>,
