@@ -164,21 +164,23 @@ leader-is_leader : (candidate : RunId) (leader : Option RunId) → is_leader can
 leader-is_leader candidate None h = absurd (cc)
 leader-is_leader candidate (Some leader) h = ap (λ (id : RunId). Some id) (same_id-equal leader candidate h)
 
--- for any P that holds of each voter that was heard and of the own vote
-pub AtLeast-elected : (P : ℕ → Type 0) (heard : List Hearing) (book : Book) (n own epoch : ℕ) (me : RunId) (need : ℕ) → own < n → HearsNone heard own → ((v : ℕ) → Contains heard (hearing_of v epoch me) → P v) → (book.voted ≡ epoch → book.leader ≡ Some me → P own) → IsElectedIn (latest heard) book n epoch me need → AtLeast P n need
-AtLeast-elected P heard book n own epoch me need lt none of_heard of_own elected = known ((eqb book.voted epoch) && is_leader me book.leader) refl elected
+-- for any votes, and any P that holds of each voter whose vote counts and of the own vote
+pub AtLeast-kept : (P : ℕ → Type 0) (votes : ℕ → Option HeardVote) (book : Book) (n own epoch : ℕ) (me : RunId) (need : ℕ) → own < n → is_for epoch me (votes own) ≡ false → ((v : ℕ) → is_for epoch me (votes v) ≡ true → P v) → (book.voted ≡ epoch → book.leader ≡ Some me → P own) → IsElectedIn votes book n epoch me need → AtLeast P n need
+AtLeast-kept P votes book n own epoch me need lt none counted of_own elected = known ((eqb book.voted epoch) && is_leader me book.leader) refl elected
   where
     p : ℕ → Bool
-    p v = is_for epoch me (latest heard v)
-
-    counted : (v : ℕ) → p v ≡ true → P v
-    counted v h = of_heard v (Contains-is_for heard epoch me v h)
+    p v = is_for epoch me (votes v)
 
     known : (b : Bool) → ((eqb book.voted epoch) && is_leader me book.leader) ≡ b → need ≤ count_below p n + (cond b 1 0) → AtLeast P n need
     known true h enough =
         let parts = both (eqb book.voted epoch) (is_leader me book.leader) h in
-        AtLeast-counted P p n own need lt (latest-of_none heard own epoch me none) counted (of_own (eqb-true book.voted epoch parts.0) (leader-is_leader me book.leader parts.1)) enough
+        AtLeast-counted P p n own need lt none counted (of_own (eqb-true book.voted epoch parts.0) (leader-is_leader me book.leader parts.1)) enough
     known false h enough = AtLeast-fewer P n need (count_below p n) (omega arith) (AtLeast-count_below P p counted n)
+
+-- for any P that holds of each voter that was heard and of the own vote
+pub AtLeast-elected : (P : ℕ → Type 0) (heard : List Hearing) (book : Book) (n own epoch : ℕ) (me : RunId) (need : ℕ) → own < n → HearsNone heard own → ((v : ℕ) → Contains heard (hearing_of v epoch me) → P v) → (book.voted ≡ epoch → book.leader ≡ Some me → P own) → IsElectedIn (latest heard) book n epoch me need → AtLeast P n need
+AtLeast-elected P heard book n own epoch me need lt none of_heard of_own elected =
+    AtLeast-kept P (latest heard) book n own epoch me need lt (latest-of_none heard own epoch me none) (λ v h. of_heard v (Contains-is_for heard epoch me v h)) of_own elected
 
 pub ElectedHasVotes-holds : (heard : List Hearing) (book : Book) (n own epoch : ℕ) (me : RunId) (need : ℕ) → own < n → HearsNone heard own → IsElectedIn (latest heard) book n epoch me need → AtLeast (HasVotedFor heard book own epoch me) n need
 ElectedHasVotes-holds heard book n own epoch me need lt none elected =

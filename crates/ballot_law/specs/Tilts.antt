@@ -31,6 +31,8 @@ in_tilt readings = lasts (last_jump readings) (after_jump readings)
 abbrev pub tilt_since : List ℕ → Option ℕ
 tilt_since readings = if in_tilt readings then last_jump readings else None
 
+-- What is kept
+
 -- what is kept of the readings: the last one, and that of the last jump while TILT holds
 pub record Turned : Type 0 where
   pub last : ℕ
@@ -41,3 +43,29 @@ pub record StandsForReadings (turned : Turned) (readings : List ℕ) : Type 0 wh
   pub earlier : List ℕ
   pub last : readings ≡ turned.last ∷ earlier
   pub entered : turned.entered ≡ tilt_since readings
+
+-- a turn that is no jump: TILT goes on for less than 30,000 ms
+abbrev pub lasting_at : (now : ℕ) → Option ℕ → Option ℕ
+lasting_at now None = None
+lasting_at now (Some jump) = if nat_lt now (jump + 30000) then Some jump else None
+
+abbrev pub entered_at : (before : ℕ) → Option ℕ → (now : ℕ) → Option ℕ
+entered_at before entered now = if is_jump before now then Some now else lasting_at now entered
+
+-- a clock that is trusted: the opening counts as a turn
+abbrev pub opened_clock : (now : ℕ) → Turned
+opened_clock now = record { last = now; entered = None }
+
+-- one more turn
+abbrev pub turned_at : (now : ℕ) → Turned → Turned
+turned_at now turned = record { last = now; entered = entered_at turned.last turned.entered now }
+
+-- so what is kept is, after each turn, what the readings with that one tell
+abbrev pub KeepsFirst : Type 0
+KeepsFirst = (now : ℕ) → StandsForReadings (opened_clock now) (now ∷ [])
+
+abbrev pub KeepsReadings : Type 0
+KeepsReadings =
+    (turned : Turned) (readings : List ℕ) (now : ℕ) →
+    StandsForReadings turned readings →
+    StandsForReadings (turned_at now turned) (now ∷ readings)

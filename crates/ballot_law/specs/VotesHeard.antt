@@ -1,5 +1,5 @@
 -- The votes that a Sentinel heard of for one master, and what they come to.
-use Rattle.std.specs.Prelude.{◌≡◌, ℕ, zero, suc, ◌+◌, ◌<◌, ◌≤◌, Bool, false, ◌&&◌, nat_lt, ◌==◌, Option, Some, None, List, [], ◌∷◌, ◌++◌, ◌≢◌, ◌⊎◌, Contains, slice_index_or, unwrap_or, if◌then◌else◌, MatchOption}
+use Rattle.std.specs.Prelude.{◌≡◌, ℕ, zero, suc, ◌+◌, ◌<◌, ◌≤◌, Bool, false, ◌&&◌, nat_lt, ◌==◌, Option, Some, None, List, [], ◌∷◌, ◌++◌, ◌≢◌, ◌⊎◌, Contains, length, slice_index_or, slice_set, unwrap_or, if◌then◌else◌, MatchOption}
 use Rattle.std.specs.List.{AllByRecursion}
 use Rattle.ballot_law.specs.declared.addresses.RunId.{RunId}
 use Rattle.ballot_law.specs.Orders.{same_id, id_before}
@@ -86,14 +86,6 @@ ElectedHasVotes =
     IsElectedIn (latest heard) book n epoch me need →
     AtLeast (HasVotedFor heard book own epoch me) n need
 
--- what is kept of each voter
-abbrev pub kept_at : List (Option HeardVote) → ℕ → Option HeardVote
-kept_at kept voter = slice_index_or kept voter None
-
--- what is kept of each voter is what these hearings tell of it
-abbrev pub StandsFor : List (Option HeardVote) → List Hearing → Type 0
-StandsFor kept heard = (voter : ℕ) → kept_at kept voter ≡ latest heard voter
-
 -- the vote was heard from the voter; none heard later from it has a greater epoch, and each heard before has a smaller one
 pub record IsLatest (heard : List Hearing) (voter : ℕ) (vote : HeardVote) : Type 0 where
   pub later : List Hearing
@@ -115,3 +107,25 @@ pub record IsPick (votes : ℕ → Option HeardVote) (n epoch : ℕ) (me pick : 
 
 abbrev pub PickHasMost : Type 0
 PickHasMost = (votes : ℕ → Option HeardVote) (n epoch : ℕ) (me : RunId) → IsPick votes n epoch me (pick_in votes n epoch me)
+
+-- What is kept of each voter
+
+abbrev pub kept_at : List (Option HeardVote) → ℕ → Option HeardVote
+kept_at kept voter = slice_index_or kept voter None
+
+-- what is kept of each voter is what these hearings tell of it
+abbrev pub StandsFor : List (Option HeardVote) → List Hearing → Type 0
+StandsFor kept heard = (voter : ℕ) → kept_at kept voter ≡ latest heard voter
+
+-- the voter's place keeps the vote of the greater epoch, among equals the first
+abbrev pub with_hearing : (voter epoch : ℕ) → RunId → List (Option HeardVote) → List (Option HeardVote)
+with_hearing voter epoch candidate heard =
+    slice_set heard voter (Some (greater (kept_at heard voter) (record { candidate = candidate; epoch = epoch })))
+
+-- so what is kept is, after each vote that is heard, what the votes with that one tell
+abbrev pub KeepsVotes : Type 0
+KeepsVotes =
+    (kept : List (Option HeardVote)) (heard : List Hearing) (voter epoch : ℕ) (candidate : RunId) →
+    voter < length kept →
+    StandsFor kept heard →
+    StandsFor (with_hearing voter epoch candidate kept) (hearing_of voter epoch candidate ∷ heard)

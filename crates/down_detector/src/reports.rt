@@ -2,11 +2,10 @@
 
 ghost use Rattle.std.specs.Prelude.{◌≡◌, ℕ, ◌+◌, ◌<◌, ◌^◌, nat_le, ◌∷◌, List, [], None, IfOk, length, replicate};
 ghost use Rattle.ballot_law.specs.Clocks.{clock};
-ghost use Rattle.ballot_law.specs.Reports.{ReportCall, Reported, Cleared, last_report, down_count, is_odown_by, kept_at, StandsForReports};
-ghost use Rattle.down_detector.specs.ReportSteps.{with_report, without_reports};
+ghost use Rattle.ballot_law.specs.Reports.{ReportCall, Reported, Cleared, last_report, down_count, is_odown_by, kept_at, StandsForReports, with_report, without_reports};
 
-use ballot_law::{DownReport, clock_of};
-use std::alloc::{AllocError, Global};
+use ballot_law::{DownReport, NoMemory, clock_of};
+use std::alloc::Global;
 use std::marker::Model;
 
 /// How old a report may be that counts, in milliseconds.
@@ -58,8 +57,8 @@ fn clear_all(reports: &mut [Option<DownReport>])
 }
 
 impl DownReports {
-    /// No report yet, with room for one of each of `n` Sentinels. An error is want of memory.
-    pub fn new(alloc: Global, n: u16) -> Result<DownReports, AllocError>
+    /// No report yet, with room for one of each of `n` Sentinels.
+    pub fn new(alloc: Global, n: u16) -> Result<DownReports, NoMemory>
         ensures sentinels { IfOk result (λ reports. length reports ≡ n) }
         ensures none { IfOk result (λ reports. StandsForReports reports []) }
         ensures kept { IfOk result (λ reports. reports ≡ replicate n None) }

@@ -2,8 +2,7 @@
 
 ghost use Rattle.std.specs.Prelude.{◌≡◌, ℕ, ◌∷◌, List, [], is_some};
 ghost use Rattle.ballot_law.specs.Clocks.{clock};
-ghost use Rattle.ballot_law.specs.Tilts.{in_tilt, StandsForReadings};
-ghost use Rattle.down_detector.specs.Jumps.{entered_at, opened_clock, turned_at};
+ghost use Rattle.ballot_law.specs.Tilts.{in_tilt, StandsForReadings, entered_at, opened_clock, turned_at};
 
 use ballot_law::clock_of;
 use std::marker::Model;

@@ -2,8 +2,7 @@
 
 ghost use Rattle.std.specs.Prelude.{◌≡◌, ℕ, ◌+◌, ◌∷◌, List, [], is_some};
 ghost use Rattle.ballot_law.specs.Clocks.{clock};
-ghost use Rattle.ballot_law.specs.Watches.{WatchCall, HeardReply, ReportedRole, ChangedCard, passed_at, down_since, StandsForCalls};
-ghost use Rattle.down_detector.specs.WatchSteps.{opened_at, after_reply, after_role, after_change, down_since_of};
+ghost use Rattle.ballot_law.specs.Watches.{WatchCall, HeardReply, ReportedRole, ChangedCard, passed_at, down_since, StandsForCalls, opened_at, after_reply, after_role, after_change, down_since_of};
 
 use ballot_law::{DataRole, PingReply, clock_of};
 use std::marker::Model;

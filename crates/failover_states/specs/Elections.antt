@@ -1,25 +1,18 @@
--- The own vote of a campaign, and when the votes elect.
-use Rattle.std.specs.Prelude.{ℕ, ◌+◌, Bool, false, ◌&&◌, nat_lt, nat_le, ◌==◌, Option, Some, None, if◌then◌else◌}
+-- The own vote of a campaign, and when the votes elect: a vote book's rules, over the facts of a turn.
+use Rattle.std.specs.Prelude.{ℕ, Bool, Option, Some, None, if◌then◌else◌}
 use Rattle.ballot_law.specs.declared.addresses.RunId.{RunId}
-use Rattle.ballot_law.specs.Orders.{same_id}
+use Rattle.ballot_law.specs.OwnVotes.{Book, grants, asked}
+use Rattle.vote_book.specs.Elections.{elects}
 use Rattle.failover_states.specs.Known.{Known}
 
--- the Sentinel hasn't voted in the campaign's epoch, and the group hasn't gone past it
-abbrev pub can_vote : (epoch : ℕ) → Known → Bool
-can_vote epoch k = nat_lt k.voted epoch && nat_le k.current epoch
+-- the own vote before the turn
+abbrev pub book_in : Known → Book
+book_in k = record { current = k.current; voted = k.voted; leader = k.own }
 
--- it then votes with most of the votes that it heard
+-- where the vote of the campaign's epoch is still to be had, it goes to the candidate with most of the votes heard
 abbrev pub vote_in : (epoch : ℕ) → Known → Option RunId
-vote_in epoch k = if can_vote epoch k then Some k.pick else None
+vote_in epoch k = if grants (book_in k) epoch then Some k.pick else None
 
-abbrev pub is_for : (me : RunId) → Option RunId → Bool
-is_for me None = false
-is_for me (Some candidate) = same_id candidate me
-
--- its vote in the campaign's epoch is for itself, be it given now or before
-abbrev pub has_own_vote : (epoch : ℕ) → Known → Bool
-has_own_vote epoch k = if can_vote epoch k then same_id k.pick k.me else (k.voted == epoch) && is_for k.me k.own
-
--- the votes heard in the campaign's epoch, with its own one, are as many as are needed
+-- the votes heard in the campaign's epoch elect, with the own one, be it given in this turn or before
 abbrev pub is_elected : (epoch : ℕ) → Known → Bool
-is_elected epoch k = nat_le k.need (k.count + (if has_own_vote epoch k then 1 else 0))
+is_elected epoch k = elects (asked (book_in k) epoch k.pick) k.count epoch k.me k.need

@@ -2,15 +2,15 @@
 use Rattle.std.specs.Prelude.{ℕ, ◌+◌, ◌*◌, ◌%◌, min, Bool, true, ◌&&◌, ◌||◌, not, nat_lt, nat_le, ◌==◌, Option, Some, None, is_some, List, [], ◌∷◌, map, count_by, if◌then◌else◌}
 use Rattle.ballot_law.specs.declared.addresses.Addr.{Addr}
 use Rattle.ballot_law.specs.declared.addresses.RunId.{RunId}
-use Rattle.ballot_law.specs.declared.cards.TheConstants.{MAX_EPOCH}
 use Rattle.ballot_law.specs.Clocks.{age}
+use Rattle.vote_book.specs.Elections.{can_open, next_epoch}
 use Rattle.failover_states.specs.declared.states.Choice.{Choice}
 use Rattle.failover_states.specs.declared.states.State.{State}
 use Rattle.failover_states.specs.declared.states.State.TheVariants.{Idle, WaitStart, SelectReplica, SendPromotion, WaitPromotion, ReconfReplicas, UpdateConfig}
 use Rattle.failover_states.specs.declared.states.Row.{Row}
 use Rattle.failover_states.specs.declared.states.Row.TheVariants.{StartFailover, Elected, ElectionTimeout, AwaitVotes, ReplicaChosen, NoReplica, ChoiceTimeout, AwaitChoice, Promote, PromotionTimeout, AwaitPromotion, ReconfTimeout, ReconfDone, Reconfigure, ConfigUpdated}
 use Rattle.failover_states.specs.declared.replicas.Replica.{Replica}
-use Rattle.failover_states.specs.Elections.{vote_in, is_elected}
+use Rattle.failover_states.specs.Elections.{book_in, vote_in, is_elected}
 use Rattle.failover_states.specs.Failovers.{Failover, entering, ended}
 use Rattle.failover_states.specs.Known.{Known, is_down}
 use Rattle.failover_states.specs.Replicas.{unordered, expired, is_busy, is_done, is_due, is_next, told, all_from}
@@ -34,11 +34,11 @@ is_long_ago (Some start) bound now = nat_le bound (age start now)
 
 -- the last start is two timeouts ago, and an epoch is left
 abbrev pub may_start : Failover → Known → Bool
-may_start f k = k.odown && is_long_ago f.last_start (2 * k.timeout) k.now && nat_lt k.current MAX_EPOCH
+may_start f k = k.odown && is_long_ago f.last_start (2 * k.timeout) k.now && can_open (book_in k)
 
 -- a random part of a second keeps Sentinels from starting together again
 abbrev pub started : Failover → Known → Failover
-started f k = entering (WaitStart (k.current + 1)) k.now (record f { last_start = Some (k.now + k.random % 1000) })
+started f k = entering (WaitStart (next_epoch (book_in k))) k.now (record f { last_start = Some (k.now + k.random % 1000) })
 
 abbrev pub chosen : (epoch : ℕ) → Option (ℕ × Addr) → Failover → Known → Failover
 chosen epoch None f k = f

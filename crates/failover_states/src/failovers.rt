@@ -11,8 +11,8 @@ ghost use Rattle.failover_states.specs.Table.{is_long_ago, is_over, expiring, tu
 use crate::replicas::{Masters, Progress, Replica, clear_orders, expire, forget};
 use crate::states::{Choice, Row, State};
 use crate::turns::{Act, Facts};
-use ballot_law::{Card, MAX_EPOCH, clock_of};
-use std::alloc::{AllocError, Global};
+use ballot_law::{Card, NoMemory, clock_of};
+use std::alloc::Global;
 use std::marker::Model;
 
 /// How long votes are awaited at most, in milliseconds.
@@ -50,15 +50,15 @@ fn is_past_last_start(last_start: Option<u64>, timeout: u64, now: u64) -> bool
     match last_start {
         Some(start) => {
             let past = now.saturating_sub(start);
-            past >= timeout && past - timeout >= timeout
+            past / 2 >= timeout
         }
         None => true,
     }
 }
 
 impl Failover {
-    /// No failover, and none started yet, of a master with `n` nodes. An error is want of memory.
-    pub fn new(alloc: Global, n: u16) -> Result<Failover, AllocError>
+    /// No failover, and none started yet, of a master with `n` nodes.
+    pub fn new(alloc: Global, n: u16) -> Result<Failover, NoMemory>
         ensures { IfOk result (λ f. f ≡ record {
           state = State.Idle;
           entered = 0;
@@ -247,10 +247,9 @@ impl Failover {
         let now = clock_of(facts.now);
         if facts.odown
             && is_past_last_start(self.last_start, facts.timeout, now)
-            && facts.current < MAX_EPOCH
+            && let Some(epoch) = facts.book().open_campaign()
         {
             self.last_start = Some(now + facts.random % 1_000);
-            let epoch = facts.current + 1;
             self.enter(State::WaitStart { epoch }, now);
             return Act::of(Row::StartFailover);
         }

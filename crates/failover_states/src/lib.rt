@@ -12,6 +12,7 @@
 //! than `now` is no time ago. Nothing wraps, whatever the settings. Only [`Failover::new`] takes memory.
 #![tactic(auto)]
 
+pub use ballot_law::NoMemory;
 pub use failovers::Failover;
 pub use replicas::{Progress, Replica};
 pub use states::{Choice, Row, State};

@@ -47,7 +47,9 @@ pub enum State {
     },
 }
 
-/// A row of the failover table, in the table's order.
+/// A row of the failover table that a turn can take, in the table's order. The other four are taken by news
+/// ([`crate::Failover::promoted`], [`crate::Failover::reconf`], [`crate::Failover::end`]), or always and first
+/// (replicas that were sent to long ago count as done).
 #[derive(Clone, Copy, Debug, PartialEq, Eq)]
 pub enum Row {
     /// The master is objectively down: a campaign is opened, in the epoch after the current one.
@@ -72,20 +74,12 @@ pub enum Row {
     PromotionTimeout,
     /// The choice has not become a master yet.
     AwaitPromotion,
-    /// The choice says that it is a master: the master has a new configuration. Taken by [`crate::Failover::promoted`].
-    Promoted,
-    /// Replicas that were sent to long ago count as done. Always taken first, and another row after it.
-    ReconfExpired,
     /// Replicas are left for too long: all are told to follow the new master, and the failover is about to end.
     ReconfTimeout,
     /// No replica is left: the failover is about to end.
     ReconfDone,
     /// As many replicas as may be are told to follow the new master.
     Reconfigure,
-    /// A replica follows the new master. Taken by [`crate::Failover::reconf`].
-    ReplicaDone,
     /// The failover ends.
     ConfigUpdated,
-    /// A newer configuration was adopted: the failover ends. Taken by [`crate::Failover::end`].
-    Superseded,
 }

@@ -1,11 +1,12 @@
 //! What a turn of a failover looks at, and what it answers.
 
 ghost use Rattle.std.specs.Prelude.{◌≡◌};
-ghost use Rattle.failover_states.specs.Elections.{vote_in, has_own_vote, is_elected};
+ghost use Rattle.failover_states.specs.Elections.{book_in, vote_in, is_elected};
 ghost use Rattle.failover_states.specs.Known.{known, is_down};
 
 use crate::states::Row;
 use ballot_law::{Addr, RunId};
+use vote_book::VoteBook;
 
 /// What a turn of a failover looks at. Epochs are at most `MAX_EPOCH`; places are those of the master's nodes in the
 /// roster, which are ordered by address.
@@ -27,11 +28,11 @@ pub struct Facts<'a> {
     pub me: RunId,
     /// How many votes elect.
     pub need: u32,
-    /// The candidate with most of the votes heard at the campaign's epoch, or the Sentinel itself.
+    /// The candidate with most of the votes heard at the campaign's epoch, or the Sentinel itself ([`vote_book::Heard::pick`]).
     pub pick: RunId,
-    /// How many of the votes heard at the campaign's epoch are for the Sentinel.
+    /// How many of the votes heard at the campaign's epoch are for the Sentinel ([`vote_book::Heard::count`]).
     pub count: u32,
-    /// The best replica, by place and address; none where no replica can be promoted.
+    /// The best replica ([`replica_choice::choose`]), by place and address; none where no replica can be promoted.
     pub best: Option<(u16, Addr)>,
     /// The place of the node that the configuration names as the master.
     pub card_place: u16,
@@ -65,27 +66,21 @@ impl Act {
 }
 
 impl Facts<'_> {
-    /// The vote that the Sentinel can still give in the campaign's epoch.
+    /// The own vote before the turn.
+    pub(crate) fn book(&self) -> VoteBook
+        ensures { result ≡ book_in (known self.entry.now) }
+    {
+        VoteBook::with_leader(self.current, self.voted, self.own)
+    }
+
+    /// The vote that the Sentinel gives in the campaign's epoch, where it can still give one.
     pub(crate) fn vote_in(&self, epoch: u64) -> Option<RunId>
         ensures { result ≡ vote_in epoch (known self.entry.now) }
     {
-        if self.voted < epoch && self.current <= epoch {
+        if self.book().grants(epoch) {
             Some(self.pick)
         } else {
             None
-        }
-    }
-
-    /// Whether the Sentinel votes for itself in the campaign's epoch.
-    fn has_own_vote(&self, epoch: u64) -> bool
-        ensures { result ≡ has_own_vote epoch (known self.entry.now) }
-    {
-        if let Some(candidate) = self.vote_in(epoch) {
-            return candidate.is_same(&self.me);
-        }
-        match self.own {
-            Some(candidate) => self.voted == epoch && candidate.is_same(&self.me),
-            None => false,
         }
     }
 
@@ -93,7 +88,9 @@ impl Facts<'_> {
     pub(crate) fn is_elected(&self, epoch: u64) -> bool
         ensures { result ≡ is_elected epoch (known self.entry.now) }
     {
-        self.need as u64 <= self.count as u64 + self.has_own_vote(epoch) as u64
+        let mut book = self.book();
+        book.ask(epoch, self.pick);
+        book.elects(self.count, epoch, self.me, self.need)
     }
 
     /// Whether the node at a place is down.

@@ -20,9 +20,8 @@ use Rattle.ballot_law.specs.Ballots.{kept_of, card_of}
 use Rattle.ballot_law.specs.Hellos.{SpellsHello}
 use Rattle.ballot_law.specs.Orders.{same_addr}
 use Rattle.ballot_law.specs.Rosters.{no_addr, master_named}
-use Rattle.ballot_law.specs.VotesHeard.{greater, kept_at as vote_at}
-use Rattle.down_detector.specs.ReportSteps.{with_report}
-use Rattle.vote_book.specs.HeardSteps.{with_hearing}
+use Rattle.ballot_law.specs.VotesHeard.{greater, kept_at as vote_at, with_hearing}
+use Rattle.ballot_law.specs.Reports.{with_report}
 use Rattle.failover_states.specs.declared.states.State.{State}
 use Rattle.failover_states.specs.declared.states.State.TheVariants.{WaitPromotion, ReconfReplicas}
 use Rattle.failover_states.specs.Calls.{epoch_of, promoted, reconfigured}

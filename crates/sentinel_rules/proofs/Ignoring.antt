@@ -1,9 +1,8 @@
 -- An input that isn't noticed changes nothing.
-use Rattle.std.proofs.Common.{◌≡◌, ℕ, Bool, true, false, Option, Some, None, [], ◌++◌, refl}
+use Rattle.std.proofs.Common.{◌≡◌, ℕ, Bool, true, false, Option, Some, None, refl}
 use Rattle.std.specs.Prelude.{not, ◌&&◌, ◌==◌, nat_lt, is_some, Result, Ok, Err, if◌then◌else◌}
 use Rattle.ballot_law.specs.declared.addresses.Addr.{Addr}
 use Rattle.ballot_law.specs.declared.addresses.RunId.{RunId}
-use Rattle.ballot_law.specs.declared.events.Event.{Event}
 use Rattle.ballot_law.specs.declared.events.Event.TheVariants.{Tick, Command, Answered, Pinged, InfoRead, HelloRead, Become, Handed}
 use Rattle.ballot_law.specs.declared.messages.NodeName.{NodeName}
 use Rattle.ballot_law.specs.declared.messages.NodeName.TheVariants.{SentinelAt, StoreAt, ClientAt, PortAt}
@@ -17,9 +16,9 @@ use Rattle.node_texts.specs.Hellos.{hello_of}
 use Rattle.node_texts.specs.Infos.{info_of}
 use Rattle.sentinel_rules.specs.Plans.{Plan, NodePlace, roster_of, group_size, master_count, node_named}
 use Rattle.sentinel_rules.specs.States.{Core}
-use Rattle.sentinel_rules.specs.Parts.{Part, quiet, part_if}
-use Rattle.sentinel_rules.specs.News.{is_heeded, hello_heeded, hello_read, answered, answer_of, pinged, pinged_at, info_of_node, info_read}
-use Rattle.sentinel_rules.specs.Takes.{Next, next, cleared, shown_after}
+use Rattle.sentinel_rules.specs.Parts.{quiet, part_if}
+use Rattle.sentinel_rules.specs.News.{is_heeded, hello_heeded, hello_read, answered, pinged, pinged_at, info_of_node, info_read}
+use Rattle.sentinel_rules.specs.Takes.{cleared, shown_after}
 use Rattle.sentinel_rules.specs.Ignored.{IgnoredChangesNothing, is_hello_heeded, is_info_heeded, is_other, is_data_node}
 
 alike : {X Y : Type 0} (f : X → Y) (x y : X) → x ≡ y → f x ≡ f y

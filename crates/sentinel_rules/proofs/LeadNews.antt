@@ -20,10 +20,9 @@ use Rattle.ballot_law.specs.Hellos.{SpellsHello}
 use Rattle.ballot_law.specs.Orders.{same_addr, same_id}
 use Rattle.ballot_law.specs.OwnVotes.{Book, grants, asked, raised}
 use Rattle.ballot_law.specs.Rosters.{MasterPlan, HasNode, master_named}
-use Rattle.ballot_law.specs.VotesHeard.{greater, kept_at}
+use Rattle.ballot_law.specs.VotesHeard.{greater, kept_at, with_hearing}
 use Rattle.ballot_law.proofs.RosterLemmas.{named_master}
-use Rattle.down_detector.specs.ReportSteps.{with_report}
-use Rattle.vote_book.specs.HeardSteps.{with_hearing}
+use Rattle.ballot_law.specs.Reports.{with_report}
 use Rattle.failover_states.specs.declared.states.State.{State}
 use Rattle.failover_states.specs.declared.states.State.TheVariants.{WaitPromotion, ReconfReplicas}
 use Rattle.failover_states.specs.Calls.{promoted, reconfigured}

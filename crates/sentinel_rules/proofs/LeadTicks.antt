@@ -1,5 +1,5 @@
 -- A tick by steps of the ballot model.
-use Rattle.std.proofs.Common.{◌≡◌, ℕ, zero, suc, ◌+◌, ◌<◌, ◌≤◌, Bool, true, false, cond, eqb, Option, Some, None, List, length, length-set, refl, sym, ap, subst, ◌∙◌, inl, inr, arith, add-one}
+use Rattle.std.proofs.Common.{◌≡◌, ℕ, zero, suc, ◌+◌, ◌<◌, ◌≤◌, Bool, true, false, eqb, Option, Some, None, List, length, length-set, refl, sym, ap, subst, ◌∙◌, inl, inr, arith}
 use Rattle.std.specs.Prelude.{Contains, IfSome, is_some, not, unwrap_or, nat_lt, nat_le, ◌&&◌, if◌then◌else◌}
 use Rattle.std.proofs.lemmas.Bool.{ltb-true, leb-true}
 use Rattle.std.proofs.lemmas.List.Folds.{list_any_at}
@@ -8,18 +8,17 @@ use Rattle.ballot_law.specs.declared.addresses.RunId.{RunId}
 use Rattle.ballot_law.specs.declared.events.Event.{Event}
 use Rattle.ballot_law.specs.declared.hearings.HeardVote.{HeardVote}
 use Rattle.ballot_law.specs.Ballots.{Idle as NoCampaign, Won, Parts, HasVoted, kept_of, card_of, voted_of, open_of, vote}
-use Rattle.ballot_law.specs.Counts.{count_below}
 use Rattle.ballot_law.specs.Orders.{same_addr, same_id}
-use Rattle.ballot_law.specs.OwnVotes.{grants}
+use Rattle.ballot_law.specs.OwnVotes.{Book, grants, asked, raised}
 use Rattle.ballot_law.specs.Rosters.{AtLeast, HasNode, size, need, no_addr}
-use Rattle.ballot_law.specs.VotesHeard.{kept_at, is_for, count_in}
-use Rattle.ballot_law.proofs.CountedVotes.{AtLeast-counted, same_id-equal}
+use Rattle.ballot_law.specs.VotesHeard.{kept_at, is_for, count_in, own_votes, IsElectedIn}
+use Rattle.ballot_law.proofs.CountedVotes.{AtLeast-kept, same_id-equal}
 use Rattle.failover_states.specs.declared.states.State.{State}
 use Rattle.failover_states.specs.declared.states.State.TheVariants.{Idle, WaitStart, SelectReplica, SendPromotion, WaitPromotion, ReconfReplicas, UpdateConfig}
 use Rattle.failover_states.specs.declared.states.Row.{Row}
 use Rattle.failover_states.specs.declared.states.Row.TheVariants.{ReplicaChosen}
 use Rattle.failover_states.specs.Calls.{epoch_of}
-use Rattle.failover_states.specs.Elections.{can_vote, vote_in, is_for as is_own, has_own_vote, is_elected}
+use Rattle.failover_states.specs.Elections.{vote_in, is_elected}
 use Rattle.failover_states.specs.Failovers.{Failover}
 use Rattle.failover_states.specs.Known.{Known}
 use Rattle.failover_states.specs.Table.{Turn, turned, turn_in, table, quieted, expiring, vote_of, chosen, started}
@@ -42,27 +41,6 @@ use Rattle.sentinel_rules.proofs.LeadNews.{stay_leads, leads_if, within_core, ma
 
 -- Votes that are counted
 
-at_least_fewer : (P : ℕ → Type 0) (n k m : ℕ) → k ≤ m → AtLeast P n m → AtLeast P n k
-at_least_fewer P zero zero m le h = tt
-at_least_fewer P zero (suc k) zero le h = absurd (omega arith)
-at_least_fewer P zero (suc k) (suc m) le h = absurd h
-at_least_fewer P (suc n) zero m le h = tt
-at_least_fewer P (suc n) (suc k) zero le h = absurd (omega arith)
-at_least_fewer P (suc n) (suc k) (suc m) le (inl h) = inl (h.0, at_least_fewer P n k m (omega arith) h.1)
-at_least_fewer P (suc n) (suc k) (suc m) le (inr h) = inr (at_least_fewer P n (suc k) (suc m) le h)
-
-at_least_of_more : (P : ℕ → Type 0) (n k : ℕ) → AtLeast P n k → AtLeast P (suc n) k
-at_least_of_more P n zero h = tt
-at_least_of_more P n (suc k) h = inr h
-
-at_least_below : (P : ℕ → Type 0) (p : ℕ → Bool) → ((v : ℕ) → p v ≡ true → P v) → (n : ℕ) → AtLeast P n (count_below p n)
-at_least_below P p f zero = tt
-at_least_below P p f (suc n) = known (p n) refl (at_least_below P p f n)
-  where
-    known : (b : Bool) → p n ≡ b → AtLeast P n (count_below p n) → AtLeast P (suc n) (cond b (count_below p n + 1) (count_below p n))
-    known true e earlier = rw add-one (inl (f n e, earlier))
-    known false e earlier = at_least_of_more P n (count_below p n) earlier
-
 -- a vote of the table that is for the candidate
 table_vote : (heard : List (Option HeardVote)) (epoch : ℕ) (candidate : RunId) (v : ℕ) (P : (e : ℕ) → RunId → Type 0) → ((given : HeardVote) → kept_at heard v ≡ Some given → P given.epoch given.candidate) → is_for epoch candidate (kept_at heard v) ≡ true → P epoch candidate
 table_vote heard epoch candidate v P f h = known (kept_at heard v) refl h
@@ -74,34 +52,29 @@ table_vote heard epoch candidate v P f h = known (kept_at heard v) refl h
         subst (λ (c : RunId). P epoch c) (same_id-equal given.candidate candidate parts.1) (subst (λ (n : ℕ). P n given.candidate) (eqb-true given.epoch epoch parts.0) (f given e))
 
 -- as many votes of the table, with the own one, as are needed
-pub enough_votes : (plan : Plan) (master : MasterState) (m epoch : ℕ) (own : Bool) (parts : Parts) → IsSoundPlan plan
+enough_votes : (plan : Plan) (master : MasterState) (m epoch : ℕ) (book : Book) (parts : Parts) → IsSoundPlan plan
     → IsOpenOf m master (open_of parts m)
     → length master.heard ≡ group_size plan
     → kept_at master.heard plan.place ≡ None
-    → (own ≡ true → (voted_of parts.kept m ≡ epoch) × (master.leader ≡ Some (me plan)))
-    → need (roster_of plan) m ≤ count_in (kept_at master.heard) (length master.heard) epoch (me plan) + (if own then 1 else 0)
+    → book.voted ≡ voted_of parts.kept m
+    → book.leader ≡ master.leader
+    → IsElectedIn (kept_at master.heard) book (length master.heard) epoch (me plan) (need (roster_of plan) m)
     → AtLeast (HasVoted (roster_of plan) plan.place parts m epoch) (size (roster_of plan)) (need (roster_of plan) m)
-enough_votes plan master m epoch own parts p o long none mine enough =
-    known own mine (subst (λ (n : ℕ). need (roster_of plan) m ≤ count_in (kept_at master.heard) n epoch (me plan) + (if own then 1 else 0)) long enough)
-  where
-    P : ℕ → Type 0
-    P = HasVoted (roster_of plan) plan.place parts m epoch
-
-    test : ℕ → Bool
-    test v = is_for epoch (me plan) (kept_at master.heard v)
-
-    counted : (v : ℕ) → test v ≡ true → P v
-    counted v h = inl (table_vote master.heard epoch (me plan) v (λ e c. Contains (open_of parts m).heard (vote v m e c)) (λ given e. o.heard v given e) h)
-
-    none_own : test plan.place ≡ false
-    none_own = ap (λ (kept : Option HeardVote). is_for epoch (me plan) kept) none
-
-    known : (own : Bool) → (own ≡ true → (voted_of parts.kept m ≡ epoch) × (master.leader ≡ Some (me plan))) → need (roster_of plan) m ≤ count_below test (group_size plan) + (if own then 1 else 0) → AtLeast P (size (roster_of plan)) (need (roster_of plan) m)
-    known true mine enough =
-        let own : (voted_of parts.kept m ≡ epoch) × (master.leader ≡ Some (me plan)) = mine refl in
-        AtLeast-counted P test (group_size plan) plan.place (need (roster_of plan) m) p.place none_own counted (inr (refl, own.0, o.candidate ∙ own.1)) enough
-    known false mine enough =
-        at_least_fewer P (group_size plan) (need (roster_of plan) m) (count_below test (group_size plan)) (omega arith) (at_least_below P test counted (group_size plan))
+enough_votes plan master m epoch book parts p o long none voted leader elected =
+    AtLeast-kept
+    (HasVoted (roster_of plan) plan.place parts m epoch)
+    (kept_at master.heard)
+    book
+    (group_size plan)
+    plan.place
+    epoch
+    (me plan)
+    (need (roster_of plan) m)
+    p.place
+    (ap (λ (kept : Option HeardVote). is_for epoch (me plan) kept) none)
+    (λ v h. inl (table_vote master.heard epoch (me plan) v (λ e c. Contains (open_of parts m).heard (vote v m e c)) (λ given e. o.heard v given e) h))
+    (λ at mine. inr (refl, sym voted ∙ at, o.candidate ∙ (sym leader ∙ mine)))
+    (subst (λ (n : ℕ). IsElectedIn (kept_at master.heard) book n epoch (me plan) (need (roster_of plan) m)) long elected)
 
 -- The row of a failover
 
@@ -172,13 +145,13 @@ module _ (plan : Plan) (event : Event) (m : ℕ) (k : Known) (f : Failover) (cor
 
 -- The own vote
 
-if_true : (b x y : Bool) → b ≡ true → (if b then x else y) ≡ true → x ≡ true
-if_true true x y e h = h
-if_true false x y e h = absurd (cc)
+asked_given : (book : Book) (epoch : ℕ) (candidate : RunId) → grants book epoch ≡ true → asked book epoch candidate ≡ record { current = epoch; voted = epoch; leader = Some candidate }
+asked_given book epoch candidate h =
+    ap (λ (b : Bool). let after : Book = if b then record { current = epoch; voted = epoch; leader = Some candidate } else raised book epoch in after) h
 
-if_false : (b x y : Bool) → b ≡ false → (if b then x else y) ≡ true → y ≡ true
-if_false true x y e h = absurd (cc)
-if_false false x y e h = h
+asked_refused : (book : Book) (epoch : ℕ) (candidate : RunId) → grants book epoch ≡ false → asked book epoch candidate ≡ raised book epoch
+asked_refused book epoch candidate h =
+    ap (λ (b : Bool). let after : Book = if b then record { current = epoch; voted = epoch; leader = Some candidate } else raised book epoch in after) h
 
 some_if_true : {X : Type 0} (b : Bool) (x : X) → b ≡ true → (if b then Some x else None) ≡ Some x
 some_if_true true x e = refl
@@ -187,10 +160,6 @@ some_if_true false x e = absurd (cc)
 some_if_false : {X : Type 0} (b : Bool) (x : X) → b ≡ false → (if b then Some x else None) ≡ None
 some_if_false true x e = absurd (cc)
 some_if_false false x e = refl
-
-own_candidate : (id : RunId) (leader : Option RunId) → is_own id leader ≡ true → leader ≡ Some id
-own_candidate id None h = absurd (cc)
-own_candidate id (Some candidate) h = ap (λ (x : RunId). Some x) (same_id-equal candidate id h)
 
 -- a core that voted, and one with another failover that voted
 voted_twin : (core : Core) (m epoch : ℕ) (candidate : RunId) (f : Failover) → m < length core.masters → IsTwin m (voted_core core m epoch candidate) (voted_core (with_failover core m f) m epoch candidate) (campaign_in f.state)
@@ -232,19 +201,23 @@ module _ (plan : Plan) (event : Event) (m now : ℕ) (core : Core) (p : IsSoundP
   abbrev turn_in_state : State → Turn
   turn_in_state state = turn_in state (expiring state (known_of plan core m now false).now (quieted (failover_of core m))) (known_of plan core m now false)
 
+  -- the own vote of a turn
+  abbrev book_asked : (epoch : ℕ) → Book
+  book_asked epoch = asked (book_of core m) epoch (known_of plan core m now false).pick
+
   -- the votes that elect in the campaign's epoch
   elected_by : (epoch : ℕ) → (failover_of core m).state ≡ WaitStart epoch → is_elected epoch (known_of plan core m now false) ≡ true
-      → need (roster_of plan) m ≤ count_in (kept_at (master_of core m).heard) (length (master_of core m).heard) epoch (me plan) + (if has_own_vote epoch (known_of plan core m now false) then 1 else 0)
+      → IsElectedIn (kept_at (master_of core m).heard) (book_asked epoch) (length (master_of core m).heard) epoch (me plan) (need (roster_of plan) m)
   elected_by epoch e h =
       let at : campaign_epoch core m ≡ epoch = ap (λ (st : State). unwrap_or (epoch_of st) 0) e in
       subst
-      (λ (n : ℕ). need (roster_of plan) m ≤ count_in (kept_at (master_of core m).heard) (length (master_of core m).heard) n (me plan) + (if has_own_vote epoch (known_of plan core m now false) then 1 else 0))
+      (λ (n : ℕ). need (roster_of plan) m ≤ count_in (kept_at (master_of core m).heard) (length (master_of core m).heard) n (me plan) + own_votes (book_asked epoch) epoch (me plan))
       at
-      (leb-true (need (roster_of plan) m) ((known_of plan core m now false).count + (if has_own_vote epoch (known_of plan core m now false) then 1 else 0)) h)
+      (leb-true (need (roster_of plan) m) ((known_of plan core m now false).count + own_votes (book_asked epoch) epoch (me plan)) h)
 
   -- where no vote is given
   quiet_turn : (state : State) → (failover_of core m).state ≡ state → (state ≡ Idle → ⊥) → (turn_in_state state).vote ≡ None
-      → ((epoch : ℕ) → state ≡ WaitStart epoch → can_vote epoch (known_of plan core m now false) ≡ false)
+      → ((epoch : ℕ) → state ≡ WaitStart epoch → grants (book_of core m) epoch ≡ false)
       → Leads plan event 2 core (with_win m (unwrap_or (epoch_of state) 0) (turn_in_state state).row (with_vote plan m now (unwrap_or (epoch_of state) 0) (turn_in_state state).vote (with_failover core m (turn_in_state state).failover)))
   quiet_turn state e busy no_vote past =
       subst
@@ -255,18 +228,14 @@ module _ (plan : Plan) (event : Event) (m now : ℕ) (core : Core) (p : IsSoundP
       (with_failover core m (turn_in_state state).failover)
       (twin_master core m (record (master_of core m) { failover = (turn_in_state state).failover }) lt refl refl)))
     where
-      mine : (epoch : ℕ) → state ≡ WaitStart epoch → has_own_vote epoch (known_of plan core m now false) ≡ true → (voted_of core.kept m ≡ epoch) × ((master_of core m).leader ≡ Some (me plan))
-      mine epoch at h =
-          let parts = both (eqb (voted_of core.kept m) epoch) (is_own (me plan) (master_of core m).leader)
-          (if_false (can_vote epoch (known_of plan core m now false)) (same_id (known_of plan core m now false).pick (me plan)) (eqb (voted_of core.kept m) epoch && is_own (me plan) (master_of core m).leader) (past epoch at) h) in
-          (eqb-true (voted_of core.kept m) epoch parts.0, own_candidate (me plan) (master_of core m).leader parts.1)
-
       enough : (epoch : ℕ) → state ≡ WaitStart epoch → is_elected epoch (known_of plan core m now false) ≡ true → (parts : Parts) → IsPartsOf core (kept_as core parts) → AtLeast (HasVoted (roster_of plan) plan.place (kept_as core parts) m epoch) (size (roster_of plan)) (need (roster_of plan) m)
       enough epoch at h parts is =
-          enough_votes plan (master_of core m) m epoch (has_own_vote epoch (known_of plan core m now false)) (kept_as core parts) p (is.each m lt) (s.each m inside).heard (s.each m inside).own (mine epoch at) (elected_by epoch (e ∙ at) h)
+          let same : book_asked epoch ≡ raised (book_of core m) epoch = asked_refused (book_of core m) epoch (known_of plan core m now false).pick (past epoch at) in
+          enough_votes plan (master_of core m) m epoch (book_asked epoch) (kept_as core parts) p (is.each m lt) (s.each m inside).heard (s.each m inside).own
+          (ap (λ (book : Book). book.voted) same) (ap (λ (book : Book). book.leader) same) (elected_by epoch (e ∙ at) h)
 
   -- where the own vote is given
-  voting_turn : (epoch : ℕ) → (failover_of core m).state ≡ WaitStart epoch → can_vote epoch (known_of plan core m now false) ≡ true → (turn_in_state (WaitStart epoch)).vote ≡ Some (known_of plan core m now false).pick
+  voting_turn : (epoch : ℕ) → (failover_of core m).state ≡ WaitStart epoch → grants (book_of core m) epoch ≡ true → (turn_in_state (WaitStart epoch)).vote ≡ Some (known_of plan core m now false).pick
       → Leads plan event 2 core (with_win m epoch (turn_in_state (WaitStart epoch)).row (with_vote plan m now epoch (turn_in_state (WaitStart epoch)).vote (with_failover core m (turn_in_state (WaitStart epoch)).failover)))
   voting_turn epoch e can gives =
       subst
@@ -332,11 +301,8 @@ module _ (plan : Plan) (event : Event) (m now : ℕ) (core : Core) (p : IsSoundP
           IfSome_then (known_of plan core m now false).best (best_awaited plan core m now p inside)
           (λ b a. awaited_still plan core.kept voted.kept m same_card (record { place = b.0; addr = b.1 }) a)
 
-      mine : has_own_vote epoch (known_of plan core m now false) ≡ true → (voted_of voted.kept m ≡ epoch) × (Some pick ≡ Some (me plan))
-      mine h = (
-        ap (λ (x : KeptMaster). x.voted) entry,
-        ap (λ (x : RunId). Some x) (same_id-equal pick (me plan) (if_true (can_vote epoch (known_of plan core m now false)) (same_id pick (me plan)) (eqb (voted_of core.kept m) epoch && is_own (me plan) (master_of core m).leader) can h)),
-      )
+      given : book_asked epoch ≡ record { current = epoch; voted = epoch; leader = Some pick }
+      given = asked_given (book_of core m) epoch pick can
 
       enough : (epoch2 : ℕ) → WaitStart epoch ≡ WaitStart epoch2 → is_elected epoch2 (known_of plan core m now false) ≡ true → (parts : Parts) → IsPartsOf voted (kept_as voted parts) → AtLeast (HasVoted (roster_of plan) plan.place (kept_as voted parts) m epoch2) (size (roster_of plan)) (need (roster_of plan) m)
       enough epoch2 at h parts is =
@@ -344,24 +310,26 @@ module _ (plan : Plan) (event : Event) (m now : ℕ) (core : Core) (p : IsSoundP
           subst
           (λ (n : ℕ). AtLeast (HasVoted (roster_of plan) plan.place (kept_as voted parts) m n) (size (roster_of plan)) (need (roster_of plan) m))
           same
-          (enough_votes plan told m epoch (has_own_vote epoch (known_of plan core m now false)) (kept_as voted parts) p
+          (enough_votes plan told m epoch (book_asked epoch) (kept_as voted parts) p
           (subst (λ (x : MasterState). IsOpenOf m x (open_of parts m)) (master_same core m told lt) (is.each m voted_lt))
-          (s.each m inside).heard (s.each m inside).own mine (elected_by epoch e (subst (λ (n : ℕ). is_elected n (known_of plan core m now false) ≡ true) (sym same) h)))
+          (s.each m inside).heard (s.each m inside).own
+          (ap (λ (book : Book). book.voted) given ∙ sym (ap (λ (x : KeptMaster). x.voted) entry)) (ap (λ (book : Book). book.leader) given)
+          (elected_by epoch e (subst (λ (n : ℕ). is_elected n (known_of plan core m now false) ≡ true) (sym same) h)))
 
   turn_by_state : (state : State) → (failover_of core m).state ≡ state → (state ≡ Idle → ⊥)
       → Leads plan event 2 core (with_win m (unwrap_or (epoch_of state) 0) (turn_in_state state).row (with_vote plan m now (unwrap_or (epoch_of state) 0) (turn_in_state state).vote (with_failover core m (turn_in_state state).failover)))
   turn_by_state Idle e busy = absurd (busy refl)
-  turn_by_state (WaitStart epoch) e busy = known (can_vote epoch (known_of plan core m now false)) refl
+  turn_by_state (WaitStart epoch) e busy = known (grants (book_of core m) epoch) refl
     where
       given : (turn_in_state (WaitStart epoch)).vote ≡ vote_in epoch (known_of plan core m now false)
       given = turn_vote (quieted (failover_of core m)) (vote_in epoch (known_of plan core m now false)) (table (WaitStart epoch) (quieted (failover_of core m)) (known_of plan core m now false))
 
-      known : (b : Bool) → can_vote epoch (known_of plan core m now false) ≡ b
+      known : (b : Bool) → grants (book_of core m) epoch ≡ b
           → Leads plan event 2 core (with_win m epoch (turn_in_state (WaitStart epoch)).row (with_vote plan m now epoch (turn_in_state (WaitStart epoch)).vote (with_failover core m (turn_in_state (WaitStart epoch)).failover)))
-      known true h = voting_turn epoch e h (given ∙ some_if_true (can_vote epoch (known_of plan core m now false)) (known_of plan core m now false).pick h)
+      known true h = voting_turn epoch e h (given ∙ some_if_true (grants (book_of core m) epoch) (known_of plan core m now false).pick h)
       known false h =
-          quiet_turn (WaitStart epoch) e busy (given ∙ some_if_false (can_vote epoch (known_of plan core m now false)) (known_of plan core m now false).pick h)
-          (λ epoch2 at. let same : epoch ≡ epoch2 = cc in subst (λ (n : ℕ). can_vote n (known_of plan core m now false) ≡ false) same h)
+          quiet_turn (WaitStart epoch) e busy (given ∙ some_if_false (grants (book_of core m) epoch) (known_of plan core m now false).pick h)
+          (λ epoch2 at. let same : epoch ≡ epoch2 = cc in subst (λ (n : ℕ). grants (book_of core m) n ≡ false) same h)
   turn_by_state (SelectReplica epoch) e busy =
       quiet_turn (SelectReplica epoch) e busy (turn_vote (quieted (failover_of core m)) None (table (SelectReplica epoch) (quieted (failover_of core m)) (known_of plan core m now false))) (λ epoch2 at. absurd (cc))
   turn_by_state (SendPromotion epoch choice) e busy =

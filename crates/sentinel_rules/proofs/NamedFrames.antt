@@ -1,10 +1,9 @@
 -- Each hello that an input puts out is of a master of the roster.
 use Rattle.std.proofs.Common.{◌≡◌, ℕ, zero, suc, ◌+◌, ◌<◌, Bool, true, false, Option, Some, None, List, [], ◌∷◌, ◌++◌, refl, arith}
-use Rattle.std.specs.Prelude.{not, ◌&&◌, ◌==◌, is_some, nat_lt, length, Result, Ok, Err, if◌then◌else◌}
+use Rattle.std.specs.Prelude.{not, ◌&&◌, ◌==◌, nat_lt, Result, Ok, Err, if◌then◌else◌}
 use Rattle.std.specs.List.{AllByRecursion}
 use Rattle.std.proofs.lemmas.Bool.Decides.{nat_tests}
 use Rattle.ballot_law.specs.declared.addresses.Addr.{Addr}
-use Rattle.ballot_law.specs.declared.addresses.RunId.{RunId}
 use Rattle.ballot_law.specs.declared.cards.Card.{Card}
 use Rattle.ballot_law.specs.declared.messages.NodeName.{NodeName}
 use Rattle.ballot_law.specs.declared.messages.NodeName.TheVariants.{SentinelAt}
@@ -21,17 +20,16 @@ use Rattle.node_texts.specs.Infos.{info_of}
 use Rattle.failover_states.specs.declared.states.State.{State}
 use Rattle.failover_states.specs.declared.states.State.TheVariants.{Idle, WaitStart, SelectReplica, SendPromotion, WaitPromotion, ReconfReplicas, UpdateConfig}
 use Rattle.failover_states.specs.declared.states.Row.{Row}
-use Rattle.failover_states.specs.declared.states.Row.TheVariants.{StartFailover, Elected, ElectionTimeout, AwaitVotes, ReplicaChosen, NoReplica, ChoiceTimeout, AwaitChoice, Promote, PromotionTimeout, AwaitPromotion, Promoted, ReconfExpired, ReconfTimeout, ReconfDone, Reconfigure, ReplicaDone, ConfigUpdated, Superseded}
-use Rattle.failover_states.specs.declared.replicas.Replica.{Replica}
+use Rattle.failover_states.specs.declared.states.Row.TheVariants.{StartFailover, Elected, ElectionTimeout, AwaitVotes, ReplicaChosen, NoReplica, ChoiceTimeout, AwaitChoice, Promote, PromotionTimeout, AwaitPromotion, ReconfTimeout, ReconfDone, Reconfigure, ConfigUpdated}
 use Rattle.failover_states.specs.Calls.{choice_of, promoted, reconfigured}
 use Rattle.failover_states.specs.Failovers.{ended}
 use Rattle.sentinel_rules.specs.declared.frames.Frame.{Frame}
 use Rattle.sentinel_rules.specs.declared.frames.Frame.TheVariants.{PingTo, InfoTo, HelloTo, AskTo, FollowTo, NoteOf}
 use Rattle.sentinel_rules.specs.Plans.{Plan, NodePlace, settings_at, node_name, roster_of, master_count, node_named}
-use Rattle.sentinel_rules.specs.States.{Core, NodeState, PeerState, master_of, node_of, is_master_down, with_master, with_card, failover_of, card_place, is_failing_over, is_tilted, with_failover}
+use Rattle.sentinel_rules.specs.States.{Core, NodeState, master_of, node_of, is_master_down, with_master, with_card, failover_of, card_place, is_failing_over, is_tilted, with_failover}
 use Rattle.sentinel_rules.specs.Parts.{Part, quiet, puts, then_part, part_if, frame_if, frames_from}
-use Rattle.sentinel_rules.specs.Ticks.{Sending, is_ping_due, is_info_due, is_hello_due, is_peer_due, after_start, start_turn, peer_frames, peers_part, node_frames, sending_of, nodes_part, promote_frames, order_frames, row_part, turn_of, start_part, starts_now, ask_frames, ask_candidate, is_ask_due, ask_part, odown_part, failover_part, judging_part, master_part, with_reading, tick}
-use Rattle.sentinel_rules.specs.News.{at_same_address, at_new_address, is_master_role, wrong_of, can_be_followed, is_role_overdue, is_address_overdue, card_taken, adopted, is_newer, is_heeded, raised_to, hello_of_known, hello_heeded, hello_read, promotion, has_followed, reconfiguration, correction, is_reconfiguring, judged, info_kept, info_at_node, info_of_node, info_read}
+use Rattle.sentinel_rules.specs.Ticks.{Sending, is_ping_due, is_info_due, is_hello_due, is_peer_due, after_start, start_turn, peer_frames, peers_part, node_frames, sending_of, nodes_part, promote_frames, order_frames, row_part, turn_of, start_part, starts_now, ask_frames, ask_candidate, is_ask_due, ask_part, odown_part, failover_part, judging_part, master_part, with_reading}
+use Rattle.sentinel_rules.specs.News.{at_same_address, at_new_address, is_master_role, wrong_of, can_be_followed, is_role_overdue, is_address_overdue, card_taken, adopted, is_newer, is_heeded, raised_to, hello_heeded, hello_read, promotion, has_followed, reconfiguration, correction, is_reconfiguring, judged, info_kept, info_of_node, info_read}
 use Rattle.sentinel_rules.specs.Takes.{part_of}
 use Rattle.sentinel_rules.specs.Named.{IsNamed}
 
@@ -88,14 +86,10 @@ of_promote plan m (Some ChoiceTimeout) choice = tt
 of_promote plan m (Some AwaitChoice) choice = tt
 of_promote plan m (Some PromotionTimeout) choice = tt
 of_promote plan m (Some AwaitPromotion) choice = tt
-of_promote plan m (Some Promoted) choice = tt
-of_promote plan m (Some ReconfExpired) choice = tt
 of_promote plan m (Some ReconfTimeout) choice = tt
 of_promote plan m (Some ReconfDone) choice = tt
 of_promote plan m (Some Reconfigure) choice = tt
-of_promote plan m (Some ReplicaDone) choice = tt
 of_promote plan m (Some ConfigUpdated) choice = tt
-of_promote plan m (Some Superseded) choice = tt
 
 of_row : (plan : Plan) (m now : ℕ) (core : Core) → Named plan (row_part plan m now core).frames
 of_row plan m now core =

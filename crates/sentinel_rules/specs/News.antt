@@ -16,9 +16,9 @@ use Rattle.ballot_law.specs.Clocks.{age}
 use Rattle.ballot_law.specs.Orders.{same_addr, same_id}
 use Rattle.ballot_law.specs.PingReplies.{is_valid}
 use Rattle.ballot_law.specs.Rosters.{master_named}
-use Rattle.down_detector.specs.WatchSteps.{after_reply, after_role, after_change}
-use Rattle.down_detector.specs.ReportSteps.{with_report, without_reports}
-use Rattle.vote_book.specs.HeardSteps.{with_hearing}
+use Rattle.ballot_law.specs.Watches.{after_reply, after_role, after_change}
+use Rattle.ballot_law.specs.Reports.{with_report, without_reports}
+use Rattle.ballot_law.specs.VotesHeard.{with_hearing}
 use Rattle.failover_states.specs.declared.states.State.{State}
 use Rattle.failover_states.specs.declared.states.State.TheVariants.{Idle, WaitStart, SelectReplica, SendPromotion, WaitPromotion, ReconfReplicas, UpdateConfig}
 use Rattle.failover_states.specs.Failovers.{ended}

@@ -11,10 +11,8 @@ use Rattle.ballot_law.specs.Ballots.{card_of, kept_of}
 use Rattle.ballot_law.specs.Clocks.{clock}
 use Rattle.ballot_law.specs.Reports.{is_odown_by, kept_at}
 use Rattle.ballot_law.specs.Rosters.{MasterPlan, master_at}
-use Rattle.ballot_law.specs.Tilts.{Turned}
-use Rattle.ballot_law.specs.Watches.{Watched}
-use Rattle.down_detector.specs.Jumps.{opened_clock}
-use Rattle.down_detector.specs.WatchSteps.{opened_at, down_since_of}
+use Rattle.ballot_law.specs.Tilts.{Turned, opened_clock}
+use Rattle.ballot_law.specs.Watches.{Watched, opened_at, down_since_of}
 use Rattle.failover_states.specs.declared.states.State.{State}
 use Rattle.failover_states.specs.declared.states.State.TheVariants.{Idle, WaitStart, SelectReplica, SendPromotion, WaitPromotion, ReconfReplicas, UpdateConfig}
 use Rattle.failover_states.specs.Failovers.{Failover}

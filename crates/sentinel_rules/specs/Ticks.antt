@@ -9,7 +9,8 @@ use Rattle.ballot_law.specs.Clocks.{age}
 use Rattle.ballot_law.specs.OwnVotes.{asked}
 use Rattle.ballot_law.specs.Rosters.{need}
 use Rattle.ballot_law.specs.VotesHeard.{kept_at, pick_in, count_in}
-use Rattle.down_detector.specs.Jumps.{turned_at}
+use Rattle.ballot_law.specs.Tilts.{turned_at}
+use Rattle.vote_book.specs.Elections.{next_epoch}
 use Rattle.replica_choice.specs.declared.candidates.Candidate.{Candidate}
 use Rattle.replica_choice.specs.declared.candidates.Limits.{Limits}
 use Rattle.replica_choice.specs.Choices.{choice_of}
@@ -228,7 +229,7 @@ row_part plan m now core =
 -- where no failover runs one may start: its campaign opens the epoch after the current one
 abbrev pub after_start : (m : ℕ) → Turn → Core → Core
 after_start m turn core =
-    let after = with_failover core m turn.failover in if is_some turn.row then with_current after (core.kept.current + 1) else after
+    let after = with_failover core m turn.failover in if is_some turn.row then with_current after (next_epoch (book_of core m)) else after
 
 abbrev pub start_turn : Plan → Core → (m now : ℕ) → Turn
 start_turn plan core m now = turn_of plan core m now (master_of core m).odown

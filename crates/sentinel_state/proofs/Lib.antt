@@ -1,5 +1,5 @@
 pub mod AtPlaces
-pub mod Books
+pub mod Openings
 pub mod FewBest
 pub mod FewPlaces
 pub mod PartSteps

@@ -58,6 +58,7 @@ fn is_promotion(row: Option<Row>) -> bool
 
 impl State {
     /// Starts a failover where none runs and one is due, in the epoch after the current one, and tells whether it did.
+    #[tactic(auto, using(crate::proofs::Openings::start_opens))]
     pub(crate) fn start_failover(&mut self, plan: &Plan, m: u16, now: u64) -> bool
         requires { m < master_count plan.now }
         ensures started { result ≡ starts_now plan.now self.old m (clock now) }
@@ -71,7 +72,9 @@ impl State {
         if act.row.is_none() {
             return false;
         }
-        self.set_current(self.kept.current + 1);
+        if let Some(epoch) = self.book(m).open_campaign() {
+            self.set_current(epoch);
+        }
         true
     }
 

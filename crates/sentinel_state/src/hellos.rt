@@ -51,11 +51,12 @@ impl State {
     }
 
     /// The current epoch is at least this one.
-    fn raise(&mut self, epoch: u64)
+    fn raise(&mut self, m: u16, epoch: u64)
         ensures { self.new ≡ raised_to epoch self.old }
     {
-        let current = self.kept.current;
-        self.set_current(current.max(epoch));
+        let mut book = self.book(m);
+        book.raise(epoch);
+        self.set_current(book.current());
     }
 
     /// Ends the failover of a master.
@@ -72,7 +73,7 @@ impl State {
         ensures state { self.new ≡ (adopted m (clock now) card self.old).core }
         ensures frames { frames.new ≡ bounded (frames.old ++ (adopted m (clock now) card self.old).frames) }
     {
-        self.raise(card.epoch);
+        self.raise(m, card.epoch);
         self.end_failover(m);
         self.take_card(m, now, card, frames);
     }
@@ -86,7 +87,7 @@ impl State {
             ≡ bounded (frames.old ++ (hello_of_known plan.now m (clock now) hello.now self.old).frames) }
     {
         let _whole = frames.as_slice();
-        self.raise(hello.current);
+        self.raise(m, hello.current);
         if self.is_newer(plan, m, hello.card) {
             self.adopt(m, now, hello.card, frames);
         }

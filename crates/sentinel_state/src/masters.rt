@@ -5,10 +5,10 @@ ghost use Rattle.ballot_law.specs.Clocks.{clock};
 ghost use Rattle.sentinel_rules.specs.States.{new_master};
 
 use crate::nodes::Node;
-use ballot_law::RunId;
+use ballot_law::{NoMemory, RunId};
 use down_detector::DownReports;
 use failover_states::Failover;
-use std::alloc::{AllocError, Global};
+use std::alloc::Global;
 use std::marker::Model;
 use vote_book::Heard;
 
@@ -57,7 +57,7 @@ impl Master {
         sentinels: u16,
         nodes: u16,
         now: u64,
-    ) -> Result<Master, AllocError>
+    ) -> Result<Master, NoMemory>
         requires { nodes ≤ 256 }
         ensures { IfOk result (λ master. master ≡ new_master sentinels nodes (clock now)) }
     {

@@ -10,7 +10,7 @@ use crate::masters::Master;
 use crate::nodes::Node;
 use crate::peers::Peer;
 use crate::plan::Plan;
-use ballot_law::{Addr, Card, Kept, KeptMaster, KeptMasters, Win};
+use ballot_law::{Addr, Card, Kept, KeptMaster, KeptMasters, NoMemory, Win};
 use down_detector::{Tilt, is_odown};
 use failover_states::State as Stage;
 use std::alloc::{AllocError, Global};
@@ -49,7 +49,7 @@ impl Model for State {
 }
 
 /// Each master of the plan, of which nothing was heard yet.
-fn opened_masters(alloc: Global, plan: &Plan, now: u64) -> Result<Vec<Master>, AllocError>
+fn opened_masters(alloc: Global, plan: &Plan, now: u64) -> Result<Vec<Master>, NoMemory>
     ensures value { IfOk result (λ masters. masters.items ≡ map (λ master.
         new_master (group_size plan.now) (length master.nodes) (clock now)) (roster_of plan.now).masters) }
     ensures few { IfOk result (λ masters. length masters.items ≤ 16) }
@@ -101,7 +101,7 @@ fn is_idle(stage: Stage) -> bool
 
 impl State {
     /// What a Sentinel keeps at its start: what its file holds, and nothing else. The only error is want of memory.
-    pub fn open(alloc: Global, plan: &Plan, now: u64) -> Result<State, AllocError>
+    pub fn open(alloc: Global, plan: &Plan, now: u64) -> Result<State, NoMemory>
         ensures { IfOk result (λ state. state ≡ opened plan.now now) }
     {
         let masters = opened_masters(alloc, plan, now)?;

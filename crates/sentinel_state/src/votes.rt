@@ -1,8 +1,7 @@
 //! The own vote for a master, and what a vote does.
 
-ghost use Rattle.std.specs.Prelude.{◌≡◌, None};
+ghost use Rattle.std.specs.Prelude.{◌≡◌};
 ghost use Rattle.ballot_law.specs.Clocks.{clock};
-ghost use Rattle.ballot_law.specs.OwnVotes.{asked};
 ghost use Rattle.sentinel_rules.specs.States.{master_of, with_master};
 ghost use Rattle.sentinel_rules.specs.Ticks.{with_vote};
 ghost use Rattle.sentinel_rules.specs.Votes.{book_of, with_book, mark_for, requested};
@@ -21,8 +20,10 @@ impl State {
     pub(crate) fn ask_vote(&mut self, plan: &Plan, m: u16, now: u64, epoch: u64, candidate: RunId)
         ensures { self.new ≡ requested plan.now m (clock now) epoch candidate self.old }
     {
-        let grants = self.voted(m) < epoch && self.kept.current <= epoch;
-        self.cast(m, epoch, candidate);
+        let mut book = self.book(m);
+        let grants = book.grants(epoch);
+        book.ask(epoch, candidate);
+        self.keep_book(m, &book);
         if grants {
             self.mark_for(plan, m, now, candidate);
         }
@@ -40,7 +41,9 @@ impl State {
         ensures { self.new ≡ with_vote plan.now m (clock now) epoch vote self.old }
     {
         if let Some(candidate) = vote {
-            self.cast(m, epoch, candidate);
+            let mut book = self.book(m);
+            book.ask(epoch, candidate);
+            self.keep_book(m, &book);
             self.mark_for(plan, m, now, candidate);
         }
     }
@@ -58,22 +61,18 @@ impl State {
         }
     }
 
-    /// Puts a candidate to the vote book of a master.
-    #[tactic(auto, using(crate::proofs::Books::asked_leader))]
-    fn cast(&mut self, m: u16, epoch: u64, candidate: RunId)
-        ensures { self.new ≡ with_book self.old m (asked (book_of self.old m) epoch candidate) }
+    /// The own vote for a master.
+    pub(crate) fn book(&self, m: u16) -> VoteBook
+        ensures { result ≡ book_of self.now m }
     {
-        let mut book = VoteBook::of(self.kept.current, self.voted(m));
-        let vote = book.ask(epoch, candidate);
-        let leader = vote.leader.or(self.leader(m));
-        self.keep_book(m, &book, leader);
+        VoteBook::with_leader(self.kept.current, self.voted(m), self.leader(m))
     }
 
-    /// Keeps the two epochs of this book and the leader.
-    fn keep_book(&mut self, m: u16, book: &VoteBook, leader: Option<RunId>)
-        ensures { self.new ≡ with_book self.old m (record book.now { leader = leader }) }
+    /// Keeps the own vote for a master as this book has it.
+    fn keep_book(&mut self, m: u16, book: &VoteBook)
+        ensures { self.new ≡ with_book self.old m book.now }
     {
-        self.set_leader(m, leader);
+        self.set_leader(m, book.leader());
         self.set_voted(m, book.voted());
         self.set_current(book.current());
     }

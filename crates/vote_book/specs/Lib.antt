@@ -1,1 +1,1 @@
-pub mod HeardSteps
+pub mod Elections

@@ -10,7 +10,9 @@ mod own_vote;
 mod tests;
 mod votes_heard;
 
-pub use ballot_law::MAX_EPOCH;
-pub use laws::{law_elected_has_votes, law_latest_is_greatest, law_pick_has_most};
+pub use ballot_law::{MAX_EPOCH, NoMemory};
+pub use laws::{
+    law_elected_has_votes, law_heard_keeps_the_latest, law_latest_is_greatest, law_pick_has_most,
+};
 pub use own_vote::{VoteAnswer, VoteBook};
 pub use votes_heard::{Heard, elected};

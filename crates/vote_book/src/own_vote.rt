@@ -1,7 +1,9 @@
 //! The own vote for one master.
 
-ghost use Rattle.std.specs.Prelude.{◌≡◌, max, ◌+◌, ◌<◌, ◌≤◌, ◌⊎◌, Some, None, OnSome, IfSome, IfNone, IsSome, ◌↔◌};
-ghost use Rattle.ballot_law.specs.OwnVotes.{raised, asked};
+ghost use Rattle.std.specs.Prelude.{◌≡◌, max, ◌<◌, ◌≤◌, ◌⊎◌, Some, None, OnSome, IfSome, IfNone, IsSome, IsTrue, ◌↔◌};
+ghost use Rattle.ballot_law.specs.OwnVotes.{raised, asked, grants};
+ghost use Rattle.ballot_law.specs.VotesHeard.{own_votes};
+ghost use Rattle.vote_book.specs.Elections.{can_open, next_epoch, elects};
 
 use ballot_law::{MAX_EPOCH, RunId};
 use std::marker::Model;
@@ -40,10 +42,18 @@ impl VoteBook {
     pub fn of(current: u64, voted: u64) -> VoteBook
         ensures { result ≡ record { current = current; voted = voted; leader = None } }
     {
+        VoteBook::with_leader(current, voted, None)
+    }
+
+    /// The book as it was read before by [`VoteBook::current`], [`VoteBook::voted`] and [`VoteBook::leader`]: for a
+    /// Sentinel that keeps these three itself.
+    pub fn with_leader(current: u64, voted: u64, leader: Option<RunId>) -> VoteBook
+        ensures { result ≡ record { current = current; voted = voted; leader = leader } }
+    {
         VoteBook {
             current,
             voted,
-            leader: None,
+            leader,
         }
     }
 
@@ -68,10 +78,18 @@ impl VoteBook {
         self.leader
     }
 
+    /// Whether a request for the vote of this epoch would get it: none was given in this epoch or a later one, and the
+    /// epoch has not passed.
+    pub fn grants(&self, epoch: u64) -> bool
+        ensures { result ≡ grants self.now epoch }
+    {
+        self.voted < epoch && self.current <= epoch
+    }
+
     /// Takes a candidate's request for the vote of an epoch, and answers the vote now kept.
     ///
-    /// An epoch above the current one raises it. The candidate gets the vote where none was given in this epoch or a
-    /// later one and the epoch has not passed; else the vote stays as it was.
+    /// An epoch above the current one raises it. The candidate gets the vote where the book [`grants`](VoteBook::grants)
+    /// it; else the vote stays as it was.
     pub fn ask(&mut self, epoch: u64, candidate: RunId) -> VoteAnswer
         ensures book { self.new ≡ asked self.old epoch candidate }
         ensures answer { result ≡ record { leader = self.new.leader; epoch = self.new.voted } }
@@ -83,11 +101,11 @@ impl VoteBook {
         ensures never_falls { self.old.voted ≤ self.new.voted }
         ensures one_leader { self.new.voted ≡ self.old.voted → self.new.leader ≡ self.old.leader }
     {
-        self.raise(epoch);
-        if self.voted < epoch && self.current <= epoch {
+        if self.grants(epoch) {
             self.leader = Some(candidate);
             self.voted = epoch;
         }
+        self.raise(epoch);
         VoteAnswer {
             leader: self.leader,
             epoch: self.voted,
@@ -104,9 +122,9 @@ impl VoteBook {
     /// Opens the epoch of a new campaign: raises the current epoch by one and gives it. None, with nothing changed, at
     /// the greatest epoch.
     pub fn open_campaign(&mut self) -> Option<u64>
-        ensures some { IsSome result ↔ (self.old.current < MAX_EPOCH) }
-        ensures epoch { IfSome result (λ epoch. epoch ≡ self.old.current + 1) }
-        ensures opened { OnSome result (self.new ≡ record self.old { current = self.old.current + 1 }) }
+        ensures some { IsSome result ↔ IsTrue (can_open self.old) }
+        ensures epoch { IfSome result (λ epoch. epoch ≡ next_epoch self.old) }
+        ensures opened { OnSome result (self.new ≡ record self.old { current = next_epoch self.old }) }
         ensures none { IfNone result (self.new ≡ self.old) }
     {
         if self.current >= MAX_EPOCH {
@@ -114,5 +132,25 @@ impl VoteBook {
         }
         self.current += 1;
         Some(self.current)
+    }
+
+    /// Whether so many votes heard for `me` in the epoch, with the own one where it went to `me` in this epoch, are at
+    /// least as many as are needed. `need` is the greater of the majority of all Sentinels and the quorum
+    /// (`Roster::need`).
+    pub fn elects(&self, count: u32, epoch: u64, me: RunId, need: u32) -> bool
+        ensures { result ≡ elects self.now count epoch me need }
+    {
+        need as u64 <= count as u64 + self.own_votes(epoch, me) as u64
+    }
+
+    /// One for the own vote, where it went to this candidate in this epoch.
+    fn own_votes(&self, epoch: u64, candidate: RunId) -> u32
+        ensures own { result ≡ own_votes self.now epoch candidate }
+        ensures one { result ≤ 1 }
+    {
+        match self.leader {
+            Some(leader) if self.voted == epoch && leader.is_same(&candidate) => 1,
+            _ => 0,
+        }
     }
 }

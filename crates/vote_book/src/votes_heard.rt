@@ -1,12 +1,11 @@
 //! The votes that were heard of for one master, one of each voter.
 
 ghost use Rattle.std.specs.Prelude.{◌≡◌, ℕ, ◌<◌, ◌≤◌, ◌^◌, ◌∷◌, ◌↔◌, List, [], None, IfOk, IsTrue, length, replicate};
-ghost use Rattle.ballot_law.specs.VotesHeard.{Hearing, hearing_of, latest, leads, leader_below, count_in, pick_in, own_votes, IsElectedIn, kept_at, StandsFor};
-ghost use Rattle.vote_book.specs.HeardSteps.{with_hearing};
+ghost use Rattle.ballot_law.specs.VotesHeard.{Hearing, hearing_of, latest, leads, leader_below, count_in, pick_in, IsElectedIn, kept_at, StandsFor, with_hearing};
 
 use crate::VoteBook;
-use ballot_law::{HeardVote, RunId};
-use std::alloc::{AllocError, Global};
+use ballot_law::{HeardVote, NoMemory, RunId};
+use std::alloc::Global;
 use std::marker::Model;
 
 /// The votes of the other Sentinels for one master, as a Sentinel hears of them in their answers.
@@ -15,7 +14,8 @@ use std::marker::Model;
 /// voter counts once, and what it is heard to say later of the same epoch changes nothing. Voters go by their places.
 ///
 /// The contracts speak of the whole list of votes that were heard, the latest first: what is kept stands for that list.
-/// They also say what each call makes of what is kept (`HeardSteps`).
+/// They also say what each call makes of what is kept; that this stands for the longer list is a law of its own
+/// ([`law_heard_keeps_the_latest`](crate::law_heard_keeps_the_latest)).
 #[derive(Drop)]
 pub struct Heard {
     votes: Vec<Option<HeardVote>>,
@@ -94,8 +94,8 @@ fn pick_among(votes: &[Option<HeardVote>], epoch: u64, me: RunId) -> RunId
 }
 
 impl Heard {
-    /// No vote heard yet, of `n` voters. The only error is want of memory.
-    pub fn new(alloc: Global, n: u16) -> Result<Heard, AllocError>
+    /// No vote heard yet, of `n` voters.
+    pub fn new(alloc: Global, n: u16) -> Result<Heard, NoMemory>
         ensures voters { IfOk result (λ heard. length heard ≡ n) }
         ensures nothing_heard { IfOk result (λ heard. StandsFor heard []) }
         ensures kept { IfOk result (λ heard. heard ≡ replicate n None) }
@@ -152,21 +152,10 @@ impl Heard {
     }
 }
 
-/// One for the own vote, where it went to this candidate in this epoch.
-fn own_vote(book: &VoteBook, epoch: u64, candidate: RunId) -> u32
-    ensures own { result ≡ own_votes book.now epoch candidate }
-    ensures one { result ≤ 1 }
-{
-    match book.leader() {
-        Some(leader) if book.voted() == epoch && leader.is_same(&candidate) => 1,
-        _ => 0,
-    }
-}
-
 /// Whether the votes for `me` in the epoch, the own vote among them, are at least as many as are needed.
 ///
 /// The epoch is the campaign's own: votes of any other epoch don't count, also where the current epoch has passed it
-/// since. `need` is the greater of the majority of all Sentinels and the quorum (`Roster::need`).
+/// since. A Sentinel that has the count at hand asks its book ([`VoteBook::elects`]).
 pub fn elected(book: &VoteBook, heard: &Heard, epoch: u64, me: RunId, need: u32) -> bool
     ensures elected { (hearings : List Hearing) → StandsFor heard.now hearings →
         IsTrue result ↔
@@ -174,5 +163,5 @@ pub fn elected(book: &VoteBook, heard: &Heard, epoch: u64, me: RunId, need: u32)
     ensures kept { IsTrue result ↔
         IsElectedIn (kept_at heard.now) book.now (length heard.now) epoch me need }
 {
-    heard.count(epoch, me) + own_vote(book, epoch, me) >= need
+    book.elects(heard.count(epoch, me), epoch, me, need)
 }

@@ -1,6 +1,5 @@
 use Rattle.std.proofs.Common.{◌≡◌, ℕ, ◌<◌, ◌++◌, None, take, drop}
-use Rattle.ballot_law.specs.Reports.{kept_at}
-use Rattle.down_detector.specs.ReportSteps.{without_reports}
+use Rattle.ballot_law.specs.Reports.{kept_at, without_reports}
 use Rattle.down_detector.proofs.reports.clear_all.Given as goal
 
 abbrev pub invariant-loop-report : goal.invariant-loop-report

@@ -1,3 +1,0 @@
-pub mod Jumps
-pub mod ReportSteps
-pub mod WatchSteps
