@@ -12,6 +12,7 @@ pub mod Orders
 pub mod OwnVotes
 pub mod Padding
 pub mod PingReplies
+pub mod Refusals
 pub mod Reports
 pub mod RosterFaults
 pub mod Rosters
