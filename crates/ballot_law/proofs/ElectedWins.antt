@@ -1,6 +1,6 @@
 -- Whoever counts itself elected meets the model's condition of a win.
-use Rattle.std.proofs.Common.{◌≡◌, ℕ, sym, ◌∙◌, inl, inr, refl, Some}
-use Rattle.ballot_law.specs.Ballots.{HasVoted, voted_of, candidate_of}
+use Rattle.std.proofs.Common.{sym, ◌∙◌, inl, inr, refl}
+use Rattle.ballot_law.specs.Ballots.{HasVoted}
 use Rattle.ballot_law.specs.Rosters.{size, need, id_of}
 use Rattle.ballot_law.specs.VotesHeard.{hearing_of}
 use Rattle.ballot_law.specs.Wins.{ElectedMayWin}

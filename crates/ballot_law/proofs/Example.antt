@@ -1,25 +1,19 @@
 -- A run of three Sentinels: one asks for votes, another votes for it, it wins, chooses and enacts; a data node passes
 -- its hello on, and the third Sentinel takes the card, is stopped within the store, starts again and shows it.
-use Rattle.std.proofs.Common.{◌≡◌, ℕ, zero, suc, ◌+◌, ◌<◌, ◌≤◌, true, Some, List, [], ◌∷◌, ◌++◌, get_or, length, refl, sym, ap, subst, ◌∙◌, inl, inr, arith, lit<, lit≤}
+use Rattle.std.proofs.Common.{◌≡◌, ℕ, zero, suc, ◌+◌, ◌<◌, ◌≤◌, true, Some, List, [], ◌∷◌, get_or, length, refl, sym, ap, subst, ◌∙◌, inl, inr, arith, lit<, lit≤}
 use Rattle.std.specs.Prelude.{All, IfSome}
 use Rattle.std.proofs.lemmas.List.Elements.{All-nil, All-cons}
 use Rattle.ballot_law.specs.declared.addresses.Addr.{Addr}
 use Rattle.ballot_law.specs.declared.addresses.RunId.{RunId}
 use Rattle.ballot_law.specs.declared.cards.Card.{Card}
 use Rattle.ballot_law.specs.declared.cards.Kept.{Kept}
-use Rattle.ballot_law.specs.declared.cards.Shown.{Shown}
-use Rattle.ballot_law.specs.declared.events.Event.{Event}
 use Rattle.ballot_law.specs.declared.events.Event.TheVariants.{Tick}
 use Rattle.ballot_law.specs.declared.events.Input.{Input}
-use Rattle.ballot_law.specs.declared.messages.Body.{Body}
 use Rattle.ballot_law.specs.declared.messages.Body.TheVariants.{Ask, Answer, Publish, HelloText, Done}
 use Rattle.ballot_law.specs.declared.messages.Message.{Message}
-use Rattle.ballot_law.specs.declared.messages.NodeName.{NodeName}
 use Rattle.ballot_law.specs.declared.messages.NodeName.TheVariants.{SentinelAt, StoreAt}
-use Rattle.ballot_law.specs.declared.messages.Output.{Output}
 use Rattle.ballot_law.specs.declared.messages.Output.TheVariants.{Send}
 use Rattle.ballot_law.specs.declared.replies.Hello.{Hello}
-use Rattle.ballot_law.specs.declared.replies.PingReply.TheVariants.{Pong}
 use Rattle.ballot_law.specs.declared.rosters.Member.{Member}
 use Rattle.ballot_law.specs.declared.steps.KeptText.TheVariants.{New}
 use Rattle.ballot_law.specs.declared.steps.Step.{Step}
@@ -28,10 +22,11 @@ use Rattle.ballot_law.specs.Rosters.{Roster, HasNode, master_at}
 use Rattle.ballot_law.specs.RosterFaults.{IsRoster}
 use Rattle.ballot_law.specs.Names.{IsNameByte}
 use Rattle.ballot_law.specs.Hellos.{IsHello, hello_text}
-use Rattle.ballot_law.specs.Messages.{Vote, sent, event_at, Delivers, passed_on, hello_handed}
-use Rattle.ballot_law.specs.Ballots.{Parts, Ballot, Raise, Open, Cast, Hear, Win_at, Choose, Enact, Adopt, ShowsCard, after, card_of, voted_of, candidate_of}
-use Rattle.ballot_law.specs.Worlds.{Ready, Pending, Stored, Sentinel, World, sentinel_at, with_sentinel, IsRight, IsRightOutput, Choice, IsChoice, taken, started, after_store, after_release, after_stop, after_answer, with_other, other_at, IsPassable, Run}
+use Rattle.ballot_law.specs.Messages.{Vote, passed_on, hello_handed}
+use Rattle.ballot_law.specs.Ballots.{Raise, Open, Cast, Hear, Win_at, Choose, Enact, Adopt, ShowsCard, card_of, voted_of, candidate_of}
+use Rattle.ballot_law.specs.Worlds.{Ready, Sentinel, World, sentinel_at, Choice, IsChoice, started, after_stop, after_answer, IsPassable, Run}
 use Rattle.ballot_law.specs.Law.{IsWellFormed, IsFreshOther, IsStart, FailoverHappens}
+use Rattle.ballot_law.proofs.Scripts.{choose, take_as, store_as, release_as, start_as, other_takes, other_stores, other_speaks, message, event_from, becomes, IsCard, held_none, held_one}
 
 abbrev addr : ℕ → Addr
 addr port = record { ip = 2130706433; port = port }
@@ -74,36 +69,8 @@ hello = record { addr = addr 26379; id = id 0; current = 1; master = 109 ∷ [];
 abbrev message_at : World → ℕ → Message
 message_at w k = get_or w.messages k (record { sender = StoreAt 0; target = StoreAt 0; body = Done })
 
--- the parts after ballot steps of Sentinel i
-abbrev all_after : ℕ → List Ballot → Parts → Parts
-all_after i [] parts = parts
-all_after i (ballot ∷ ballots) parts = all_after i ballots (after i parts ballot)
-
-abbrev choose : World → ℕ → List Ballot → List Output → Choice
-choose w i ballots held =
-    record { ballots = ballots; parts = all_after i ballots (record (sentinel_at w i).parts { casts = []; wins = [] }); must_store = true; held = held }
-
-abbrev take_as : World → ℕ → Choice → World
-take_as w i choice = with_sentinel w i (taken (sentinel_at w i) choice)
-
-abbrev store_as : World → ℕ → World
-store_as w i = after_store w i (sentinel_at w i)
-
-abbrev release_as : World → ℕ → World
-release_as w i = after_release roster w i (sentinel_at w i)
-
 abbrev tick : Input
 tick = record { now = 0; event = Tick 0 0 }
-
--- what the message becomes
-abbrev event_from : Message → Event
-event_from message = event_at message.target Pong [] message
-
-becomes : (message : Message) → Delivers message (event_from message)
-becomes message = record { reply = Pong; info = []; is_event = refl }
-
-abbrev message : (sender target : NodeName) → Body → Message
-message sender target body = record { sender = sender; target = target; body = body }
 
 abbrev asks : Message
 asks = message (SentinelAt 0) (SentinelAt 1) (Ask 0 (addr 6379) 1 (Some (id 0)))
@@ -118,49 +85,37 @@ abbrev passes : Message
 passes = message (StoreAt 0) (SentinelAt 2) (HelloText hello)
 
 abbrev c1 : Choice
-c1 = choose begin 0 (Open 0 ∷ Cast 0 1 (id 0) ∷ []) (Send asks ∷ [])
+c1 = choose begin 0 (Open 0 ∷ Cast 0 1 (id 0) ∷ []) true (Send asks ∷ [])
 
 abbrev w1 : World
 w1 = take_as begin 0 c1
 
 abbrev w3 : World
-w3 = release_as (store_as w1 0) 0
+w3 = release_as roster (store_as w1 0) 0
 
 abbrev c4 : Choice
-c4 = choose w3 1 (Raise 1 ∷ Cast 0 1 (id 0) ∷ []) (Send grants ∷ [])
+c4 = choose w3 1 (Raise 1 ∷ Cast 0 1 (id 0) ∷ []) true (Send grants ∷ [])
 
 abbrev w4 : World
 w4 = take_as w3 1 c4
 
 abbrev w6 : World
-w6 = release_as (store_as w4 1) 1
+w6 = release_as roster (store_as w4 1) 1
 
 abbrev c7 : Choice
-c7 = choose w6 0 (Hear 1 0 1 (id 0) ∷ Win_at 0 1 ∷ Choose 0 1 (addr 6380) ∷ Enact 0 1 (addr 6380) ∷ []) (Send publishes ∷ [])
+c7 = choose w6 0 (Hear 1 0 1 (id 0) ∷ Win_at 0 1 ∷ Choose 0 1 (addr 6380) ∷ Enact 0 1 (addr 6380) ∷ []) true (Send publishes ∷ [])
 
 abbrev w7 : World
 w7 = take_as w6 0 c7
 
 abbrev w9 : World
-w9 = release_as (store_as w7 0) 0
-
-abbrev pass_as : World → World
-pass_as w = with_other w (StoreAt 0) (record { state = Pending; held = Send passes ∷ [] })
-
-abbrev pass_stored : World → World
-pass_stored w = with_other w (StoreAt 0) (record (other_at w (StoreAt 0)) { state = Stored })
-
-abbrev pass_released : World → World
-pass_released w =
-    record
-    (with_other w (StoreAt 0) (record { state = Ready; held = [] }))
-    { messages = w.messages ++ sent (other_at w (StoreAt 0)).held }
+w9 = release_as roster (store_as w7 0) 0
 
 abbrev w12 : World
-w12 = pass_released (pass_stored (pass_as w9))
+w12 = other_speaks w9 (StoreAt 0) (Send passes ∷ [])
 
 abbrev c13 : Choice
-c13 = choose w12 2 (Adopt 0 card ∷ []) []
+c13 = choose w12 2 (Adopt 0 card ∷ []) true []
 
 abbrev w13 : World
 w13 = take_as w12 2 c13
@@ -168,11 +123,8 @@ w13 = take_as w12 2 c13
 abbrev stop_as : World → ℕ → World
 stop_as w i = after_stop w i (sentinel_at w i) (sentinel_at w i).state New
 
-abbrev start_as : World → ℕ → World
-start_as w i = with_sentinel w i (started roster (sentinel_at w i).file)
-
 abbrev w16 : World
-w16 = after_answer (start_as (stop_as w13 2) 2) 2 0 0
+w16 = after_answer (start_as roster (stop_as w13 2) 2) 2 0 0
 
 abbrev steps : List Step
 steps =
@@ -194,17 +146,8 @@ steps =
     ∷ AnswerNow (SentinelAt 2) 0
     ∷ []
 
-held_none : (i : ℕ) (parts : Parts) → All (IsRightOutput roster i parts) []
-held_none i parts = All-nil (IsRightOutput roster i parts)
-
-held_one : (i : ℕ) (parts : Parts) (message : Message) → IsRight roster i parts message → All (IsRightOutput roster i parts) (Send message ∷ [])
-held_one i parts message right = All-cons (IsRightOutput roster i parts) (Send message) [] right (All-nil (IsRightOutput roster i parts))
-
 abbrev epoch_at : Kept → ℕ
 epoch_at kept = (card_of kept 0).epoch
-
-abbrev IsCard : Parts → Shown → Type 0
-IsCard parts s = s.card ≡ card_of parts.kept s.master
 
 is_hello : IsHello hello
 is_hello =
@@ -222,7 +165,7 @@ ok1 =
     record {
       moved = ((lit< tt, refl, lit< tt), ((lit< tt, refl, lit< tt), refl));
       must_store = ((λ _. inr (λ e. let f : 1 ≡ 0 = ap (λ (k : Kept). k.current) e in omega arith)), (λ _. refl));
-      held = held_one 0 c1.parts asks (record { sender = refl; cards = All-nil (IsCard c1.parts); votes = λ v e. absurd (cc); hellos = λ it e. absurd (cc); no_hello_text = refl });
+      held = held_one roster 0 c1.parts asks (record { sender = refl; cards = All-nil (IsCard c1.parts); votes = λ v e. absurd (cc); hellos = λ it e. absurd (cc); no_hello_text = refl });
     }
 
 ok4 : IsChoice roster 1 (event_from asks) (sentinel_at w3 1) c4
@@ -230,7 +173,7 @@ ok4 =
     record {
       moved = (lit< tt, ((lit< tt, refl, lit< tt), refl));
       must_store = ((λ _. inr (λ e. let f : 1 ≡ 0 = ap (λ (k : Kept). k.current) e in omega arith)), (λ _. refl));
-      held = held_one 1 c4.parts grants
+      held = held_one roster 1 c4.parts grants
           (record {
             sender = refl;
             cards = All-nil (IsCard c4.parts);
@@ -254,7 +197,7 @@ ok7 =
         ),
       );
       must_store = ((λ _. inr (λ e. let f : 1 ≡ 0 = ap epoch_at e in omega arith)), (λ _. refl));
-      held = held_one 0 c7.parts publishes
+      held = held_one roster 0 c7.parts publishes
           (record {
             sender = refl;
             cards = All-cons (IsCard c7.parts) (record { master = 0; card = card }) [] refl (All-nil (IsCard c7.parts));
@@ -280,7 +223,7 @@ ok13 =
     record {
       moved = ((lit< tt, shows, lit< tt, refl), refl);
       must_store = ((λ _. inr (λ e. let f : 1 ≡ 0 = ap epoch_at e in omega arith)), (λ _. refl));
-      held = held_none 2 c13.parts;
+      held = held_none roster 2 c13.parts;
     }
 
 passed : (it : Hello) → passed_on passes.body ≡ Some it → hello_handed (event_from publishes) ≡ Some it
@@ -321,10 +264,10 @@ run = (
                   w9,
                   inl ((lit< tt, refl), refl),
                   (
-                    pass_as w9,
+                    other_takes w9 (StoreAt 0) (Send passes ∷ []),
                     inl (((lit< tt, refl), tt), (event_from publishes, becomes publishes, (Send passes ∷ [], pass_ok, refl))),
                     (
-                      pass_stored (pass_as w9),
+                      other_stores (other_takes w9 (StoreAt 0) (Send passes ∷ [])) (StoreAt 0),
                       inl ((lit< tt, refl), refl),
                       (
                         w12,
@@ -336,7 +279,7 @@ run = (
                             stop_as w13 2,
                             inl (lit< tt, refl),
                             (
-                              start_as (stop_as w13 2) 2,
+                              start_as roster (stop_as w13 2) 2,
                               inl ((lit< tt, refl), refl),
                               (w16, inl ((lit< tt, lit< tt, (λ e. absurd (cc)), lit< tt), refl), refl),
                             ),

@@ -13,7 +13,9 @@ pub mod Masters
 pub mod Nodes
 pub mod Placing
 pub mod Rising
+pub mod RefusalsRun
 pub mod RosterLemmas
 pub mod Runs
+pub mod Scripts
 pub mod Takes
 pub mod WordLemmas

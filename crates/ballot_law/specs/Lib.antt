@@ -13,6 +13,7 @@ pub mod Orders
 pub mod OwnVotes
 pub mod Padding
 pub mod PingReplies
+pub mod Refusals
 pub mod Reports
 pub mod Results
 pub mod RosterFaults

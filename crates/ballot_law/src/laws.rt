@@ -2,6 +2,7 @@
 
 ghost use Rattle.ballot_law.specs.Wins.{ElectedMayWin};
 ghost use Rattle.ballot_law.specs.Law.{OneLeader, OneAddress, NeverFalls, NeverFallsAlong, RunsJoin, StepsJoin, FailoverHappens};
+ghost use Rattle.ballot_law.specs.Refusals.{RefusalsHappen};
 
 /// In every run at most one Sentinel is elected for a master in an epoch, whatever is lost, delayed, repeated, refused,
 /// stopped and started ("Configuration epochs" in the Redis Sentinel documentation).
@@ -33,6 +34,14 @@ pub fn law_runs_join()
 /// another address, and another Sentinel then shows that address in the epoch of the election.
 pub fn law_failover_happens()
     ensures { FailoverHappens }
+{}
+
+/// The model allows what goes wrong in a group: there is a run from a start after votes, with a Sentinel and a data node
+/// stopped, in which stores are refused and leave either text, a question of a client comes twice, FLUSHCONFIG is refused,
+/// and a Sentinel answers while it stores and while it is halted. What was elected, voted and said in it stands word for
+/// word in `specs/Refusals.antt`.
+pub fn law_refusals_happen()
+    ensures { RefusalsHappen }
 {}
 
 /// A Sentinel that counts itself elected, by the votes that it heard and its own, meets the model's condition of a win.

@@ -32,7 +32,7 @@ pub use events::{Event, Input};
 pub use hearings::{DownReport, HeardVote};
 pub use laws::{
     law_elected_may_win, law_failover_happens, law_never_falls, law_one_address, law_one_leader,
-    law_runs_join,
+    law_refusals_happen, law_runs_join,
 };
 pub use memory::NoMemory;
 pub use messages::{Body, Message, NodeName, Note, Output};

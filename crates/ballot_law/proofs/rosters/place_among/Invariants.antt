@@ -1,4 +1,4 @@
-use Rattle.std.proofs.Common.{◌≡◌, ◌≢◌, ◌<◌, ℕ, slice_index_or}
+use Rattle.std.proofs.Common.{◌≢◌, ◌<◌, ℕ, slice_index_or}
 use Rattle.ballot_law.specs.Rosters.{no_addr}
 use Rattle.ballot_law.proofs.rosters.place_among.Given as goal
 
