@@ -10,7 +10,7 @@ use Rattle.sentinel_conf.specs.Meaning.{ConfPlan}
 use Rattle.sentinel_conf.specs.Rewritten.{rewritten}
 use Rattle.sentinel_core.specs.declared.faults.StoreFault.{StoreFault}
 use Rattle.sentinel_core.specs.declared.faults.StoreFault.TheVariants.{Nothing, Refused}
-use Rattle.sentinel_core.specs.Serving.{Holds}
+use Rattle.port_serving.specs.Serving.{Holds}
 
 -- ---- what isn't different is the same
 

@@ -1,4 +1,1 @@
-pub mod MessageTexts
-pub mod Outboxes
 pub mod Sentinels
-pub mod Serving

@@ -7,8 +7,8 @@ use Rattle.ballot_law.specs.declared.events.Event.TheVariants.{Command as Comman
 use Rattle.sentinel_rules.specs.Plans.{Plan}
 use Rattle.sentinel_rules.specs.States.{Core}
 use Rattle.sentinel_rules.specs.Facts.{IsSoundPlan, IsSound}
-use Rattle.sentinel_core.specs.declared.phase.Phase.{Phase}
-use Rattle.sentinel_core.specs.declared.phase.Phase.TheVariants.{Ready, Pending, Stored, Halted, Stopped}
+use Rattle.sentinel_outbox.specs.declared.phase.Phase.{Phase}
+use Rattle.sentinel_outbox.specs.declared.phase.Phase.TheVariants.{Ready, Pending, Stored, Halted, Stopped}
 
 -- what doesn't change, what is taken, what is stored, and how far the last input has come
 pub record Whole : Type 0 where

@@ -3,7 +3,7 @@
 ghost use Rattle.std.specs.Prelude.{◌≡◌, ◌≤◌, ◌<◌, ◌++◌, [], length, map, false};
 ghost use Rattle.std.specs.List.{AllByRecursion};
 ghost use Rattle.ballot_law.specs.Clocks.{clock};
-ghost use Rattle.sentinel_core.specs.Outboxes.{Fits, room_of_sentinel};
+ghost use Rattle.sentinel_outbox.specs.Outboxes.{Fits, room_of_sentinel};
 ghost use Rattle.sentinel_core.specs.Sentinels.{is_command};
 ghost use Rattle.sentinel_rules.specs.Answers.{commanded};
 ghost use Rattle.sentinel_rules.specs.Facts.{IsSoundPlan, IsSound, IsWithinEvent};
@@ -13,8 +13,8 @@ ghost use Rattle.sentinel_rules.specs.Plans.{master_count};
 ghost use Rattle.sentinel_rules.specs.Takes.{next, next_at, part_of, answer_to};
 ghost use Rattle.sentinel_state.specs.Room.{bounded};
 
-use crate::outbox::Outbox;
 use ballot_law::{Body, Command, Event, Hello, Input, Message, NodeName, Note, Output};
+use sentinel_outbox::Outbox;
 use sentinel_rules::{Frame, law_frames_are_named, law_inputs_keep_sound};
 use sentinel_state::{FrameList, Plan, State};
 
@@ -146,7 +146,7 @@ fn hold_answer(
     ensures room { length outbox.new.held ≤ outbox.new.shown_room }
 {
     let body = answer(plan, state, now, command, outbox);
-    outbox.hold(send(plan, sender, body));
+    outbox.hold_output(send(plan, sender, body));
 }
 
 /// Holds what each frame shows now.
@@ -160,7 +160,7 @@ fn hold_frames(plan: &Plan, state: &State, frames: &[Frame], outbox: &mut Outbox
 {
     let mut left = frames;
     while let [frame, more @ ..] = left {
-        outbox.hold(output_of(plan, state, *frame));
+        outbox.hold_output(output_of(plan, state, *frame));
         left = more;
     }
 }

@@ -4,22 +4,20 @@ ghost use Rattle.std.specs.Prelude.{◌≡◌, ◌≢◌, ◌↔◌, ◌≤◌, 
 ghost use Rattle.ballot_law.specs.Ballots.{Parts, card_of};
 ghost use Rattle.sentinel_conf.specs.Rewritten.{rewritten};
 ghost use Rattle.sentinel_rules.specs.Facts.{IsWithinEvent};
-ghost use Rattle.sentinel_rules.specs.Plans.{master_count};
+ghost use Rattle.sentinel_rules.specs.Plans.{group_size, master_count, me, roster_of};
 ghost use Rattle.sentinel_rules.specs.Parts.{output_of};
 ghost use Rattle.sentinel_rules.specs.States.{opened};
 ghost use Rattle.sentinel_rules.specs.Steps.{IsPartsOf, IsTake};
 ghost use Rattle.sentinel_rules.specs.Takes.{next, cleared};
 ghost use Rattle.sentinel_rules.specs.Ignored.{is_noticed};
-ghost use Rattle.sentinel_core.specs.Outboxes.{Fits, room_of_sentinel};
+ghost use Rattle.sentinel_outbox.specs.Outboxes.{Fits, room_of_sentinel};
 ghost use Rattle.sentinel_core.specs.Sentinels.{IsWhole, is_busy, is_pending, is_flush};
 
 use crate::acting::act;
 use crate::faults::{OpenFault, ReleaseFault, StoreFault, TakeFault};
-use crate::outbox::Outbox;
-use crate::phase::Phase;
-use crate::room::Room;
-use ballot_law::{Card, Command, Event, Input, Kept, KeptMaster, KeptMasters};
+use ballot_law::{Card, Command, Event, Input, Kept, KeptMaster, KeptMasters, Roster};
 use sentinel_conf::{Conf, ConfStore, ConfText, rewrite_into};
+use sentinel_outbox::{Outbox, Phase, Room};
 use sentinel_rules::{
     law_ignored_inputs_change_nothing, law_inputs_are_steps, law_opening_is_sound,
 };
@@ -138,6 +136,7 @@ impl Sentinel {
     /// last votes among it, and nothing else. `NoMemory` drops the conf.
     pub fn open(alloc: Global, conf: Conf, now: u64) -> Result<Sentinel, OpenFault>
         ensures plan { IfOk result (λ sentinel. sentinel.plan.conf ≡ conf) }
+        ensures place { IfOk result (λ sentinel. (sentinel.plan.place < group_size sentinel.plan) × (me sentinel.plan ≡ conf.id)) }
         ensures core { IfOk result (λ sentinel. sentinel.core ≡ opened sentinel.plan now) }
         ensures stored { IfOk result (λ sentinel. sentinel.stored ≡ conf.kept) }
         ensures phase { IfOk result (λ sentinel. sentinel.phase ≡ Phase.Ready) }
@@ -165,11 +164,17 @@ impl Sentinel {
         })
     }
 
-    /// What is known of a Sentinel at each moment.
-    pub(crate) fn is_whole(&self)
+    /// What is always true of a Sentinel: its plan and what it keeps are sound, it keeps as many masters as are stored, and what it keeps
+    /// is stored while it is ready. A caller that is lent a Sentinel learns it by this call, which does nothing.
+    pub fn is_whole(&self)
         ensures { IsWhole self.now }
     {
         let _ = &self.phase;
+    }
+
+    /// The allocator that it was opened with.
+    pub(crate) fn alloc(&self) -> Global {
+        self.alloc
     }
 
     /// Enough room for the outputs of any one input; the same from the opening on.
@@ -177,6 +182,27 @@ impl Sentinel {
         ensures { result ≡ room_of_sentinel }
     {
         Room::of_sentinel()
+    }
+
+    /// The Sentinels and the masters of its group, each in the roster's order.
+    pub fn roster(&self) -> &Roster
+        ensures { result.now ≡ roster_of self.now.plan }
+    {
+        self.plan.roster()
+    }
+
+    /// Its own place in the roster, which is that of its run id among those of all Sentinels.
+    pub fn place(&self) -> u16
+        ensures { result ≡ self.now.plan.place }
+    {
+        self.plan.place()
+    }
+
+    /// Whether it was stopped.
+    pub fn is_stopped(&self) -> bool
+        ensures { IsTrue result ↔ (self.now.phase ≡ Phase.Stopped) }
+    {
+        self.phase == Phase::Stopped
     }
 
     /// Stops the Sentinel for good. Its file, opened anew, starts it again.
@@ -244,6 +270,8 @@ impl Sentinel {
         ensures no_room { IsErrOf result TakeFault.NoRoom
             ↔ ((self.old.phase ≡ Phase.Ready) × (¬ Fits outbox.old room_of_sentinel)) }
         ensures refused { OnErr result ((self.new ≡ self.old) × (outbox.new ≡ outbox.old)) }
+        ensures ready { OnOk result (self.old.phase ≡ Phase.Ready) }
+        ensures fits { OnOk result (Fits outbox.old room_of_sentinel) }
         ensures core { OnOk result
             (self.new.core ≡ (next self.old.plan self.old.core input.entry.now.now input.entry.now.event).core) }
         ensures outputs { OnOk result
@@ -252,6 +280,7 @@ impl Sentinel {
         ensures room { OnOk result (length outbox.new.held ≤ outbox.new.shown_room) }
         ensures changed { IfOk result (λ took. IsTrue took.changed
             ↔ (self.new.core.kept ≢ self.old.core.kept)) }
+        ensures unchanged { IfOk result (λ took. IsFalse took.changed → self.new.core.kept ≡ self.old.core.kept) }
         ensures phase { IfOk result (λ took. self.new.phase
             ≡ Phase.Pending (took.changed || is_flush input.entry.now.event)) }
         ensures plan { OnOk result (self.new.plan ≡ self.old.plan) }
@@ -315,7 +344,6 @@ impl Sentinel {
     ///
     /// The faults are those of [`ReleaseFault`], in its order; then nothing has changed. No memory is taken.
     pub fn release(&mut self, outbox: &mut Outbox) -> Result<(), ReleaseFault>
-        requires { length outbox.old.held ≤ outbox.old.shown_room }
         ensures halted { IsErrOf result ReleaseFault.Halted ↔ (self.old.phase ≡ Phase.Halted) }
         ensures unstored { IsErrOf result ReleaseFault.Unstored
             ↔ ((self.old.phase ≢ Phase.Halted) × (self.old.phase ≢ Phase.Stored)) }
@@ -327,7 +355,7 @@ impl Sentinel {
     {
         match self.phase {
             Phase::Stored => {
-                outbox.release();
+                outbox.show_stored();
                 self.phase = Phase::Ready;
                 Ok(())
             }

@@ -27,7 +27,7 @@ fn serve<S: ConfStore>(rt: HostRuntime, conf: Conf, store: &mut S) -> ExitCode
     let Ok(mut sentinel) = Sentinel::open(rt.alloc(), conf, 0) else {
         return fail(&rt, ServeFault::NoMemory);
     };
-    match sentinel.serve(rt.alloc(), 0, &mut rt.stdin(), &mut rt.stdout(), store) {
+    match sentinel.serve(0, &mut rt.stdin(), &mut rt.stdout(), store) {
         Ok(_) => ExitCode::SUCCESS,
         Err(fault) => fail(&rt, fault),
     }

@@ -1,7 +1,7 @@
 use Rattle.std.proofs.Common.{sym, rules, ◌≡◌, ◌≤◌, ◌<◌, ◌++◌, [], length, map, ℕ, ◌+◌, ◌-◌, ◌*◌, ◌/◌, ◌%◌, Bool, true, false, nat_eq, nat_lt, List, ◌∷◌, slice_index_or, slice_set, bit_and, bit_or, w8, w32, w64, Bor, MutBor}
 use Rattle.std.specs.List.{AllByRecursion}
 use Rattle.ballot_law.specs.Clocks.{clock}
-use Rattle.sentinel_core.specs.Outboxes.{Fits, room_of_sentinel}
+use Rattle.sentinel_outbox.specs.Outboxes.{Fits, room_of_sentinel}
 use Rattle.sentinel_rules.specs.Answers.{commanded}
 use Rattle.sentinel_rules.specs.Facts.{IsSoundPlan, IsSound, IsWithinEvent}
 use Rattle.sentinel_rules.specs.Named.{IsNamed}

@@ -7,7 +7,7 @@ use Rattle.sentinel_rules.specs.Parts.{output_of}
 use Rattle.sentinel_rules.specs.States.{opened}
 use Rattle.sentinel_rules.specs.Steps.{IsPartsOf, IsTake}
 use Rattle.sentinel_rules.specs.Takes.{next}
-use Rattle.sentinel_core.specs.Outboxes.{Fits, room_of_sentinel}
+use Rattle.sentinel_outbox.specs.Outboxes.{Fits, room_of_sentinel}
 use Rattle.sentinel_core.specs.Sentinels.{is_busy, is_pending, is_flush}
 use Rattle.sentinel_core.proofs.sentinel.are_same.Given as goal
 

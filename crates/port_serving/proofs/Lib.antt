@@ -1,0 +1,3 @@
+pub mod Answering
+pub mod KnownBytes
+pub mod Steps

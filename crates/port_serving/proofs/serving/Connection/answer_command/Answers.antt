@@ -1,0 +1,13 @@
+use Rattle.std.proofs.Common.{◌∙◌, inr}
+use Rattle.port_serving.proofs.Answering.{shown_writable}
+use Rattle.port_serving.proofs.serving.Connection.answer_command.Goals as goal
+
+pub message_text-requires : goal.message_text-requires
+message_text-requires g c =
+    shown_writable (g.N.PortSentinel.plan c.args.sentinel.now) _ (g.N.PortSentinel.core c.args.sentinel.now) _ c.args.self.now.clock c.args.command _ _ _ c.in-Some-Send.message
+    c.in_ok-carry_out.ensures.kept c.in_ok-carry_out.ensures.plan c.in_ok-carry_out.ensures.core
+    (c.reserve.ensures.shown ∙ c.clear.ensures.shown) (c.outputs.ensures ∙ c.in_ok-carry_out.ensures.shown)
+    c.in-Some-Send.field-0-is c.in-Some-Send.ensures.value
+
+pub returns-clause-refused : goal.returns-clause-refused
+returns-clause-refused g c = λ first before h. inr (c.in_ok-carry_out.ensures.stored first before h)

@@ -1,0 +1,14 @@
+//! A stream of commands, served from the bytes of a reader to the bytes of a writer.
+//!
+//! `serve_stream` reads values, has a `PortSentinel` take the commands that they are, and writes the answers, each once what it rests on
+//! is stored. What a stream is answered, and how the serving of it ends, stands in `Serving`.
+#![tactic(auto)]
+
+mod fault;
+mod port_sentinel;
+mod serving;
+mod streams;
+
+pub use fault::ServeFault;
+pub use port_sentinel::PortSentinel;
+pub use serving::{READS_MAX, Served, serve_stream};
