@@ -7,16 +7,20 @@
 //! `docs/SENTINEL.md` says the same in words.
 #![tactic(auto)]
 
+mod assumed;
 mod frames;
 mod laws;
+mod periods;
 mod worked;
 
-pub use frames::Frame;
+pub use assumed::ASSUMED_INFO;
+pub use frames::{FRAMES_MAX, Frame};
 pub use laws::{
     law_hellos_name_masters, law_ignored_inputs_change_nothing, law_inputs_are_steps,
     law_inputs_change_one_card, law_inputs_keep_sound, law_opening_is_sound,
     law_outputs_are_within,
 };
+pub use periods::{ASK_MS, BUSY_INFO_MS, HELLO_MS, INFO_MS, PING_MS, WRONG_ROLE_MS};
 pub use worked::{
     law_example_answers, law_example_failover, law_example_no_failover, law_example_replicas,
     law_example_tilt, law_example_votes,
