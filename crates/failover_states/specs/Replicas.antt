@@ -2,6 +2,7 @@
 use Rattle.std.specs.Prelude.{ℕ, ◌+◌, Bool, true, false, ◌&&◌, nat_lt, List, [], ◌∷◌, slice_index_or, if◌then◌else◌}
 use Rattle.ballot_law.specs.Clocks.{age}
 use Rattle.ballot_law.specs.Counts.{count_below}
+use Rattle.failover_states.specs.declared.periods.TheConstants.{ORDER_MS}
 use Rattle.failover_states.specs.declared.replicas.Progress.{Progress}
 use Rattle.failover_states.specs.declared.replicas.Progress.TheVariants.{Unsent, Sent, Done}
 use Rattle.failover_states.specs.declared.replicas.Replica.{Replica}
@@ -21,7 +22,7 @@ forgotten replica = record replica { progress = Unsent }
 
 abbrev pub expired_progress : (now : ℕ) → Progress → Progress
 expired_progress now Unsent = Unsent
-expired_progress now (Sent at) = if nat_lt 10000 (age at now) then Done else Sent at
+expired_progress now (Sent at) = if nat_lt ORDER_MS (age at now) then Done else Sent at
 expired_progress now Done = Done
 
 -- one that was sent to more than 10,000 ms ago is done

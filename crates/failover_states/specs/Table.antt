@@ -4,6 +4,7 @@ use Rattle.ballot_law.specs.declared.addresses.Addr.{Addr}
 use Rattle.ballot_law.specs.declared.addresses.RunId.{RunId}
 use Rattle.ballot_law.specs.Clocks.{age}
 use Rattle.vote_book.specs.Elections.{can_open, next_epoch}
+use Rattle.failover_states.specs.declared.periods.TheConstants.{ELECTION_MS, SPREAD_MS}
 use Rattle.failover_states.specs.declared.states.Choice.{Choice}
 use Rattle.failover_states.specs.declared.states.State.{State}
 use Rattle.failover_states.specs.declared.states.State.TheVariants.{Idle, WaitStart, SelectReplica, SendPromotion, WaitPromotion, ReconfReplicas, UpdateConfig}
@@ -38,7 +39,7 @@ may_start f k = k.odown && is_long_ago f.last_start (2 * k.timeout) k.now && can
 
 -- a random part of a second keeps Sentinels from starting together again
 abbrev pub started : Failover → Known → Failover
-started f k = entering (WaitStart (next_epoch (book_in k))) k.now (record f { last_start = Some (k.now + k.random % 1000) })
+started f k = entering (WaitStart (next_epoch (book_in k))) k.now (record f { last_start = Some (k.now + k.random % SPREAD_MS) })
 
 abbrev pub chosen : (epoch : ℕ) → Option (ℕ × Addr) → Failover → Known → Failover
 chosen epoch None f k = f
@@ -72,7 +73,7 @@ table Idle f k =
     ∷ []
 table (WaitStart epoch) f k =
     row_if Elected (is_elected epoch k) (entering (SelectReplica epoch) k.now f)
-    ∷ row_if ElectionTimeout (is_over (min 10000 k.timeout) f k) (ended f)
+    ∷ row_if ElectionTimeout (is_over (min ELECTION_MS k.timeout) f k) (ended f)
     ∷ row_if AwaitVotes true f
     ∷ []
 table (SelectReplica epoch) f k =

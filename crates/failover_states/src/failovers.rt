@@ -8,15 +8,13 @@ ghost use Rattle.failover_states.specs.Known.{known};
 ghost use Rattle.failover_states.specs.Replicas.{untouched, replica_at};
 ghost use Rattle.failover_states.specs.Table.{is_long_ago, is_over, expiring, turn_in, turned};
 
+use crate::periods::{ELECTION_MS, SPREAD_MS};
 use crate::replicas::{Masters, Progress, Replica, clear_orders, expire, forget};
 use crate::states::{Choice, Row, State};
 use crate::turns::{Act, Facts};
 use ballot_law::{Card, NoMemory, clock_of};
 use std::alloc::Global;
 use std::marker::Model;
-
-/// How long votes are awaited at most, in milliseconds.
-const ELECTION_MS: u64 = 10_000;
 
 /// The failover of one master: how far it has come and since when, the moment of the last start, and what was sent to
 /// each of the master's nodes.
@@ -249,7 +247,7 @@ impl Failover {
             && is_past_last_start(self.last_start, facts.timeout, now)
             && let Some(epoch) = facts.book().open_campaign()
         {
-            self.last_start = Some(now + facts.random % 1_000);
+            self.last_start = Some(now + facts.random % SPREAD_MS);
             self.enter(State::WaitStart { epoch }, now);
             return Act::of(Row::StartFailover);
         }

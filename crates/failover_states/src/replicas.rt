@@ -7,12 +7,10 @@ ghost use Rattle.failover_states.specs.Replicas.{forgotten, unordered, expired, 
 ghost use Rattle.failover_states.specs.Orders.{ordered_from};
 ghost use Rattle.failover_states.specs.Table.{is_replica, can_be_told, is_settled, busy_count};
 
+use crate::periods::ORDER_MS;
 use crate::states::Choice;
 use crate::turns::Facts;
 use ballot_law::clock_of;
-
-/// How long a replica has to follow the new master before it counts as done, in milliseconds.
-const ORDER_MS: u64 = 10_000;
 
 /// How far a replica has come.
 #[derive(Clone, Copy, Debug, PartialEq, Eq)]

@@ -15,7 +15,7 @@ ghost use Rattle.sentinel_state.specs.Room.{bounded};
 
 use ballot_law::{Body, Command, Event, Hello, Input, Message, NodeName, Note, Output};
 use sentinel_outbox::Outbox;
-use sentinel_rules::{Frame, law_frames_are_named, law_inputs_keep_sound};
+use sentinel_rules::{Frame, law_hellos_name_masters, law_inputs_keep_sound};
 use sentinel_state::{FrameList, Plan, State};
 
 /// A message of this Sentinel.
@@ -198,7 +198,7 @@ fn act_on_news(
     ensures shown { outbox.new.shown ≡ outbox.old.shown }
     ensures room { length outbox.new.held ≤ outbox.new.shown_room }
 {
-    law_frames_are_named();
+    law_hellos_name_masters();
     frames.clear();
     hear(plan, state, frames, input.now, &input.event);
     hold_frames(plan, state, frames.as_slice(), outbox);

@@ -12,13 +12,14 @@ use Rattle.ballot_law.specs.Clocks.{clock}
 use Rattle.ballot_law.specs.OwnVotes.{grants, asked}
 use Rattle.node_texts.specs.Infos.{info_of}
 use Rattle.resp2.specs.Commands.{IsWithin}
+use Rattle.sentinel_rules.specs.declared.frames.TheConstants.{FRAMES_MAX}
 use Rattle.sentinel_rules.specs.Plans.{Plan}
 use Rattle.sentinel_rules.specs.States.{Core, is_tilted, is_master_down}
 use Rattle.sentinel_rules.specs.Votes.{book_of, with_book, mark_for, requested}
 use Rattle.sentinel_rules.specs.Answers.{asked_at, asked_of, commanded, master_with_card}
 use Rattle.sentinel_rules.specs.Takes.{next_at, part_of, cleared}
 use Rattle.sentinel_rules.specs.Facts.{IsSoundPlan, IsSound, IsWithinEvent}
-use Rattle.sentinel_rules.specs.Room.{ROOM, InputsKeepFew}
+use Rattle.sentinel_rules.specs.Room.{InputsKeepFew}
 use Rattle.sentinel_rules.proofs.Framing.{sound_alike}
 use Rattle.sentinel_rules.proofs.FineTicks.{fine_more, tick_fine, book_sound, mark_sound}
 use Rattle.sentinel_rules.proofs.FineNews.{hello_fine, answered_sound, pinged_sound, info_fine}
@@ -56,7 +57,7 @@ commanded_sound plan now FlushConfig core h s = s
 cleared_sound : (plan : Plan) (core : Core) → IsSound plan core → IsSound plan (cleared core)
 cleared_sound plan core s = sound_alike plan core (cleared core) refl refl refl s
 
-at_fine : (plan : Plan) (core : Core) (now : ℕ) (event : Event) → IsSoundPlan plan → IsSound plan core → IsWithinEvent event → IsSound plan (next_at plan now event core).core × (length (part_of plan now event core).frames ≤ ROOM)
+at_fine : (plan : Plan) (core : Core) (now : ℕ) (event : Event) → IsSoundPlan plan → IsSound plan core → IsWithinEvent event → IsSound plan (next_at plan now event core).core × (length (part_of plan now event core).frames ≤ FRAMES_MAX)
 at_fine plan core now (Tick m random) p s h = let f = tick_fine plan m random now core p s in (f.sound, f.few)
 at_fine plan core now (Commanded sender command) p s h = (commanded_sound plan now command core h s, omega arith)
 at_fine plan core now (AnswerCame voter m addr down leader epoch) p s h = (answered_sound plan voter m now addr down leader epoch core s, omega arith)

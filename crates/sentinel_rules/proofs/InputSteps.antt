@@ -39,8 +39,8 @@ use Rattle.sentinel_rules.proofs.Framing.{sound_alike}
 use Rattle.sentinel_rules.proofs.Leads.{Led, Leads}
 use Rattle.sentinel_rules.proofs.LeadNews.{stay_leads, within_core, requested_leads, hello_leads, answered_leads, pinged_leads, info_leads}
 use Rattle.sentinel_rules.proofs.LeadTicks.{tick_leads}
-use Rattle.sentinel_rules.proofs.Rights.{AreFrames, no_frames, frames_right, silent, showing, answer_right, shown_right}
-use Rattle.sentinel_rules.proofs.FrameParts.{tick_frames, hello_frames, info_frames}
+use Rattle.sentinel_rules.proofs.ShownOutputs.{AreNamed, frames_right, silent, showing, answer_right, shown_right}
+use Rattle.sentinel_rules.proofs.NamedFrames.{tick_frames, hello_frames, info_frames}
 
 -- Commands
 
@@ -145,7 +145,7 @@ take_by plan core parts event most done few is sound leads right =
     }
 
 take_of_part : (plan : Plan) (core : Core) (parts : Parts) (event : Event) (most : ℕ) (part : Part) → most ≤ 6 → IsSoundPlan plan → IsPartsOf core parts
-    → IsSound plan part.core → Leads plan event most (cleared core) part.core → AreFrames plan part.frames
+    → IsSound plan part.core → Leads plan event most (cleared core) part.core → AreNamed plan part.frames
     → IsTake plan core parts event (shown_after plan part).core (shown_after plan part).outputs
 take_of_part plan core parts event most part few p is sound leads frames =
     take_by plan core parts event most (shown_after plan part) few is sound leads (λ last l. frames_right plan part.core last part.frames p sound l frames)
@@ -161,10 +161,10 @@ input_by plan core parts now (Commanded sender command) p s is h =
     (λ last l. All-cons (IsRightOutput (roster_of plan) plan.place last) (send plan sender done.body) [] (commanded_right plan last sender now command (cleared core) s t l) (All-nil (IsRightOutput (roster_of plan) plan.place last)))
 input_by plan core parts now (AnswerCame voter m addr down leader epoch) p s is h =
     take_of_part plan core parts (AnswerCame voter m addr down leader epoch) 1 (quiet (answered plan voter m now addr down leader epoch (cleared core))) (omega arith) p is
-    (answered_sound plan voter m now addr down leader epoch (cleared core) s) (answered_leads plan voter m now addr down leader epoch (cleared core) s) (no_frames plan)
+    (answered_sound plan voter m now addr down leader epoch (cleared core) s) (answered_leads plan voter m now addr down leader epoch (cleared core) s) tt
 input_by plan core parts now (Pinged node reply) p s is h =
     take_of_part plan core parts (Pinged node reply) 0 (quiet (pinged plan node now reply (cleared core))) (omega arith) p is
-    (pinged_sound plan node now reply (cleared core) s) (pinged_leads plan (Pinged node reply) node now reply (cleared core) s) (no_frames plan)
+    (pinged_sound plan node now reply (cleared core) s) (pinged_leads plan (Pinged node reply) node now reply (cleared core) s) tt
 input_by plan core parts now (InfoRead node text) p s is h =
     take_of_part plan core parts (InfoRead node text) 1 (info_read plan node now (info_of text) (cleared core)) (omega arith) p is
     (info_fine plan node now (info_of text) (cleared core) s).sound (info_leads plan (InfoRead node text) node now (info_of text) (cleared core) s) (info_frames plan node now (info_of text) (cleared core))
@@ -172,9 +172,9 @@ input_by plan core parts now (HelloRead text) p s is h =
     take_of_part plan core parts (HelloRead text) 2 (hello_read plan now (hello_of text) (cleared core)) (omega arith) p is
     (hello_fine plan now text (cleared core) s).sound (hello_leads plan now text (cleared core) s) (hello_frames plan now (hello_of text) (cleared core))
 input_by plan core parts now (Become priority offset link_down) p s is h =
-    take_of_part plan core parts (Become priority offset link_down) 0 (quiet (cleared core)) (omega arith) p is s (stay_leads plan (Become priority offset link_down) 0 (cleared core)) (no_frames plan)
+    take_of_part plan core parts (Become priority offset link_down) 0 (quiet (cleared core)) (omega arith) p is s (stay_leads plan (Become priority offset link_down) 0 (cleared core)) tt
 input_by plan core parts now (Handed message) p s is h =
-    take_of_part plan core parts (Handed message) 0 (quiet (cleared core)) (omega arith) p is s (stay_leads plan (Handed message) 0 (cleared core)) (no_frames plan)
+    take_of_part plan core parts (Handed message) 0 (quiet (cleared core)) (omega arith) p is s (stay_leads plan (Handed message) 0 (cleared core)) tt
 
 pub inputs_are_steps : InputsAreSteps
 inputs_are_steps plan core parts now event p s is h = input_by plan core parts (clock now) event p (sound_alike plan core (cleared core) refl refl refl s) is h

@@ -9,9 +9,11 @@ pub mod FineInputs
 pub mod Leads
 pub mod LeadNews
 pub mod LeadTicks
-pub mod Rights
-pub mod FrameParts
-pub mod InputSteps
+pub mod ShownOutputs
 pub mod NamedFrames
+pub mod Limiting
+pub mod InputSteps
 pub mod WorkedRows
 pub mod Ignoring
+pub mod Changing
+pub mod Rising

@@ -18,10 +18,10 @@ use Rattle.port_answers.specs.declared.rows.MasterRow.{MasterRow}
 use Rattle.port_answers.specs.declared.rows.ReplicaRow.{ReplicaRow}
 use Rattle.port_answers.specs.declared.rows.SentinelRow.{SentinelRow}
 use Rattle.port_answers.specs.Answers.{master_frame, masters_frame, replicas_frame, sentinels_frame, no_such_master, ok_line, quorum_reached, no_quorum, id_frame}
+use Rattle.sentinel_rules.specs.declared.assumed.TheConstants.{ASSUMED_INFO}
 use Rattle.sentinel_rules.specs.Plans.{Plan, roster_of, me, group_size, master_count, settings_at, nodes_of, addr_at}
 use Rattle.sentinel_rules.specs.States.{Core, node_of, card_place, is_failing_over, is_tilted, is_node_down, is_master_down, is_peer_down, is_odown_at}
 use Rattle.sentinel_rules.specs.Parts.{shown_of}
-use Rattle.sentinel_rules.specs.Ticks.{unknown_info}
 use Rattle.sentinel_rules.specs.Votes.{book_of, requested}
 
 -- what a command leaves, and its answer
@@ -79,7 +79,7 @@ master_row plan core now m =
 -- a replica that sent no INFO shows priority 100 and offset 0
 abbrev pub replica_row : Plan → Core → (now m k : ℕ) → ReplicaRow
 replica_row plan core now m k =
-    let info = unwrap_or (node_of core m k).info unknown_info in
+    let info = unwrap_or (node_of core m k).info ASSUMED_INFO in
     record { addr = addr_at plan m k; down = is_node_down plan core m now k; priority = info.priority; offset = info.offset }
 
 abbrev pub sentinel_row : Plan → Core → (now place : ℕ) → SentinelRow

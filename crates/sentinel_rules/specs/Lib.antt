@@ -10,5 +10,7 @@ pub mod Facts
 pub mod Steps
 pub mod Room
 pub mod Named
+pub mod Limits
 pub mod Worked
 pub mod Ignored
+pub mod Changes

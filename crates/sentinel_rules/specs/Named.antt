@@ -18,5 +18,5 @@ IsNamed plan (PromoteTo target) = Unit {0}
 IsNamed plan (FollowTo target m) = Unit {0}
 IsNamed plan (NoteOf m old) = Unit {0}
 
-abbrev pub FramesAreNamed : Type 0
-FramesAreNamed = (plan : Plan) (now : ℕ) (event : Event) (core : Core) → AllByRecursion (IsNamed plan) (part_of plan now event core).frames
+abbrev pub HellosNameMasters : Type 0
+HellosNameMasters = (plan : Plan) (now : ℕ) (event : Event) (core : Core) → AllByRecursion (IsNamed plan) (part_of plan now event core).frames

@@ -24,6 +24,7 @@ use Rattle.failover_states.specs.declared.states.State.TheVariants.{Idle, WaitSt
 use Rattle.failover_states.specs.Failovers.{ended}
 use Rattle.failover_states.specs.Calls.{promoted, reconfigured}
 use Rattle.node_texts.specs.declared.faults.TextFault.{TextFault}
+use Rattle.sentinel_rules.specs.declared.periods.TheConstants.{WRONG_ROLE_MS}
 use Rattle.sentinel_rules.specs.declared.frames.Frame.TheVariants.{FollowTo, NoteOf}
 use Rattle.sentinel_rules.specs.Plans.{Plan, NodePlace, roster_of, me, group_size, master_count, settings_at, nodes_of, node_name, node_named}
 use Rattle.sentinel_rules.specs.States.{Core, MasterState, NodeState, PeerState, master_of, node_of, peer_of, failover_of, card_place, is_failing_over, is_tilted, is_master_down, with_master, with_node, with_failover, with_current, with_card}
@@ -178,10 +179,6 @@ reconfiguration m k info core =
     (has_followed info (card_of core.kept m).addr)
     core
     (λ c. quiet (with_failover c m (reconfigured (failover_of c m).state (failover_of c m) k)))
-
--- how long a node may say that it is a master though it isn't
-abbrev pub WRONG_ROLE_MS : ℕ
-WRONG_ROLE_MS = 8000
 
 abbrev pub wrong_since : (is_wrong : Bool) → Option ℕ → (now : ℕ) → Option ℕ
 wrong_since is_wrong since now = if is_wrong then Some (unwrap_or since now) else None

@@ -20,6 +20,8 @@ use Rattle.failover_states.specs.declared.replicas.Replica.{Replica as ReplicaOr
 use Rattle.failover_states.specs.Calls.{epoch_of, choice_of as chosen_place}
 use Rattle.failover_states.specs.Known.{Known}
 use Rattle.failover_states.specs.Table.{Turn, turned}
+use Rattle.sentinel_rules.specs.declared.assumed.TheConstants.{ASSUMED_INFO}
+use Rattle.sentinel_rules.specs.declared.periods.TheConstants.{PING_MS, INFO_MS, BUSY_INFO_MS, HELLO_MS, ASK_MS}
 use Rattle.sentinel_rules.specs.declared.frames.Frame.{Frame}
 use Rattle.sentinel_rules.specs.declared.frames.Frame.TheVariants.{PingTo, InfoTo, HelloTo, AskTo, PromoteTo, FollowTo}
 use Rattle.sentinel_rules.specs.Plans.{Plan, roster_of, me, master_count, settings_at, nodes_of, addr_at, node_name}
@@ -40,7 +42,7 @@ sent_at due now sent = if due then Some now else sent
 
 -- a PING each second, or as often as the master's setting asks
 abbrev pub ping_period : Plan → (m : ℕ) → ℕ
-ping_period plan m = min 1000 (settings_at plan m).after_ms
+ping_period plan m = min PING_MS (settings_at plan m).after_ms
 
 -- the other Sentinels go by the first master's setting
 abbrev pub is_peer_due : Plan → (now place : ℕ) → PeerState → Bool
@@ -64,7 +66,7 @@ had_link_down (Some info) = nat_lt 0 info.link_down_s
 
 -- INFO each 10 seconds; each second to a replica whose master is down or fails over, or whose link was down
 abbrev pub info_period : (is_card is_busy : Bool) → NodeState → ℕ
-info_period is_card is_busy node = if not is_card && (is_busy || had_link_down node.info) then 1000 else 10000
+info_period is_card is_busy node = if not is_card && (is_busy || had_link_down node.info) then BUSY_INFO_MS else INFO_MS
 
 -- what the sending to a master's nodes goes by: the reading, the period of PING, the place of the configuration's node, and
 -- whether the master was down at its last tick or fails over
@@ -90,7 +92,7 @@ abbrev pub is_info_due : Sending → (k : ℕ) → NodeState → Bool
 is_info_due s k node = is_due node.info_sent s.now (info_period (k == s.card_place) s.is_busy node)
 
 abbrev pub is_hello_due : Sending → NodeState → Bool
-is_hello_due s node = is_due node.hello_sent s.now 2000
+is_hello_due s node = is_due node.hello_sent s.now HELLO_MS
 
 abbrev pub node_after : Sending → (k : ℕ) → NodeState → NodeState
 node_after s k node =
@@ -116,16 +118,11 @@ nodes_part plan m now core =
 
 -- The failover
 
--- of a replica that sent no INFO yet
-abbrev pub unknown_info : Info
-unknown_info =
-    record { id = None; role = Replica; master = None; link_up = false; link_down_s = 0; priority = 100; offset = 0 }
-
 -- the node of the configuration is no candidate
 abbrev pub candidate_of : Plan → Core → (m now k : ℕ) → Candidate
 candidate_of plan core m now k =
     let node = node_of core m k in
-    let info = unwrap_or node.info unknown_info in
+    let info = unwrap_or node.info ASSUMED_INFO in
     record {
       sdown = (k == card_place plan core m) || is_node_down plan core m now k;
       priority = info.priority;
@@ -246,7 +243,7 @@ start_part plan m now core =
 -- at a start, where none was sent yet, and one second after the last
 abbrev pub is_ask_due : (started : Bool) → Option ℕ → (now : ℕ) → Bool
 is_ask_due started None now = true
-is_ask_due started (Some sent) now = started || nat_le 1000 (age sent now)
+is_ask_due started (Some sent) now = started || nat_le ASK_MS (age sent now)
 
 -- with the own run id while a failover runs, which asks for a vote
 abbrev pub ask_candidate : Plan → Core → (m : ℕ) → Option RunId

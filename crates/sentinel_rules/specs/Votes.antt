@@ -5,6 +5,7 @@ use Rattle.ballot_law.specs.Ballots.{kept_of, voted_of}
 use Rattle.ballot_law.specs.Clocks.{clock}
 use Rattle.ballot_law.specs.Orders.{same_id}
 use Rattle.ballot_law.specs.OwnVotes.{Book, grants, asked}
+use Rattle.failover_states.specs.declared.periods.TheConstants.{SPREAD_MS}
 use Rattle.failover_states.specs.Failovers.{Failover}
 use Rattle.sentinel_rules.specs.Plans.{Plan, me}
 use Rattle.sentinel_rules.specs.States.{Core, master_of, failover_of, with_master, with_failover}
@@ -21,7 +22,7 @@ with_book core m book =
 
 -- a failover counts as started now, and a random part of a second later
 abbrev pub marked : (now random : ℕ) → Failover → Failover
-marked now random f = record f { last_start = Some (clock (now + random % 1000)) }
+marked now random f = record f { last_start = Some (clock (now + random % SPREAD_MS)) }
 
 -- a vote for another candidate counts as a start of its failover, so that the own one waits
 abbrev pub mark_for : Plan → (m now : ℕ) → RunId → Core → Core

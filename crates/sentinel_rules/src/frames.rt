@@ -2,6 +2,10 @@
 
 use ballot_law::{Addr, NodeName, RunId};
 
+/// The greatest number of frames that one input puts out: a tick puts out at most 63 PINGs and 63 questions to Sentinels, three frames and
+/// one order to each of 256 nodes, and one promotion.
+pub const FRAMES_MAX: usize = 1_536;
+
 /// What an input has a Sentinel put out. The epochs and the configurations that it shows are those that are kept at the end of the
 /// input, so they aren't written here. `master` is the number of a master in the roster.
 #[derive(Clone, Copy, Debug, PartialEq, Eq)]

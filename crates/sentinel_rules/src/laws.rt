@@ -1,7 +1,9 @@
 //! What the definitions of one Sentinel come to.
 
+ghost use Rattle.sentinel_rules.specs.Changes.{InputsChangeOne, InputsRaiseCards, OpenedIsAhead};
 ghost use Rattle.sentinel_rules.specs.Ignored.{IgnoredChangesNothing};
-ghost use Rattle.sentinel_rules.specs.Named.{FramesAreNamed};
+ghost use Rattle.sentinel_rules.specs.Limits.{MessagesComeWithin, OutputsAreWithin};
+ghost use Rattle.sentinel_rules.specs.Named.{HellosNameMasters};
 ghost use Rattle.sentinel_rules.specs.Room.{InputsKeepFew};
 ghost use Rattle.sentinel_rules.specs.Steps.{InputsAreSteps, OpenedIsSound};
 
@@ -21,9 +23,17 @@ pub fn law_inputs_are_steps()
 {}
 
 /// Each hello that an input puts out is of a master of the roster.
-#[tactic(auto, using(crate::proofs::NamedFrames::frames_are_named))]
-pub fn law_frames_are_named()
-    ensures { FramesAreNamed }
+#[tactic(auto, using(crate::proofs::NamedFrames::hellos_name_masters))]
+pub fn law_hellos_name_masters()
+    ensures { HellosNameMasters }
+{}
+
+/// All numbers in what a sound core puts out are in range: epochs of questions, and addresses, run ids, names and epochs of hellos. A
+/// message of which this holds comes to a Sentinel as an event that it may take.
+#[tactic(auto, using(crate::proofs::Limiting::outputs_are_within, crate::proofs::Limiting::messages_come_within))]
+pub fn law_outputs_are_within()
+    ensures outputs { OutputsAreWithin }
+    ensures events { MessagesComeWithin }
 {}
 
 /// An input that isn't noticed leaves all that is kept as it was, and puts out nothing: what can't be read, what comes from a node that
@@ -31,4 +41,12 @@ pub fn law_frames_are_named()
 /// and clients.
 pub fn law_ignored_inputs_change_nothing()
     ensures { IgnoredChangesNothing }
+{}
+
+/// Of what is kept an input changes at most the current epoch and the entry of one master. A configuration that it changes is of a greater
+/// epoch: a failover is of an epoch above that of the configuration, until its choice is the configuration. None runs at the start.
+pub fn law_inputs_change_one_card()
+    ensures one { InputsChangeOne }
+    ensures greater { InputsRaiseCards }
+    ensures opened { OpenedIsAhead }
 {}

@@ -2,7 +2,8 @@
 use Rattle.std.proofs.Common.{◌≡◌, ℕ, zero, suc, ◌≤◌, ◌<◌, ◌+◌, Bool, true, if◌then◌else◌, List, [], ◌∷◌, ◌++◌, length, take, refl, ap, sym, ◌∙◌, arith, append_assoc, append-nil, length-append}
 use Rattle.std.proofs.lemmas.List.{take_all, take-append-le}
 use Rattle.sentinel_rules.specs.declared.frames.Frame.{Frame}
-use Rattle.sentinel_state.specs.Room.{FRAMES_MAX, bounded}
+use Rattle.sentinel_rules.specs.declared.frames.TheConstants.{FRAMES_MAX}
+use Rattle.sentinel_state.specs.Room.{bounded}
 
 take_again : (n : ℕ) (xs ys : List Frame) → take n (take n xs ++ ys) ≡ take n (xs ++ ys)
 take_again zero xs ys = refl

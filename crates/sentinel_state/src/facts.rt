@@ -4,31 +4,17 @@ ghost use Rattle.std.specs.Prelude.{◌≡◌, length, take};
 ghost use Rattle.ballot_law.specs.Clocks.{clock};
 ghost use Rattle.sentinel_rules.specs.Plans.{nodes_of};
 ghost use Rattle.sentinel_rules.specs.States.{is_node_down};
-ghost use Rattle.sentinel_rules.specs.Ticks.{unknown_info, candidate_of, candidates_of, at_places, down_for, limits_of, best_of, campaign_epoch, pick_of, count_of};
+ghost use Rattle.sentinel_rules.specs.Ticks.{candidate_of, candidates_of, at_places, down_for, limits_of, best_of, campaign_epoch, pick_of, count_of};
 
 use crate::plan::Plan;
 use crate::state::State;
-use ballot_law::{Addr, DataRole, Info, RunId, clock_of};
+use ballot_law::{Addr, RunId, clock_of};
 use replica_choice::{Candidate, Limits, choose};
+use sentinel_rules::ASSUMED_INFO;
 use std::marker::Model;
 
 /// The greatest number of data nodes of a master.
 const NODES_MAX: usize = 256;
-
-/// What counts of a replica that sent no INFO yet.
-fn unknown_info() -> Info
-    ensures { result ≡ unknown_info }
-{
-    Info {
-        id: None,
-        role: DataRole::Replica,
-        master: None,
-        link_up: false,
-        link_down_s: 0,
-        priority: 100,
-        offset: 0,
-    }
-}
 
 /// For how long something has been down, in milliseconds.
 fn down_for(since: Option<u64>, now: u64) -> u64
@@ -72,7 +58,7 @@ impl State {
         ensures { result ≡ candidate_of plan.now self.now m (clock now) k }
     {
         let node = self.node(m, k);
-        let info = node.info.unwrap_or(unknown_info());
+        let info = node.info.unwrap_or(ASSUMED_INFO);
         Candidate {
             sdown: k == self.card_place(plan, m) || self.is_node_down(plan, m, now, k),
             priority: info.priority,

@@ -4,12 +4,9 @@ ghost use Rattle.std.specs.Prelude.{◌≡◌, ◌++◌, ◌∷◌, [], IfOk};
 ghost use Rattle.sentinel_rules.specs.Parts.{frame_if};
 ghost use Rattle.sentinel_state.specs.Room.{bounded};
 
-use sentinel_rules::Frame;
+use sentinel_rules::{FRAMES_MAX, Frame};
 use std::alloc::{AllocError, Global};
 use std::marker::Model;
-
-/// The greatest number of frames that one input puts out.
-pub const FRAMES_MAX: usize = 1_536;
 
 /// What one input has a Sentinel put out, in order, in room that was made beforehand, so that adding takes no memory.
 #[derive(Drop)]
@@ -20,7 +17,7 @@ pub struct FrameList {
 impl Model for FrameList {
     ghost use Rattle.std.specs.Prelude.{◌≤◌, List, vec_len, vec_capacity};
     ghost use Rattle.sentinel_rules.specs.declared.frames.Frame.{Frame};
-    ghost use Rattle.sentinel_state.specs.Room.{FRAMES_MAX};
+    ghost use Rattle.sentinel_rules.specs.declared.frames.TheConstants.{FRAMES_MAX};
 
     ghost Value = { List Frame };
 

@@ -15,10 +15,7 @@ use crate::state::State;
 use ballot_law::{Addr, Card, DataRole, Info, NodeName, clock_of};
 use failover_states::State as Stage;
 use node_texts::{TextFault, read_info};
-use sentinel_rules::Frame;
-
-/// How long a node may say that it is a master though it isn't, in milliseconds.
-const WRONG_ROLE_MS: u64 = 8_000;
+use sentinel_rules::{Frame, WRONG_ROLE_MS};
 
 /// Whether this is the role of a master.
 fn is_master(role: DataRole) -> bool

@@ -15,23 +15,8 @@ use crate::peers::Peer;
 use crate::plan::Plan;
 use crate::state::State;
 use ballot_law::{Info, NodeName, RunId, clock_of};
-use sentinel_rules::Frame;
+use sentinel_rules::{ASK_MS, BUSY_INFO_MS, Frame, HELLO_MS, INFO_MS, PING_MS};
 use std::marker::Model;
-
-/// How often a PING is sent at least, in milliseconds: more often where the master's `down-after-milliseconds` is below it.
-const PING_MS: u64 = 1_000;
-
-/// How often INFO is sent, in milliseconds.
-const INFO_MS: u64 = 10_000;
-
-/// How often INFO is sent to a replica whose master is down or fails over, or whose link was down, in milliseconds.
-const BUSY_INFO_MS: u64 = 1_000;
-
-/// How often a hello is sent, in milliseconds.
-const HELLO_MS: u64 = 2_000;
-
-/// How often the other Sentinels are asked whether a master is down, in milliseconds.
-const ASK_MS: u64 = 1_000;
 
 /// Whether what was last sent at that moment is to be sent again: it never was, or at a later reading, or so long ago.
 fn is_due(sent: Option<u64>, now: u64, period: u64) -> bool

@@ -1,10 +1,10 @@
 //! A plan and a state of a small group, with the values that its file gives.
 
-use crate::frame_list::{FRAMES_MAX, FrameList};
+use crate::frame_list::FrameList;
 use crate::{NodePlace, Plan, State};
 use ballot_law::{Addr, Card, NodeName};
 use sentinel_conf::read;
-use sentinel_rules::Frame;
+use sentinel_rules::{FRAMES_MAX, Frame};
 use std::alloc::Global;
 use std::test::Fail;
 

@@ -9,10 +9,8 @@ ghost use Rattle.sentinel_rules.specs.Votes.{book_of, with_book, mark_for, reque
 use crate::plan::Plan;
 use crate::state::State;
 use ballot_law::{RunId, clock_of};
+use failover_states::SPREAD_MS;
 use vote_book::VoteBook;
-
-/// A failover that a vote put off starts up to so many milliseconds later still, so that Sentinels don't start together.
-const SPREAD_MS: u64 = 1_000;
 
 impl State {
     /// A candidate's request for the vote of an epoch: the vote is given where none was in this epoch or a later one and the

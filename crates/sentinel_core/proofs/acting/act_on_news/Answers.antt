@@ -12,7 +12,7 @@ hold_frames-requires-clause-named c =
     let part : List Frame = (part_of c.args.plan.now (clock c.args.input.now.now) c.args.input.now.event c.args.state.now).frames in
     let same : c.as_slice.result.now ≡ part = c.as_slice.ensures.same ∙ whole c.clear.new.self part c.hear.new.frames c.clear.ensures c.requires.few c.hear.ensures.frames in
     subst (λ (frames : List Frame). AllByRecursion (IsNamed c.args.plan.now) frames) (sym same)
-    (c.law_frames_are_named.ensures c.args.plan.now (clock c.args.input.now.now) c.args.input.now.event c.args.state.now)
+    (c.law_hellos_name_masters.ensures c.args.plan.now (clock c.args.input.now.now) c.args.input.now.event c.args.state.now)
 
 pub hold_frames-requires-clause-few : goal.hold_frames-requires-clause-few
 hold_frames-requires-clause-few c =

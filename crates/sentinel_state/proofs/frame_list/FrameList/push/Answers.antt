@@ -1,6 +1,7 @@
 use Rattle.std.proofs.Common.{◌≡◌, ◌<◌, ◌++◌, ◌∷◌, [], length, vec_len, vec_capacity, sym, subst, arith}
 use Rattle.std.specs.Prelude.{is_ok}
-use Rattle.sentinel_state.specs.Room.{FRAMES_MAX, bounded}
+use Rattle.sentinel_rules.specs.declared.frames.TheConstants.{FRAMES_MAX}
+use Rattle.sentinel_state.specs.Room.{bounded}
 use Rattle.sentinel_state.proofs.RoomLemmas.{bounded_pushed, bounded_full}
 use Rattle.sentinel_state.proofs.frame_list.FrameList.push.Goals as goal
 

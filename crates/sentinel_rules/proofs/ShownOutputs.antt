@@ -1,7 +1,8 @@
 -- What is put out shows what is kept.
 use Rattle.std.proofs.Common.{◌≡◌, ℕ, zero, suc, ◌+◌, ◌<◌, ◌≤◌, Bool, true, false, Option, Some, None, List, [], ◌∷◌, ◌++◌, length, map, slice_index_or, refl, sym, ap, subst, ◌∙◌, arith}
 use Rattle.std.specs.Prelude.{All, Contains}
-use Rattle.std.proofs.lemmas.List.Elements.{All-nil, All-cons, All-append, All-head, All-tail}
+use Rattle.std.specs.List.{AllByRecursion}
+use Rattle.std.proofs.lemmas.List.Elements.{All-nil, All-cons}
 use Rattle.ballot_law.specs.declared.addresses.Addr.{Addr}
 use Rattle.ballot_law.specs.declared.addresses.RunId.{RunId}
 use Rattle.ballot_law.specs.declared.cards.Kept.{Kept}
@@ -23,36 +24,30 @@ use Rattle.sentinel_rules.specs.Plans.{Plan, roster_of, master_count, nodes_of}
 use Rattle.sentinel_rules.specs.States.{Core}
 use Rattle.sentinel_rules.specs.Parts.{Part, part_if, frame_if, frames_from, send, shown_of, hello_of_master, output_of}
 use Rattle.sentinel_rules.specs.Facts.{IsSoundPlan, IsSound}
+use Rattle.sentinel_rules.specs.Named.{IsNamed}
 use Rattle.sentinel_rules.specs.Steps.{IsPartsOf}
 use Rattle.sentinel_rules.proofs.KeptParts.{kept_at}
 
 -- Frames
 
--- a hello is of a master of the roster
-abbrev pub IsFrame : Plan → Frame → Type 0
-IsFrame plan (HelloTo target m) = m < master_count plan
-IsFrame plan _ = Unit {0}
+abbrev pub AreNamed : Plan → List Frame → Type 0
+AreNamed plan frames = AllByRecursion (IsNamed plan) frames
 
-abbrev pub AreFrames : Plan → List Frame → Type 0
-AreFrames plan frames = All (λ frame. IsFrame plan frame) frames
+pub named_append : (plan : Plan) (xs ys : List Frame) → AreNamed plan xs → AreNamed plan ys → AreNamed plan (xs ++ ys)
+named_append plan [] ys f g = g
+named_append plan (x ∷ xs) ys f g = (f.0, named_append plan xs ys f.1 g)
 
-pub no_frames : (plan : Plan) → AreFrames plan []
-no_frames plan = All-nil (λ frame. IsFrame plan frame)
+pub named_one : (plan : Plan) (test : Bool) (frame : Frame) → IsNamed plan frame → AreNamed plan (frame_if test frame)
+named_one plan true frame f = (f, tt)
+named_one plan false frame f = tt
 
-pub frames_append : (plan : Plan) (xs ys : List Frame) → AreFrames plan xs → AreFrames plan ys → AreFrames plan (xs ++ ys)
-frames_append plan xs ys f g = All-append (λ frame. IsFrame plan frame) xs ys f g
+pub named_each : {X : Type 0} (plan : Plan) (frames : ℕ → X → List Frame) → ((k : ℕ) (x : X) → AreNamed plan (frames k x)) → (place : ℕ) (xs : List X) → AreNamed plan (frames_from frames place xs)
+named_each plan frames f place [] = tt
+named_each plan frames f place (x ∷ xs) = named_append plan (frames place x) (frames_from frames (place + 1) xs) (f place x) (named_each plan frames f (place + 1) xs)
 
-pub frame_one : (plan : Plan) (test : Bool) (frame : Frame) → IsFrame plan frame → AreFrames plan (frame_if test frame)
-frame_one plan true frame f = All-cons (λ frame. IsFrame plan frame) frame [] f (no_frames plan)
-frame_one plan false frame f = no_frames plan
-
-pub frames_each : {X : Type 0} (plan : Plan) (frames : ℕ → X → List Frame) → ((k : ℕ) (x : X) → AreFrames plan (frames k x)) → (place : ℕ) (xs : List X) → AreFrames plan (frames_from frames place xs)
-frames_each plan frames f place [] = no_frames plan
-frames_each plan frames f place (x ∷ xs) = frames_append plan (frames place x) (frames_from frames (place + 1) xs) (f place x) (frames_each plan frames f (place + 1) xs)
-
-pub frames_if : (plan : Plan) (test : Bool) (core : Core) (part : Core → Part) → (test ≡ true → AreFrames plan (part core).frames) → AreFrames plan (part_if test core part).frames
-frames_if plan true core part f = f refl
-frames_if plan false core part f = no_frames plan
+pub named_if : (plan : Plan) (test : Bool) (core : Core) (part : Core → Part) → (test ≡ true → AreNamed plan (part core).frames) → AreNamed plan (part_if test core part).frames
+named_if plan true core part f = f refl
+named_if plan false core part f = tt
 
 -- Messages
 
@@ -89,7 +84,7 @@ listed_addr : (plan : Plan) (m : ℕ) (addr : Addr) → IsSoundPlan plan → m <
 listed_addr plan m addr p lt c =
     subst (λ (a : Addr). IsAddr a) (in_range (nodes_of plan m) c.0 no_addr addr c.1 ∙ c.2) (p.conf.listed m c.0 lt c.1)
 
-hello_is_hello : (plan : Plan) (core : Core) (m : ℕ) → IsSoundPlan plan → IsSound plan core → m < master_count plan → IsHello (hello_of_master plan core m)
+pub hello_is_hello : (plan : Plan) (core : Core) (m : ℕ) → IsSoundPlan plan → IsSound plan core → m < master_count plan → IsHello (hello_of_master plan core m)
 hello_is_hello plan core m p s lt =
     let member = p.conf.members plan.place p.place in
     let entry = kept_at plan.conf core.kept m lt s.kept in
@@ -127,7 +122,7 @@ hello_right plan core parts target m p s is lt =
         (All-nil (λ (shown : Shown). shown.card ≡ card_of parts.kept shown.master))
 
 -- a frame, as it is put out
-pub frame_right : (plan : Plan) (core : Core) (parts : Parts) (frame : Frame) → IsSoundPlan plan → IsSound plan core → IsPartsOf core parts → IsFrame plan frame
+pub frame_right : (plan : Plan) (core : Core) (parts : Parts) (frame : Frame) → IsSoundPlan plan → IsSound plan core → IsPartsOf core parts → IsNamed plan frame
     → IsRightOutput (roster_of plan) plan.place parts (output_of plan core frame)
 frame_right plan core parts (PingTo target) p s is f = silent plan parts target Ping refl refl refl refl
 frame_right plan core parts (InfoTo target) p s is f = silent plan parts target InfoAsk refl refl refl refl
@@ -138,13 +133,13 @@ frame_right plan core parts (PromoteTo target) p s is f = silent plan parts targ
 frame_right plan core parts (FollowTo target m) p s is f = silent plan parts target (ReplicaOf (Some (card_of core.kept m).addr)) refl refl refl refl
 frame_right plan core parts (NoteOf m old) p s is f = ap (λ (kept : Kept). card_of kept m) (sym is.kept)
 
-pub frames_right : (plan : Plan) (core : Core) (parts : Parts) (frames : List Frame) → IsSoundPlan plan → IsSound plan core → IsPartsOf core parts → AreFrames plan frames
+pub frames_right : (plan : Plan) (core : Core) (parts : Parts) (frames : List Frame) → IsSoundPlan plan → IsSound plan core → IsPartsOf core parts → AreNamed plan frames
     → All (IsRightOutput (roster_of plan) plan.place parts) (map (output_of plan core) frames)
 frames_right plan core parts [] p s is f = All-nil (IsRightOutput (roster_of plan) plan.place parts)
 frames_right plan core parts (frame ∷ frames) p s is f =
     All-cons (IsRightOutput (roster_of plan) plan.place parts) (output_of plan core frame) (map (output_of plan core) frames)
-    (frame_right plan core parts frame p s is (All-head (λ frame. IsFrame plan frame) frame frames f))
-    (frames_right plan core parts frames p s is (All-tail (λ frame. IsFrame plan frame) frame frames f))
+    (frame_right plan core parts frame p s is f.0)
+    (frames_right plan core parts frames p s is f.1)
 
 -- Answers
 

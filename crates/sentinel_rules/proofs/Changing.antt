@@ -1,0 +1,304 @@
+-- An input changes at most the current epoch and the entry of one master.
+use Rattle.std.proofs.Common.{◌≡◌, ◌≢◌, ℕ, zero, suc, ◌+◌, Bool, true, false, Option, Some, None, refl, ◌∙◌}
+use Rattle.std.specs.Prelude.{Result, Ok, Err, is_some, nat_lt, not, ◌&&◌, ◌==◌, if◌then◌else◌}
+use Rattle.ballot_law.specs.declared.addresses.Addr.{Addr}
+use Rattle.ballot_law.specs.declared.addresses.RunId.{RunId}
+use Rattle.ballot_law.specs.declared.cards.Card.{Card}
+use Rattle.ballot_law.specs.declared.commands.Command.{Command}
+use Rattle.ballot_law.specs.declared.commands.Command.TheVariants.{Ping, IsMasterDownByAddr, GetMasterAddrByName, Masters, Master, Replicas, Sentinels, MyId, CkQuorum, FlushConfig}
+use Rattle.ballot_law.specs.declared.events.Event.{Event}
+use Rattle.ballot_law.specs.declared.events.Event.TheVariants.{Tick, Command as Commanded, Answered as AnswerCame, Pinged, InfoRead, HelloRead, Become, Handed}
+use Rattle.ballot_law.specs.declared.messages.NodeName.{NodeName}
+use Rattle.ballot_law.specs.declared.messages.NodeName.TheVariants.{SentinelAt, StoreAt, ClientAt, PortAt}
+use Rattle.ballot_law.specs.declared.replies.Hello.{Hello}
+use Rattle.ballot_law.specs.declared.replies.Info.{Info}
+use Rattle.ballot_law.specs.declared.replies.PingReply.{PingReply}
+use Rattle.ballot_law.specs.Ballots.{kept_of, card_of}
+use Rattle.ballot_law.specs.Clocks.{clock}
+use Rattle.ballot_law.specs.Orders.{same_addr, same_id}
+use Rattle.ballot_law.specs.OwnVotes.{Book, grants, asked}
+use Rattle.ballot_law.specs.Rosters.{master_named}
+use Rattle.failover_states.specs.declared.states.Row.{Row}
+use Rattle.failover_states.specs.declared.states.Row.TheVariants.{Elected}
+use Rattle.failover_states.specs.declared.states.State.{State}
+use Rattle.failover_states.specs.declared.states.State.TheVariants.{WaitPromotion}
+use Rattle.failover_states.specs.Calls.{promoted}
+use Rattle.failover_states.specs.Failovers.{ended}
+use Rattle.failover_states.specs.Table.{Turn}
+use Rattle.node_texts.specs.declared.faults.TextFault.{TextFault}
+use Rattle.node_texts.specs.Hellos.{hello_of}
+use Rattle.node_texts.specs.Infos.{info_of}
+use Rattle.sentinel_rules.specs.Plans.{Plan, NodePlace, roster_of, me, group_size, master_count, node_named}
+use Rattle.sentinel_rules.specs.States.{Core, master_of, node_of, failover_of, card_place, is_failing_over, is_tilted, is_master_down, with_master, with_failover, with_current, with_card}
+use Rattle.sentinel_rules.specs.Parts.{Part, quiet, part_if}
+use Rattle.sentinel_rules.specs.Votes.{book_of, with_book, marked, mark_for, requested}
+use Rattle.sentinel_rules.specs.Ticks.{peers_part, nodes_part, odown_part, ask_part, ask_candidate, ask_frames, is_ask_due, with_vote, with_win, turn_of, campaign_epoch, row_part, after_start, start_turn, starts_now, start_part, failover_part, judging_part, master_part, with_reading, tick}
+use Rattle.sentinel_rules.specs.News.{at_same_address, at_new_address, card_taken, is_heeded, is_newer, raised_to, adopted, hello_of_known, hello_heeded, hello_read, reported, vote_heard, answer_of, answered, pinged_at, pinged, info_kept, is_master_role, promotion, has_followed, reconfiguration, correction, is_reconfiguring, judged, info_at_node, info_of_node, info_read}
+use Rattle.sentinel_rules.specs.Answers.{asked_of, master_with_card, commanded}
+use Rattle.sentinel_rules.specs.Takes.{next_at, cleared}
+use Rattle.sentinel_rules.specs.Changes.{ChangesOne, InputsChangeOne}
+use Rattle.sentinel_rules.proofs.KeptParts.{other_entry}
+
+-- the other masters' entries stay
+abbrev Touches : ℕ → Core → Core → Type 0
+Touches m core core2 = (k : ℕ) → k ≢ m → kept_of core2.kept k ≡ kept_of core.kept k
+
+stays : (m : ℕ) (core : Core) → Touches m core core
+stays m core k apart = refl
+
+chained : (m : ℕ) (first second third : Core) → Touches m first second → Touches m second third → Touches m first third
+chained m first second third f g k apart = g k apart ∙ f k apart
+
+by_test : (m : ℕ) (core : Core) (test : Bool) (a b : Core) → Touches m core a → Touches m core b → Touches m core (if test then a else b)
+by_test m core true a b f g = f
+by_test m core false a b f g = g
+
+by_part : (m : ℕ) (core : Core) (test : Bool) (a b : Part) → Touches m core a.core → Touches m core b.core → Touches m core (if test then a else b).core
+by_part m core true a b f g = f
+by_part m core false a b f g = g
+
+if_part : (m : ℕ) (core : Core) (test : Bool) (part : Core → Part) → Touches m core (part core).core → Touches m core (part_if test core part).core
+if_part m core true part f = f
+if_part m core false part f = stays m core
+
+-- Votes
+
+booked : (m : ℕ) (book : Book) (core : Core) → Touches m core (with_book core m book)
+booked m book core k apart = other_entry core.kept book.current m k (record (kept_of core.kept m) { voted = book.voted }) apart
+
+mark_touches : (plan : Plan) (m now : ℕ) (candidate : RunId) (core : Core) → Touches m core (mark_for plan m now candidate core)
+mark_touches plan m now candidate core =
+    by_test m core (same_id candidate (me plan)) core (with_failover core m (marked now core.random (failover_of core m))) (stays m core) (λ k apart. refl)
+
+voted : (plan : Plan) (m now epoch : ℕ) (candidate : RunId) (core : Core) → Touches m core (mark_for plan m now candidate (with_book core m (asked (book_of core m) epoch candidate)))
+voted plan m now epoch candidate core =
+    let after : Core = with_book core m (asked (book_of core m) epoch candidate) in
+    chained m core after (mark_for plan m now candidate after) (booked m (asked (book_of core m) epoch candidate) core) (mark_touches plan m now candidate after)
+
+requested_touches : (plan : Plan) (m now epoch : ℕ) (candidate : RunId) (core : Core) → Touches m core (requested plan m now epoch candidate core)
+requested_touches plan m now epoch candidate core =
+    let after : Core = with_book core m (asked (book_of core m) epoch candidate) in
+    by_test m core (grants (book_of core m) epoch) (mark_for plan m now candidate after) after (voted plan m now epoch candidate core) (booked m (asked (book_of core m) epoch candidate) core)
+
+-- A tick
+
+peers_touch : (plan : Plan) (m now : ℕ) (core : Core) → Touches m core (peers_part plan m now core).core
+peers_touch plan zero now core = λ k apart. refl
+peers_touch plan (suc m) now core = λ k apart. refl
+
+vote_touches : (plan : Plan) (m now epoch : ℕ) (vote : Option RunId) (core : Core) → Touches m core (with_vote plan m now epoch vote core)
+vote_touches plan m now epoch None core = stays m core
+vote_touches plan m now epoch (Some candidate) core = voted plan m now epoch candidate core
+
+win_touches : (m epoch : ℕ) (row : Option Row) (core : Core) → Touches m core (with_win m epoch row core)
+win_touches m epoch None core = stays m core
+win_touches m epoch (Some Elected) core = λ k apart. refl
+win_touches m epoch (Some _) core = stays m core
+
+row_touches : (plan : Plan) (m now : ℕ) (core : Core) → Touches m core (row_part plan m now core).core
+row_touches plan m now core =
+    let turn : Turn = turn_of plan core m now false in
+    let epoch : ℕ = campaign_epoch core m in
+    let first : Core = with_failover core m turn.failover in
+    let second : Core = with_vote plan m now epoch turn.vote first in
+    chained m core second (with_win m epoch turn.row second)
+    (chained m core first second (λ k apart. refl) (vote_touches plan m now epoch turn.vote first))
+    (win_touches m epoch turn.row second)
+
+begun : (m : ℕ) (turn : Turn) (core : Core) → Touches m core (after_start m turn core)
+begun m turn core =
+    let after : Core = with_failover core m turn.failover in
+    by_test m core (is_some turn.row) (with_current after (core.kept.current + 1)) after (λ k apart. refl) (λ k apart. refl)
+
+start_touches : (plan : Plan) (m now : ℕ) (core : Core) → Touches m core (start_part plan m now core).core
+start_touches plan m now core =
+    if_part m core (not (is_failing_over core m)) (λ c. quiet (after_start m (start_turn plan c m now) c)) (begun m (start_turn plan core m now) core)
+
+ask_touches : (plan : Plan) (m now : ℕ) (started : Bool) (core : Core) → Touches m core (ask_part plan m now started core).core
+ask_touches plan m now started core = known (is_master_down plan core m now && is_ask_due started (master_of core m).ask_sent now)
+  where
+    known : (b : Bool) → Touches m core (part_if b core (λ c. record {
+      core = with_master c m (record (master_of c m) { ask_sent = Some now });
+      frames = Rattle.sentinel_rules.specs.Parts.frames_from (ask_frames plan m (ask_candidate plan c m)) 0 c.peers;
+    })).core
+    known true = λ k apart. refl
+    known false = λ k apart. refl
+
+failover_touches : (plan : Plan) (m now : ℕ) (core : Core) → Touches m core (failover_part plan m now core).core
+failover_touches plan m now core =
+    let first : Core = (start_part plan m now core).core in
+    let second : Core = (part_if (is_failing_over first m) first (row_part plan m now)).core in
+    chained m core second (ask_part plan m now (starts_now plan core m now) second).core
+    (chained m core first second (start_touches plan m now core) (if_part m first (is_failing_over first m) (row_part plan m now) (row_touches plan m now first)))
+    (ask_touches plan m now (starts_now plan core m now) second)
+
+judging_touches : (plan : Plan) (m now : ℕ) (core : Core) → Touches m core (judging_part plan m now core).core
+judging_touches plan m now core =
+    let first : Core = (odown_part plan m now core).core in
+    by_part m core (not (is_tilted core)) (record { core = (failover_part plan m now first).core; frames = _ }) (quiet core)
+    (chained m core first (failover_part plan m now first).core (λ k apart. refl) (failover_touches plan m now first))
+    (stays m core)
+
+tick_touches : (plan : Plan) (m random now : ℕ) (core : Core) → Touches m core (tick plan m random now core).core
+tick_touches plan m random now core =
+    let read : Core = with_reading now random core in
+    let first : Core = (peers_part plan m now read).core in
+    let second : Core = (nodes_part plan m now first).core in
+    chained m core read (tick plan m random now core).core (λ k apart. refl)
+    (if_part m read (nat_lt m (master_count plan)) (master_part plan m now)
+    (chained m read second (judging_part plan m now second).core
+    (chained m read first second (peers_touch plan m now read) (λ k apart. refl))
+    (judging_touches plan m now second)))
+
+-- News
+
+carded : (m : ℕ) (card : Card) (core : Core) → Touches m core (with_card core m card)
+carded m card core k apart = other_entry core.kept core.kept.current m k (record (kept_of core.kept m) { card = card }) apart
+
+taken : (m now : ℕ) (card : Card) (core : Core) → Touches m core (card_taken m now card core).core
+taken m now card core =
+    by_part m core (same_addr (card_of core.kept m).addr card.addr)
+    (quiet (with_card (with_master core m (at_same_address (master_of core m))) m card))
+    (record { core = with_card (with_master core m (at_new_address now (master_of core m))) m card; frames = _ })
+    (carded m card (with_master core m (at_same_address (master_of core m))))
+    (carded m card (with_master core m (at_new_address now (master_of core m))))
+
+adopted_touches : (m now : ℕ) (card : Card) (core : Core) → Touches m core (adopted m now card core).core
+adopted_touches m now card core =
+    let first : Core = with_failover (raised_to card.epoch core) m (ended (failover_of core m)) in
+    chained m core first (card_taken m now card first).core (λ k apart. refl) (taken m now card first)
+
+known_touches : (plan : Plan) (m now : ℕ) (hello : Hello) (core : Core) → Touches m core (hello_of_known plan m now hello core).core
+known_touches plan m now hello core =
+    let first : Core = raised_to hello.current core in
+    chained m core first (hello_of_known plan m now hello core).core (λ k apart. refl)
+    (if_part m first (is_newer plan first m hello.card) (adopted m now hello.card) (adopted_touches m now hello.card first))
+
+-- of one master, whichever
+abbrev One : Core → Core → Type 0
+One core core2 = ChangesOne core.kept core2.kept
+
+same : (core : Core) → One core core
+same core = (0, λ k apart. refl)
+
+one_by_test : (core : Core) (test : Bool) (a b : Core) → One core a → One core b → One core (if test then a else b)
+one_by_test core true a b f g = f
+one_by_test core false a b f g = g
+
+one_if_part : (core : Core) (test : Bool) (part : Core → Part) → One core (part core).core → One core (part_if test core part).core
+one_if_part core true part f = f
+one_if_part core false part f = same core
+
+heeded_one : (plan : Plan) (now : ℕ) (m : Option ℕ) (hello : Hello) (core : Core) → One core (hello_heeded plan now m hello core).core
+heeded_one plan now None hello core = same core
+heeded_one plan now (Some m) hello core = (m, known_touches plan m now hello core)
+
+hello_one : (plan : Plan) (now : ℕ) (read : Result Hello TextFault) (core : Core) → One core (hello_read plan now read core).core
+hello_one plan now (Err fault) core = same core
+hello_one plan now (Ok hello) core =
+    one_if_part core (is_heeded plan hello) (hello_heeded plan now (master_named (roster_of plan) hello.master) hello)
+    (heeded_one plan now (master_named (roster_of plan) hello.master) hello core)
+
+heard_one : (voter m epoch : ℕ) (leader : Option RunId) (core first : Core) → One core first → One core (vote_heard voter m epoch leader first)
+heard_one voter m epoch None core first f = f
+heard_one voter m epoch (Some leader) core first f = f
+
+reported_one : (voter m now : ℕ) (addr : Addr) (down : Bool) (core : Core) → One core (reported voter m now addr down core)
+reported_one voter m now addr down core = known (same_addr addr (card_of core.kept m).addr)
+  where
+    known : (b : Bool) → One core (if b then with_master core m (record (master_of core m) { reports = Rattle.ballot_law.specs.Reports.with_report voter (record { down = down; at = now }) (master_of core m).reports }) else core)
+    known true = (0, λ k apart. refl)
+    known false = same core
+
+answer_one : (plan : Plan) (voter : NodeName) (m now : ℕ) (addr : Addr) (down : Bool) (leader : Option RunId) (epoch : ℕ) (core : Core) → One core (answered plan voter m now addr down leader epoch core)
+answer_one plan (SentinelAt voter) m now addr down leader epoch core =
+    one_by_test core (nat_lt voter (group_size plan) && not (voter == plan.place) && nat_lt m (master_count plan))
+    (vote_heard voter m epoch leader (reported voter m now addr down core)) core
+    (heard_one voter m epoch leader core (reported voter m now addr down core) (reported_one voter m now addr down core)) (same core)
+answer_one plan (StoreAt number) m now addr down leader epoch core = same core
+answer_one plan (ClientAt number) m now addr down leader epoch core = same core
+answer_one plan (PortAt number) m now addr down leader epoch core = same core
+
+pinged_at_one : (now : ℕ) (reply : PingReply) (at : Option NodePlace) (core : Core) → One core (pinged_at now reply at core)
+pinged_at_one now reply None core = same core
+pinged_at_one now reply (Some at) core = (0, λ k apart. refl)
+
+ping_one : (plan : Plan) (node : NodeName) (now : ℕ) (reply : PingReply) (core : Core) → One core (pinged plan node now reply core)
+ping_one plan (SentinelAt place) now reply core = known (nat_lt place (group_size plan) && not (place == plan.place))
+  where
+    known : (b : Bool) → One core (if b then record core { peers = Rattle.std.specs.Prelude.slice_set core.peers place (Rattle.sentinel_rules.specs.News.peer_pinged now reply (Rattle.sentinel_rules.specs.States.peer_of core place)) } else core)
+    known true = (0, λ k apart. refl)
+    known false = same core
+ping_one plan (StoreAt number) now reply core = pinged_at_one now reply (node_named plan (StoreAt number)) core
+ping_one plan (ClientAt number) now reply core = same core
+ping_one plan (PortAt number) now reply core = same core
+
+promotion_touches : (plan : Plan) (m k now : ℕ) (info : Info) (state : State) (core : Core) → Touches m core (promotion m k now info state core).core
+promotion_touches plan m k now info (WaitPromotion epoch choice former) core =
+    let first : Core = with_failover core m (promoted (WaitPromotion epoch choice former) (record (failover_of core m) { moment = now })) in
+    let card : Card = record { epoch = epoch; addr = choice.addr } in
+    if_part m core ((k == choice.place) && is_master_role info.role)
+    (λ c. card_taken m now (record { epoch = epoch; addr = choice.addr }) (with_failover c m (promoted (WaitPromotion epoch choice former) (record (failover_of c m) { moment = now }))))
+    (chained m core first (card_taken m now card first).core (λ k apart. refl) (taken m now card first))
+promotion_touches plan m k now info _ core = stays m core
+
+reconfiguration_touches : (m k : ℕ) (info : Info) (core : Core) → Touches m core (reconfiguration m k info core).core
+reconfiguration_touches m k info core =
+    if_part m core (has_followed info (card_of core.kept m).addr)
+    (λ c. quiet (with_failover c m (Rattle.failover_states.specs.Calls.reconfigured (failover_of c m).state (failover_of c m) k))) (λ k apart. refl)
+
+judged_touches : (plan : Plan) (m k now : ℕ) (info : Info) (core : Core) → Touches m core (judged plan m k now info core).core
+judged_touches plan m k now info core =
+    by_part m core (is_failing_over core m)
+    (if is_reconfiguring (failover_of core m).state then reconfiguration m k info core else promotion m k now info (failover_of core m).state core)
+    (part_if (not (k == card_place plan core m)) core (correction plan m k now info))
+    (by_part m core (is_reconfiguring (failover_of core m).state) (reconfiguration m k info core) (promotion m k now info (failover_of core m).state core)
+    (reconfiguration_touches m k info core) (promotion_touches plan m k now info (failover_of core m).state core))
+    (if_part m core (not (k == card_place plan core m)) (correction plan m k now info) (λ j apart. refl))
+
+info_one : (plan : Plan) (now : ℕ) (at : Option NodePlace) (info : Info) (core : Core) → One core (info_of_node plan now at info core).core
+info_one plan now None info core = same core
+info_one plan now (Some at) info core =
+    let first : Core = info_kept at.master at.place now info core in (
+      at.master,
+      chained at.master core first (info_at_node plan at.master at.place now info core).core (λ k apart. refl)
+          (if_part at.master first (not (is_tilted first)) (judged plan at.master at.place now info) (judged_touches plan at.master at.place now info first)),
+    )
+
+read_one : (plan : Plan) (node : NodeName) (now : ℕ) (read : Result Info TextFault) (core : Core) → One core (info_read plan node now read core).core
+read_one plan node now (Err fault) core = same core
+read_one plan node now (Ok info) core = info_one plan now (node_named plan node) info core
+
+-- Commands
+
+asked_one : (plan : Plan) (now : ℕ) (addr : Addr) (epoch : ℕ) (candidate : Option RunId) (m : Option ℕ) (core : Core) → One core (asked_of plan now addr epoch candidate m core).core
+asked_one plan now addr epoch candidate None core = same core
+asked_one plan now addr epoch None (Some m) core = same core
+asked_one plan now addr epoch (Some candidate) (Some m) core = (m, requested_touches plan m now epoch candidate core)
+
+commanded_one : (plan : Plan) (now : ℕ) (command : Command) (core : Core) → One core (commanded plan now command core).core
+commanded_one plan now (IsMasterDownByAddr addr epoch candidate) core = asked_one plan now addr epoch candidate (master_with_card core.kept.masters addr) core
+commanded_one plan now Ping core = same core
+commanded_one plan now (GetMasterAddrByName name) core = same core
+commanded_one plan now Masters core = same core
+commanded_one plan now (Master name) core = same core
+commanded_one plan now (Replicas name) core = same core
+commanded_one plan now (Sentinels name) core = same core
+commanded_one plan now MyId core = same core
+commanded_one plan now (CkQuorum name) core = same core
+commanded_one plan now FlushConfig core = same core
+
+-- One input
+
+input_one : (plan : Plan) (now : ℕ) (event : Event) (core : Core) → One core (next_at plan now event core).core
+input_one plan now (Tick m random) core = (m, tick_touches plan m random now core)
+input_one plan now (Commanded sender command) core = commanded_one plan now command core
+input_one plan now (AnswerCame voter m addr down leader epoch) core = answer_one plan voter m now addr down leader epoch core
+input_one plan now (Pinged node reply) core = ping_one plan node now reply core
+input_one plan now (InfoRead node text) core = read_one plan node now (info_of text) core
+input_one plan now (HelloRead text) core = hello_one plan now (hello_of text) core
+input_one plan now (Become priority offset link_down) core = same core
+input_one plan now (Handed message) core = same core
+
+pub inputs_change_one : InputsChangeOne
+inputs_change_one plan core now event = input_one plan (clock now) event (cleared core)

@@ -1,0 +1,19 @@
+//! How often a Sentinel sends what, and how long it bears what is wrong, in milliseconds.
+
+/// How often a PING is sent at least: more often where the master's `down-after-milliseconds` is below it.
+pub const PING_MS: u64 = 1_000;
+
+/// How often INFO is sent.
+pub const INFO_MS: u64 = 10_000;
+
+/// How often INFO is sent to a replica whose master is down or fails over, or whose link was down.
+pub const BUSY_INFO_MS: u64 = 1_000;
+
+/// How often a hello is sent.
+pub const HELLO_MS: u64 = 2_000;
+
+/// How often the other Sentinels are asked whether a master is down.
+pub const ASK_MS: u64 = 1_000;
+
+/// How long a node may say that it is a master though it isn't.
+pub const WRONG_ROLE_MS: u64 = 8_000;
