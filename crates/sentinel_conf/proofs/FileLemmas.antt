@@ -4,7 +4,7 @@ use Rattle.std.specs.Prelude.{unwrap_or, filter}
 use Rattle.std.specs.List.{list_any, flat_map, filter_map, cons_option, zip, AllZip, AllByRecursion}
 use Rattle.std.proofs.lemmas.Bool.{or_parts, or_from, true≢false, false_from_ne_true, cases_Bool}
 use Rattle.ballot_law.specs.Ordered.{repeats}
-use Rattle.sentinel_conf.specs.Meaning.{first, greatest}
+use Rattle.sentinel_conf.specs.Meaning.{last, greatest}
 use Rattle.sentinel_conf.proofs.SetLemmas.{In, Rises, IsOrder, each_in, each_from}
 use Rattle.sentinel_conf.proofs.OrderLemmas.{IsSame}
 
@@ -116,16 +116,19 @@ in_filter_map {X} h y (x ∷ xs) i =
       | inr j ↦ let r = in_filter_map h y xs j in (r.0, inr r.1, r.2)
     ]
 
--- what the first gives, where all that give anything give the same
-first_by : {X Y : Type 0} (h : X → Option Y) (d v : Y) (x : X) (xs : List X) (o : Option Y) → h x ≡ o → ((w : Y) → o ≡ Some w → w ≡ v) → (o ≡ Some v) ⊎ (first h d xs ≡ v) → unwrap_or o (first h d xs) ≡ v
-first_by h d v x xs None e a (inl f) = cc
-first_by h d v x xs None e a (inr f) = f
-first_by h d v x xs (Some w) e a f = a w refl
+-- what the last gives, where all that give anything give the same
+given_by : {Y : Type 0} (o : Option Y) (d v : Y) → ((w : Y) → o ≡ Some w → w ≡ v) → d ≡ v → unwrap_or o d ≡ v
+given_by None d v a e = e
+given_by (Some w) d v a e = a w refl
 
-pub first_is : {X Y : Type 0} (h : X → Option Y) (d v : Y) (xs : List X) → ((x : X) → In x xs → (w : Y) → h x ≡ Some w → w ≡ v) → (x : X) → In x xs → h x ≡ Some v → first h d xs ≡ v
-first_is h d v [] a x i e = absurd i
-first_is h d v (y ∷ xs) a x (inl f) e = first_by h d v y xs (h y) refl (a y (inl refl)) (inl (ap h (sym f) ∙ e))
-first_is h d v (y ∷ xs) a x (inr i) e = first_by h d v y xs (h y) refl (a y (inl refl)) (inr (first_is h d v xs (λ z j. a z (inr j)) x i e))
+last_stays : {X Y : Type 0} (h : X → Option Y) (d v : Y) (xs : List X) → ((x : X) → In x xs → (w : Y) → h x ≡ Some w → w ≡ v) → d ≡ v → last h d xs ≡ v
+last_stays h d v [] a e = e
+last_stays h d v (x ∷ xs) a e = last_stays h (unwrap_or (h x) d) v xs (λ y i. a y (inr i)) (given_by (h x) d v (a x (inl refl)) e)
+
+pub last_is : {X Y : Type 0} (h : X → Option Y) (d v : Y) (xs : List X) → ((x : X) → In x xs → (w : Y) → h x ≡ Some w → w ≡ v) → (x : X) → In x xs → h x ≡ Some v → last h d xs ≡ v
+last_is h d v [] a x i e = absurd i
+last_is h d v (y ∷ xs) a x (inl f) e = last_stays h (unwrap_or (h y) d) v xs (λ z i. a z (inr i)) (ap (λ o. unwrap_or o d) (ap h (sym f) ∙ e))
+last_is h d v (y ∷ xs) a x (inr i) e = last_is h (unwrap_or (h y) d) v xs (λ z j. a z (inr j)) x i e
 
 pub greatest-le : (n : ℕ) (ns : List ℕ) → ((m : ℕ) → In m ns → m ≤ n) → greatest ns ≤ n
 greatest-le n [] h = omega arith

@@ -1,21 +1,16 @@
 mod WorkedFiles
-pub mod SpacedWords
-pub mod Cuts
 pub mod RoomLemmas
 pub mod Fitting
 pub mod ReadSteps
 pub mod RosterAgain
 pub mod ListSteps
 pub mod FileWalks
-pub mod DirectiveSteps
 pub mod SetLemmas
 pub mod OrderLemmas
-pub mod StateLemmas
 pub mod FileLemmas
 pub mod LineLemmas
 pub mod SizeLemmas
 pub mod TextLemmas
 pub mod ReadAgain
-pub mod ValidLines
 pub mod ReadConf
 pub mod SoundConf

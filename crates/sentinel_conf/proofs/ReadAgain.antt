@@ -10,33 +10,37 @@ use Rattle.ballot_law.specs.Ordered.{in_order, repeats}
 use Rattle.ballot_law.specs.Rosters.{Roster as RosterPlan, MasterPlan}
 use Rattle.ballot_law.specs.Orders.{same_bytes, same_id, same_addr, addr_before, bytes_before}
 use Rattle.ballot_law.specs.RosterFaults.{fault_of, first_that_fits, tests}
-use Rattle.sentinel_conf.specs.declared.faults.ConfKind.{ConfKind}
-use Rattle.sentinel_conf.specs.declared.faults.ConfKind.TheVariants.{TooLong, NotUtf8, UnknownMaster, NoMyId, Roster}
-use Rattle.sentinel_conf.specs.declared.faults.ConfFault.{ConfFault}
+use Rattle.conf_lines.specs.declared.faults.ConfKind.{ConfKind}
+use Rattle.conf_lines.specs.declared.faults.ConfKind.TheVariants.{TooLong, NotUtf8, UnknownMaster, NoMyId, Roster}
+use Rattle.conf_lines.specs.declared.faults.ConfFault.{ConfFault}
 use Rattle.ballot_law.specs.declared.cards.KeptMaster.{KeptMaster}
 use Rattle.sentinel_conf.specs.declared.settings.Settings.{Settings}
-use Rattle.sentinel_conf.specs.declared.lines.State.{State}
-use Rattle.sentinel_conf.specs.declared.lines.State.TheVariants.{MyId, CurrentEpoch, Monitor, ConfigEpoch, LeaderEpoch, KnownReplica, KnownSentinel}
-use Rattle.sentinel_conf.specs.declared.lines.Setting.{Setting}
-use Rattle.sentinel_conf.specs.declared.lines.Line.{Line}
-use Rattle.sentinel_conf.specs.declared.lines.Line.TheVariants as line
-use Rattle.sentinel_conf.specs.Words.{lines}
+use Rattle.conf_lines.specs.declared.lines.StateLine.{StateLine}
+use Rattle.conf_lines.specs.declared.lines.StateLine.TheVariants.{MyId, CurrentEpoch, Monitor, ConfigEpoch, LeaderEpoch, KnownReplica, KnownSentinel}
+use Rattle.conf_lines.specs.declared.lines.Setting.{Setting}
+use Rattle.conf_lines.specs.declared.lines.Line.{Line}
+use Rattle.conf_lines.specs.declared.lines.Line.TheVariants as line
+use Rattle.conf_lines.specs.Words.{lines}
 use Rattle.ballot_law.specs.Words.{some_if}
-use Rattle.sentinel_conf.specs.Lines.{line_of, spelled, same_key, MAX_EPOCH}
-use Rattle.sentinel_conf.specs.Meaning.{ConfPlan, states, settings, name_of, quorum_of, monitored_at, node_of, config_of, voted_of, epoch_of, known_of, my_id_of, first, member_before, names_of, master_of, kept_master_of, members_of, greatest, kept_of, own_addr, own_port, settings_of, conf_of}
+use Rattle.conf_lines.specs.Lines.{line_of, spelled, same_key}
+use Rattle.ballot_law.specs.declared.cards.TheConstants.{MAX_EPOCH}
+use Rattle.sentinel_conf.specs.Meaning.{ConfPlan, states, settings, last, member_before, names_of, master_of, kept_master_of, members_of, greatest, kept_of, own_addr, own_port, settings_of, conf_of}
+use Rattle.conf_lines.specs.Values.{name_of, quorum_of, monitored_at, node_of, config_of, voted_of, epoch_of, known_of, my_id_of}
 use Rattle.ballot_law.specs.declared.cards.Kept.{Kept as KeptPlan}
 use Rattle.ballot_law.specs.Rosters.{no_addr}
 use Rattle.sentinel_conf.specs.Rewritten.{others, replicas, master_states, state_lines, rewritten, longest, IsKeptMaster, IsKeptPart}
-use Rattle.sentinel_conf.specs.Reading.{FILE_MAX, fault_at, line_fault, state_name, spoken_of, unknown_fault, first_fault, ◌>>=◌, unless, guard, found, roster_checked, whole_conf, conf_of_lines, conf_of_bytes}
-use Rattle.sentinel_conf.proofs.SpacedWords.{HasNoLf, lines-ended}
+use Rattle.sentinel_conf.specs.Reading.{FILE_MAX, line_fault, unknown_fault, first_fault, ◌>>=◌, unless, guard, found, roster_checked, whole_conf, conf_of_lines, conf_of_bytes}
+use Rattle.conf_lines.specs.Faults.{fault_at}
+use Rattle.conf_lines.specs.Lines.{state_name, spoken_of}
+use Rattle.conf_lines.proofs.SpacedWords.{HasNoLf, lines-ended}
 use Rattle.ballot_law.proofs.WordLemmas.{same_bytes-refl, same_bytes-true}
 use Rattle.sentinel_conf.proofs.SetLemmas.{In, Rises, each_in, each_from, in_order_is}
 use Rattle.sentinel_conf.proofs.OrderLemmas.{addr_order, addr_same, id_same, member_order, bytes_order, bytes_same}
-use Rattle.sentinel_conf.proofs.StateLemmas.{IsAddr, IsId, IsName, IsState, no_lf_spelled}
+use Rattle.conf_lines.proofs.StateLemmas.{IsAddr, IsId, IsName, IsState, no_lf_spelled}
 use Rattle.sentinel_conf.proofs.SizeLemmas.{rewritten_size, longest_is}
 use Rattle.sentinel_conf.proofs.TextLemmas.{utf8_spelled, utf8_ended}
 use Rattle.sentinel_conf.proofs.LineLemmas.{IsPlainLine, ArePlainTexts, AreStates, lines_again, states_again, settings_again, kept_again as kept_lines_again, clean_none, clean_each, none_twice}
-use Rattle.sentinel_conf.proofs.FileLemmas.{in_append_left, in_append_right, in_append_cases, in_map, each_map, in_flat_map, each_flat_map, to_filter, from_filter, rises_filter, to_filter_map, each_filter_map, first_is, greatest-le, Apart, apart_back, apart_append, apart_map, apart_rises, any_some, apart_from_repeats, repeats_key, one_of_key, apart_filter, zipped, in_from_at}
+use Rattle.sentinel_conf.proofs.FileLemmas.{in_append_left, in_append_right, in_append_cases, in_map, each_map, in_flat_map, each_flat_map, to_filter, from_filter, rises_filter, to_filter_map, each_filter_map, last_is, greatest-le, Apart, apart_back, apart_append, apart_map, apart_rises, any_some, apart_from_repeats, repeats_key, one_of_key, apart_filter, zipped, in_from_at}
 
 abbrev pub names : ConfPlan → List (List ℕ)
 names conf = map (λ master. master.name) conf.roster.masters
@@ -138,7 +142,7 @@ whole_kept m epoch voted addr e f g =
     ∙ ap (λ t. let x : KeptMaster = record { card = record { epoch = m.card.epoch; addr = m.card.addr }; voted = t } in x) g
 
 -- keys
-key_name : (x y : State) → same_key x y ≡ true → state_name x ≡ state_name y
+key_name : (x y : StateLine) → same_key x y ≡ true → state_name x ≡ state_name y
 key_name (MyId i) (MyId j) h = refl
 key_name (CurrentEpoch d) (CurrentEpoch e) h = refl
 key_name (Monitor m a q) (Monitor n b r) h = ap Some (same_bytes-true m n h)
@@ -148,7 +152,7 @@ key_name (KnownReplica m a) (KnownReplica n b) h = ap Some (same_bytes-true m n 
 key_name (KnownSentinel m a i) (KnownSentinel n b j) h = ap Some (same_bytes-true m n (and_parts (same_bytes m n) (same_id i j) h).0)
 key_name _ _ h = absurd (true≢false (sym h))
 
-named : (conf : ConfPlan) (p : MasterPlan × KeptMaster) (s : State) → In s (master_states conf p) → state_name s ≡ Some p.0.name
+named : (conf : ConfPlan) (p : MasterPlan × KeptMaster) (s : StateLine) → In s (master_states conf p) → state_name s ≡ Some p.0.name
 named conf p s (inl f) = ap state_name f
 named conf p s (inr (inl f)) = ap state_name f
 named conf p s (inr (inr (inl f))) = ap state_name f
@@ -159,11 +163,11 @@ named conf p s (inr (inr (inr j))) =
     ]
 
 -- a state line of a master has another key than one of none
-not_of_none : (s t : State) (n : List ℕ) → state_name s ≡ Some n → state_name t ≡ None → same_key s t ≡ false
+not_of_none : (s t : StateLine) (n : List ℕ) → state_name s ≡ Some n → state_name t ≡ None → same_key s t ≡ false
 not_of_none s t n e f = false_from_ne_true (same_key s t) (λ h. let g : None ≡ Some n = sym f ∙ sym (key_name s t h) ∙ e in nothing n ⊥ g)
 
 -- state lines of masters of other names have other keys
-not_of_other : (s t : State) (m n : List ℕ) → state_name s ≡ Some m → state_name t ≡ Some n → same_bytes m n ≡ false → same_key s t ≡ false
+not_of_other : (s t : StateLine) (m n : List ℕ) → state_name s ≡ Some m → state_name t ≡ Some n → same_bytes m n ≡ false → same_key s t ≡ false
 not_of_other s t m n e f h =
     false_from_ne_true (same_key s t) (λ k.
     let g : Some m ≡ Some n = sym e ∙ key_name s t k ∙ f in
@@ -173,9 +177,9 @@ not_of_other s t m n e f h =
 apart_master : (conf : ConfPlan) (p : MasterPlan × KeptMaster) → Rises addr_before p.0.nodes → Apart same_id (map (λ (member : Member). member.id) conf.roster.sentinels) → Apart same_key (master_states conf p)
 apart_master conf p r a =
     let n = p.0.name in
-    let reps : List State = map (KnownReplica n) (replicas p.0 p.1) in
-    let sens : List State = map (λ (member : Member). KnownSentinel n member.addr member.id) (others conf) in
-    let tails : (P : State → Type 0) → ((a : Addr) → P (KnownReplica n a)) → ((m : Member) → P (KnownSentinel n m.addr m.id)) → AllByRecursion P (reps ++ sens) =
+    let reps : List StateLine = map (KnownReplica n) (replicas p.0 p.1) in
+    let sens : List StateLine = map (λ (member : Member). KnownSentinel n member.addr member.id) (others conf) in
+    let tails : (P : StateLine → Type 0) → ((a : Addr) → P (KnownReplica n a)) → ((m : Member) → P (KnownSentinel n m.addr m.id)) → AllByRecursion P (reps ++ sens) =
     λ P f g. each_from P (reps ++ sens) (λ s i.
     elim (in_append_cases s reps sens i) as (λ _. P s) [
       | inl j ↦ each_map (KnownReplica n) P (replicas p.0 p.1) (λ a q. f a) s j
@@ -187,7 +191,7 @@ apart_master conf p r a =
     let second_apart : Apart same_key sens =
     apart_map (λ (member : Member). KnownSentinel n member.addr member.id) same_key (λ x y. same_id x.id y.id) (others conf) (λ x y h. and_right (same_bytes n n) (same_id y.id x.id) h)
     (apart_filter (λ (x y : Member). same_id x.id y.id) (λ member. not (same_id conf.id member.id)) conf.roster.sentinels (apart_back (λ (m : Member). m.id) same_id conf.roster.sentinels a)) in
-    let across : (x y : State) → In x reps → In y sens → same_key y x ≡ false =
+    let across : (x y : StateLine) → In x reps → In y sens → same_key y x ≡ false =
     λ x y i j.
     each_map (KnownReplica n) (λ x. same_key y x ≡ false) (replicas p.0 p.1)
     (λ a q. each_map (λ (member : Member). KnownSentinel n member.addr member.id) (λ y. same_key y (KnownReplica n a) ≡ false) (others conf) (λ m w. refl) y j) x i in (
@@ -241,11 +245,11 @@ module _ (conf : ConfPlan) (kept : KeptPlan) (c : IsConf conf) (k : IsKeptPart c
   abbrev pairs : List (MasterPlan × KeptMaster)
   pairs = zip conf.roster.masters kept.masters
 
-  abbrev lines_of_state : List State
+  abbrev lines_of_state : List StateLine
   lines_of_state = state_lines conf kept
 
   -- a fact of each state line
-  record Each (P : State → Type 0) : Type 0 where
+  record Each (P : StateLine → Type 0) : Type 0 where
     pub id : P (MyId conf.id)
     pub current : P (CurrentEpoch kept.current)
     pub monitor : (p : MasterPlan × KeptMaster) → In p pairs → P (Monitor p.0.name p.1.card.addr p.0.quorum)
@@ -254,7 +258,7 @@ module _ (conf : ConfPlan) (kept : KeptPlan) (c : IsConf conf) (k : IsKeptPart c
     pub replica : (p : MasterPlan × KeptMaster) → In p pairs → (a : Addr) → In a p.0.nodes → P (KnownReplica p.0.name a)
     pub known : (p : MasterPlan × KeptMaster) → In p pairs → (m : Member) → In m conf.roster.sentinels → P (KnownSentinel p.0.name m.addr m.id)
 
-  each_of_master : (P : State → Type 0) → Each P → (p : MasterPlan × KeptMaster) → In p pairs → (s : State) → In s (master_states conf p) → P s
+  each_of_master : (P : StateLine → Type 0) → Each P → (p : MasterPlan × KeptMaster) → In p pairs → (s : StateLine) → In s (master_states conf p) → P s
   each_of_master P e p i s (inl f) = subst P (sym f) (e.monitor p i)
   each_of_master P e p i s (inr (inl f)) = subst P (sym f) (e.config p i)
   each_of_master P e p i s (inr (inr (inl f))) = subst P (sym f) (e.leader p i)
@@ -264,13 +268,13 @@ module _ (conf : ConfPlan) (kept : KeptPlan) (c : IsConf conf) (k : IsKeptPart c
         | inr r ↦ each_map (λ (member : Member). KnownSentinel p.0.name member.addr member.id) P (others conf) (λ m q. e.known p i m (from_filter (λ member. not (same_id conf.id member.id)) m conf.roster.sentinels q).1) s r
       ]
 
-  each_state : (P : State → Type 0) → Each P → (s : State) → In s lines_of_state → P s
+  each_state : (P : StateLine → Type 0) → Each P → (s : StateLine) → In s lines_of_state → P s
   each_state P e s (inl f) = subst P (sym f) e.id
   each_state P e s (inr (inl f)) = subst P (sym f) e.current
   each_state P e s (inr (inr i)) = each_flat_map (master_states conf) P pairs (λ p j. each_of_master P e p j) s i
 
   -- where state lines of a master stand
-  of_master : (p : MasterPlan × KeptMaster) → In p pairs → (s : State) → In s (master_states conf p) → In s lines_of_state
+  of_master : (p : MasterPlan × KeptMaster) → In p pairs → (s : StateLine) → In s (master_states conf p) → In s lines_of_state
   of_master p i s j = inr (inr (in_flat_map (master_states conf) p s pairs i j))
 
   pair_is : (p : MasterPlan × KeptMaster) → In p pairs → IsKeptMaster kept.current p.0 p.1
@@ -297,7 +301,7 @@ module _ (conf : ConfPlan) (kept : KeptPlan) (c : IsConf conf) (k : IsKeptPart c
   member_is : (m : Member) → In m conf.roster.sentinels → IsMember m
   member_is m i = each_in IsMember conf.roster.sentinels c.members m i
 
-  all_states : (s : State) → In s lines_of_state → IsState s
+  all_states : (s : StateLine) → In s lines_of_state → IsState s
   all_states = each_state IsState (record {
     id = (member_is (own conf) c.own).id;
     current = k.current;
@@ -319,10 +323,10 @@ module _ (conf : ConfPlan) (kept : KeptPlan) (c : IsConf conf) (k : IsKeptPart c
   one_pair p q i j e = one_of_key (λ (p : MasterPlan × KeptMaster). p.0.name) same_bytes bytes_same pairs names_apart p q i j (same_bytes-true p.0.name q.0.name e)
 
   module _ (p : MasterPlan × KeptMaster) (i : In p pairs) where
-    abbrev Gives : {Y : Type 0} → (State → Option Y) → (Y → Type 0) → State → Type 0
+    abbrev Gives : {Y : Type 0} → (StateLine → Option Y) → (Y → Type 0) → StateLine → Type 0
     Gives {Y} h P s = (y : Y) → h s ≡ Some y → P y
 
-    node_found : (s : State) → In s lines_of_state → Gives (node_of p.0.name) (λ a. In a p.0.nodes) s
+    node_found : (s : StateLine) → In s lines_of_state → Gives (node_of p.0.name) (λ a. In a p.0.nodes) s
     node_found = each_state (Gives (node_of p.0.name) (λ a. In a p.0.nodes)) (record {
       id = λ a e. nothing a (In a p.0.nodes) e;
       current = λ a e. nothing a (In a p.0.nodes) e;
@@ -363,9 +367,9 @@ module _ (conf : ConfPlan) (kept : KeptPlan) (c : IsConf conf) (k : IsKeptPart c
         (each_filter_map (node_of p.0.name) (λ a. In a p.0.nodes) lines_of_state node_found) node_known
 
     -- one value of a master: its line gives it, and no other line does
-    quorum_again : first (quorum_of p.0.name) 0 lines_of_state ≡ p.0.quorum
+    quorum_again : last (quorum_of p.0.name) 0 lines_of_state ≡ p.0.quorum
     quorum_again =
-        first_is (quorum_of p.0.name) 0 p.0.quorum lines_of_state
+        last_is (quorum_of p.0.name) 0 p.0.quorum lines_of_state
         (each_state (Gives (quorum_of p.0.name) (λ y. y ≡ p.0.quorum)) (record {
           id = λ y e. nothing y (y ≡ p.0.quorum) e;
           current = λ y e. nothing y (y ≡ p.0.quorum) e;
@@ -377,9 +381,9 @@ module _ (conf : ConfPlan) (kept : KeptPlan) (c : IsConf conf) (k : IsKeptPart c
         }))
         (Monitor p.0.name p.1.card.addr p.0.quorum) monitor_in (gives_if (same_bytes p.0.name p.0.name) p.0.quorum (same_bytes-refl p.0.name))
 
-    card_again : first (monitored_at p.0.name) no_addr lines_of_state ≡ p.1.card.addr
+    card_again : last (monitored_at p.0.name) no_addr lines_of_state ≡ p.1.card.addr
     card_again =
-        first_is (monitored_at p.0.name) no_addr p.1.card.addr lines_of_state
+        last_is (monitored_at p.0.name) no_addr p.1.card.addr lines_of_state
         (each_state (Gives (monitored_at p.0.name) (λ y. y ≡ p.1.card.addr)) (record {
           id = λ y e. nothing y (y ≡ p.1.card.addr) e;
           current = λ y e. nothing y (y ≡ p.1.card.addr) e;
@@ -391,9 +395,9 @@ module _ (conf : ConfPlan) (kept : KeptPlan) (c : IsConf conf) (k : IsKeptPart c
         }))
         (Monitor p.0.name p.1.card.addr p.0.quorum) monitor_in (gives_if (same_bytes p.0.name p.0.name) p.1.card.addr (same_bytes-refl p.0.name))
 
-    epoch_again : first (config_of p.0.name) 0 lines_of_state ≡ p.1.card.epoch
+    epoch_again : last (config_of p.0.name) 0 lines_of_state ≡ p.1.card.epoch
     epoch_again =
-        first_is (config_of p.0.name) 0 p.1.card.epoch lines_of_state
+        last_is (config_of p.0.name) 0 p.1.card.epoch lines_of_state
         (each_state (Gives (config_of p.0.name) (λ y. y ≡ p.1.card.epoch)) (record {
           id = λ y e. nothing y (y ≡ p.1.card.epoch) e;
           current = λ y e. nothing y (y ≡ p.1.card.epoch) e;
@@ -405,9 +409,9 @@ module _ (conf : ConfPlan) (kept : KeptPlan) (c : IsConf conf) (k : IsKeptPart c
         }))
         (ConfigEpoch p.0.name p.1.card.epoch) (of_master p i (ConfigEpoch p.0.name p.1.card.epoch) (inr (inl refl))) (gives_if (same_bytes p.0.name p.0.name) p.1.card.epoch (same_bytes-refl p.0.name))
 
-    voted_again : first (voted_of p.0.name) 0 lines_of_state ≡ p.1.voted
+    voted_again : last (voted_of p.0.name) 0 lines_of_state ≡ p.1.voted
     voted_again =
-        first_is (voted_of p.0.name) 0 p.1.voted lines_of_state
+        last_is (voted_of p.0.name) 0 p.1.voted lines_of_state
         (each_state (Gives (voted_of p.0.name) (λ y. y ≡ p.1.voted)) (record {
           id = λ y e. nothing y (y ≡ p.1.voted) e;
           current = λ y e. nothing y (y ≡ p.1.voted) e;
@@ -420,13 +424,13 @@ module _ (conf : ConfPlan) (kept : KeptPlan) (c : IsConf conf) (k : IsKeptPart c
         (LeaderEpoch p.0.name p.1.voted) (of_master p i (LeaderEpoch p.0.name p.1.voted) (inr (inr (inl refl)))) (gives_if (same_bytes p.0.name p.0.name) p.1.voted (same_bytes-refl p.0.name))
 
     master_again : master_of lines_of_state p.0.name ≡ p.0
-    master_again = whole_plan p.0 (in_order addr_before (filter_map (node_of p.0.name) lines_of_state)) (first (quorum_of p.0.name) 0 lines_of_state) nodes_again quorum_again
+    master_again = whole_plan p.0 (in_order addr_before (filter_map (node_of p.0.name) lines_of_state)) (last (quorum_of p.0.name) 0 lines_of_state) nodes_again quorum_again
 
     kept_again : kept_master_of lines_of_state p.0.name ≡ p.1
-    kept_again = whole_kept p.1 (first (config_of p.0.name) 0 lines_of_state) (first (voted_of p.0.name) 0 lines_of_state) (first (monitored_at p.0.name) no_addr lines_of_state) epoch_again card_again voted_again
+    kept_again = whole_kept p.1 (last (config_of p.0.name) 0 lines_of_state) (last (voted_of p.0.name) 0 lines_of_state) (last (monitored_at p.0.name) no_addr lines_of_state) epoch_again card_again voted_again
 
   -- the names
-  name_found : (s : State) → In s lines_of_state → (n : List ℕ) → name_of s ≡ Some n → In n (names conf)
+  name_found : (s : StateLine) → In s lines_of_state → (n : List ℕ) → name_of s ≡ Some n → In n (names conf)
   name_found = each_state (λ s. (n : List ℕ) → name_of s ≡ Some n → In n (names conf)) (record {
     id = λ n e. nothing n (In n (names conf)) e;
     current = λ n e. nothing n (In n (names conf)) e;
@@ -462,7 +466,7 @@ module _ (conf : ConfPlan) (kept : KeptPlan) (c : IsConf conf) (k : IsKeptPart c
       ∙ map_same (λ (p : MasterPlan × KeptMaster). kept_master_of lines_of_state p.0.name) (λ p. p.1) pairs kept_again
       ∙ rights
 
-  epoch_le : (s : State) → In s lines_of_state → (e : ℕ) → epoch_of s ≡ Some e → e ≤ kept.current
+  epoch_le : (s : StateLine) → In s lines_of_state → (e : ℕ) → epoch_of s ≡ Some e → e ≤ kept.current
   epoch_le = each_state (λ s. (e : ℕ) → epoch_of s ≡ Some e → e ≤ kept.current) (record {
     id = λ e f. nothing e (e ≤ kept.current) f;
     current = λ e f. let g : kept.current ≡ e = cc in omega arith;
@@ -483,7 +487,7 @@ module _ (conf : ConfPlan) (kept : KeptPlan) (c : IsConf conf) (k : IsKeptPart c
   sentinels_apart : Apart same_id (map (λ (member : Member). member.id) conf.roster.sentinels)
   sentinels_apart = apart_from_repeats same_id id_same (map (λ (member : Member). member.id) conf.roster.sentinels) (repeats_key (λ (member : Member). member.id) same_id conf.roster.sentinels ∙ (no_fault conf.roster c.roster).ids)
 
-  known_found : (s : State) → In s lines_of_state → (m : Member) → known_of s ≡ Some m → In m conf.roster.sentinels
+  known_found : (s : StateLine) → In s lines_of_state → (m : Member) → known_of s ≡ Some m → In m conf.roster.sentinels
   known_found = each_state (λ s. (m : Member) → known_of s ≡ Some m → In m conf.roster.sentinels) (record {
     id = λ m e. nothing m (In m conf.roster.sentinels) e;
     current = λ m e. nothing m (In m conf.roster.sentinels) e;
@@ -531,12 +535,12 @@ module _ (conf : ConfPlan) (kept : KeptPlan) (c : IsConf conf) (k : IsKeptPart c
   abbrev texts : List (List ℕ)
   texts = conf.kept_lines ++ map spelled lines_of_state
 
-  no_other_id : (s : State) → In s (CurrentEpoch kept.current ∷ flat_map (master_states conf) pairs) → same_key s (MyId conf.id) ≡ false
+  no_other_id : (s : StateLine) → In s (CurrentEpoch kept.current ∷ flat_map (master_states conf) pairs) → same_key s (MyId conf.id) ≡ false
   no_other_id s (inl f) = ap (λ t. same_key t (MyId conf.id)) f
   no_other_id s (inr i) =
       each_flat_map (master_states conf) (λ s. same_key s (MyId conf.id) ≡ false) pairs (λ p i s j. not_of_none s (MyId conf.id) p.0.name (named conf p s j) refl) s i
 
-  no_other_epoch : (s : State) → In s (flat_map (master_states conf) pairs) → same_key s (CurrentEpoch kept.current) ≡ false
+  no_other_epoch : (s : StateLine) → In s (flat_map (master_states conf) pairs) → same_key s (CurrentEpoch kept.current) ≡ false
   no_other_epoch =
       each_flat_map (master_states conf) (λ s. same_key s (CurrentEpoch kept.current) ≡ false) pairs (λ p i s j. not_of_none s (CurrentEpoch kept.current) p.0.name (named conf p s j) refl)
 
@@ -553,7 +557,7 @@ module _ (conf : ConfPlan) (kept : KeptPlan) (c : IsConf conf) (k : IsKeptPart c
   no_twice = none_twice conf.kept_lines lines_of_state are_plain are_states apart_states
 
   -- no line speaks of another master
-  state_named : (s : State) → In s lines_of_state → (n : List ℕ) → state_name s ≡ Some n → In n (names conf)
+  state_named : (s : StateLine) → In s lines_of_state → (n : List ℕ) → state_name s ≡ Some n → In n (names conf)
   state_named = each_state (λ s. (n : List ℕ) → state_name s ≡ Some n → In n (names conf)) (record {
     id = λ n e. nothing n (In n (names conf)) e;
     current = λ n e. nothing n (In n (names conf)) e;
@@ -634,7 +638,7 @@ module _ (conf : ConfPlan) (kept : KeptPlan) (c : IsConf conf) (k : IsKeptPart c
   rostered_again =
       ap (λ o. (elim o as (λ _. Result (Unit {0}) ConfFault) [ None ↦ Ok tt | Some fault ↦ Err (fault_at 0 (Roster fault)) ]) >>= λ _. sized again) c.roster ∙ sized_again
 
-  abbrev identified : List (List ℕ) → List State → Result ConfPlan ConfFault
+  abbrev identified : List (List ℕ) → List StateLine → Result ConfPlan ConfFault
   identified ts ss = found NoMyId (filter_map my_id_of ss) >>= λ id. rostered (whole_conf ts id)
 
   lines_read_again : conf_of_lines texts ≡ Ok again

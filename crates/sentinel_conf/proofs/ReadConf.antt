@@ -13,32 +13,35 @@ use Rattle.ballot_law.specs.Ordered.{in_order}
 use Rattle.ballot_law.specs.Rosters.{MasterPlan}
 use Rattle.ballot_law.specs.Orders.{same_bytes, addr_before, bytes_before}
 use Rattle.ballot_law.specs.RosterFaults.{fault_of}
-use Rattle.sentinel_conf.specs.declared.faults.ConfKind.{ConfKind}
-use Rattle.sentinel_conf.specs.declared.faults.ConfKind.TheVariants.{TooLong, NotUtf8, NoMyId, Roster}
-use Rattle.sentinel_conf.specs.declared.faults.ConfFault.{ConfFault}
-use Rattle.sentinel_conf.specs.declared.lines.State.{State}
-use Rattle.sentinel_conf.specs.declared.lines.State.TheVariants.{MyId, CurrentEpoch, Monitor, ConfigEpoch, LeaderEpoch, KnownReplica, KnownSentinel}
-use Rattle.sentinel_conf.specs.declared.lines.Setting.{Setting}
-use Rattle.sentinel_conf.specs.declared.lines.Setting.TheVariants.{Port, AnnounceIp, AnnouncePort, DownAfter, ParallelSyncs, FailoverTimeout}
-use Rattle.sentinel_conf.specs.declared.lines.Line.{Line}
-use Rattle.sentinel_conf.specs.declared.lines.Line.TheVariants as line
-use Rattle.sentinel_conf.specs.Words.{lines}
+use Rattle.conf_lines.specs.declared.faults.ConfKind.{ConfKind}
+use Rattle.conf_lines.specs.declared.faults.ConfKind.TheVariants.{TooLong, NotUtf8, NoMyId, Roster}
+use Rattle.conf_lines.specs.declared.faults.ConfFault.{ConfFault}
+use Rattle.conf_lines.specs.declared.lines.StateLine.{StateLine}
+use Rattle.conf_lines.specs.declared.lines.StateLine.TheVariants.{MyId, CurrentEpoch, Monitor, ConfigEpoch, LeaderEpoch, KnownReplica, KnownSentinel}
+use Rattle.conf_lines.specs.declared.lines.Setting.{Setting}
+use Rattle.conf_lines.specs.declared.lines.Setting.TheVariants.{Port, AnnounceIp, AnnouncePort, DownAfter, ParallelSyncs, FailoverTimeout}
+use Rattle.conf_lines.specs.declared.lines.Line.{Line}
+use Rattle.conf_lines.specs.declared.lines.Line.TheVariants as line
+use Rattle.conf_lines.specs.Words.{lines}
 use Rattle.ballot_law.specs.Words.{some_if}
-use Rattle.sentinel_conf.specs.Lines.{line_of, MAX_EPOCH}
-use Rattle.sentinel_conf.specs.Meaning.{ConfPlan, states, settings, state_of, setting_of, name_of, quorum_of, monitored_at, node_of, config_of, voted_of, epoch_of, known_of, my_id_of, first, last, member_before, names_of, master_of, kept_master_of, greatest, kept_of, own_addr, own_port, port_of, announce_ip_of, announce_port_of, settings_of, is_kept}
+use Rattle.conf_lines.specs.Lines.{line_of}
+use Rattle.ballot_law.specs.declared.cards.TheConstants.{MAX_EPOCH}
+use Rattle.sentinel_conf.specs.Meaning.{ConfPlan, states, settings, state_of, setting_of, last, member_before, names_of, master_of, kept_master_of, greatest, kept_of, own_addr, own_port, settings_of, is_kept}
+use Rattle.conf_lines.specs.Values.{name_of, quorum_of, monitored_at, node_of, config_of, voted_of, epoch_of, known_of, my_id_of, port_of, announce_ip_of, announce_port_of}
 use Rattle.ballot_law.specs.declared.cards.Kept.{Kept as KeptPlan}
 use Rattle.ballot_law.specs.Rosters.{no_addr}
 use Rattle.sentinel_conf.specs.Rewritten.{rewritten, longest, IsKeptMaster, IsKeptPart}
-use Rattle.sentinel_conf.specs.Reading.{FILE_MAX, fault_at, line_fault, unknown_fault, first_fault, ◌>>=◌, unless, guard, found, roster_checked, kept_lines_of, whole_conf, conf_of_lines, conf_of_bytes}
-use Rattle.sentinel_conf.proofs.SpacedWords.{HasNoLf}
+use Rattle.sentinel_conf.specs.Reading.{FILE_MAX, line_fault, unknown_fault, first_fault, ◌>>=◌, unless, guard, found, roster_checked, kept_lines_of, whole_conf, conf_of_lines, conf_of_bytes}
+use Rattle.conf_lines.specs.Faults.{fault_at}
+use Rattle.conf_lines.proofs.SpacedWords.{HasNoLf}
 use Rattle.ballot_law.proofs.WordLemmas.{same_bytes-refl}
 use Rattle.sentinel_conf.proofs.SetLemmas.{In, Rises, each_in, each_from, rises_in_order, from_in_order, to_in_order}
 use Rattle.sentinel_conf.proofs.OrderLemmas.{addr_order, member_order, bytes_order}
-use Rattle.sentinel_conf.proofs.StateLemmas.{IsAddr, IsId, IsName, IsState}
+use Rattle.conf_lines.proofs.StateLemmas.{IsAddr, IsId, IsName, IsState}
 use Rattle.sentinel_conf.proofs.FileLemmas.{in_map, each_map, to_filter_map, each_filter_map, in_filter_map, from_filter, greatest-le}
 use Rattle.sentinel_conf.proofs.LineLemmas.{IsPlainLine, Clean, none_clean, each_clean}
 use Rattle.sentinel_conf.proofs.TextLemmas.{text_lines}
-use Rattle.sentinel_conf.proofs.ValidLines.{IsSetting, IsLine, line_of_is}
+use Rattle.conf_lines.proofs.ValidLines.{IsSetting, IsLine, line_of_is}
 use Rattle.sentinel_conf.proofs.ReadAgain.{names, IsKeptText, IsMaster, IsMember, kept_settings, own, IsConf, known_line, spoken_known, map_map, read_again}
 
 -- what a bind that is Ok went through
@@ -63,10 +66,10 @@ roster_ok_by None u h = refl
 roster_ok_by (Some f) u h = cc
 
 -- lines
-clean_plain : (earlier : List State) (ls : List Line) → Clean line_fault earlier ls → (l : Line) → In l ls → is_kept l ≡ true → IsPlainLine l
+clean_plain : (earlier : List StateLine) (ls : List Line) → Clean line_fault earlier ls → (l : Line) → In l ls → is_kept l ≡ true → IsPlainLine l
 clean_plain earlier [] h l i e = absurd i
 clean_plain earlier (m ∷ ls) h l (inl f) e = plain_by l earlier (ap (line_fault earlier) f ∙ h.0) e where
-  plain_by : (l : Line) (earlier : List State) → line_fault earlier l ≡ None → is_kept l ≡ true → IsPlainLine l
+  plain_by : (l : Line) (earlier : List StateLine) → line_fault earlier l ≡ None → is_kept l ≡ true → IsPlainLine l
   plain_by line.Kept earlier h e = tt
   plain_by (line.Setting s) earlier h e = tt
   plain_by (line.State s) earlier h e = absurd (true≢false (sym e))
@@ -88,7 +91,7 @@ kept_only [] = refl
 kept_only (text ∷ texts) =
     kept_only_by None (is_kept (line_of text)) line.Kept text texts refl (kept_only texts)
 
-state_is : (l : Line) (s : State) → IsLine l → state_of l ≡ Some s → IsState s
+state_is : (l : Line) (s : StateLine) → IsLine l → state_of l ≡ Some s → IsState s
 state_is line.Kept s h e = cc
 state_is (line.Setting t) s h e = cc
 state_is (line.State t) s h e = let f : t ≡ s = cc in subst IsState f h
@@ -100,26 +103,7 @@ setting_is (line.Setting t) s h e = let f : t ≡ s = cc in subst IsSetting f h
 setting_is (line.State t) s h e = cc
 setting_is (line.Faulty k) s h e = cc
 
--- the first and the last that a function gives
-first_fact_by : {X Y : Type 0} (h : X → Option Y) (P : Y → Type 0) (d : Y) (xs : List X) (o : Option Y) → ((y : Y) → o ≡ Some y → P y) → P (first h d xs) → P (unwrap_or o (first h d xs))
-first_fact_by h P d xs None a r = r
-first_fact_by h P d xs (Some y) a r = a y refl
-
-first_fact : {X Y : Type 0} (h : X → Option Y) (P : Y → Type 0) (d : Y) (xs : List X) → P d → ((x : X) → In x xs → (y : Y) → h x ≡ Some y → P y) → P (first h d xs)
-first_fact h P d [] p a = p
-first_fact h P d (x ∷ xs) p a = first_fact_by h P d xs (h x) (a x (inl refl)) (first_fact h P d xs p (λ z i. a z (inr i)))
-
--- some element gives something
-given_fact_by : {X Y : Type 0} (h : X → Option Y) (P : Y → Type 0) (d : Y) (xs : List X) (o : Option Y) → ((y : Y) → o ≡ Some y → P y) → ((y : Y) × (o ≡ Some y)) ⊎ P (first h d xs) → P (unwrap_or o (first h d xs))
-given_fact_by h P d xs None a (inl e) = let f = e.1 in cc
-given_fact_by h P d xs None a (inr r) = r
-given_fact_by h P d xs (Some y) a r = a y refl
-
-given_fact : {X Y : Type 0} (h : X → Option Y) (P : Y → Type 0) (d : Y) (xs : List X) → ((x : X) → In x xs → (y : Y) → h x ≡ Some y → P y) → (x : X) → In x xs → (y : Y) → h x ≡ Some y → P (first h d xs)
-given_fact h P d [] a x i y e = absurd i
-given_fact h P d (z ∷ xs) a x (inl f) y e = given_fact_by h P d xs (h z) (a z (inl refl)) (inl (y, ap h (sym f) ∙ e))
-given_fact h P d (z ∷ xs) a x (inr i) y e = given_fact_by h P d xs (h z) (a z (inl refl)) (inr (given_fact h P d xs (λ w j. a w (inr j)) x i y e))
-
+-- the last that a function gives
 last_fact_by : {Y : Type 0} (P : Y → Type 0) (o : Option Y) (d : Y) → P d → ((y : Y) → o ≡ Some y → P y) → P (unwrap_or o d)
 last_fact_by P None d p a = p
 last_fact_by P (Some y) d p a = a y refl
@@ -127,6 +111,16 @@ last_fact_by P (Some y) d p a = a y refl
 last_fact : {X Y : Type 0} (h : X → Option Y) (P : Y → Type 0) (d : Y) (xs : List X) → P d → ((x : X) → In x xs → (y : Y) → h x ≡ Some y → P y) → P (last h d xs)
 last_fact h P d [] p a = p
 last_fact h P d (x ∷ xs) p a = last_fact h P (unwrap_or (h x) d) xs (last_fact_by P (h x) d p (a x (inl refl))) (λ z i. a z (inr i))
+
+-- some element gives something
+ap_given : {Y : Type 0} (P : Y → Type 0) (o : Option Y) (d y : Y) → o ≡ Some y → P y → P (unwrap_or o d)
+ap_given P o d y e p = subst P (sym (ap (λ t. unwrap_or t d) e)) p
+
+given_fact : {X Y : Type 0} (h : X → Option Y) (P : Y → Type 0) (d : Y) (xs : List X) → ((x : X) → In x xs → (y : Y) → h x ≡ Some y → P y) → (x : X) → In x xs → (y : Y) → h x ≡ Some y → P (last h d xs)
+given_fact h P d [] a x i y e = absurd i
+given_fact h P d (z ∷ xs) a x (inl f) y e =
+    last_fact h P (unwrap_or (h z) d) xs (ap_given (λ t. P t) (h z) d y (ap h (sym f) ∙ e) (a z (inl refl) y (ap h (sym f) ∙ e))) (λ w j. a w (inr j))
+given_fact h P d (z ∷ xs) a x (inr i) y e = given_fact h P (unwrap_or (h z) d) xs (λ w j. a w (inr j)) x i y e
 
 at_from_in : {X : Type 0} (x : X) (xs : List X) → In x xs → Contains xs x
 at_from_in x [] i = absurd i
@@ -153,13 +147,13 @@ module _ (bytes : List ℕ) (u : IsUtf8 bytes) (id : RunId) where
   abbrev all : List Line
   all = map line_of texts
 
-  abbrev ss : List State
+  abbrev ss : List StateLine
   ss = states all
 
   abbrev conf : ConfPlan
   conf = whole_conf texts id
 
-  state_valid : (s : State) → In s ss → IsState s
+  state_valid : (s : StateLine) → In s ss → IsState s
   state_valid = each_filter_map state_of IsState all (λ l i s e. state_is l s (each_map line_of IsLine texts (λ t j. line_of_is t) l i) e)
 
   setting_valid : (s : Setting) → In s (settings all) → IsSetting s
@@ -208,7 +202,7 @@ module _ (bytes : List ℕ) (u : IsUtf8 bytes) (id : RunId) where
   name_in n i = subst (In n) (sym names_are) (to_in_order bytes_before bytes_order (filter_map name_of ss) n i)
 
   -- a name of the conf is that of a monitor line
-  monitored : (n : List ℕ) → In n (names_of ss) → (s : State) × In s ss × (name_of s ≡ Some n)
+  monitored : (n : List ℕ) → In n (names_of ss) → (s : StateLine) × In s ss × (name_of s ≡ Some n)
   monitored n i = in_filter_map name_of n ss (from_in_order bytes_before bytes_order (filter_map name_of ss) n i)
 
   master_valid : (n : List ℕ) → In n (names_of ss) → IsMaster (master_of ss n)
@@ -217,9 +211,9 @@ module _ (bytes : List ℕ) (u : IsUtf8 bytes) (id : RunId) where
     order = rises_in_order addr_before addr_order (filter_map (node_of n) ss);
     nodes = each_from IsAddr (in_order addr_before (filter_map (node_of n) ss)) (λ a j.
         each_filter_map (node_of n) IsAddr ss (λ s q b e. node_by s b (state_valid s q) e) a (from_in_order addr_before addr_order (filter_map (node_of n) ss) a j));
-    quorum = first_fact (quorum_of n) (λ q. q ≤ 4294967295) 0 ss (omega arith) (λ s q w e. quorum_by s w (state_valid s q) e);
+    quorum = last_fact (quorum_of n) (λ q. q ≤ 4294967295) 0 ss (omega arith) (λ s q w e. quorum_by s w (state_valid s q) e);
   } where
-    named_by : (s : State) → IsState s → name_of s ≡ Some n → IsName n
+    named_by : (s : StateLine) → IsState s → name_of s ≡ Some n → IsName n
     named_by (Monitor m a q) v e = let f : m ≡ n = cc in subst IsName f v.0
     named_by (MyId m) v e = cc
     named_by (CurrentEpoch m) v e = cc
@@ -231,7 +225,7 @@ module _ (bytes : List ℕ) (u : IsUtf8 bytes) (id : RunId) where
     name_valid : IsName n
     name_valid = let m = monitored n i in named_by m.0 (state_valid m.0 m.1) m.2
 
-    node_by : (s : State) (b : Addr) → IsState s → node_of n s ≡ Some b → IsAddr b
+    node_by : (s : StateLine) (b : Addr) → IsState s → node_of n s ≡ Some b → IsAddr b
     node_by (Monitor m a q) b v e = subst IsAddr (given_if (same_bytes n m) a b e).1 v.1
     node_by (KnownReplica m a) b v e = subst IsAddr (given_if (same_bytes n m) a b e).1 v.1
     node_by (MyId m) b v e = cc
@@ -240,7 +234,7 @@ module _ (bytes : List ℕ) (u : IsUtf8 bytes) (id : RunId) where
     node_by (LeaderEpoch m a) b v e = cc
     node_by (KnownSentinel m a q) b v e = cc
 
-    quorum_by : (s : State) (w : ℕ) → IsState s → quorum_of n s ≡ Some w → w ≤ 4294967295
+    quorum_by : (s : StateLine) (w : ℕ) → IsState s → quorum_of n s ≡ Some w → w ≤ 4294967295
     quorum_by (Monitor m a q) w v e = let f : q ≡ w = (given_if (same_bytes n m) q w e).1 in let l : q ≤ 4294967295 = v.2 in omega arith
     quorum_by (MyId m) w v e = cc
     quorum_by (CurrentEpoch m) w v e = cc
@@ -252,7 +246,7 @@ module _ (bytes : List ℕ) (u : IsUtf8 bytes) (id : RunId) where
   members_valid : (own_id : IsId id) → AllByRecursion IsMember conf.roster.sentinels
   members_valid own_id =
       each_from IsMember conf.roster.sentinels (λ m i. member_by m (from_in_order member_before member_order ((record { id = id; addr = own_addr (settings all) }) ∷ filter_map known_of ss) m i)) where
-        known_by : (m : Member) (s : State) → IsState s → known_of s ≡ Some m → IsMember m
+        known_by : (m : Member) (s : StateLine) → IsState s → known_of s ≡ Some m → IsMember m
         known_by m (KnownSentinel n a i) v e =
             let made : Member = record { id = i; addr = a } in
             let f : made ≡ m = cc in
@@ -269,7 +263,7 @@ module _ (bytes : List ℕ) (u : IsUtf8 bytes) (id : RunId) where
         member_by m (inr j) = each_filter_map known_of IsMember ss (λ s q m e. known_by m s (state_valid s q) e) m j
 
   -- the kept part
-  epoch_bound : (s : State) (e : ℕ) → IsState s → epoch_of s ≡ Some e → e ≤ MAX_EPOCH
+  epoch_bound : (s : StateLine) (e : ℕ) → IsState s → epoch_of s ≡ Some e → e ≤ MAX_EPOCH
   epoch_bound (CurrentEpoch d) e v h = let f : d ≡ e = cc in omega arith
   epoch_bound (ConfigEpoch n d) e v h = let f : d ≡ e = cc in let l : d ≤ MAX_EPOCH = v.1 in omega arith
   epoch_bound (LeaderEpoch n d) e v h = let f : d ≡ e = cc in let l : d ≤ MAX_EPOCH = v.1 in omega arith
@@ -278,7 +272,7 @@ module _ (bytes : List ℕ) (u : IsUtf8 bytes) (id : RunId) where
   epoch_bound (KnownReplica n a) e v h = cc
   epoch_bound (KnownSentinel n a i) e v h = cc
 
-  config_is_epoch : (n : List ℕ) (s : State) (e : ℕ) → config_of n s ≡ Some e → epoch_of s ≡ Some e
+  config_is_epoch : (n : List ℕ) (s : StateLine) (e : ℕ) → config_of n s ≡ Some e → epoch_of s ≡ Some e
   config_is_epoch n (ConfigEpoch m d) e h = ap Some (given_if (same_bytes n m) d e h).1
   config_is_epoch n (CurrentEpoch d) e h = cc
   config_is_epoch n (LeaderEpoch m d) e h = cc
@@ -287,7 +281,7 @@ module _ (bytes : List ℕ) (u : IsUtf8 bytes) (id : RunId) where
   config_is_epoch n (KnownReplica m a) e h = cc
   config_is_epoch n (KnownSentinel m a i) e h = cc
 
-  voted_is_epoch : (n : List ℕ) (s : State) (e : ℕ) → voted_of n s ≡ Some e → epoch_of s ≡ Some e
+  voted_is_epoch : (n : List ℕ) (s : StateLine) (e : ℕ) → voted_of n s ≡ Some e → epoch_of s ≡ Some e
   voted_is_epoch n (LeaderEpoch m d) e h = ap Some (given_if (same_bytes n m) d e h).1
   voted_is_epoch n (CurrentEpoch d) e h = cc
   voted_is_epoch n (ConfigEpoch m d) e h = cc
@@ -296,7 +290,7 @@ module _ (bytes : List ℕ) (u : IsUtf8 bytes) (id : RunId) where
   voted_is_epoch n (KnownReplica m a) e h = cc
   voted_is_epoch n (KnownSentinel m a i) e h = cc
 
-  monitored_is_node : (n : List ℕ) (s : State) (a : Addr) → monitored_at n s ≡ Some a → node_of n s ≡ Some a
+  monitored_is_node : (n : List ℕ) (s : StateLine) (a : Addr) → monitored_at n s ≡ Some a → node_of n s ≡ Some a
   monitored_is_node n (Monitor m a q) b h = h
   monitored_is_node n (LeaderEpoch m d) b h = cc
   monitored_is_node n (CurrentEpoch d) b h = cc
@@ -305,7 +299,7 @@ module _ (bytes : List ℕ) (u : IsUtf8 bytes) (id : RunId) where
   monitored_is_node n (KnownReplica m a) b h = cc
   monitored_is_node n (KnownSentinel m a i) b h = cc
 
-  monitor_gives : (n : List ℕ) (s : State) → name_of s ≡ Some n → (a : Addr) × (monitored_at n s ≡ Some a)
+  monitor_gives : (n : List ℕ) (s : StateLine) → name_of s ≡ Some n → (a : Addr) × (monitored_at n s ≡ Some a)
   monitor_gives n (Monitor m a q) h = let f : n ≡ m = cc in (a, ap (λ t. some_if t a) (ap (same_bytes n) (sym f) ∙ same_bytes-refl n))
   monitor_gives n (LeaderEpoch m d) h = cc
   monitor_gives n (CurrentEpoch d) h = cc
@@ -314,7 +308,7 @@ module _ (bytes : List ℕ) (u : IsUtf8 bytes) (id : RunId) where
   monitor_gives n (KnownReplica m a) h = cc
   monitor_gives n (KnownSentinel m a i) h = cc
 
-  epochs_le : (s : State) → In s ss → (e : ℕ) → epoch_of s ≡ Some e → e ≤ greatest (filter_map epoch_of ss)
+  epochs_le : (s : StateLine) → In s ss → (e : ℕ) → epoch_of s ≡ Some e → e ≤ greatest (filter_map epoch_of ss)
   epochs_le s i e h = le_greatest e (filter_map epoch_of ss) (to_filter_map epoch_of s e ss i h)
 
   kept_master_valid : (n : List ℕ) → In n (names_of ss) → IsKeptMaster (greatest (filter_map epoch_of ss)) (master_of ss n) (kept_master_of ss n)
@@ -326,8 +320,8 @@ module _ (bytes : List ℕ) (u : IsUtf8 bytes) (id : RunId) where
             (λ s q a e. at_from_in a (in_order addr_before (filter_map (node_of n) ss))
             (to_in_order addr_before addr_order (filter_map (node_of n) ss) a (to_filter_map (node_of n) s a ss q (monitored_is_node n s a e))))
             m.0 m.1 g.0 g.1;
-        epoch = first_fact (config_of n) (λ e. e ≤ greatest (filter_map epoch_of ss)) 0 ss (omega arith) (λ s q e h. epochs_le s q e (config_is_epoch n s e h));
-        voted = first_fact (voted_of n) (λ e. e ≤ greatest (filter_map epoch_of ss)) 0 ss (omega arith) (λ s q e h. epochs_le s q e (voted_is_epoch n s e h));
+        epoch = last_fact (config_of n) (λ e. e ≤ greatest (filter_map epoch_of ss)) 0 ss (omega arith) (λ s q e h. epochs_le s q e (config_is_epoch n s e h));
+        voted = last_fact (voted_of n) (λ e. e ≤ greatest (filter_map epoch_of ss)) 0 ss (omega arith) (λ s q e h. epochs_le s q e (voted_is_epoch n s e h));
       }
 
   kept_valid : IsKeptPart conf (kept_of ss)
@@ -336,10 +330,10 @@ module _ (bytes : List ℕ) (u : IsUtf8 bytes) (id : RunId) where
     masters = zip_map (IsKeptMaster (greatest (filter_map epoch_of ss))) (master_of ss) (kept_master_of ss) (names_of ss) kept_master_valid;
   }
 
-  abbrev own_line : State → Type 0
+  abbrev own_line : StateLine → Type 0
   own_line s = (my_id_of s ≡ Some id) → IsId id
 
-  own_id_by : (s : State) → IsState s → my_id_of s ≡ Some id → IsId id
+  own_id_by : (s : StateLine) → IsState s → my_id_of s ≡ Some id → IsId id
   own_id_by (MyId i) v e = let f : i ≡ id = cc in subst IsId f v
   own_id_by (LeaderEpoch m d) v e = cc
   own_id_by (CurrentEpoch d) v e = cc

@@ -7,19 +7,22 @@ use Rattle.std.proofs.lemmas.Bool.Decides.{nat_tests}
 use Rattle.std.proofs.lemmas.Str.{is_utf8-from_IsUtf8, IsUtf8-from_is_utf8}
 use Rattle.ballot_law.specs.declared.addresses.RunId.{RunId}
 use Rattle.ballot_law.specs.RosterFaults.{fault_of}
-use Rattle.sentinel_conf.specs.declared.faults.ConfKind.{ConfKind}
-use Rattle.sentinel_conf.specs.declared.faults.ConfKind.TheVariants.{TooLong, NotUtf8, NoMyId}
-use Rattle.sentinel_conf.specs.declared.faults.ConfFault.{ConfFault}
-use Rattle.sentinel_conf.specs.declared.lines.State.{State}
-use Rattle.sentinel_conf.specs.declared.lines.Setting.{Setting}
-use Rattle.sentinel_conf.specs.declared.lines.Line.{Line}
-use Rattle.sentinel_conf.specs.Words.{lines}
-use Rattle.sentinel_conf.specs.Lines.{line_of}
-use Rattle.sentinel_conf.specs.Meaning.{ConfPlan, states, settings, name_of, my_id_of, first_given, is_kept, conf_of}
-use Rattle.sentinel_conf.specs.Rewritten.{ended, rewritten, longest}
+use Rattle.conf_lines.specs.declared.faults.ConfKind.{ConfKind}
+use Rattle.conf_lines.specs.declared.faults.ConfKind.TheVariants.{TooLong, NotUtf8, NoMyId}
+use Rattle.conf_lines.specs.declared.faults.ConfFault.{ConfFault}
+use Rattle.conf_lines.specs.declared.lines.StateLine.{StateLine}
+use Rattle.conf_lines.specs.declared.lines.Setting.{Setting}
+use Rattle.conf_lines.specs.declared.lines.Line.{Line}
+use Rattle.conf_lines.specs.Words.{lines}
+use Rattle.conf_lines.specs.Lines.{line_of}
+use Rattle.sentinel_conf.specs.Meaning.{ConfPlan, states, settings, first_given, is_kept, conf_of}
+use Rattle.conf_lines.specs.Values.{name_of, my_id_of}
+use Rattle.sentinel_conf.specs.Rewritten.{rewritten, longest}
+use Rattle.conf_lines.specs.Words.{ended}
 use Rattle.sentinel_conf.specs.Room.{ROOM, bounded}
-use Rattle.sentinel_conf.specs.Reading.{FILE_MAX, fault_at, line_fault, unknown_fault, first_fault, ◌>>=◌, unless, guard, found, checked, roster_checked, sized, kept_lines_of, whole_conf, conf_of_lines, conf_of_bytes}
-use Rattle.sentinel_conf.proofs.SpacedWords.{HasNoLf, lines-ended}
+use Rattle.sentinel_conf.specs.Reading.{FILE_MAX, line_fault, unknown_fault, first_fault, ◌>>=◌, unless, guard, found, checked, roster_checked, sized, kept_lines_of, whole_conf, conf_of_lines, conf_of_bytes}
+use Rattle.conf_lines.specs.Faults.{fault_at}
+use Rattle.conf_lines.proofs.SpacedWords.{HasNoLf, lines-ended}
 use Rattle.sentinel_conf.proofs.SetLemmas.{each_in, each_from}
 use Rattle.sentinel_conf.proofs.FileLemmas.{from_filter}
 use Rattle.sentinel_conf.proofs.TextLemmas.{text_lines}
@@ -71,7 +74,7 @@ module _ (texts : List (List ℕ)) where
   names_clean names n a b = lines_clean names n a ∙ ap (λ t. unless t >>= λ _. with_id) b
 
   pub without_id : (names : List (List ℕ)) → names ≡ named → first_fault line_fault 1 [] ls ≡ None → first_fault (λ _. unknown_fault names) 1 [] ls ≡ None
-      → (ss : List State) → ss ≡ states ls → first_given my_id_of ss ≡ None → conf_of_lines texts ≡ Err (fault_at 0 NoMyId)
+      → (ss : List StateLine) → ss ≡ states ls → first_given my_id_of ss ≡ None → conf_of_lines texts ≡ Err (fault_at 0 NoMyId)
   without_id names n a b ss s e =
       names_clean names n a b
       ∙ ap (λ t. found NoMyId (filter_map my_id_of t) >>= identified) (sym s)
@@ -79,14 +82,14 @@ module _ (texts : List (List ℕ)) where
       ∙ ap (λ t. (elim t as (λ _. Result RunId ConfFault) [ None ↦ Err (fault_at 0 NoMyId) | Some y ↦ Ok y ]) >>= identified) e
 
   pub with_this_id : (names : List (List ℕ)) → names ≡ named → first_fault line_fault 1 [] ls ≡ None → first_fault (λ _. unknown_fault names) 1 [] ls ≡ None
-      → (ss : List State) → ss ≡ states ls → (id : RunId) → first_given my_id_of ss ≡ Some id → conf_of_lines texts ≡ identified id
+      → (ss : List StateLine) → ss ≡ states ls → (id : RunId) → first_given my_id_of ss ≡ Some id → conf_of_lines texts ≡ identified id
   with_this_id names n a b ss s id e =
       names_clean names n a b
       ∙ ap (λ t. found NoMyId (filter_map my_id_of t) >>= identified) (sym s)
       ∙ ap (λ t. t >>= identified) (found-given my_id_of NoMyId ss)
       ∙ ap (λ t. (elim t as (λ _. Result RunId ConfFault) [ None ↦ Err (fault_at 0 NoMyId) | Some y ↦ Ok y ]) >>= identified) e
 
-  pub whole_is : (kept : List (List ℕ)) (ss : List State) (sets : List Setting) (id : RunId) → kept ≡ kept_lines_of texts → ss ≡ states ls → sets ≡ settings ls
+  pub whole_is : (kept : List (List ℕ)) (ss : List StateLine) (sets : List Setting) (id : RunId) → kept ≡ kept_lines_of texts → ss ≡ states ls → sets ≡ settings ls
       → conf_of kept ss sets id ≡ whole_conf texts id
   whole_is kept ss sets id k s t =
       ap (λ x. conf_of x ss sets id) k ∙ ap (λ x. conf_of (kept_lines_of texts) x sets id) s ∙ ap (λ x. conf_of (kept_lines_of texts) (states ls) x id) t

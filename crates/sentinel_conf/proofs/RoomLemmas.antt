@@ -5,9 +5,10 @@ use Rattle.std.proofs.Math.Seq.{take-append-add}
 use Rattle.std.proofs.lemmas.Bool.{cases_lt}
 use Rattle.std.specs.Prelude.{map, filter}
 use Rattle.std.specs.List.{flat_map, zip}
-use Rattle.sentinel_conf.specs.declared.lines.State.{State}
-use Rattle.sentinel_conf.specs.Lines.{spelled}
-use Rattle.sentinel_conf.specs.Rewritten.{ended, text_of}
+use Rattle.conf_lines.specs.declared.lines.StateLine.{StateLine}
+use Rattle.conf_lines.specs.Lines.{spelled}
+use Rattle.sentinel_conf.specs.Rewritten.{text_of}
+use Rattle.conf_lines.specs.Words.{ended}
 use Rattle.sentinel_conf.specs.Room.{ROOM, bounded}
 use Rattle.sentinel_conf.proofs.FileLemmas.{filter_yes}
 
@@ -88,7 +89,7 @@ head_and_rest d [] h = absurd (omega arith)
 head_and_rest d (x ∷ xs) h = ap (λ t. x ∷ t) (sym (take_all (length (x ∷ xs) - 1) xs (let k : length (x ∷ xs) ≡ suc (length xs) = refl in omega arith)))
 
 -- the line of one element more
-pub lines_more : {X : Type 0} (keep : X → Bool) (line : X → State) (start out new : List ℕ) (all rest : List X) (d : X) → 1 ≤ length rest → keep (get_or rest 0 d) ≡ true
+pub lines_more : {X : Type 0} (keep : X → Bool) (line : X → StateLine) (start out new : List ℕ) (all rest : List X) (d : X) → 1 ≤ length rest → keep (get_or rest 0 d) ≡ true
     → new ≡ bounded (out ++ ended (spelled (line (get_or rest 0 d))))
     → bounded (start ++ text_of (map line (filter keep all))) ≡ bounded (out ++ text_of (map line (filter keep rest)))
     → bounded (start ++ text_of (map line (filter keep all))) ≡ bounded (new ++ text_of (map line (filter keep (take (length rest - 1) (drop 1 rest)))))
@@ -100,17 +101,17 @@ lines_more keep line start out new all rest d h k e i =
     ∙ ap (λ t. bounded (out ++ text_of (map line t))) (filter_yes keep x more k)
     ∙ sym (room_step out new (ended (spelled (line x))) (text_of (map line (filter keep more))) e)
 
-pub text_of-append : (xs ys : List State) → text_of (xs ++ ys) ≡ text_of xs ++ text_of ys
+pub text_of-append : (xs ys : List StateLine) → text_of (xs ++ ys) ≡ text_of xs ++ text_of ys
 text_of-append [] ys = refl
 text_of-append (x ∷ xs) ys = ap (λ t. ended (spelled x) ++ t) (text_of-append xs ys) ∙ sym (append_assoc (ended (spelled x)) (text_of xs) (text_of ys))
 
-pub kept_and_states : (texts : List (List ℕ)) (states : List State) → flat_map ended (texts ++ map spelled states) ≡ flat_map ended texts ++ text_of states
+pub kept_and_states : (texts : List (List ℕ)) (states : List StateLine) → flat_map ended (texts ++ map spelled states) ≡ flat_map ended texts ++ text_of states
 kept_and_states [] states = refl
 kept_and_states (text ∷ texts) states =
     ap (λ t. ended text ++ t) (kept_and_states texts states) ∙ sym (append_assoc (ended text) (flat_map ended texts) (text_of states))
 
 -- the text of three lines and of two lists of lines
-pub three_and_two : (a b c : State) (ds es : List State) (out one two three four five : List ℕ)
+pub three_and_two : (a b c : StateLine) (ds es : List StateLine) (out one two three four five : List ℕ)
     → one ≡ bounded (out ++ ended (spelled a)) → two ≡ bounded (one ++ ended (spelled b)) → three ≡ bounded (two ++ ended (spelled c))
     → bounded four ≡ bounded (three ++ text_of ds) → bounded five ≡ bounded (four ++ text_of es)
     → bounded five ≡ bounded (out ++ text_of (a ∷ b ∷ c ∷ (ds ++ es)))
@@ -121,7 +122,7 @@ three_and_two a b c ds es out one two three four five e f g h i =
     room_join out one five (ended (spelled a)) (text_of (b ∷ c ∷ (ds ++ es))) (room_of out one (ended (spelled a)) e) second
 
 -- the lines of one master more
-pub masters_more : {A B : Type 0} (f : A × B → List State) (whole out new : List ℕ) (ms : List A) (ks : List B) (m : A) (d : B) → 1 ≤ length ms → m ≡ get_or ms 0 m → 1 ≤ length ks
+pub masters_more : {A B : Type 0} (f : A × B → List StateLine) (whole out new : List ℕ) (ms : List A) (ks : List B) (m : A) (d : B) → 1 ≤ length ms → m ≡ get_or ms 0 m → 1 ≤ length ks
     → bounded new ≡ bounded (out ++ text_of (f (m, get_or ks 0 d)))
     → bounded whole ≡ bounded (out ++ text_of (flat_map f (zip ms ks)))
     → bounded whole ≡ bounded (new ++ text_of (flat_map f (zip (take (length ms - 1) (drop 1 ms)) (take (length ks - 1) (drop 1 ks)))))
@@ -143,7 +144,7 @@ masters_more f whole out new (x ∷ xs) (k ∷ ks) m d h e i n w =
     ∙ ap (λ t. bounded (new ++ text_of (flat_map f (zip t ks)))) (sym first)
     ∙ ap (λ t. bounded (new ++ text_of (flat_map f (zip more t)))) (sym second)
 
-pub file_text : (out kept one two three four : List ℕ) (a b : State) (cs : List State)
+pub file_text : (out kept one two three four : List ℕ) (a b : StateLine) (cs : List StateLine)
     → one ≡ bounded (out ++ kept) → two ≡ bounded (one ++ ended (spelled a)) → three ≡ bounded (two ++ ended (spelled b)) → bounded four ≡ bounded (three ++ text_of cs)
     → bounded four ≡ bounded (out ++ (kept ++ text_of (a ∷ b ∷ cs)))
 file_text out kept one two three four a b cs e f g h =

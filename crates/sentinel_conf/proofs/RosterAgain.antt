@@ -7,8 +7,9 @@ use Rattle.ballot_law.specs.Orders.{same_id, id_before, addr_before, bytes_befor
 use Rattle.ballot_law.specs.Rosters.{Roster as RosterPlan, MasterPlan, nodes_in_order, ordered}
 use Rattle.ballot_law.specs.RosterFaults.{fault_of}
 use Rattle.ballot_law.proofs.Placing.{add_before}
-use Rattle.sentinel_conf.specs.declared.lines.State.{State}
-use Rattle.sentinel_conf.specs.Meaning.{member_before, name_of, node_of, known_of, names_of, master_of, members_of, plan_of}
+use Rattle.conf_lines.specs.declared.lines.StateLine.{StateLine}
+use Rattle.sentinel_conf.specs.Meaning.{member_before, names_of, master_of, members_of, plan_of}
+use Rattle.conf_lines.specs.Values.{name_of, node_of, known_of}
 use Rattle.sentinel_conf.proofs.SetLemmas.{Rises, IsOrder, rises_in_order}
 use Rattle.sentinel_conf.proofs.OrderLemmas.{addr_order, id_order, member_order, bytes_order}
 use Rattle.sentinel_conf.proofs.ReadAgain.{no_fault, map_map, map_same}
@@ -71,16 +72,16 @@ rises_ids [] h e = h
 rises_ids (a ∷ xs) h e =
     (ids_later a xs h.0 (or_false_left (list_any (one_id a) xs) (repeats one_id xs) e), rises_ids xs h.1 (or_false_right (list_any (one_id a) xs) (repeats one_id xs) e))
 
-master_again : (states : List State) (name : List ℕ) → nodes_in_order (master_of states name) ≡ master_of states name
+master_again : (states : List StateLine) (name : List ℕ) → nodes_in_order (master_of states name) ≡ master_of states name
 master_again states name =
     let nodes = filter_map (node_of name) states in
     ap (λ t. let m : MasterPlan = record (master_of states name) { nodes = t } in m)
     (stays addr_before (one_way addr_before addr_order) (in_order addr_before nodes) (rises_in_order addr_before addr_order nodes))
 
-masters_again : (states : List State) (names : List (List ℕ)) → map nodes_in_order (map (master_of states) names) ≡ map (master_of states) names
+masters_again : (states : List StateLine) (names : List (List ℕ)) → map nodes_in_order (map (master_of states) names) ≡ map (master_of states) names
 masters_again states names = sym (map_map (master_of states) nodes_in_order names) ∙ map_same (λ n. nodes_in_order (master_of states n)) (master_of states) names (λ n i. master_again states n)
 
-pub ordered_again : (own : Member) (states : List State) → fault_of (plan_of own states) ≡ None → ordered (plan_of own states) ≡ plan_of own states
+pub ordered_again : (own : Member) (states : List StateLine) → fault_of (plan_of own states) ≡ None → ordered (plan_of own states) ≡ plan_of own states
 ordered_again own states h =
     let none = no_fault (plan_of own states) h in
     let members = members_of own states in

@@ -11,27 +11,29 @@ use Rattle.ballot_law.specs.declared.rosters.Member.{Member}
 use Rattle.ballot_law.specs.Rosters.{MasterPlan}
 use Rattle.ballot_law.specs.Orders.{same_addr, addr_before}
 use Rattle.ballot_law.specs.declared.cards.KeptMaster.{KeptMaster}
-use Rattle.sentinel_conf.specs.declared.lines.State.{State}
-use Rattle.sentinel_conf.specs.declared.lines.State.TheVariants.{CurrentEpoch, Monitor, ConfigEpoch, LeaderEpoch, KnownReplica, KnownSentinel}
+use Rattle.conf_lines.specs.declared.lines.StateLine.{StateLine}
+use Rattle.conf_lines.specs.declared.lines.StateLine.TheVariants.{CurrentEpoch, Monitor, ConfigEpoch, LeaderEpoch, KnownReplica, KnownSentinel}
 use Rattle.ballot_law.specs.Words.{ip_text}
-use Rattle.sentinel_conf.specs.Lines.{spelled, MAX_EPOCH}
+use Rattle.conf_lines.specs.Lines.{spelled}
+use Rattle.ballot_law.specs.declared.cards.TheConstants.{MAX_EPOCH}
 use Rattle.sentinel_conf.specs.Meaning.{ConfPlan}
 use Rattle.ballot_law.specs.declared.cards.Kept.{Kept as KeptPlan}
-use Rattle.sentinel_conf.specs.Rewritten.{others, master_states, state_lines, ended, rewritten, longest, at_last_epoch, IsKeptMaster, IsKeptPart}
+use Rattle.sentinel_conf.specs.Rewritten.{others, master_states, state_lines, rewritten, longest, at_last_epoch, IsKeptMaster, IsKeptPart}
+use Rattle.conf_lines.specs.Words.{ended}
 use Rattle.sentinel_conf.proofs.SetLemmas.{In, Rises}
 use Rattle.sentinel_conf.proofs.OrderLemmas.{addr_order, addr_same}
 use Rattle.sentinel_conf.proofs.FileLemmas.{Apart, apart_rises, in_from_at, filter_yes, filter_no}
 
 -- the bytes of these state lines
-abbrev pub size : List State → ℕ
+abbrev pub size : List StateLine → ℕ
 size [] = 0
 size (s ∷ ss) = length (spelled s) + 1 + size ss
 
-size-append : (xs ys : List State) → size (xs ++ ys) ≡ size xs + size ys
+size-append : (xs ys : List StateLine) → size (xs ++ ys) ≡ size xs + size ys
 size-append [] ys = omega arith
 size-append (x ∷ xs) ys = omega (arith, size-append xs ys)
 
-length-spelled : (ss : List State) → length (flat_map ended (map spelled ss)) ≡ size ss
+length-spelled : (ss : List StateLine) → length (flat_map ended (map spelled ss)) ≡ size ss
 length-spelled [] = refl
 length-spelled (s ∷ ss) =
     omega (arith, length-append (spelled s ++ 10 ∷ []) (flat_map ended (map spelled ss)), length-append (spelled s) (10 ∷ []), length-spelled ss)
@@ -113,9 +115,9 @@ master_size : (conf : ConfPlan) (m : MasterPlan) (k l : KeptMaster) → Rises ad
     → size (master_states conf (m, k)) ≤ size (master_states conf (m, at_last_epoch l))
 master_size conf m k l r i j e v =
     let apart : Apart same_addr m.nodes = apart_rises addr_before same_addr addr_order addr_same m.nodes r in
-    let known : List State = map (λ (member : Member). KnownSentinel m.name member.addr member.id) (others conf) in
-    let left : List State = map (KnownReplica m.name) (others_than k.card.addr m.nodes) in
-    let right : List State = map (KnownReplica m.name) (others_than l.card.addr m.nodes) in
+    let known : List StateLine = map (λ (member : Member). KnownSentinel m.name member.addr member.id) (others conf) in
+    let left : List StateLine = map (KnownReplica m.name) (others_than k.card.addr m.nodes) in
+    let right : List StateLine = map (KnownReplica m.name) (others_than l.card.addr m.nodes) in
     omega (
       arith,
       monitor_replica m.name k.card.addr m.quorum,

@@ -15,7 +15,7 @@ use Rattle.sentinel_conf.specs.Facts.{IsSoundConf}
 use Rattle.sentinel_conf.specs.Reading.{IsRead}
 use Rattle.sentinel_conf.proofs.SetLemmas.{In, each_in}
 use Rattle.sentinel_conf.proofs.OrderLemmas.{IsSame, addr_order, bytes_order, addr_same, id_same, bytes_same}
-use Rattle.sentinel_conf.proofs.StateLemmas as state
+use Rattle.conf_lines.proofs.StateLemmas as state
 use Rattle.sentinel_conf.proofs.FileLemmas.{Apart, apart_rises, apart_back, apart_from_repeats, repeats_key, none_any}
 use Rattle.sentinel_conf.proofs.ReadAgain.{names, IsMaster, IsMember, IsConf, no_fault}
 use Rattle.sentinel_conf.proofs.ReadConf.{conf_is}

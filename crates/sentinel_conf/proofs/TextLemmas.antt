@@ -9,15 +9,16 @@ use Rattle.std.proofs.lemmas.Str.{IsUtf8-append, IsUtf8-nil, IsUtf8-from_ascii, 
 use Rattle.std.proofs.Math.Seq.{take-append_seam, drop-append-add}
 use Rattle.ballot_law.specs.declared.addresses.Addr.{Addr}
 use Rattle.ballot_law.specs.declared.addresses.RunId.{RunId}
-use Rattle.sentinel_conf.specs.declared.lines.State.{State}
-use Rattle.sentinel_conf.specs.declared.lines.State.TheVariants.{MyId, CurrentEpoch, Monitor, ConfigEpoch, LeaderEpoch, KnownReplica, KnownSentinel}
-use Rattle.sentinel_conf.specs.Words.{spaced, lines, with_front}
+use Rattle.conf_lines.specs.declared.lines.StateLine.{StateLine}
+use Rattle.conf_lines.specs.declared.lines.StateLine.TheVariants.{MyId, CurrentEpoch, Monitor, ConfigEpoch, LeaderEpoch, KnownReplica, KnownSentinel}
+use Rattle.conf_lines.specs.Words.{spaced, lines, with_front}
 use Rattle.ballot_law.specs.Words.{is_digit, is_hex, is_name_byte, name, ip_text, id_text, hex}
-use Rattle.sentinel_conf.specs.Lines.{spelled, state_words, MAX_EPOCH}
-use Rattle.sentinel_conf.specs.Rewritten.{ended}
-use Rattle.sentinel_conf.proofs.SpacedWords.{HasNoLf}
+use Rattle.conf_lines.specs.Lines.{spelled, state_words}
+use Rattle.ballot_law.specs.declared.cards.TheConstants.{MAX_EPOCH}
+use Rattle.conf_lines.specs.Words.{ended}
+use Rattle.conf_lines.proofs.SpacedWords.{HasNoLf}
 use Rattle.ballot_law.proofs.WordLemmas.{spells_decimal, spells_hex, some_if-some}
-use Rattle.sentinel_conf.proofs.StateLemmas.{IsState, IsAddr, IsId}
+use Rattle.conf_lines.proofs.StateLemmas.{IsState, IsAddr, IsId}
 
 abbrev AreLow : List ℕ → Type 0
 AreLow = AllByRecursion (λ b. b < 128)
@@ -72,7 +73,7 @@ low_epoch e h = low_decimal e (omega arith)
 low_port : (a : Addr) → IsAddr a → AreLow (decimal a.port)
 low_port a h = low_decimal a.port (let l = h.high in omega arith)
 
-low_words : (s : State) → IsState s → AllByRecursion AreLow (codes "sentinel" ∷ state_words s)
+low_words : (s : StateLine) → IsState s → AllByRecursion AreLow (codes "sentinel" ∷ state_words s)
 low_words (MyId i) v = (low_text (codes "sentinel") refl, (low_text (codes "myid") refl, (low_id i v, tt)))
 low_words (CurrentEpoch e) v = (low_text (codes "sentinel") refl, (low_text (codes "current-epoch") refl, (low_epoch e v, tt)))
 low_words (Monitor n a q) v =
@@ -84,7 +85,7 @@ low_words (KnownReplica n a) v =
 low_words (KnownSentinel n a i) v =
     (low_text (codes "sentinel") refl, (low_text (codes "known-sentinel") refl, (low_name n v.0, (low_ip a.ip v.1.ip, (low_port a v.1, (low_id i v.2, tt))))))
 
-pub utf8_spelled : (s : State) → IsState s → IsUtf8 (spelled s)
+pub utf8_spelled : (s : StateLine) → IsState s → IsUtf8 (spelled s)
 utf8_spelled s v = IsUtf8-from_ascii (spelled s) (low_at (spelled s) (low_spaced (codes "sentinel" ∷ state_words s) (low_words s v)))
 
 pub utf8_ended : (texts : List (List ℕ)) → AllByRecursion IsUtf8 texts → IsUtf8 (flat_map ended texts)

@@ -2,14 +2,15 @@
 use Rattle.std.proofs.Common.{◌≡◌, ℕ, List, [], ◌∷◌, ◌++◌, refl, Option, Some, None, Result, Ok, Err}
 use Rattle.std.specs.Prelude.{codes}
 use Rattle.std.specs.Fmt.{digits}
-use Rattle.sentinel_conf.specs.declared.faults.ConfKind.TheVariants.{BadAddress, BadNumber, UnknownMaster, Twice, NoMyId, BadDirective}
-use Rattle.sentinel_conf.specs.declared.faults.ConfFault.{ConfFault}
+use Rattle.conf_lines.specs.declared.faults.ConfKind.TheVariants.{BadAddress, BadNumber, UnknownMaster, Twice, NoMyId, BadDirective}
+use Rattle.conf_lines.specs.declared.faults.ConfFault.{ConfFault}
 use Rattle.ballot_law.specs.Words.{hex}
-use Rattle.sentinel_conf.specs.Words.{lines, words_of}
+use Rattle.conf_lines.specs.Words.{lines, words_of}
 use Rattle.sentinel_conf.specs.Meaning.{ConfPlan}
 use Rattle.ballot_law.specs.declared.cards.Kept.{Kept as KeptPlan}
 use Rattle.sentinel_conf.specs.Rewritten.{rewritten}
-use Rattle.sentinel_conf.specs.Reading.{conf_of_lines, fault_at}
+use Rattle.sentinel_conf.specs.Reading.{conf_of_lines}
+use Rattle.conf_lines.specs.Faults.{fault_at}
 
 abbrev file : List ℕ
 file = codes "# group one\nport 26379\nbind 127.0.0.1\nsentinel monitor mymaster 127.0.0.1 6379 2\nsentinel auth-pass mymaster secret\nsentinel down-after-milliseconds mymaster 5000\nsentinel known-replica mymaster 127.0.0.1 6381\nsentinel known-replica mymaster 127.0.0.1 6380\nsentinel known-sentinel mymaster 127.0.0.1 26380 bbbbbbbbbbbbbbbbbbbbbbbbbbbbbbbbbbbbbbbb\nsentinel myid aaaaaaaaaaaaaaaaaaaaaaaaaaaaaaaaaaaaaaaa"

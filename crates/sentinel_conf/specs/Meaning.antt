@@ -1,5 +1,5 @@
 -- What the lines of a file say, as folds over them.
-use Rattle.std.specs.Prelude.{ℕ, max, Bool, true, false, ◌||◌, ◌&&◌, List, [], ◌∷◌, map, Option, Some, None, unwrap_or}
+use Rattle.std.specs.Prelude.{ℕ, max, Bool, true, false, ◌||◌, ◌&&◌, List, [], ◌∷◌, map, Option, Some, None, unwrap_or, fold}
 use Rattle.std.specs.List.{filter_map}
 use Rattle.ballot_law.specs.declared.addresses.Addr.{Addr}
 use Rattle.ballot_law.specs.declared.addresses.RunId.{RunId}
@@ -11,12 +11,13 @@ use Rattle.ballot_law.specs.declared.cards.KeptMaster.{KeptMaster}
 use Rattle.ballot_law.specs.declared.cards.Kept.{Kept as KeptPlan}
 use Rattle.ballot_law.specs.Rosters.{no_addr}
 use Rattle.sentinel_conf.specs.declared.settings.Settings.{Settings}
-use Rattle.sentinel_conf.specs.declared.lines.State.{State}
-use Rattle.sentinel_conf.specs.declared.lines.State.TheVariants.{MyId, CurrentEpoch, Monitor, ConfigEpoch, LeaderEpoch, KnownReplica, KnownSentinel}
-use Rattle.sentinel_conf.specs.declared.lines.Setting.{Setting}
-use Rattle.sentinel_conf.specs.declared.lines.Setting.TheVariants.{Port, AnnounceIp, AnnouncePort, DownAfter, ParallelSyncs, FailoverTimeout}
-use Rattle.sentinel_conf.specs.declared.lines.Line.{Line}
-use Rattle.sentinel_conf.specs.declared.lines.Line.TheVariants as line
+use Rattle.conf_lines.specs.declared.lines.StateLine.{StateLine}
+use Rattle.conf_lines.specs.declared.lines.StateLine.TheVariants.{MyId, CurrentEpoch, Monitor, ConfigEpoch, LeaderEpoch, KnownReplica, KnownSentinel}
+use Rattle.conf_lines.specs.declared.lines.Setting.{Setting}
+use Rattle.conf_lines.specs.declared.lines.Setting.TheVariants.{Port, AnnounceIp, AnnouncePort, DownAfter, ParallelSyncs, FailoverTimeout}
+use Rattle.conf_lines.specs.Values.{my_id_of, name_of, quorum_of, monitored_at, node_of, config_of, voted_of, epoch_of, known_of, port_of, announce_ip_of, announce_port_of, after_of, syncs_of, timeout_of}
+use Rattle.conf_lines.specs.declared.lines.Line.{Line}
+use Rattle.conf_lines.specs.declared.lines.Line.TheVariants as line
 use Rattle.ballot_law.specs.Words.{some_if}
 
 pub record ConfPlan : Type 0 where
@@ -27,7 +28,7 @@ pub record ConfPlan : Type 0 where
   pub settings : List Settings
   pub kept : KeptPlan
 
-abbrev pub state_of : Line → Option State
+abbrev pub state_of : Line → Option StateLine
 state_of (line.State state) = Some state
 state_of _ = None
 
@@ -35,120 +36,51 @@ abbrev pub setting_of : Line → Option Setting
 setting_of (line.Setting setting) = Some setting
 setting_of _ = None
 
-abbrev pub states : List Line → List State
+abbrev pub states : List Line → List StateLine
 states lines = filter_map state_of lines
 
 abbrev pub settings : List Line → List Setting
 settings lines = filter_map setting_of lines
-
--- the first that the function gives
-abbrev pub first : {X Y : Type 0} → (X → Option Y) → Y → List X → Y
-first h y [] = y
-first h y (x ∷ xs) = unwrap_or (h x) (first h y xs)
 
 -- the first that the function gives, or none
 abbrev pub first_given : {X Y : Type 0} → (X → Option Y) → List X → Option Y
 first_given h [] = None
 first_given {X} {Y} h (x ∷ xs) = elim (h x) as (λ _. Option Y) [ Some y ↦ Some y | None ↦ first_given h xs ]
 
--- the last that the function gives
+-- the last that the function gives, or else this
 abbrev pub last : {X Y : Type 0} → (X → Option Y) → Y → List X → Y
-last h y [] = y
-last h y (x ∷ xs) = last h (unwrap_or (h x) y) xs
-
-abbrev pub my_id_of : State → Option RunId
-my_id_of (MyId id) = Some id
-my_id_of _ = None
-
-abbrev pub name_of : State → Option (List ℕ)
-name_of (Monitor name addr quorum) = Some name
-name_of _ = None
-
-abbrev pub quorum_of : List ℕ → State → Option ℕ
-quorum_of name (Monitor other addr quorum) = some_if (same_bytes name other) quorum
-quorum_of name _ = None
-
-abbrev pub monitored_at : List ℕ → State → Option Addr
-monitored_at name (Monitor other addr quorum) = some_if (same_bytes name other) addr
-monitored_at name _ = None
-
-abbrev pub node_of : List ℕ → State → Option Addr
-node_of name (Monitor other addr quorum) = some_if (same_bytes name other) addr
-node_of name (KnownReplica other addr) = some_if (same_bytes name other) addr
-node_of name _ = None
-
-abbrev pub config_of : List ℕ → State → Option ℕ
-config_of name (ConfigEpoch other epoch) = some_if (same_bytes name other) epoch
-config_of name _ = None
-
-abbrev pub voted_of : List ℕ → State → Option ℕ
-voted_of name (LeaderEpoch other epoch) = some_if (same_bytes name other) epoch
-voted_of name _ = None
-
-abbrev pub epoch_of : State → Option ℕ
-epoch_of (CurrentEpoch epoch) = Some epoch
-epoch_of (ConfigEpoch name epoch) = Some epoch
-epoch_of (LeaderEpoch name epoch) = Some epoch
-epoch_of _ = None
-
-abbrev pub known_of : State → Option Member
-known_of (KnownSentinel name addr id) = Some (record { id = id; addr = addr })
-known_of _ = None
+last h otherwise xs = fold (λ found x. unwrap_or (h x) found) otherwise xs
 
 -- the order of Sentinels: by run id, then by address
 abbrev pub member_before : Member → Member → Bool
 member_before a b = id_before a.id b.id || (same_id a.id b.id && addr_before a.addr b.addr)
 
-abbrev pub names_of : List State → List (List ℕ)
+abbrev pub names_of : List StateLine → List (List ℕ)
 names_of states = in_order bytes_before (filter_map name_of states)
 
 -- a master's nodes are the monitored address and the known replicas
-abbrev pub master_of : List State → List ℕ → MasterPlan
+abbrev pub master_of : List StateLine → List ℕ → MasterPlan
 master_of states name = record {
   name = name;
   nodes = in_order addr_before (filter_map (node_of name) states);
-  quorum = first (quorum_of name) 0 states;
+  quorum = last (quorum_of name) 0 states;
 }
 
-abbrev pub kept_master_of : List State → List ℕ → KeptMaster
+abbrev pub kept_master_of : List StateLine → List ℕ → KeptMaster
 kept_master_of states name = record {
-  card = record { epoch = first (config_of name) 0 states; addr = first (monitored_at name) no_addr states };
-  voted = first (voted_of name) 0 states;
+  card = record { epoch = last (config_of name) 0 states; addr = last (monitored_at name) no_addr states };
+  voted = last (voted_of name) 0 states;
 }
 
-abbrev pub members_of : Member → List State → List Member
+abbrev pub members_of : Member → List StateLine → List Member
 members_of own states = in_order member_before (own ∷ filter_map known_of states)
 
 abbrev pub greatest : List ℕ → ℕ
 greatest [] = 0
 greatest (n ∷ ns) = max n (greatest ns)
 
-abbrev pub kept_of : List State → KeptPlan
+abbrev pub kept_of : List StateLine → KeptPlan
 kept_of states = record { current = greatest (filter_map epoch_of states); masters = map (kept_master_of states) (names_of states) }
-
-abbrev pub port_of : Setting → Option ℕ
-port_of (Port port) = Some port
-port_of _ = None
-
-abbrev pub announce_ip_of : Setting → Option ℕ
-announce_ip_of (AnnounceIp ip) = Some ip
-announce_ip_of _ = None
-
-abbrev pub announce_port_of : Setting → Option ℕ
-announce_port_of (AnnouncePort port) = Some port
-announce_port_of _ = None
-
-abbrev pub after_of : List ℕ → Setting → Option ℕ
-after_of name (DownAfter other ms) = some_if (same_bytes name other) ms
-after_of name _ = None
-
-abbrev pub syncs_of : List ℕ → Setting → Option ℕ
-syncs_of name (ParallelSyncs other count) = some_if (same_bytes name other) count
-syncs_of name _ = None
-
-abbrev pub timeout_of : List ℕ → Setting → Option ℕ
-timeout_of name (FailoverTimeout other ms) = some_if (same_bytes name other) ms
-timeout_of name _ = None
 
 abbrev pub own_port : List Setting → ℕ
 own_port settings = last port_of 26379 settings
@@ -166,7 +98,7 @@ settings_of settings name = record {
   timeout = last (timeout_of name) 180000 settings;
 }
 
-abbrev pub plan_of : Member → List State → RosterPlan
+abbrev pub plan_of : Member → List StateLine → RosterPlan
 plan_of own states = record { sentinels = members_of own states; masters = map (master_of states) (names_of states) }
 
 -- the lines that are kept as they are
@@ -175,7 +107,7 @@ is_kept (line.State state) = false
 is_kept _ = true
 
 -- the conf of these lines, read so, where this is the own run id
-abbrev pub conf_of : List (List ℕ) → List State → List Setting → RunId → ConfPlan
+abbrev pub conf_of : List (List ℕ) → List StateLine → List Setting → RunId → ConfPlan
 conf_of kept_lines states settings id = record {
   kept_lines = kept_lines;
   roster = plan_of (record { id = id; addr = own_addr settings }) states;

@@ -6,57 +6,31 @@ use Rattle.ballot_law.specs.declared.addresses.RunId.{RunId}
 use Rattle.ballot_law.specs.RosterFaults.{fault_of}
 use Rattle.ballot_law.specs.declared.rosters.RosterFault.{RosterFault}
 use Rattle.ballot_law.specs.Orders.{same_bytes}
-use Rattle.sentinel_conf.specs.declared.faults.ConfKind.{ConfKind}
-use Rattle.sentinel_conf.specs.declared.faults.ConfKind.TheVariants.{TooLong, NotUtf8, UnknownMaster, Twice, NoMyId, Roster, NoMemory}
-use Rattle.sentinel_conf.specs.declared.faults.ConfFault.{ConfFault}
-use Rattle.sentinel_conf.specs.declared.lines.State.{State}
-use Rattle.sentinel_conf.specs.declared.lines.State.TheVariants.{MyId, CurrentEpoch, Monitor, ConfigEpoch, LeaderEpoch, KnownReplica, KnownSentinel}
-use Rattle.sentinel_conf.specs.declared.lines.Setting.{Setting}
-use Rattle.sentinel_conf.specs.declared.lines.Setting.TheVariants.{DownAfter, ParallelSyncs, FailoverTimeout}
-use Rattle.sentinel_conf.specs.declared.lines.Line.{Line}
-use Rattle.sentinel_conf.specs.declared.lines.Line.TheVariants as line
-use Rattle.sentinel_conf.specs.Words.{lines}
+use Rattle.conf_lines.specs.declared.faults.ConfKind.{ConfKind}
+use Rattle.conf_lines.specs.declared.faults.ConfKind.TheVariants.{TooLong, NotUtf8, UnknownMaster, Twice, NoMyId, Roster, NoMemory}
+use Rattle.conf_lines.specs.declared.faults.ConfFault.{ConfFault}
+use Rattle.conf_lines.specs.declared.lines.StateLine.{StateLine}
+use Rattle.conf_lines.specs.declared.lines.StateLine.TheVariants.{MyId, CurrentEpoch, Monitor, ConfigEpoch, LeaderEpoch, KnownReplica, KnownSentinel}
+use Rattle.conf_lines.specs.declared.lines.Setting.{Setting}
+use Rattle.conf_lines.specs.declared.lines.Setting.TheVariants.{DownAfter, ParallelSyncs, FailoverTimeout}
+use Rattle.conf_lines.specs.declared.lines.Line.{Line}
+use Rattle.conf_lines.specs.declared.lines.Line.TheVariants as line
+use Rattle.conf_lines.specs.Words.{lines}
+use Rattle.conf_lines.specs.Faults.{fault_at, no_memory}
 use Rattle.ballot_law.specs.Words.{some_if}
-use Rattle.sentinel_conf.specs.Lines.{line_of, same_key}
-use Rattle.sentinel_conf.specs.Meaning.{ConfPlan, states, settings, is_kept, my_id_of, name_of, conf_of}
+use Rattle.conf_lines.specs.Lines.{line_of, same_key, spoken_of}
+use Rattle.sentinel_conf.specs.Meaning.{ConfPlan, states, settings, is_kept, conf_of}
+use Rattle.conf_lines.specs.Values.{my_id_of, name_of}
 use Rattle.sentinel_conf.specs.Rewritten.{rewritten, longest}
 
 abbrev pub FILE_MAX : ℕ
 FILE_MAX = 65536
 
-abbrev pub fault_at : ℕ → ConfKind → ConfFault
-fault_at number kind = record { line = number; kind = kind }
-
--- a growth was refused
-abbrev pub no_memory : ConfFault
-no_memory = fault_at 0 NoMemory
-
 -- the faults of a line by itself, after these state lines
-abbrev pub line_fault : List State → Line → Option ConfKind
+abbrev pub line_fault : List StateLine → Line → Option ConfKind
 line_fault earlier (line.Faulty kind) = Some kind
 line_fault earlier (line.State state) = some_if (list_any (same_key state) earlier) Twice
 line_fault earlier _ = None
-
--- the name of a master of which the line speaks
-abbrev pub state_name : State → Option (List ℕ)
-state_name (MyId id) = None
-state_name (CurrentEpoch epoch) = None
-state_name (Monitor name addr quorum) = Some name
-state_name (ConfigEpoch name epoch) = Some name
-state_name (LeaderEpoch name epoch) = Some name
-state_name (KnownReplica name addr) = Some name
-state_name (KnownSentinel name addr id) = Some name
-
-abbrev pub setting_name : Setting → Option (List ℕ)
-setting_name (DownAfter name ms) = Some name
-setting_name (ParallelSyncs name count) = Some name
-setting_name (FailoverTimeout name ms) = Some name
-setting_name _ = None
-
-abbrev pub spoken_of : Line → Option (List ℕ)
-spoken_of (line.State state) = state_name state
-spoken_of (line.Setting setting) = setting_name setting
-spoken_of _ = None
 
 -- the line speaks of a master that isn't among these
 abbrev pub unknown_fault : List (List ℕ) → Line → Option ConfKind
@@ -64,7 +38,7 @@ unknown_fault names line =
     elim (spoken_of line) as (λ _. Option ConfKind) [ None ↦ None | Some name ↦ some_if (not (list_any (same_bytes name) names)) UnknownMaster ]
 
 -- the first fault that the test finds, line by line; it is given the state lines before
-abbrev pub first_fault : (List State → Line → Option ConfKind) → ℕ → List State → List Line → Option ConfFault
+abbrev pub first_fault : (List StateLine → Line → Option ConfKind) → ℕ → List StateLine → List Line → Option ConfFault
 first_fault test number earlier [] = None
 first_fault test number earlier (line ∷ lines) =
     elim (test earlier line) as (λ _. Option ConfFault) [

@@ -7,9 +7,11 @@ use Rattle.ballot_law.specs.declared.rosters.Member.{Member}
 use Rattle.ballot_law.specs.Rosters.{MasterPlan}
 use Rattle.ballot_law.specs.Orders.{same_id, same_addr}
 use Rattle.ballot_law.specs.declared.cards.KeptMaster.{KeptMaster}
-use Rattle.sentinel_conf.specs.declared.lines.State.{State}
-use Rattle.sentinel_conf.specs.declared.lines.State.TheVariants.{MyId, CurrentEpoch, Monitor, ConfigEpoch, LeaderEpoch, KnownReplica, KnownSentinel}
-use Rattle.sentinel_conf.specs.Lines.{spelled, MAX_EPOCH}
+use Rattle.conf_lines.specs.declared.lines.StateLine.{StateLine}
+use Rattle.conf_lines.specs.declared.lines.StateLine.TheVariants.{MyId, CurrentEpoch, Monitor, ConfigEpoch, LeaderEpoch, KnownReplica, KnownSentinel}
+use Rattle.conf_lines.specs.Words.{ended}
+use Rattle.conf_lines.specs.Lines.{spelled}
+use Rattle.ballot_law.specs.declared.cards.TheConstants.{MAX_EPOCH}
 use Rattle.sentinel_conf.specs.Meaning.{ConfPlan}
 use Rattle.ballot_law.specs.declared.cards.Kept.{Kept as KeptPlan}
 
@@ -19,35 +21,32 @@ others conf = filter (λ member. not (same_id conf.id member.id)) conf.roster.se
 abbrev pub replicas : MasterPlan → KeptMaster → List Addr
 replicas master kept = filter (λ addr. not (same_addr kept.card.addr addr)) master.nodes
 
-abbrev pub replica_states : List ℕ → Addr → List Addr → List State
+abbrev pub replica_states : List ℕ → Addr → List Addr → List StateLine
 replica_states name at nodes = map (KnownReplica name) (filter (λ addr. not (same_addr at addr)) nodes)
 
-abbrev pub sentinel_states : List ℕ → RunId → List Member → List State
+abbrev pub sentinel_states : List ℕ → RunId → List Member → List StateLine
 sentinel_states name id members = map (λ member. KnownSentinel name member.addr member.id) (filter (λ member. not (same_id id member.id)) members)
 
 -- the state lines of one master, but for the Sentinel with this run id
-abbrev pub master_lines : RunId → List Member → MasterPlan × KeptMaster → List State
+abbrev pub master_lines : RunId → List Member → MasterPlan × KeptMaster → List StateLine
 master_lines id members (master, kept) =
     Monitor master.name kept.card.addr master.quorum
     ∷ ConfigEpoch master.name kept.card.epoch
     ∷ LeaderEpoch master.name kept.voted
     ∷ (replica_states master.name kept.card.addr master.nodes ++ sentinel_states master.name id members)
 
-abbrev pub master_states : ConfPlan → MasterPlan × KeptMaster → List State
+abbrev pub master_states : ConfPlan → MasterPlan × KeptMaster → List StateLine
 master_states conf = master_lines conf.id conf.roster.sentinels
 
-abbrev pub state_lines : ConfPlan → KeptPlan → List State
+abbrev pub state_lines : ConfPlan → KeptPlan → List StateLine
 state_lines conf kept = MyId conf.id ∷ CurrentEpoch kept.current ∷ flat_map (master_states conf) (zip conf.roster.masters kept.masters)
 
 -- the lines of the rewritten file: those that are kept, then those of the state
 abbrev pub rewritten_lines : ConfPlan → KeptPlan → List (List ℕ)
 rewritten_lines conf kept = conf.kept_lines ++ map spelled (state_lines conf kept)
 
-abbrev pub ended : List ℕ → List ℕ
-ended text = text ++ 10 ∷ []
-
 -- the state lines as text
-abbrev pub text_of : List State → List ℕ
+abbrev pub text_of : List StateLine → List ℕ
 text_of states = flat_map ended (map spelled states)
 
 abbrev pub rewritten : ConfPlan → KeptPlan → List ℕ

@@ -5,16 +5,15 @@ ghost use Rattle.ballot_law.specs.declared.cards.Kept.{Kept as KeptPlan};
 ghost use Rattle.ballot_law.specs.Rosters.{id_of};
 ghost use Rattle.sentinel_conf.specs.Meaning.{ConfPlan};
 ghost use Rattle.sentinel_conf.specs.Rewritten.{rewritten, IsKeptPart};
-ghost use Rattle.sentinel_conf.specs.Reading.{conf_of_bytes, no_memory};
-ghost use Rattle.sentinel_conf.specs.Room.{bounded};
+ghost use Rattle.sentinel_conf.specs.Reading.{conf_of_bytes};
+ghost use Rattle.conf_lines.specs.Faults.{no_memory};
 ghost use Rattle.sentinel_conf.specs.Facts.{IsSoundConf, no_settings};
 
 use crate::conf_text::{ConfText, FILE_MAX};
-use crate::faults::{ConfFault, ConfKind};
-use crate::parts::Parts;
-use crate::reading::{check_size, parts_of, place_of};
+use crate::reading::{Parts, check_size, parts_of, place_of};
 use crate::settings::Settings;
 use ballot_law::{Kept, NoMemory, Roster};
+use conf_lines::{ConfFault, ConfKind};
 use std::alloc::Global;
 use std::marker::Model;
 use std::str;
@@ -85,8 +84,6 @@ impl Conf {
 
     /// The settings of the master with this number; none where there is no such master.
     pub fn settings(&self, m: u16) -> Option<Settings>
-        ensures some { IfSome result (λ settings. (m < length self.now.roster.masters)
-            × (slice_index_or self.now.settings m settings ≡ settings)) }
         ensures none { IfNone result (length self.now.roster.masters ≤ m) }
         ensures known { m < length self.now.roster.masters → result
             ≡ Some (slice_index_or self.now.settings m no_settings) }
@@ -97,13 +94,6 @@ impl Conf {
         }
         Some(settings[m as usize])
     }
-}
-
-/// A fault of the file as a whole.
-fn whole_file(kind: ConfKind) -> ConfFault
-    ensures { result ≡ record { line = 0; kind = kind } }
-{
-    ConfFault { line: 0, kind }
 }
 
 /// What the file with these bytes says, or its first fault. Faults are judged in this order: `TooLong` and `NotUtf8` of
@@ -118,10 +108,10 @@ pub fn read(alloc: Global, bytes: &[u8]) -> Result<Conf, ConfFault>
         (λ fault. (fault ≡ no_memory) ⊎ (conf_of_bytes bytes.now ≡ Err fault)) }
 {
     if bytes.len() > FILE_MAX {
-        return Err(whole_file(ConfKind::TooLong));
+        return Err(ConfFault::of_file(ConfKind::TooLong));
     }
     if let Err(_) = str::from_utf8(bytes) {
-        return Err(whole_file(ConfKind::NotUtf8));
+        return Err(ConfFault::of_file(ConfKind::NotUtf8));
     }
     let parts = match parts_of(alloc, bytes) {
         Ok(parts) => parts,
@@ -146,11 +136,11 @@ impl ConfText {
 /// Writes the file of this conf with this kept part: the lines that are kept, byte for byte and in order, then the state
 /// lines. What stood in the text before is gone. It takes no memory, since every text has room for the longest file.
 ///
-/// The kept part is to be one of this conf's masters: one entry for each, its address among the master's nodes, and no
-/// epoch above the current one, which is at most `MAX_EPOCH`. The text of any other is cut off behind 65,537 bytes.
+/// The kept part is one of this conf's masters: one entry for each, its address among the master's nodes, and no epoch above
+/// the current one, which is at most `MAX_EPOCH`.
 pub fn rewrite_into(conf: &Conf, kept: &Kept, text: &mut ConfText)
-    ensures whole { IsKeptPart conf.now kept.now → text.new ≡ rewritten conf.now kept.now }
-    ensures cut { text.new ≡ bounded (rewritten conf.now kept.now) }
+    requires { IsKeptPart conf.now kept.now }
+    ensures { text.new ≡ rewritten conf.now kept.now }
 {
     let _fits = conf
         .parts

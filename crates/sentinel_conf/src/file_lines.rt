@@ -3,24 +3,24 @@
 ghost use Rattle.std.specs.Prelude.{◌≡◌, ◌++◌, ◌∷◌, ◌⊎◌, ◌↔◌, [], List, ℕ, map, None, Some, IfOk, IfErr, OnOk, Option, MatchResult, MatchOption, if◌then◌else◌};
 ghost use Rattle.std.specs.List.{filter_map, flat_map, list_any};
 ghost use Rattle.ballot_law.specs.Orders.{same_bytes};
-ghost use Rattle.sentinel_conf.specs.declared.faults.ConfFault.{ConfFault};
-ghost use Rattle.sentinel_conf.specs.Words.{lines};
-ghost use Rattle.sentinel_conf.specs.Lines.{line_of, same_key};
-ghost use Rattle.sentinel_conf.specs.Meaning.{states, settings, is_kept, name_of};
-ghost use Rattle.sentinel_conf.specs.Rewritten.{ended};
-ghost use Rattle.sentinel_conf.specs.Reading.{first_fault, line_fault, unknown_fault, state_name, setting_name, spoken_of, kept_lines_of, no_memory};
+ghost use Rattle.conf_lines.specs.declared.faults.ConfFault.{ConfFault};
+ghost use Rattle.conf_lines.specs.Words.{lines};
+ghost use Rattle.conf_lines.specs.Lines.{line_of, same_key};
+ghost use Rattle.sentinel_conf.specs.Meaning.{states, settings, is_kept};
+ghost use Rattle.conf_lines.specs.Values.{name_of};
+ghost use Rattle.conf_lines.specs.Words.{ended};
+ghost use Rattle.sentinel_conf.specs.Reading.{first_fault, line_fault, unknown_fault, kept_lines_of};
+ghost use Rattle.conf_lines.specs.Lines.{state_name, setting_name, spoken_of};
+ghost use Rattle.conf_lines.specs.Faults.{no_memory};
 
-use crate::directives::line_of;
-use crate::faults::{ConfFault, ConfKind};
-use crate::line_words::next_line;
-use crate::lines::{Line, Setting, State};
 use ballot_law::{Name, is_same_bytes};
+use conf_lines::{ConfFault, ConfKind, Line, Setting, StateLine, line_of, next_line};
 use std::alloc::{AllocError, Global};
 
 /// What the lines of a file say, in order.
 #[derive(Drop)]
 pub struct FileLines {
-    pub states: Vec<State>,
+    pub states: Vec<StateLine>,
     pub settings: Vec<Setting>,
     /// The lines that a rewrite keeps, each ended by LF.
     pub kept: Vec<u8>,
@@ -75,58 +75,15 @@ impl FileLines {
     }
 }
 
-/// Whether a file may hold only one of the two lines.
-fn is_same_key(state: &State, other: &State) -> bool
-    ensures { result ≡ same_key state.now other.now }
-{
-    match state {
-        State::MyId(_) => matches!(other, State::MyId(_)),
-        State::CurrentEpoch(_) => matches!(other, State::CurrentEpoch(_)),
-        State::Monitor { name, .. } => match other {
-            State::Monitor { name: other, .. } => is_same_bytes(name.as_slice(), other.as_slice()),
-            _ => false,
-        },
-        State::ConfigEpoch { name, .. } => match other {
-            State::ConfigEpoch { name: other, .. } => is_same_bytes(
-                name.as_slice(),
-                other.as_slice(),
-            ),
-            _ => false,
-        },
-        State::LeaderEpoch { name, .. } => match other {
-            State::LeaderEpoch { name: other, .. } => is_same_bytes(
-                name.as_slice(),
-                other.as_slice(),
-            ),
-            _ => false,
-        },
-        State::KnownReplica { name, addr } => match other {
-            State::KnownReplica {
-                name: other,
-                addr: at,
-            } => { is_same_bytes(name.as_slice(), other.as_slice()) && addr.is_same(at) }
-            _ => false,
-        },
-        State::KnownSentinel { name, id, .. } => match other {
-            State::KnownSentinel {
-                name: other,
-                id: of,
-                ..
-            } => { is_same_bytes(name.as_slice(), other.as_slice()) && id.is_same(of) }
-            _ => false,
-        },
-    }
-}
-
 /// Whether one of these lines forbids this one.
-fn is_twice(earlier: &[State], state: &State) -> bool
+fn is_twice(earlier: &[StateLine], state: &StateLine) -> bool
     ensures { result ≡ list_any (same_key state.now) earlier.now }
 {
-    earlier.iter().any(|other| is_same_key(state, other))
+    earlier.iter().any(|other| state.has_key_of(other))
 }
 
 /// The fault of a line by itself, after these state lines.
-fn line_fault(earlier: &[State], line: &Line) -> Option<ConfKind>
+fn line_fault(earlier: &[StateLine], line: &Line) -> Option<ConfKind>
     ensures { result ≡ line_fault earlier.now line.now }
 {
     match line {
@@ -139,47 +96,6 @@ fn line_fault(earlier: &[State], line: &Line) -> Option<ConfKind>
         }
         Line::Setting(_) => None,
         Line::Kept => None,
-    }
-}
-
-/// The master of which a state line speaks.
-fn state_name(state: &State) -> Option<Name>
-    ensures { result ≡ state_name state.now }
-{
-    match state {
-        State::MyId(_) => None,
-        State::CurrentEpoch(_) => None,
-        State::Monitor { name, .. } => Some(*name),
-        State::ConfigEpoch { name, .. } => Some(*name),
-        State::LeaderEpoch { name, .. } => Some(*name),
-        State::KnownReplica { name, .. } => Some(*name),
-        State::KnownSentinel { name, .. } => Some(*name),
-    }
-}
-
-/// The master of which a setting line speaks.
-fn setting_name(setting: &Setting) -> Option<Name>
-    ensures { result ≡ setting_name setting.now }
-{
-    match setting {
-        Setting::Port(_) => None,
-        Setting::AnnounceIp(_) => None,
-        Setting::AnnouncePort(_) => None,
-        Setting::DownAfter { name, .. } => Some(*name),
-        Setting::ParallelSyncs { name, .. } => Some(*name),
-        Setting::FailoverTimeout { name, .. } => Some(*name),
-    }
-}
-
-/// The master of which a line speaks.
-fn spoken_of(line: &Line) -> Option<Name>
-    ensures { result ≡ spoken_of line.now }
-{
-    match line {
-        Line::State(state) => state_name(state),
-        Line::Setting(setting) => setting_name(setting),
-        Line::Kept => None,
-        Line::Faulty(_) => None,
     }
 }
 
@@ -196,26 +112,13 @@ fn is_among(names: &[Name], name: &Name) -> bool
 fn unknown_fault(names: &[Name], line: &Line) -> Option<ConfKind>
     ensures { result ≡ unknown_fault names.now line.now }
 {
-    match spoken_of(line) {
+    match line.master_name() {
         None => None,
         Some(name) => {
             if is_among(names, &name) {
                 return None;
             }
             Some(ConfKind::UnknownMaster)
-        }
-    }
-}
-
-impl From<AllocError> for ConfFault {
-    ghost use Rattle.sentinel_conf.specs.Reading.{no_memory};
-
-    ghost from_gives = { λ _ fault. fault ≡ no_memory };
-
-    fn from(_error: AllocError) -> ConfFault {
-        ConfFault {
-            line: 0,
-            kind: ConfKind::NoMemory,
         }
     }
 }

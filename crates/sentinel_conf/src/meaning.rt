@@ -1,14 +1,14 @@
 //! What the lines of a file mean together.
 
-ghost use Rattle.std.specs.Prelude.{◌≡◌, ◌∷◌, ◌++◌, [], ℕ, List, map, IfOk, Some, None, unwrap_or};
+ghost use Rattle.std.specs.Prelude.{◌≡◌, ◌∷◌, ◌++◌, [], ℕ, List, map, IfOk, Some, None};
 ghost use Rattle.std.specs.List.{filter_map};
-ghost use Rattle.ballot_law.specs.Rosters.{no_addr};
-ghost use Rattle.sentinel_conf.specs.Meaning.{name_of, my_id_of, node_of, quorum_of, monitored_at, config_of, voted_of, epoch_of, known_of, first, first_given, last, greatest, master_of, kept_master_of, members_of, port_of, announce_ip_of, announce_port_of, after_of, syncs_of, timeout_of, own_port, own_addr, settings_of};
+ghost use Rattle.conf_lines.specs.Values.{name_of, my_id_of, node_of, quorum_of, epoch_of, known_of};
+ghost use Rattle.sentinel_conf.specs.Meaning.{first_given, last, greatest, master_of, kept_master_of, members_of, own_port, own_addr, settings_of};
 
-use crate::lines::{Setting, State};
-use crate::listed::{Listed, members_in_order};
+use crate::members::{Listed, members_in_order};
 use crate::settings::Settings;
-use ballot_law::{Addr, Card, KeptMaster, Member, Name, RunId, Watched, is_same_bytes, ordered};
+use ballot_law::{Addr, Card, KeptMaster, Member, Name, RunId, Watched, ordered};
+use conf_lines::{Setting, StateLine};
 use std::alloc::{AllocError, Global};
 
 /// The port of a Sentinel that names none.
@@ -18,175 +18,37 @@ const DEFAULT_PORT: u16 = 26_379;
 const DEFAULT_IP: u32 = 2_130_706_433;
 
 /// The names that the monitor lines give, in the order of the lines.
-pub fn names_given(alloc: Global, states: &[State]) -> Result<Vec<Name>, AllocError>
+pub fn names_given(alloc: Global, states: &[StateLine]) -> Result<Vec<Name>, AllocError>
     ensures { IfOk result (λ names. names.items ≡ filter_map name_of states.now) }
 {
-    let mut names = Vec::new(alloc);
-    let mut rest = states;
-    while let [state, more @ ..] = rest {
-        if let State::Monitor { name, .. } = state {
-            names.push(*name)?;
-        }
-        rest = more;
-    }
-    Ok(names)
+    states
+        .iter()
+        .filter_map(|state| state.monitored_name())
+        .collect(alloc)
 }
 
 /// The own run id of the first line that gives one.
-pub fn my_id(states: &[State]) -> Option<RunId>
+pub fn my_id(states: &[StateLine]) -> Option<RunId>
     ensures { result ≡ first_given my_id_of states.now }
 {
     let mut rest = states;
     while let [state, more @ ..] = rest {
-        if let State::MyId(id) = state {
-            return Some(*id);
+        if let Some(id) = state.my_id() {
+            return Some(id);
         }
         rest = more;
     }
     None
 }
 
-/// The node that a line gives to the master of this name.
-fn node_of(state: &State, name: &Name) -> Option<Addr>
-    ensures { result ≡ node_of name.now state.now }
-{
-    match state {
-        State::Monitor {
-            name: other,
-            addr,
-            ..
-        } => {
-            if is_same_bytes(name.as_slice(), other.as_slice()) {
-                return Some(*addr);
-            }
-            None
-        }
-        State::KnownReplica { name: other, addr } => {
-            if is_same_bytes(name.as_slice(), other.as_slice()) {
-                return Some(*addr);
-            }
-            None
-        }
-        State::MyId(_) => None,
-        State::CurrentEpoch(_) => None,
-        State::ConfigEpoch { .. } => None,
-        State::LeaderEpoch { .. } => None,
-        State::KnownSentinel { .. } => None,
-    }
-}
-
-/// The nodes that the lines give to the master of this name, in the order of the lines.
-fn nodes_given(alloc: Global, states: &[State], name: &Name) -> Result<Vec<Addr>, AllocError>
-    ensures { IfOk result (λ nodes. nodes.items ≡ filter_map (node_of name.now) states.now) }
-{
-    let mut nodes = Vec::new(alloc);
-    let mut rest = states;
-    while let [state, more @ ..] = rest {
-        if let Some(addr) = node_of(state, name) {
-            nodes.push(addr)?;
-        }
-        rest = more;
-    }
-    Ok(nodes)
-}
-
-/// The quorum of the first monitor line of this name, or 0.
-fn quorum_of(states: &[State], name: &Name) -> u32
-    ensures { result ≡ first (quorum_of name.now) 0 states.now }
-{
-    let mut rest = states;
-    while let [state, more @ ..] = rest {
-        if let State::Monitor {
-            name: other,
-            quorum,
-            ..
-        } = state
-        {
-            if is_same_bytes(name.as_slice(), other.as_slice()) {
-                return *quorum;
-            }
-        }
-        rest = more;
-    }
-    0
-}
-
-/// The address of the first monitor line of this name.
-fn monitored_at(states: &[State], name: &Name) -> Addr
-    ensures { result ≡ first (monitored_at name.now) no_addr states.now }
-{
-    let mut rest = states;
-    while let [state, more @ ..] = rest {
-        if let State::Monitor {
-            name: other,
-            addr,
-            ..
-        } = state
-        {
-            if is_same_bytes(name.as_slice(), other.as_slice()) {
-                return *addr;
-            }
-        }
-        rest = more;
-    }
-    Addr { ip: 0, port: 0 }
-}
-
-/// The epoch of the first config-epoch line of this name, or 0.
-fn config_of(states: &[State], name: &Name) -> u64
-    ensures { result ≡ first (config_of name.now) 0 states.now }
-{
-    let mut rest = states;
-    while let [state, more @ ..] = rest {
-        if let State::ConfigEpoch { name: other, epoch } = state {
-            if is_same_bytes(name.as_slice(), other.as_slice()) {
-                return *epoch;
-            }
-        }
-        rest = more;
-    }
-    0
-}
-
-/// The epoch of the first leader-epoch line of this name, or 0.
-fn voted_of(states: &[State], name: &Name) -> u64
-    ensures { result ≡ first (voted_of name.now) 0 states.now }
-{
-    let mut rest = states;
-    while let [state, more @ ..] = rest {
-        if let State::LeaderEpoch { name: other, epoch } = state {
-            if is_same_bytes(name.as_slice(), other.as_slice()) {
-                return *epoch;
-            }
-        }
-        rest = more;
-    }
-    0
-}
-
-/// The epoch that a line gives.
-fn epoch_of(state: &State) -> Option<u64>
-    ensures { result ≡ epoch_of state.now }
-{
-    match state {
-        State::CurrentEpoch(epoch) => Some(*epoch),
-        State::ConfigEpoch { epoch, .. } => Some(*epoch),
-        State::LeaderEpoch { epoch, .. } => Some(*epoch),
-        State::MyId(_) => None,
-        State::Monitor { .. } => None,
-        State::KnownReplica { .. } => None,
-        State::KnownSentinel { .. } => None,
-    }
-}
-
 /// The greatest epoch of all lines, or 0.
-pub fn greatest_epoch(states: &[State]) -> u64
+pub fn greatest_epoch(states: &[StateLine]) -> u64
     ensures { result ≡ greatest (filter_map epoch_of states.now) }
 {
     let mut greatest = 0;
     let mut rest = states;
     while let [state, more @ ..] = rest {
-        if let Some(epoch) = epoch_of(state) {
+        if let Some(epoch) = state.epoch() {
             greatest = epoch.max(greatest);
         }
         rest = more;
@@ -194,8 +56,27 @@ pub fn greatest_epoch(states: &[State]) -> u64
     greatest
 }
 
+/// The nodes that the lines give to the master of this name, in the order of the lines.
+fn nodes_given(alloc: Global, states: &[StateLine], name: &Name) -> Result<Vec<Addr>, AllocError>
+    ensures { IfOk result (λ nodes. nodes.items ≡ filter_map (node_of name.now) states.now) }
+{
+    states
+        .iter()
+        .filter_map(|state| state.node_of(name))
+        .collect(alloc)
+}
+
+/// The quorum that the lines give to the master of this name, or 0.
+fn quorum_of(states: &[StateLine], name: &Name) -> u32
+    ensures { result ≡ last (quorum_of name.now) 0 states.now }
+{
+    states
+        .iter()
+        .fold(0, |quorum, state| state.quorum_of(name).unwrap_or(quorum))
+}
+
 /// The master of this name.
-fn master_of(alloc: Global, states: &[State], name: &Name) -> Result<Watched, AllocError>
+fn master_of(alloc: Global, states: &[StateLine], name: &Name) -> Result<Watched, AllocError>
     ensures { IfOk result (λ master. master ≡ master_of states.now name.now) }
 {
     let nodes = ordered(alloc, nodes_given(alloc, states, name)?)?;
@@ -205,7 +86,7 @@ fn master_of(alloc: Global, states: &[State], name: &Name) -> Result<Watched, Al
 /// The masters of these names.
 pub fn masters_of(
     alloc: Global,
-    states: &[State],
+    states: &[StateLine],
     names: &[Name],
 ) -> Result<Vec<Watched>, AllocError>
     ensures { IfOk result (λ list. list.items ≡ map (master_of states.now) names.now) }
@@ -220,48 +101,55 @@ pub fn masters_of(
 }
 
 /// What the lines hold of the master of this name.
-fn kept_master_of(states: &[State], name: &Name) -> KeptMaster
+fn kept_master_of(states: &[StateLine], name: &Name) -> KeptMaster
     ensures { result ≡ kept_master_of states.now name.now }
 {
+    let nowhere = Addr { ip: 0, port: 0 };
     KeptMaster {
         card: Card {
-            epoch: config_of(states, name),
-            addr: monitored_at(states, name),
+            epoch: states.iter().fold(
+                0,
+                |epoch, state| state.config_epoch_of(name).unwrap_or(epoch),
+            ),
+            addr: states.iter().fold(
+                nowhere,
+                |addr, state| state.address_of(name).unwrap_or(addr),
+            ),
         },
-        voted: voted_of(states, name),
+        voted: states
+            .iter()
+            .fold(0, |epoch, state| state.voted_of(name).unwrap_or(epoch)),
     }
 }
 
 /// What the lines hold of the masters of these names.
 pub fn kept_masters_of(
     alloc: Global,
-    states: &[State],
+    states: &[StateLine],
     names: &[Name],
 ) -> Result<Vec<KeptMaster>, AllocError>
     ensures { IfOk result (λ list. list.items ≡ map (kept_master_of states.now) names.now) }
 {
-    let mut masters = Vec::with_capacity(alloc, names.len())?;
-    let mut rest = names;
-    while let [name, more @ ..] = rest {
-        masters.push(kept_master_of(states, name))?;
-        rest = more;
-    }
-    Ok(masters)
+    names
+        .iter()
+        .map(|name| kept_master_of(states, name))
+        .collect(alloc)
 }
 
 /// The Sentinels: this one and those that the lines give, in order, each once.
-pub fn members_of(alloc: Global, own: Member, states: &[State]) -> Result<Vec<Member>, AllocError>
+pub fn members_of(
+    alloc: Global,
+    own: Member,
+    states: &[StateLine],
+) -> Result<Vec<Member>, AllocError>
     ensures { IfOk result (λ members. members.items ≡ members_of own states.now) }
 {
     let mut members = Vec::new(alloc);
     members.push(Listed::new(own))?;
     let mut rest = states;
     while let [state, more @ ..] = rest {
-        if let State::KnownSentinel { addr, id, .. } = state {
-            members.push(Listed::new(Member {
-                id: *id,
-                addr: *addr,
-            }))?;
+        if let Some(member) = state.sentinel() {
+            members.push(Listed::new(member))?;
         }
         rest = more;
     }
@@ -272,96 +160,22 @@ pub fn members_of(alloc: Global, own: Member, states: &[State]) -> Result<Vec<Me
 pub fn own_port(settings: &[Setting]) -> u16
     ensures { result ≡ own_port settings.now }
 {
-    let mut port = DEFAULT_PORT;
-    let mut rest = settings;
-    while let [setting, more @ ..] = rest {
-        if let Setting::Port(set) = setting {
-            port = *set;
-        }
-        rest = more;
-    }
-    port
+    settings.iter().fold(DEFAULT_PORT, |port, setting| setting.port().unwrap_or(port))
 }
 
-/// The ip that the last announce-ip line gives.
-fn announced_ip(settings: &[Setting]) -> u32
-    ensures { result ≡ last announce_ip_of 2130706433 settings.now }
-{
-    let mut ip = DEFAULT_IP;
-    let mut rest = settings;
-    while let [setting, more @ ..] = rest {
-        if let Setting::AnnounceIp(set) = setting {
-            ip = *set;
-        }
-        rest = more;
-    }
-    ip
-}
-
-/// The port that the last announce-port line gives, or else this one.
-fn announced_port(settings: &[Setting], otherwise: u16) -> u16
-    ensures { result ≡ last announce_port_of otherwise settings.now }
-{
-    let mut port = otherwise;
-    let mut rest = settings;
-    while let [setting, more @ ..] = rest {
-        if let Setting::AnnouncePort(set) = setting {
-            port = *set;
-        }
-        rest = more;
-    }
-    port
-}
-
-/// Where this Sentinel is found.
+/// Where this Sentinel is found: what the last announce lines give, or else 127.0.0.1 and the own port.
 pub fn own_addr(settings: &[Setting]) -> Addr
     ensures { result ≡ own_addr settings.now }
 {
     Addr {
-        ip: announced_ip(settings),
-        port: announced_port(settings, own_port(settings)),
-    }
-}
-
-/// The settings of the master of this name after one more line.
-fn with_setting(settings: Settings, name: &Name, setting: &Setting) -> Settings
-    ensures { result ≡ record {
-      after_ms = unwrap_or (after_of name.now setting.now) settings.after_ms;
-      parallel_syncs = unwrap_or (syncs_of name.now setting.now) settings.parallel_syncs;
-      timeout = unwrap_or (timeout_of name.now setting.now) settings.timeout;
-    } }
-{
-    match setting {
-        Setting::DownAfter { name: other, ms } => {
-            if is_same_bytes(name.as_slice(), other.as_slice()) {
-                return Settings {
-                    after_ms: *ms,
-                    ..settings
-                };
-            }
-            settings
-        }
-        Setting::ParallelSyncs { name: other, count } => {
-            if is_same_bytes(name.as_slice(), other.as_slice()) {
-                return Settings {
-                    parallel_syncs: *count,
-                    ..settings
-                };
-            }
-            settings
-        }
-        Setting::FailoverTimeout { name: other, ms } => {
-            if is_same_bytes(name.as_slice(), other.as_slice()) {
-                return Settings {
-                    timeout: *ms,
-                    ..settings
-                };
-            }
-            settings
-        }
-        Setting::Port(_) => settings,
-        Setting::AnnounceIp(_) => settings,
-        Setting::AnnouncePort(_) => settings,
+        ip: settings.iter().fold(
+            DEFAULT_IP,
+            |ip, setting| setting.announce_ip().unwrap_or(ip),
+        ),
+        port: settings.iter().fold(
+            own_port(settings),
+            |port, setting| setting.announce_port().unwrap_or(port),
+        ),
     }
 }
 
@@ -369,17 +183,19 @@ fn with_setting(settings: Settings, name: &Name, setting: &Setting) -> Settings
 fn settings_of(settings: &[Setting], name: &Name) -> Settings
     ensures { result ≡ settings_of settings.now name.now }
 {
-    let mut held = Settings {
-        after_ms: 30_000,
-        parallel_syncs: 1,
-        timeout: 180_000,
-    };
-    let mut rest = settings;
-    while let [setting, more @ ..] = rest {
-        held = with_setting(held, name, setting);
-        rest = more;
+    Settings {
+        after_ms: settings
+            .iter()
+            .fold(30_000, |ms, setting| setting.after_of(name).unwrap_or(ms)),
+        parallel_syncs: settings.iter().fold(
+            1,
+            |count, setting| setting.syncs_of(name).unwrap_or(count),
+        ),
+        timeout: settings.iter().fold(
+            180_000,
+            |ms, setting| setting.timeout_of(name).unwrap_or(ms),
+        ),
     }
-    held
 }
 
 /// The settings of the masters of these names.
@@ -390,11 +206,8 @@ pub fn all_settings_of(
 ) -> Result<Vec<Settings>, AllocError>
     ensures { IfOk result (λ list. list.items ≡ map (settings_of settings.now) names.now) }
 {
-    let mut list = Vec::with_capacity(alloc, names.len())?;
-    let mut rest = names;
-    while let [name, more @ ..] = rest {
-        list.push(settings_of(settings, name))?;
-        rest = more;
-    }
-    Ok(list)
+    names
+        .iter()
+        .map(|name| settings_of(settings, name))
+        .collect(alloc)
 }

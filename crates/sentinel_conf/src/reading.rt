@@ -1,32 +1,170 @@
-//! The steps of reading a file, in the order of its faults.
+//! What a file says before its size is judged, and the steps of reading it, in the order of its faults.
 
-ghost use Rattle.std.specs.Prelude.{◌≡◌, ◌<◌, ◌≤◌, ◌⊎◌, None, Some, Ok, Err, List, ℕ, map, length, IfOk, IfErr, OnOk, MatchResult, slice_index_or, true};
+ghost use Rattle.std.specs.Prelude.{◌≡◌, ◌++◌, not, nat_lt, ◌<◌, ◌≤◌, ◌⊎◌, None, Some, Ok, Err, List, ℕ, map, length, IfOk, IfErr, OnOk, MatchResult, slice_index_or, true};
 ghost use Rattle.std.specs.List.{filter_map, flat_map, list_any};
 ghost use Rattle.std.specs.Str.{IsUtf8};
 ghost use Rattle.ballot_law.specs.Orders.{same_id};
 ghost use Rattle.ballot_law.specs.RosterFaults.{fault_of};
 ghost use Rattle.ballot_law.specs.Rosters.{no_member};
 ghost use Rattle.ballot_law.specs.declared.rosters.RosterFault.TheVariants.{NoMemory};
-ghost use Rattle.sentinel_conf.specs.declared.faults.ConfKind.TheVariants.{TooLong};
-ghost use Rattle.sentinel_conf.specs.Words.{lines};
-ghost use Rattle.sentinel_conf.specs.Meaning.{name_of, names_of, plan_of, conf_of, kept_of};
-ghost use Rattle.sentinel_conf.specs.Rewritten.{ended, rewritten, longest, at_last_epoch};
-ghost use Rattle.sentinel_conf.specs.Reading.{FILE_MAX, no_memory, fault_at, checked, roster_checked, conf_of_lines, sized};
+ghost use Rattle.conf_lines.specs.declared.faults.ConfKind.TheVariants.{TooLong};
+ghost use Rattle.conf_lines.specs.Words.{lines};
+ghost use Rattle.sentinel_conf.specs.Room.{bounded};
+ghost use Rattle.sentinel_conf.specs.Meaning.{names_of, plan_of, conf_of, kept_of};
+ghost use Rattle.conf_lines.specs.Values.{name_of};
+ghost use Rattle.sentinel_conf.specs.Rewritten.{rewritten, longest, at_last_epoch};
+ghost use Rattle.conf_lines.specs.Words.{ended};
+ghost use Rattle.sentinel_conf.specs.Reading.{FILE_MAX, checked, roster_checked, conf_of_lines, sized};
+ghost use Rattle.conf_lines.specs.Faults.{no_memory, fault_at};
 
 use crate::conf_text::ConfText;
-use crate::faults::{ConfFault, ConfKind};
 use crate::file_lines::{FileLines, check_names, read_lines};
-use crate::lines::State;
 use crate::meaning::{
     all_settings_of, greatest_epoch, kept_masters_of, masters_of, members_of, my_id, names_given,
     own_addr, own_port,
 };
-use crate::parts::Parts;
+use crate::settings::Settings;
+use crate::writing::add_file;
 use ballot_law::{
     Card, Kept, KeptMaster, KeptMasters, MAX_EPOCH, Member, Name, Roster, RosterFault, RunId,
     ordered,
 };
+use conf_lines::{ConfFault, ConfKind, StateLine};
 use std::alloc::{AllocError, Global};
+use std::marker::Model;
+
+/// What a file says: the lines that a rewrite keeps, the roster, the settings, and what the state lines hold.
+#[derive(Drop)]
+pub struct Parts {
+    kept_lines: Vec<u8>,
+    roster: Roster,
+    id: RunId,
+    port: u16,
+    settings: Vec<Settings>,
+    kept: Kept,
+}
+
+impl Model for Parts {
+    ghost use Rattle.std.specs.Prelude.{◌≡◌};
+    ghost use Rattle.std.specs.List.{flat_map};
+    ghost use Rattle.conf_lines.specs.Words.{lines};
+    ghost use Rattle.conf_lines.specs.Words.{ended};
+    ghost use Rattle.sentinel_conf.specs.Meaning.{ConfPlan};
+
+    ghost Value = { ConfPlan };
+
+    ghost view = { λ parts. record {
+      kept_lines = lines parts.kept_lines.items;
+      roster = parts.roster;
+      id = parts.id;
+      port = parts.port;
+      settings = parts.settings.items;
+      kept = parts.kept;
+    } };
+
+    ghost invariant = { λ parts. parts.kept_lines.items
+        ≡ flat_map ended (lines parts.kept_lines.items) };
+}
+
+impl Parts {
+    /// These parts. The lines are each ended by LF.
+    pub fn new(
+        kept_lines: Vec<u8>,
+        roster: Roster,
+        id: RunId,
+        port: u16,
+        settings: Vec<Settings>,
+        kept: Kept,
+    ) -> Parts
+        requires { kept_lines.items ≡ flat_map ended (lines kept_lines.items) }
+        ensures { result ≡ record {
+          kept_lines = lines kept_lines.items;
+          roster = roster;
+          id = id;
+          port = port;
+          settings = settings.items;
+          kept = kept;
+        } }
+    {
+        Parts {
+            kept_lines,
+            roster,
+            id,
+            port,
+            settings,
+            kept,
+        }
+    }
+
+    /// The roster.
+    pub fn roster(&self) -> &Roster
+        ensures { result.now ≡ self.now.roster }
+    {
+        &self.roster
+    }
+
+    /// The roster, with no memory taken.
+    pub fn into_roster(self) -> Roster
+        ensures { result ≡ self.roster }
+    {
+        self.roster
+    }
+
+    /// The own run id.
+    pub fn id(&self) -> RunId
+        ensures { result ≡ self.now.id }
+    {
+        self.id
+    }
+
+    /// The own port.
+    pub fn port(&self) -> u16
+        ensures { result ≡ self.now.port }
+    {
+        self.port
+    }
+
+    /// The settings of each master.
+    pub fn settings(&self) -> &[Settings]
+        ensures { result.now ≡ self.now.settings }
+    {
+        self.settings.as_slice()
+    }
+
+    /// What the state lines hold.
+    pub fn kept(&self) -> &Kept
+        ensures { result.now ≡ self.now.kept }
+    {
+        &self.kept
+    }
+
+    /// Adds the rewritten file of these parts with this current epoch and these masters.
+    fn write(&self, out: &mut ConfText, current: u64, masters: &[KeptMaster])
+        ensures { bounded out.new ≡ bounded (out.old
+            ++ rewritten self.now (record { current = current; masters = masters.now })) }
+    {
+        add_file(
+            out,
+            &self.kept_lines,
+            self.id,
+            &self.roster,
+            current,
+            masters,
+        );
+    }
+
+    /// Writes the rewritten file in place of what stood in the text, and tells whether it is no longer than a file may
+    /// be. A longer one is cut off.
+    pub fn write_into(&self, text: &mut ConfText, current: u64, masters: &[KeptMaster]) -> bool
+        ensures text { text.new
+            ≡ bounded (rewritten self.now (record { current = current; masters = masters.now })) }
+        ensures fits { result ≡ not (nat_lt FILE_MAX (length text.new)) }
+    {
+        text.clear();
+        self.write(text, current, masters);
+        !text.is_too_long()
+    }
+}
 
 /// The fault of a file of which no roster can be made.
 fn of_roster(fault: RosterFault) -> ConfFault
@@ -34,14 +172,8 @@ fn of_roster(fault: RosterFault) -> ConfFault
     ensures memory { fault ≡ NoMemory → result ≡ no_memory }
 {
     match fault {
-        RosterFault::NoMemory => ConfFault {
-            line: 0,
-            kind: ConfKind::NoMemory,
-        },
-        fault => ConfFault {
-            line: 0,
-            kind: ConfKind::Roster(fault),
-        },
+        RosterFault::NoMemory => ConfFault::of_file(ConfKind::NoMemory),
+        fault => ConfFault::of_file(ConfKind::Roster(fault)),
     }
 }
 
@@ -49,7 +181,7 @@ fn of_roster(fault: RosterFault) -> ConfFault
 fn roster_of(
     alloc: Global,
     own: Member,
-    states: &[State],
+    states: &[StateLine],
     names: &[Name],
 ) -> Result<Roster, ConfFault>
     requires { names.now ≡ names_of states.now }
@@ -66,7 +198,7 @@ fn roster_of(
 }
 
 /// What the state lines hold. The names are those of the masters, in order.
-fn kept_of(alloc: Global, states: &[State], names: &[Name]) -> Result<Kept, AllocError>
+fn kept_of(alloc: Global, states: &[StateLine], names: &[Name]) -> Result<Kept, AllocError>
     requires { names.now ≡ names_of states.now }
     ensures { IfOk result (λ kept. kept ≡ kept_of states.now) }
 {
@@ -117,31 +249,29 @@ pub fn parts_of(alloc: Global, bytes: &[u8]) -> Result<Parts, ConfFault>
         return Err(fault);
     }
     let Some(id) = my_id(&file.states) else {
-        return Err(ConfFault {
-            line: 0,
-            kind: ConfKind::NoMyId,
-        });
+        return Err(ConfFault::of_file(ConfKind::NoMyId));
     };
     assembled(alloc, file, names, id)
+}
+
+/// This master with the greatest epoch everywhere.
+fn at_last_epoch(master: &KeptMaster) -> KeptMaster
+    ensures { result ≡ at_last_epoch master.now }
+{
+    KeptMaster {
+        card: Card {
+            epoch: MAX_EPOCH,
+            addr: master.card.addr,
+        },
+        voted: MAX_EPOCH,
+    }
 }
 
 /// These masters with the greatest epoch everywhere.
 fn at_last_epochs(alloc: Global, masters: &[KeptMaster]) -> Result<Vec<KeptMaster>, AllocError>
     ensures { IfOk result (λ list. list.items ≡ map at_last_epoch masters.now) }
 {
-    let mut list = Vec::with_capacity(alloc, masters.len())?;
-    let mut rest = masters;
-    while let [master, more @ ..] = rest {
-        list.push(KeptMaster {
-            card: Card {
-                epoch: MAX_EPOCH,
-                addr: master.card.addr,
-            },
-            voted: MAX_EPOCH,
-        })?;
-        rest = more;
-    }
-    Ok(list)
+    masters.iter().map(at_last_epoch).collect(alloc)
 }
 
 /// Refuses parts whose longest rewritten file is too long.
@@ -153,16 +283,10 @@ pub fn check_size(alloc: Global, parts: &Parts) -> Result<(), ConfFault>
 {
     let masters = at_last_epochs(alloc, parts.kept().masters.as_slice())?;
     let Ok(mut text) = ConfText::new(alloc) else {
-        return Err(ConfFault {
-            line: 0,
-            kind: ConfKind::NoMemory,
-        });
+        return Err(ConfFault::of_file(ConfKind::NoMemory));
     };
     if !parts.write_into(&mut text, MAX_EPOCH, &masters) {
-        return Err(ConfFault {
-            line: 0,
-            kind: ConfKind::TooLong,
-        });
+        return Err(ConfFault::of_file(ConfKind::TooLong));
     }
     Ok(())
 }

@@ -2,15 +2,16 @@
 
 ghost use Rattle.std.specs.Prelude.{◌≡◌, ◌∷◌, ◌++◌, decimal};
 ghost use Rattle.std.specs.List.{flat_map, zip};
-ghost use Rattle.sentinel_conf.specs.declared.lines.State.TheVariants.{MyId, CurrentEpoch};
+ghost use Rattle.conf_lines.specs.declared.lines.StateLine.TheVariants.{MyId, CurrentEpoch};
 ghost use Rattle.ballot_law.specs.Words.{ip_text, id_text};
-ghost use Rattle.sentinel_conf.specs.Lines.{spelled};
-ghost use Rattle.sentinel_conf.specs.Rewritten.{ended, text_of, replica_states, sentinel_states, master_lines};
+ghost use Rattle.conf_lines.specs.Lines.{spelled};
+ghost use Rattle.sentinel_conf.specs.Rewritten.{text_of, replica_states, sentinel_states, master_lines};
+ghost use Rattle.conf_lines.specs.Words.{ended};
 ghost use Rattle.sentinel_conf.specs.Room.{bounded};
 
 use crate::conf_text::ConfText;
-use crate::lines::State;
 use ballot_law::{Addr, KeptMaster, Member, Name, Roster, RunId, Watched};
+use conf_lines::StateLine;
 use itoa::Buffer;
 use words::{ip_text, run_id_text};
 
@@ -68,36 +69,36 @@ fn add_epoch(out: &mut ConfText, name: &Name, epoch: u64)
 
 /// Adds a state line without its end.
 #[tactic(auto, using(crate::proofs::RoomLemmas::added_both))]
-fn add_spelled(out: &mut ConfText, state: &State)
+fn add_spelled(out: &mut ConfText, state: &StateLine)
     ensures { out.new ≡ bounded (out.old ++ spelled state.now) }
 {
     match state {
-        State::MyId(id) => {
+        StateLine::MyId(id) => {
             out.add(b"sentinel myid");
             add_id(out, *id);
         }
-        State::CurrentEpoch(epoch) => {
+        StateLine::CurrentEpoch(epoch) => {
             out.add(b"sentinel current-epoch");
             add_number(out, *epoch);
         }
-        State::Monitor { name, addr, quorum } => {
+        StateLine::Monitor { name, addr, quorum } => {
             out.add(b"sentinel monitor");
             add_node(out, name, *addr);
             add_number(out, u64::from(*quorum));
         }
-        State::ConfigEpoch { name, epoch } => {
+        StateLine::ConfigEpoch { name, epoch } => {
             out.add(b"sentinel config-epoch");
             add_epoch(out, name, *epoch);
         }
-        State::LeaderEpoch { name, epoch } => {
+        StateLine::LeaderEpoch { name, epoch } => {
             out.add(b"sentinel leader-epoch");
             add_epoch(out, name, *epoch);
         }
-        State::KnownReplica { name, addr } => {
+        StateLine::KnownReplica { name, addr } => {
             out.add(b"sentinel known-replica");
             add_node(out, name, *addr);
         }
-        State::KnownSentinel { name, addr, id } => {
+        StateLine::KnownSentinel { name, addr, id } => {
             out.add(b"sentinel known-sentinel");
             add_node(out, name, *addr);
             add_id(out, *id);
@@ -107,7 +108,7 @@ fn add_spelled(out: &mut ConfText, state: &State)
 
 /// Adds a state line, ended by LF.
 #[tactic(auto, using(crate::proofs::RoomLemmas::added_both))]
-pub fn add_state(out: &mut ConfText, state: &State)
+pub fn add_state(out: &mut ConfText, state: &StateLine)
     ensures { out.new ≡ bounded (out.old ++ ended (spelled state.now)) }
 {
     add_spelled(out, state);
@@ -124,7 +125,7 @@ pub fn add_replicas(out: &mut ConfText, name: &Name, nodes: &[Addr], at: Addr)
         if !at.is_same(addr) {
             add_state(
                 out,
-                &State::KnownReplica {
+                &StateLine::KnownReplica {
                     name: *name,
                     addr: *addr,
                 },
@@ -144,7 +145,7 @@ pub fn add_sentinels(out: &mut ConfText, name: &Name, id: RunId, members: &[Memb
         if !id.is_same(&member.id) {
             add_state(
                 out,
-                &State::KnownSentinel {
+                &StateLine::KnownSentinel {
                     name: *name,
                     addr: member.addr,
                     id: member.id,
@@ -169,11 +170,11 @@ fn add_master(
     let name = master.name;
     let addr = kept.card.addr;
     let quorum = master.quorum;
-    add_state(out, &State::Monitor { name, addr, quorum });
+    add_state(out, &StateLine::Monitor { name, addr, quorum });
     let epoch = kept.card.epoch;
-    add_state(out, &State::ConfigEpoch { name, epoch });
+    add_state(out, &StateLine::ConfigEpoch { name, epoch });
     let epoch = kept.voted;
-    add_state(out, &State::LeaderEpoch { name, epoch });
+    add_state(out, &StateLine::LeaderEpoch { name, epoch });
     add_replicas(out, &name, master.nodes(), addr);
     add_sentinels(out, &name, id, members);
 }
@@ -215,7 +216,7 @@ pub fn add_file(
         ∷ flat_map (master_lines id roster.now.sentinels) (zip roster.now.masters masters.now)))) }
 {
     out.add(kept_lines);
-    add_state(out, &State::MyId(id));
-    add_state(out, &State::CurrentEpoch(current));
+    add_state(out, &StateLine::MyId(id));
+    add_state(out, &StateLine::CurrentEpoch(current));
     add_masters(out, id, roster.sentinels(), roster.masters(), masters);
 }

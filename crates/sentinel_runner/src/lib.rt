@@ -1,6 +1,4 @@
-//! The running program without its words: what it needs of the outside.
-//!
-//! Threads, sockets and files stand in this crate alone; the rules stand in the crates below.
+//! What the running program needs of the outside: `FileStore`, a Sentinel's file on a disk. The rules stand in the crates below.
 #![tactic(auto)]
 
 mod file_store;

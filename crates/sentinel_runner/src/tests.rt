@@ -1,7 +1,7 @@
 //! A file on a disk as a store.
 
 use super::*;
-use sentinel_conf::{ConfStore, LoadFault, StoreRefused};
+use conf_store::{ConfStore, LoadFault, StoreRefused};
 use std::test::Fail;
 
 #[test]

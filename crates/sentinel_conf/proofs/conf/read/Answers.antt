@@ -3,7 +3,8 @@ use Rattle.ballot_law.specs.declared.rosters.Member.{Member}
 use Rattle.ballot_law.specs.Orders.{same_id}
 use Rattle.ballot_law.specs.Rosters.{Roster as RosterPlan, no_member}
 use Rattle.std.specs.Prelude.{slice_index_or}
-use Rattle.sentinel_conf.specs.Reading.{no_memory, conf_of_bytes}
+use Rattle.sentinel_conf.specs.Reading.{conf_of_bytes}
+use Rattle.conf_lines.specs.Faults.{no_memory}
 use Rattle.sentinel_conf.proofs.SetLemmas.{In}
 use Rattle.sentinel_conf.proofs.FileLemmas.{any_some}
 use Rattle.sentinel_conf.proofs.OrderLemmas.{id_same}
@@ -14,7 +15,7 @@ use Rattle.sentinel_conf.proofs.conf.read.Goals as goal
 
 pub returns-in-Err : goal.returns-in-Err
 returns-in-Err c =
-    inr (not_text c.args.bytes.now c.if-bytes-gt-FILE_MAX.false c.in-Err.ensures.cases.0 ∙ ap Err (sym c.whole_file-in-Err.ensures))
+    inr (not_text c.args.bytes.now c.if-bytes-gt-FILE_MAX.false c.in-Err.ensures.cases.0 ∙ ap Err (sym c.of_file-in-Err.ensures))
 
 pub returns-in-Err-parts_of : goal.returns-in-Err-parts_of
 returns-in-Err-parts_of c =

@@ -1,6 +1,6 @@
 use Rattle.std.proofs.Common.{◌≡◌, None, ◌∙◌, arith}
-use Rattle.sentinel_conf.specs.Words.{lines}
-use Rattle.sentinel_conf.specs.Lines.{line_of}
+use Rattle.conf_lines.specs.Words.{lines}
+use Rattle.conf_lines.specs.Lines.{line_of}
 use Rattle.sentinel_conf.specs.Reading.{unknown_fault}
 use Rattle.sentinel_conf.proofs.FileWalks.{unknown_more}
 use Rattle.sentinel_conf.proofs.file_lines.check_names.Goals as goal

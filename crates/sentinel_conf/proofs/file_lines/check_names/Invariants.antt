@@ -1,6 +1,6 @@
 use Rattle.std.proofs.Common.{◌≡◌, ◌+◌, ◌≤◌, [], map, length}
-use Rattle.sentinel_conf.specs.Words.{lines}
-use Rattle.sentinel_conf.specs.Lines.{line_of}
+use Rattle.conf_lines.specs.Words.{lines}
+use Rattle.conf_lines.specs.Lines.{line_of}
 use Rattle.sentinel_conf.specs.Reading.{first_fault, unknown_fault}
 use Rattle.sentinel_conf.proofs.file_lines.check_names.Given as goal
 

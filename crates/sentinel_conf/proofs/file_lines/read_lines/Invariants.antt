@@ -1,9 +1,9 @@
 use Rattle.std.proofs.Common.{◌≡◌, ◌+◌, ◌≤◌, ◌++◌, [], map, length}
 use Rattle.std.specs.List.{flat_map}
-use Rattle.sentinel_conf.specs.Words.{lines}
-use Rattle.sentinel_conf.specs.Lines.{line_of}
+use Rattle.conf_lines.specs.Words.{lines}
+use Rattle.conf_lines.specs.Lines.{line_of}
 use Rattle.sentinel_conf.specs.Meaning.{states, settings}
-use Rattle.sentinel_conf.specs.Rewritten.{ended}
+use Rattle.conf_lines.specs.Words.{ended}
 use Rattle.sentinel_conf.specs.Reading.{first_fault, line_fault, kept_lines_of}
 use Rattle.sentinel_conf.proofs.file_lines.read_lines.Given as goal
 

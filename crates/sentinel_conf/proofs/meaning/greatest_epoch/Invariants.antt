@@ -1,6 +1,7 @@
 use Rattle.std.proofs.Common.{◌≡◌, length, max}
 use Rattle.std.specs.List.{filter_map}
-use Rattle.sentinel_conf.specs.Meaning.{epoch_of, greatest}
+use Rattle.sentinel_conf.specs.Meaning.{greatest}
+use Rattle.conf_lines.specs.Values.{epoch_of}
 use Rattle.sentinel_conf.proofs.meaning.greatest_epoch.Given as goal
 
 abbrev pub invariant-loop-rest : goal.invariant-loop-rest

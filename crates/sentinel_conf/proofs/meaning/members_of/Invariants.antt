@@ -1,6 +1,6 @@
 use Rattle.std.proofs.Common.{◌≡◌, ◌∷◌, ◌++◌, length}
 use Rattle.std.specs.List.{filter_map}
-use Rattle.sentinel_conf.specs.Meaning.{known_of}
+use Rattle.conf_lines.specs.Values.{known_of}
 use Rattle.sentinel_conf.proofs.meaning.members_of.Given as goal
 
 abbrev pub invariant-loop-rest : goal.invariant-loop-rest

@@ -1,5 +1,6 @@
 use Rattle.std.proofs.Common.{◌≡◌, length}
-use Rattle.sentinel_conf.specs.Meaning.{my_id_of, first_given}
+use Rattle.sentinel_conf.specs.Meaning.{first_given}
+use Rattle.conf_lines.specs.Values.{my_id_of}
 use Rattle.sentinel_conf.proofs.meaning.my_id.Given as goal
 
 abbrev pub invariant-loop-rest : goal.invariant-loop-rest

@@ -2,7 +2,7 @@ use Rattle.std.proofs.Common.{◌≡◌, ◌≤◌, ◌<◌, inr, refl, ap, sym,
 use Rattle.std.specs.Prelude.{map}
 use Rattle.std.proofs.lemmas.Bool.Decides.{nat_tests}
 use Rattle.ballot_law.specs.declared.cards.Kept.{Kept as KeptPlan}
-use Rattle.sentinel_conf.specs.Lines.{MAX_EPOCH}
+use Rattle.ballot_law.specs.declared.cards.TheConstants.{MAX_EPOCH}
 use Rattle.sentinel_conf.specs.Rewritten.{rewritten, longest, at_last_epoch}
 use Rattle.sentinel_conf.specs.Reading.{FILE_MAX}
 use Rattle.sentinel_conf.specs.Room.{bounded}
@@ -16,7 +16,7 @@ returns-then-not-write_into c =
     let text : c.write_into.new.text ≡ bounded (rewritten parts (longest parts.kept)) =
     c.write_into.ensures.text ∙ ap (λ t. bounded (rewritten parts (let k : KeptPlan = record { current = MAX_EPOCH; masters = t } in k))) masters in
     let long : FILE_MAX < length c.write_into.new.text = let t = sym c.write_into.ensures.fits ∙ c.if-not-write_into.true in grind (arith, nat_tests, t) in
-    inr (refl, over c.write_into.new.text (rewritten parts (longest parts.kept)) text long)
+    inr (c.of_file-then-not-write_into.ensures, over c.write_into.new.text (rewritten parts (longest parts.kept)) text long)
 
 pub returns : goal.returns
 returns c =

@@ -1,10 +1,12 @@
-use Rattle.std.proofs.Common.{◌≡◌, ◌⊎◌, inl, inr, None, Some, Err, ap, ◌∙◌}
+use Rattle.std.proofs.Common.{◌≡◌, ◌⊎◌, inl, inr, None, Some, Err, ap, sym, ◌∙◌}
 use Rattle.std.specs.List.{filter_map}
 use Rattle.ballot_law.specs.RosterFaults.{fault_of}
-use Rattle.sentinel_conf.specs.declared.faults.ConfFault.{ConfFault}
-use Rattle.sentinel_conf.specs.Words.{lines}
-use Rattle.sentinel_conf.specs.Meaning.{ConfPlan, name_of, first_given, my_id_of, conf_of}
-use Rattle.sentinel_conf.specs.Reading.{no_memory, roster_checked, conf_of_lines, sized}
+use Rattle.conf_lines.specs.declared.faults.ConfFault.{ConfFault}
+use Rattle.conf_lines.specs.Words.{lines}
+use Rattle.sentinel_conf.specs.Meaning.{ConfPlan, first_given, conf_of}
+use Rattle.conf_lines.specs.Values.{name_of, my_id_of}
+use Rattle.sentinel_conf.specs.Reading.{roster_checked, conf_of_lines, sized}
+use Rattle.conf_lines.specs.Faults.{no_memory}
 use Rattle.sentinel_conf.proofs.ReadSteps.{match_map, name_faulty, without_id, with_this_id, whole_is, rostered, not_rostered, kept_lines_again, kept_is_ended}
 use Rattle.sentinel_conf.proofs.reading.parts_of.Goals as goal
 
@@ -20,7 +22,7 @@ returns-in_default-my_id c =
     let names = c.deref-2.ensures.value ∙ c.in_ok-names.ensures ∙ ap (filter_map name_of) (c.deref.ensures.value ∙ c.in_ok-file.ensures.states) in
     let held = c.deref-3.ensures.value ∙ c.in_ok-file.ensures.states in
     let none : first_given my_id_of c.deref-3.result.now ≡ None = cc in
-    inr (without_id texts c.deref-2.result.now names c.in_ok-file.ensures.fits c.in_default.ensures.fits c.deref-3.result.now held none)
+    inr (without_id texts c.deref-2.result.now names c.in_ok-file.ensures.fits c.in_default.ensures.fits c.deref-3.result.now held none ∙ ap Err (sym c.of_file.ensures))
 
 pub assembled-requires-clause-lines : goal.assembled-requires-clause-lines
 assembled-requires-clause-lines c = kept_is_ended c.args.bytes.now c.in_ok-file.file.kept.items c.requires c.in_ok-file.ensures.kept

@@ -1,6 +1,6 @@
 use Rattle.std.proofs.Common.{◌++◌, ap, ◌∙◌}
 use Rattle.std.specs.List.{flat_map, zip}
-use Rattle.sentinel_conf.specs.declared.lines.State.TheVariants.{MyId, CurrentEpoch}
+use Rattle.conf_lines.specs.declared.lines.StateLine.TheVariants.{MyId, CurrentEpoch}
 use Rattle.sentinel_conf.specs.Rewritten.{text_of, master_lines}
 use Rattle.sentinel_conf.specs.Room.{bounded}
 use Rattle.sentinel_conf.proofs.RoomLemmas.{file_text}

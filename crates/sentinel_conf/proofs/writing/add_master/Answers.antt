@@ -1,8 +1,9 @@
 use Rattle.std.proofs.Common.{◌≡◌, ◌++◌, ap, ◌∙◌}
 use Rattle.ballot_law.specs.Rosters.{MasterPlan}
-use Rattle.sentinel_conf.specs.declared.lines.State.TheVariants.{Monitor, ConfigEpoch, LeaderEpoch}
-use Rattle.sentinel_conf.specs.Lines.{spelled}
-use Rattle.sentinel_conf.specs.Rewritten.{ended, text_of, replica_states, sentinel_states}
+use Rattle.conf_lines.specs.declared.lines.StateLine.TheVariants.{Monitor, ConfigEpoch, LeaderEpoch}
+use Rattle.conf_lines.specs.Lines.{spelled}
+use Rattle.sentinel_conf.specs.Rewritten.{text_of, replica_states, sentinel_states}
+use Rattle.conf_lines.specs.Words.{ended}
 use Rattle.sentinel_conf.specs.Room.{bounded}
 use Rattle.sentinel_conf.proofs.RoomLemmas.{three_and_two}
 use Rattle.sentinel_conf.proofs.writing.add_master.Goals as goal

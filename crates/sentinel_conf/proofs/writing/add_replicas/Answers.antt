@@ -1,7 +1,7 @@
 use Rattle.std.proofs.Common.{ap, sym, ◌∙◌}
 use Rattle.std.specs.Prelude.{not}
 use Rattle.ballot_law.specs.Orders.{same_addr}
-use Rattle.sentinel_conf.specs.declared.lines.State.TheVariants.{KnownReplica}
+use Rattle.conf_lines.specs.declared.lines.StateLine.TheVariants.{KnownReplica}
 use Rattle.sentinel_conf.proofs.RoomLemmas.{lines_more}
 use Rattle.sentinel_conf.proofs.writing.add_replicas.Goals as goal
 

@@ -2,7 +2,7 @@ use Rattle.std.proofs.Common.{ap, sym, ◌∙◌}
 use Rattle.std.specs.Prelude.{not}
 use Rattle.ballot_law.specs.declared.rosters.Member.{Member}
 use Rattle.ballot_law.specs.Orders.{same_id}
-use Rattle.sentinel_conf.specs.declared.lines.State.TheVariants.{KnownSentinel}
+use Rattle.conf_lines.specs.declared.lines.StateLine.TheVariants.{KnownSentinel}
 use Rattle.sentinel_conf.proofs.RoomLemmas.{lines_more}
 use Rattle.sentinel_conf.proofs.writing.add_sentinels.Goals as goal
 

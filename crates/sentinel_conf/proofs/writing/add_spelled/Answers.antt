@@ -1,7 +1,7 @@
 use Rattle.std.proofs.Common.{◌++◌, ◌∷◌, ap, sym, ◌∙◌}
 use Rattle.std.specs.Prelude.{codes, decimal}
 use Rattle.ballot_law.specs.Words.{ip_text, id_text}
-use Rattle.sentinel_conf.specs.Lines.{spelled}
+use Rattle.conf_lines.specs.Lines.{spelled}
 use Rattle.sentinel_conf.specs.Room.{bounded}
 use Rattle.sentinel_conf.proofs.RoomLemmas.{two_adds, three_adds, node_more}
 use Rattle.sentinel_conf.proofs.writing.add_spelled.Goals as goal

@@ -1,0 +1,246 @@
+-- What a line says is in range.
+use Rattle.std.proofs.Common.{◌≡◌, ℕ, suc, ◌+◌, ◌-◌, ◌*◌, ◌^◌, ◌≤◌, ◌<◌, Bool, true, false, ◌&&◌, eqb, ltb, leb, List, [], ◌∷◌, length, take, drop, map, refl, ap, sym, ◌∙◌, subst, arith, Option, Some, None, length-take-le, length-drop}
+use Rattle.std.specs.Prelude.{codes, decimal, bytes_eq}
+use Rattle.std.specs.List.{list_all, AllByRecursion}
+use Rattle.std.proofs.lemmas.Bool.{and_parts, leb-true}
+use Rattle.std.proofs.lemmas.Bool.Decides.{nat_tests}
+use Rattle.std.proofs.lemmas.List.Folds.{list_all-append}
+use Rattle.std.proofs.lemmas.List.{take-append-drop}
+use Rattle.std.specs.Int.Digits.{number_from_digits_after, AllBelowBase}
+use Rattle.std.proofs.lemmas.Int.Digits.{number_after_lt}
+use Rattle.ballot_law.specs.declared.addresses.Addr.{Addr}
+use Rattle.ballot_law.specs.declared.addresses.RunId.{RunId}
+use Rattle.ballot_law.specs.Orders.{same_bytes}
+use Rattle.conf_lines.specs.declared.faults.ConfKind.{ConfKind}
+use Rattle.conf_lines.specs.declared.faults.ConfKind.TheVariants.{BadNumber, BadAddress, BadName, BadRunId}
+use Rattle.conf_lines.specs.declared.lines.StateLine.TheVariants.{MyId, CurrentEpoch, Monitor, ConfigEpoch, LeaderEpoch, KnownReplica, KnownSentinel}
+use Rattle.conf_lines.specs.declared.lines.Setting.{Setting}
+use Rattle.conf_lines.specs.declared.lines.Setting.TheVariants.{Port, AnnounceIp, AnnouncePort, DownAfter, ParallelSyncs, FailoverTimeout}
+use Rattle.conf_lines.specs.declared.lines.Line.{Line}
+use Rattle.conf_lines.specs.declared.lines.Line.TheVariants as line
+use Rattle.conf_lines.specs.Words.{words_of}
+use Rattle.ballot_law.specs.Words.{some_if, then_some, is_digit, number, number_within, is_name_byte, name, parts, ip_part, ip_of_parts, ip, port, address, is_hex, hex_value, hex_on, run_id, lower}
+use Rattle.conf_lines.specs.Lines.{wanted, epoch, count, my_id_line, current_line, monitor_line, config_line, leader_line, replica_line, sentinel_line, port_line, announce_ip_line, announce_port_line, down_after_line, parallel_syncs_line, timeout_line, first_named, sentinel_directives, sentinel_words, line_of_words, line_of}
+use Rattle.ballot_law.specs.declared.cards.TheConstants.{MAX_EPOCH}
+use Rattle.conf_lines.proofs.StateLemmas.{IsAddr, IsId, IsName, IsState}
+
+-- what is read of one word
+given_if : {X : Type 0} (b : Bool) (x y : X) → some_if b x ≡ Some y → (b ≡ true) × (x ≡ y)
+given_if true x y h = (refl, (let e : x ≡ y = cc in e))
+given_if false x y h = cc
+
+then_given : {X Y : Type 0} (o : Option X) (f : X → Option Y) (y : Y) → then_some o f ≡ Some y → (x : X) × (o ≡ Some x) × (f x ≡ Some y)
+then_given None f y h = cc
+then_given (Some x) f y h = (x, refl, h)
+
+within : (low high : ℕ) (w : List ℕ) (n : ℕ) → number_within low high w ≡ Some n → (low ≤ n) × (n ≤ high)
+within low high w n h =
+    let g = then_given (number w) (λ n. some_if (leb low n && leb n high) n) n h in
+    let k = given_if (leb low g.0 && leb g.0 high) g.0 n g.2 in
+    let both = and_parts (leb low g.0) (leb g.0 high) k.0 in
+    let e : g.0 ≡ n = k.1 in
+    let l : low ≤ g.0 = leb-true low g.0 both.0 in
+    let r : g.0 ≤ high = leb-true g.0 high both.1 in
+    (omega arith, omega arith)
+
+named : (w n : List ℕ) → name w ≡ Some n → IsName n
+named w n h =
+    let k = given_if (ltb 0 (length w) && (leb (length w) 64 && list_all is_name_byte w)) w n h in
+    subst (λ t. name t ≡ Some t) k.1 (ap (λ t. some_if t w) k.0)
+
+part_within : (w : List ℕ) (n : ℕ) → ip_part w ≡ Some n → n ≤ 255
+part_within w n h =
+    let g = then_given (number_within 0 255 w) (λ n. some_if (same_bytes w (decimal n)) n) n h in
+    let e : g.0 ≡ n = (given_if (same_bytes w (decimal g.0)) g.0 n g.2).1 in
+    let l : g.0 ≤ 255 = (within 0 255 w g.0 g.1).1 in omega arith
+
+ip_within : (ws : List (List ℕ)) (n : ℕ) → ip_of_parts ws ≡ Some n → n < 2 ^ 32
+ip_within (a ∷ b ∷ c ∷ d ∷ []) n h =
+    let g = then_given (ip_part a) (λ a. then_some (ip_part b) (λ b. then_some (ip_part c) (λ c. then_some (ip_part d) (λ d. Some (((a * 256 + b) * 256 + c) * 256 + d))))) n h in
+    let i = then_given (ip_part b) (λ b. then_some (ip_part c) (λ c. then_some (ip_part d) (λ d. Some (((g.0 * 256 + b) * 256 + c) * 256 + d)))) n g.2 in
+    let j = then_given (ip_part c) (λ c. then_some (ip_part d) (λ d. Some (((g.0 * 256 + i.0) * 256 + c) * 256 + d))) n i.2 in
+    let k = then_given (ip_part d) (λ d. Some (((g.0 * 256 + i.0) * 256 + j.0) * 256 + d)) n j.2 in
+    let pa : g.0 ≤ 255 = part_within a g.0 g.1 in
+    let pb : i.0 ≤ 255 = part_within b i.0 i.1 in
+    let pc : j.0 ≤ 255 = part_within c j.0 j.1 in
+    let pd : k.0 ≤ 255 = part_within d k.0 k.1 in
+    let last = k.2 in
+    let e : ((g.0 * 256 + i.0) * 256 + j.0) * 256 + k.0 ≡ n = cc in
+    omega arith
+ip_within _ n h = cc
+
+addressed : (i p : List ℕ) (a : Addr) → address i p ≡ Some a → IsAddr a
+addressed i p a h =
+    let g = then_given (ip i) (λ i. then_some (port p) (λ p. Some (record { ip = i; port = p }))) a h in
+    let k = then_given (port p) (λ p. let r : Option Addr = Some (record { ip = g.0; port = p }) in r) a g.2 in
+    let last = k.2 in
+    let ports = within 1 65535 p k.0 k.1 in
+    let made : Addr = record { ip = g.0; port = k.0 } in
+    let e : made ≡ a = cc in
+    subst IsAddr e (record { ip = ip_within (parts i) g.0 g.1; low = ports.0; high = ports.1 })
+
+hex_below : (b : ℕ) (t : Bool) → is_digit b ≡ t → is_hex b ≡ true → hex_value b < 16
+hex_below b true e h = let v : hex_value b ≡ b - 48 = ap (λ t. elim t as (λ _. ℕ) [ true ↦ b - 48 | false ↦ b - 87 ]) e in grind (arith, nat_tests)
+hex_below b false e h = let v : hex_value b ≡ b - 87 = ap (λ t. elim t as (λ _. ℕ) [ true ↦ b - 48 | false ↦ b - 87 ]) e in grind (arith, nat_tests)
+
+below_base : (ds : List ℕ) → list_all is_hex ds ≡ true → AllBelowBase 16 (map hex_value ds)
+below_base [] h = tt
+below_base (d ∷ ds) h = let both = and_parts (is_hex d) (list_all is_hex ds) h in (hex_below d (is_digit d) refl both.0, below_base ds both.1)
+
+hex_on_is : (n : ℕ) (ds : List ℕ) → hex_on n ds ≡ number_from_digits_after 16 n (map hex_value ds)
+hex_on_is n [] = refl
+hex_on_is n (d ∷ ds) = hex_on_is (n * 16 + hex_value d) ds
+
+length-map : (f : ℕ → ℕ) (ds : List ℕ) → length (map f ds) ≡ length ds
+length-map f [] = refl
+length-map f (d ∷ ds) = ap suc (length-map f ds)
+
+hex_lt : (k : ℕ) (ds : List ℕ) → length ds ≡ k → list_all is_hex ds ≡ true → hex_on 0 ds < 16 ^ k
+hex_lt k ds e h =
+    let l : number_from_digits_after 16 0 (map hex_value ds) < (0 + 1) * 16 ^ length (map hex_value ds) = number_after_lt 16 0 (map hex_value ds) (below_base ds h) in
+    let f : 16 ^ length (map hex_value ds) ≡ 16 ^ k = ap (λ n. 16 ^ n) (length-map hex_value ds ∙ e) in
+    let g : hex_on 0 ds ≡ number_from_digits_after 16 0 (map hex_value ds) = hex_on_is 0 ds in
+    omega arith
+
+identified : (w : List ℕ) (id : RunId) → run_id w ≡ Some id → IsId id
+identified w id h =
+    let made : RunId = record { hi = hex_on 0 (take 32 w); lo = hex_on 0 (drop 32 w) } in
+    let k = given_if (eqb (length w) 40 && list_all is_hex w) made id h in
+    let both = and_parts (eqb (length w) 40) (list_all is_hex w) k.0 in
+    let len : length w ≡ 40 = grind (arith, nat_tests, both.0) in
+    let parts = and_parts (list_all is_hex (take 32 w)) (list_all is_hex (drop 32 w)) (sym (list_all-append is_hex (take 32 w) (drop 32 w)) ∙ ap (list_all is_hex) (take-append-drop 32 w) ∙ both.1) in
+    subst IsId k.1 (record {
+      hi = hex_lt 32 (take 32 w) (length-take-le 32 w (omega arith)) parts.0;
+      lo = hex_lt 8 (drop 32 w) (omega (arith, length-drop 32 w)) parts.1;
+    })
+
+-- what a setting line can say
+abbrev pub IsSetting : Setting → Type 0
+IsSetting (Port port) = (1 ≤ port) × (port ≤ 65535)
+IsSetting (AnnounceIp ip) = ip < 2 ^ 32
+IsSetting (AnnouncePort port) = (1 ≤ port) × (port ≤ 65535)
+IsSetting _ = Unit {0}
+
+abbrev pub IsLine : Line → Type 0
+IsLine (line.State state) = IsState state
+IsLine (line.Setting setting) = IsSetting setting
+IsLine line.Kept = Unit {0}
+IsLine (line.Faulty kind) = Unit {0}
+
+wanted_is : {X : Type 0} (kind : ConfKind) (o : Option X) (f : X → Line) → ((x : X) → o ≡ Some x → IsLine (f x)) → IsLine (wanted kind o f)
+wanted_is kind None f h = tt
+wanted_is kind (Some x) f h = h x refl
+
+my_id_is : (ws : List (List ℕ)) → IsLine (my_id_line ws)
+my_id_is (i ∷ []) = wanted_is BadRunId (run_id i) (λ id. line.State (MyId id)) (λ id e. identified i id e)
+my_id_is _ = tt
+
+current_is : (ws : List (List ℕ)) → IsLine (current_line ws)
+current_is (w ∷ []) = wanted_is BadNumber (epoch w) (λ e. line.State (CurrentEpoch e)) (λ e f. (within 0 MAX_EPOCH w e f).1)
+current_is _ = tt
+
+monitor_is : (ws : List (List ℕ)) → IsLine (monitor_line ws)
+monitor_is (n ∷ i ∷ p ∷ q ∷ []) =
+    wanted_is BadName (name n) (λ name. wanted BadAddress (address i p) (λ addr. wanted BadNumber (count q) (λ quorum. line.State (Monitor name addr quorum)))) (λ m e.
+    wanted_is BadAddress (address i p) (λ addr. wanted BadNumber (count q) (λ quorum. line.State (Monitor m addr quorum))) (λ a f.
+    wanted_is BadNumber (count q) (λ quorum. line.State (Monitor m a quorum)) (λ r g. (named n m e, addressed i p a f, (within 0 4294967295 q r g).1))))
+monitor_is _ = tt
+
+config_is : (ws : List (List ℕ)) → IsLine (config_line ws)
+config_is (n ∷ w ∷ []) =
+    wanted_is BadName (name n) (λ name. wanted BadNumber (epoch w) (λ epoch. line.State (ConfigEpoch name epoch))) (λ m e.
+    wanted_is BadNumber (epoch w) (λ epoch. line.State (ConfigEpoch m epoch)) (λ d f. (named n m e, (within 0 MAX_EPOCH w d f).1)))
+config_is _ = tt
+
+leader_is : (ws : List (List ℕ)) → IsLine (leader_line ws)
+leader_is (n ∷ w ∷ []) =
+    wanted_is BadName (name n) (λ name. wanted BadNumber (epoch w) (λ epoch. line.State (LeaderEpoch name epoch))) (λ m e.
+    wanted_is BadNumber (epoch w) (λ epoch. line.State (LeaderEpoch m epoch)) (λ d f. (named n m e, (within 0 MAX_EPOCH w d f).1)))
+leader_is _ = tt
+
+replica_is : (ws : List (List ℕ)) → IsLine (replica_line ws)
+replica_is (n ∷ i ∷ p ∷ []) =
+    wanted_is BadName (name n) (λ name. wanted BadAddress (address i p) (λ addr. line.State (KnownReplica name addr))) (λ m e.
+    wanted_is BadAddress (address i p) (λ addr. line.State (KnownReplica m addr)) (λ a f. (named n m e, addressed i p a f)))
+replica_is _ = tt
+
+sentinel_is : (ws : List (List ℕ)) → IsLine (sentinel_line ws)
+sentinel_is (n ∷ i ∷ p ∷ r ∷ []) =
+    wanted_is BadName (name n) (λ name. wanted BadAddress (address i p) (λ addr. wanted BadRunId (run_id r) (λ id. line.State (KnownSentinel name addr id)))) (λ m e.
+    wanted_is BadAddress (address i p) (λ addr. wanted BadRunId (run_id r) (λ id. line.State (KnownSentinel m addr id))) (λ a f.
+    wanted_is BadRunId (run_id r) (λ id. line.State (KnownSentinel m a id)) (λ id g. (named n m e, addressed i p a f, identified r id g))))
+sentinel_is _ = tt
+
+port_is : (ws : List (List ℕ)) → IsLine (port_line ws)
+port_is (p ∷ []) = wanted_is BadNumber (port p) (λ port. line.Setting (Port port)) (λ n e. within 1 65535 p n e)
+port_is _ = tt
+
+announce_ip_is : (ws : List (List ℕ)) → IsLine (announce_ip_line ws)
+announce_ip_is (i ∷ []) = wanted_is BadAddress (ip i) (λ ip. line.Setting (AnnounceIp ip)) (λ n e. ip_within (parts i) n e)
+announce_ip_is _ = tt
+
+announce_port_is : (ws : List (List ℕ)) → IsLine (announce_port_line ws)
+announce_port_is (p ∷ []) = wanted_is BadNumber (port p) (λ port. line.Setting (AnnouncePort port)) (λ n e. within 1 65535 p n e)
+announce_port_is _ = tt
+
+down_after_is : (ws : List (List ℕ)) → IsLine (down_after_line ws)
+down_after_is (n ∷ m ∷ []) =
+    wanted_is BadName (name n) (λ name. wanted BadNumber (number_within 1 4294967295 m) (λ ms. line.Setting (DownAfter name ms))) (λ k e.
+    wanted_is BadNumber (number_within 1 4294967295 m) (λ ms. line.Setting (DownAfter k ms)) (λ x f. tt))
+down_after_is _ = tt
+
+parallel_syncs_is : (ws : List (List ℕ)) → IsLine (parallel_syncs_line ws)
+parallel_syncs_is (n ∷ m ∷ []) =
+    wanted_is BadName (name n) (λ name. wanted BadNumber (count m) (λ c. line.Setting (ParallelSyncs name c))) (λ k e.
+    wanted_is BadNumber (count m) (λ c. line.Setting (ParallelSyncs k c)) (λ x f. tt))
+parallel_syncs_is _ = tt
+
+timeout_is : (ws : List (List ℕ)) → IsLine (timeout_line ws)
+timeout_is (n ∷ m ∷ []) =
+    wanted_is BadName (name n) (λ name. wanted BadNumber (number_within 1 4294967295 m) (λ ms. line.Setting (FailoverTimeout name ms))) (λ k e.
+    wanted_is BadNumber (number_within 1 4294967295 m) (λ ms. line.Setting (FailoverTimeout k ms)) (λ x f. tt))
+timeout_is _ = tt
+
+chosen_is : (t : Bool) (l m : Line) → IsLine l → IsLine m → IsLine (elim t as (λ _. Line) [ true ↦ l | false ↦ m ])
+chosen_is true l m h g = h
+chosen_is false l m h g = g
+
+first_is_line : (word : List ℕ) (ds : List (List ℕ × (List (List ℕ) → Line))) (args : List (List ℕ)) → AllByRecursion (λ d. IsLine (d.1 args)) ds → IsLine (first_named word ds args)
+first_is_line word [] args h = tt
+first_is_line word (d ∷ ds) args h = chosen_is (bytes_eq (lower word) d.0) (d.1 args) (first_named word ds args) h.0 (first_is_line word ds args h.1)
+
+sentinel_words_is : (ws : List (List ℕ)) → IsLine (sentinel_words ws)
+sentinel_words_is [] = tt
+sentinel_words_is (word ∷ args) =
+    first_is_line word sentinel_directives args (
+      my_id_is args,
+      (
+        current_is args,
+        (
+          monitor_is args,
+          (
+            config_is args,
+            (
+              leader_is args,
+              (
+                replica_is args,
+                (
+                  replica_is args,
+                  (
+                    sentinel_is args,
+                    (announce_ip_is args, (announce_port_is args, (down_after_is args, (parallel_syncs_is args, (timeout_is args, tt))))),
+                  ),
+                ),
+              ),
+            ),
+          ),
+        ),
+      ),
+    )
+
+words_is : (ws : List (List ℕ)) → IsLine (line_of_words ws)
+words_is [] = tt
+words_is (word ∷ args) = first_is_line word ((codes "sentinel", sentinel_words) ∷ (codes "port", port_line) ∷ []) args (sentinel_words_is args, (port_is args, tt))
+
+pub line_of_is : (text : List ℕ) → IsLine (line_of text)
+line_of_is text = words_is (words_of text)

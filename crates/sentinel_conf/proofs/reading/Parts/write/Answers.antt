@@ -1,0 +1,20 @@
+use Rattle.std.proofs.Common.{◌≡◌, ◌++◌, ap, sym, subst, ◌∙◌}
+use Rattle.ballot_law.specs.declared.cards.Kept.{Kept as KeptPlan}
+use Rattle.sentinel_conf.specs.Meaning.{ConfPlan}
+use Rattle.conf_lines.specs.Words.{lines}
+use Rattle.sentinel_conf.specs.Rewritten.{text_of, state_lines, rewritten}
+use Rattle.sentinel_conf.specs.Room.{bounded}
+use Rattle.sentinel_conf.proofs.RoomLemmas.{kept_and_states}
+use Rattle.sentinel_conf.proofs.reading.Parts.write.Goals as goal
+
+pub returns : goal.returns
+returns c =
+    let i = c.self.inside in
+    let out = c.args.out.now in
+    let kept : KeptPlan = record { current = c.args.current; masters = c.args.masters.now } in
+    let seen : ConfPlan = record { kept_lines = lines i.kept_lines.items; roster = i.roster; id = i.id; port = i.port; settings = i.settings.items; kept = i.kept } in
+    let states = state_lines seen kept in
+    subst (λ t. bounded c.add_file.new.out ≡ bounded (out ++ rewritten t kept)) c.self.view_is
+    (c.add_file.ensures
+    ∙ ap (λ t. bounded (out ++ (t ++ text_of states))) (c.deref.ensures.value ∙ c.self.invariant)
+    ∙ ap (λ t. bounded (out ++ t)) (sym (kept_and_states (lines i.kept_lines.items) states)))
