@@ -4,8 +4,6 @@
 //! state after it, and the frames that it puts out, which are shown at the end of the input.
 #![tactic(auto)]
 
-#[cfg(test)]
-mod answer_tests;
 mod answers;
 mod cards;
 mod facts;
@@ -21,8 +19,6 @@ mod replies;
 mod rows_of;
 mod sending;
 mod state;
-#[cfg(test)]
-mod tests;
 mod ticks;
 mod votes;
 
