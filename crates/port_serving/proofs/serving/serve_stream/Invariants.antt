@@ -1,6 +1,6 @@
 use Rattle.std.proofs.Common.{◌≡◌, List, ℕ, ◌+◌, ◌*◌, ◌≤◌}
 use Rattle.std.specs.Io.KnownBytes.{Consumes, Appends}
-use Rattle.resp2.specs.Stream.{held_size}
+use Rattle.resp2_frames.specs.Stream.{held_size}
 use Rattle.sentinel_outbox.specs.declared.phase.Phase.TheVariants.{Ready}
 use Rattle.port_serving.specs.Serving.{IsIdle}
 use Rattle.port_serving.proofs.serving.serve_stream.Given as goal
