@@ -133,6 +133,16 @@ bytes_on (x ∷ xs) (y ∷ ys) (z ∷ zs) h k =
 pub bytes_strict : IsStrict bytes_before
 bytes_strict = record { irreflexive = bytes_not; transitive = bytes_on }
 
+-- the greater number first, and where it is the same by more
+abbrev pub lex : (p q : ℕ) → Bool → Bool
+lex p q inner = cond (eqb p q) inner (ltb q p)
+
+pub lex_trans : (p q r : ℕ) (x y z : Bool) → (x ≡ true → y ≡ true → z ≡ true) → lex p q x ≡ true → lex q r y ≡ true → lex p r z ≡ true
+lex_trans p q r x y z inner h k = grind (arith, nat_tests)
+
+pub lex_irrefl : (p : ℕ) (x : Bool) → x ≡ false → lex p p x ≡ false
+lex_irrefl p x h = grind (arith, nat_tests)
+
 -- std's order of two lists of bytes
 
 first_before : (a b : Bool) (rest : Ordering) → is_lt (ordering_then (cond a Less (cond b Equal Greater)) rest) ≡ (a || (b && is_lt rest))

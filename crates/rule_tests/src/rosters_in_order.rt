@@ -127,9 +127,10 @@ fn a_roster_is_in_order(rt: HostRuntime) -> Result<(), Fail> {
 fn a_copy_has_the_same_members(rt: HostRuntime) -> Result<(), Fail> {
     let alloc = rt.alloc();
     let copy = roster(alloc, &[2, 1], &[7002, 7001], 2)?.copy(alloc)?;
-    assert!(rt; copy.sentinels()[0] == member(1));
-    assert!(rt; copy.masters()[0].nodes() == [addr(7001), addr(7002)].as_slice());
-    assert!(rt; copy.need(0) == 2);
+    assert!(rt; copy.sentinels() == [member(1), member(2)].as_slice());
+    assert!(rt; copy.masters().len() == 1);
+    assert!(rt; copy.place_of(0, addr(7001)) == Some(0));
+    assert!(rt; copy.place_of(0, addr(7002)) == Some(1));
     Ok(())
 }
 
