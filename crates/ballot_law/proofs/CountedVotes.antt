@@ -8,30 +8,8 @@ use Rattle.ballot_law.specs.Counts.{count_below}
 use Rattle.ballot_law.specs.Orders.{same_id}
 use Rattle.ballot_law.specs.OwnVotes.{Book}
 use Rattle.ballot_law.specs.Rosters.{AtLeast}
+use Rattle.ballot_law.proofs.Counting.{AtLeast-fewer, AtLeast-count_below}
 use Rattle.ballot_law.specs.VotesHeard.{Hearing, greater, latest, is_for, is_leader, IsElectedIn, HearsNone, HasVotedFor, hearing_of}
-
--- Counts and numbers of different voters
-
-AtLeast-fewer : (P : ℕ → Type 0) (n k m : ℕ) → k ≤ m → AtLeast P n m → AtLeast P n k
-AtLeast-fewer P zero zero m le h = tt
-AtLeast-fewer P zero (suc k) zero le h = absurd (omega arith)
-AtLeast-fewer P zero (suc k) (suc m) le h = absurd h
-AtLeast-fewer P (suc n) zero m le h = tt
-AtLeast-fewer P (suc n) (suc k) zero le h = absurd (omega arith)
-AtLeast-fewer P (suc n) (suc k) (suc m) le (inl h) = inl (h.0, AtLeast-fewer P n k m (omega arith) h.1)
-AtLeast-fewer P (suc n) (suc k) (suc m) le (inr h) = inr (AtLeast-fewer P n (suc k) (suc m) le h)
-
-AtLeast-of_more : (P : ℕ → Type 0) (n k : ℕ) → AtLeast P n k → AtLeast P (suc n) k
-AtLeast-of_more P n zero h = tt
-AtLeast-of_more P n (suc k) h = inr h
-
-AtLeast-count_below : (P : ℕ → Type 0) (p : ℕ → Bool) → ((v : ℕ) → p v ≡ true → P v) → (n : ℕ) → AtLeast P n (count_below p n)
-AtLeast-count_below P p f zero = tt
-AtLeast-count_below P p f (suc n) = known (p n) refl (AtLeast-count_below P p f n)
-  where
-    known : (b : Bool) → p n ≡ b → AtLeast P n (count_below p n) → AtLeast P (suc n) (cond b (count_below p n + 1) (count_below p n))
-    known true e earlier = rw add-one (inl (f n e, earlier))
-    known false e earlier = AtLeast-of_more P n (count_below p n) earlier
 
 -- The count with one more that was not counted
 

@@ -1,6 +1,8 @@
 -- Lists in order rise, so no two of their elements tie.
-use Rattle.std.proofs.Common.{◌≡◌, ℕ, zero, suc, ◌<◌, Bool, true, false, ◌&&◌, ◌||◌, eqb, ltb, List, [], ◌∷◌, length, get_or, refl, ap, sym, ◌∙◌, subst, arith, ◌⊎◌, inl, inr}
+use Rattle.std.proofs.Common.{◌≡◌, ℕ, zero, suc, ◌<◌, Bool, true, false, ◌&&◌, ◌||◌, ◌==◌, cond, nat_lt, Ordering, Less, Equal, Greater, eqb, ltb, List, [], ◌∷◌, length, get_or, refl, ap, sym, ◌∙◌, subst, arith, ◌⊎◌, inl, inr}
 use Rattle.std.specs.List.{AllByRecursion}
+use Rattle.std.specs.Cmp.Lexicographic.{slice_cmp}
+use Rattle.std.specs.Ordering.{is_lt, nat_cmp, ordering_then}
 use Rattle.std.proofs.lemmas.Bool.{and_parts, and_from, and_right, or_cases, or_left, or_right, or_from, true≢false, cases_order}
 use Rattle.std.proofs.lemmas.Bool.Decides.{nat_tests}
 use Rattle.ballot_law.specs.Ordered.{add, in_order}
@@ -130,3 +132,27 @@ bytes_on (x ∷ xs) (y ∷ ys) (z ∷ zs) h k =
 
 pub bytes_strict : IsStrict bytes_before
 bytes_strict = record { irreflexive = bytes_not; transitive = bytes_on }
+
+-- the greater number first, and where it is the same by more
+abbrev pub lex : (p q : ℕ) → Bool → Bool
+lex p q inner = cond (eqb p q) inner (ltb q p)
+
+pub lex_trans : (p q r : ℕ) (x y z : Bool) → (x ≡ true → y ≡ true → z ≡ true) → lex p q x ≡ true → lex q r y ≡ true → lex p r z ≡ true
+lex_trans p q r x y z inner h k = grind (arith, nat_tests)
+
+pub lex_irrefl : (p : ℕ) (x : Bool) → x ≡ false → lex p p x ≡ false
+lex_irrefl p x h = grind (arith, nat_tests)
+
+-- std's order of two lists of bytes
+
+first_before : (a b : Bool) (rest : Ordering) → is_lt (ordering_then (cond a Less (cond b Equal Greater)) rest) ≡ (a || (b && is_lt rest))
+first_before true b rest = refl
+first_before false true rest = refl
+first_before false false rest = refl
+
+pub slice_before : (xs ys : List ℕ) → is_lt (slice_cmp nat_cmp xs ys) ≡ bytes_before xs ys
+slice_before [] [] = refl
+slice_before [] (y ∷ ys) = refl
+slice_before (x ∷ xs) [] = refl
+slice_before (x ∷ xs) (y ∷ ys) =
+    first_before (nat_lt x y) (x == y) (slice_cmp nat_cmp xs ys) ∙ ap (λ t. nat_lt x y || ((x == y) && t)) (slice_before xs ys)

@@ -74,7 +74,7 @@ spells_more n ds h s = record {
 pub spells_decimal : (n : ℕ) → n < 2 ^ 64 → Spells n (decimal n)
 spells_decimal n h = decimal_by_steps Spells spells_one spells_more n h
 
-some_if-true : {X : Type 0} (b : Bool) (x : X) → b ≡ true → some_if b x ≡ Some x
+pub some_if-true : {X : Type 0} (b : Bool) (x : X) → b ≡ true → some_if b x ≡ Some x
 some_if-true b x e = ap (λ t. some_if t x) e
 
 pub number-spells : (n : ℕ) (ds : List ℕ) → Spells n ds → number ds ≡ Some n
@@ -268,6 +268,10 @@ name_bytes_plain (b ∷ bs) h = let both = and_parts (is_name_byte b) (list_all 
 pub some_if-some : {X : Type 0} (b : Bool) (x y : X) → some_if b x ≡ Some y → b ≡ true
 some_if-some true x y h = refl
 some_if-some false x y h = cc
+
+pub some_if-is : {X : Type 0} (b : Bool) (x y : X) → some_if b x ≡ Some y → (b ≡ true) × (x ≡ y)
+some_if-is true x y h = (refl, cc)
+some_if-is false x y h = cc
 
 pub word_name : (n m : List ℕ) → name n ≡ Some m → IsWord n
 word_name n m h =

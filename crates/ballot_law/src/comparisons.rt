@@ -7,30 +7,12 @@ ghost use Rattle.ballot_law.specs.Orders.{same_bytes, bytes_before};
 pub fn is_same_bytes(first: &[u8], second: &[u8]) -> bool
     ensures { result ≡ same_bytes first.now second.now }
 {
-    match first {
-        [] => match second {
-            [] => true,
-            [_, ..] => false,
-        },
-        [x, xs @ ..] => match second {
-            [] => false,
-            [y, ys @ ..] => *x == *y && is_same_bytes(xs, ys),
-        },
-    }
+    first == second
 }
 
 /// Whether the first text stands before the second in the order of their bytes.
 pub fn is_bytes_before(first: &[u8], second: &[u8]) -> bool
     ensures { result ≡ bytes_before first.now second.now }
 {
-    match first {
-        [] => match second {
-            [] => false,
-            [_, ..] => true,
-        },
-        [x, xs @ ..] => match second {
-            [] => false,
-            [y, ys @ ..] => *x < *y || (*x == *y && is_bytes_before(xs, ys)),
-        },
-    }
+    first.cmp(second).is_lt()
 }

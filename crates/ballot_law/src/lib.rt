@@ -43,6 +43,3 @@ pub use replies::{DataRole, Hello, Info, PingReply, Role};
 pub use rosters::{Member, Roster, RosterFault, Watched};
 pub use steps::{KeptText, Step};
 pub use texts::{ShortText, Text};
-
-#[cfg(test)]
-mod tests;

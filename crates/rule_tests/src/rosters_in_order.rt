@@ -1,6 +1,6 @@
-//! Rosters, names and orders with plain values.
+//! Rosters: their order, their faults, what they are searched for, and their copies.
 
-use super::*;
+use ballot_law::{Addr, Member, Name, Roster, RosterFault, RunId, Watched};
 use std::alloc::{AllocError, Global};
 use std::test::Fail;
 
@@ -124,48 +124,22 @@ fn a_roster_is_in_order(rt: HostRuntime) -> Result<(), Fail> {
 }
 
 #[test]
-fn names_are_short_and_plain(rt: HostRuntime) -> Result<(), Fail> {
-    let name = Name::from_slice(b"my-master_1.a").ok_or("refused")?;
-    assert_eq!(rt; name.as_slice(), b"my-master_1.a".as_slice());
-    assert!(rt; Name::from_slice(b"").is_none());
-    assert!(rt; Name::from_slice(b"a b").is_none());
-    assert!(rt; Name::from_slice(&[b'a'; 64]).is_some());
-    assert!(rt; Name::from_slice(&[b'a'; 65]).is_none());
+fn a_copy_has_the_same_members(rt: HostRuntime) -> Result<(), Fail> {
+    let alloc = rt.alloc();
+    let copy = roster(alloc, &[2, 1], &[7002, 7001], 2)?.copy(alloc)?;
+    assert!(rt; copy.sentinels() == [member(1), member(2)].as_slice());
+    assert!(rt; copy.masters().len() == 1);
+    assert!(rt; copy.place_of(0, addr(7001)) == Some(0));
+    assert!(rt; copy.place_of(0, addr(7002)) == Some(1));
     Ok(())
 }
 
 #[test]
-fn names_are_in_the_order_of_their_bytes(rt: HostRuntime) -> Result<(), Fail> {
-    let mut names = Vec::new(rt.alloc());
-    for letter in b"bab-B" {
-        names.push(Name::from_slice(&[*letter]).ok_or("refused")?)?;
-    }
-    names.push(Name::from_slice(b"ab").ok_or("refused")?)?;
-    let names = ordered(rt.alloc(), names)?;
-    let mut text = Vec::new(rt.alloc());
-    for name in &names {
-        text.extend_from_slice(name.as_slice())?;
-        text.push(b' ')?;
-    }
-    assert_eq!(rt; text.as_slice(), b"- B a ab b ".as_slice());
-    assert!(rt; is_same_bytes(b"ab", b"ab"));
-    assert!(rt; !is_same_bytes(b"a", b"ab"));
+fn an_address_has_its_place_in_its_masters_list(rt: HostRuntime) -> Result<(), Fail> {
+    let roster = roster(rt.alloc(), &[1], &[7002, 7003, 7001], 1)?;
+    assert!(rt; roster.place_of(0, addr(7001)) == Some(0));
+    assert!(rt; roster.place_of(0, addr(7003)) == Some(2));
+    assert!(rt; roster.place_of(0, addr(7004)).is_none());
+    assert!(rt; roster.place_of(1, addr(7001)).is_none());
     Ok(())
-}
-
-#[test]
-fn texts_keep_their_bytes(rt: HostRuntime) -> Result<(), Fail> {
-    let text = Text::from_slice(rt.alloc(), b"# group")?;
-    assert_eq!(rt; text.as_slice(), b"# group".as_slice());
-    assert_eq!(rt; text.into_vec().as_slice(), b"# group".as_slice());
-    let reply = ShortText::from_slice(b"LOADING now").ok_or("refused")?;
-    assert_eq!(rt; reply.as_slice(), b"LOADING now".as_slice());
-    assert!(rt; ShortText::from_slice(&[b'a'; 129]).is_none());
-    Ok(())
-}
-
-#[test]
-fn late_readings_count_as_the_last(rt: HostRuntime) {
-    assert_eq!(rt; clock_of(5), 5);
-    assert_eq!(rt; clock_of(u64::MAX), 1 << 62);
 }
