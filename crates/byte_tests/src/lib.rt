@@ -1,0 +1,16 @@
+//! Tests of the crates that read and write bytes, by their public calls: each topic is a file, and the values that it
+//! expects come from public standards and from what Redis writes.
+#![tactic(auto)]
+
+#[cfg(test)]
+mod answers;
+#[cfg(test)]
+mod bounded_lists;
+#[cfg(test)]
+mod hellos;
+#[cfg(test)]
+mod infos;
+#[cfg(test)]
+mod roles;
+#[cfg(test)]
+mod server_infos;
