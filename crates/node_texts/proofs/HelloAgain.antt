@@ -9,11 +9,13 @@ use Rattle.ballot_law.specs.declared.cards.TheConstants.{MAX_EPOCH}
 use Rattle.ballot_law.specs.declared.replies.Hello.{Hello}
 use Rattle.ballot_law.specs.Hellos.{hello_fields, hello_text, IsHello, SpellsHello}
 use Rattle.ballot_law.specs.NameWords.{name_is}
-use Rattle.ballot_law.specs.Words.{with_first, ip_text, id_text}
+use Rattle.ballot_law.specs.Results.{◌>>=◌, wanted}
+use Rattle.ballot_law.specs.Words.{with_first, cut_at, ip_text, id_text}
 use Rattle.ballot_law.proofs.HelloLemmas.{fields_of, fields_of-hello_text}
 use Rattle.ballot_law.proofs.WordLemmas.{ip-ip_text, run_id-id_text}
-use Rattle.node_texts.specs.Faults.{◌>>=◌, wanted, unless_not}
-use Rattle.node_texts.specs.Hellos.{comma_parts, sender_of, master_of, hello_from, hello_of_parts, hello_of}
+use Rattle.node_texts.specs.declared.faults.TextFault.TheVariants.{BadField}
+use Rattle.node_texts.specs.Faults.{unless_not}
+use Rattle.node_texts.specs.Hellos.{sender_of, master_of, hello_from, hello_of_parts, hello_of}
 use Rattle.node_texts.proofs.WordsAgain.{ascii_ip, ascii_id, ascii_name, port_again, epoch_again}
 
 -- ---- the encoding
@@ -40,7 +42,7 @@ ascii_hello h w =
 
 -- ---- the parts
 
-same_parts : (bs : List ℕ) → comma_parts bs ≡ fields_of bs
+same_parts : (bs : List ℕ) → cut_at 44 bs ≡ fields_of bs
 same_parts [] = refl
 same_parts (b ∷ bs) = ap (λ ps. elim (eqb b 44) as (λ _. List (List ℕ)) [ true ↦ [] ∷ ps | false ↦ with_first b ps ]) (same_parts bs)
 
@@ -50,7 +52,7 @@ sender_again h w =
     let p = port_again h.addr.port w.addr.port_low w.addr.port_high in
     let r = run_id-id_text h.id w.id.hi w.id.lo in
     let e = epoch_again h.current w.current in
-    λ t. wanted 1 (i t) >>= λ i. wanted 2 (p t) >>= λ p. wanted 3 (r t) >>= λ id. wanted 4 (e t) >>= λ current. Ok (record { addr = record { ip = i; port = p }; id = id; current = current })
+    λ t. wanted (BadField 1) (i t) >>= λ i. wanted (BadField 2) (p t) >>= λ p. wanted (BadField 3) (r t) >>= λ id. wanted (BadField 4) (e t) >>= λ current. Ok (record { addr = record { ip = i; port = p }; id = id; current = current })
 
 master_again : (h : Hello) → IsHello h → master_of h.master (ip_text h.card.addr.ip) (decimal h.card.addr.port) (decimal h.card.epoch) ≡ Ok (record { name = h.master; addr = h.card.addr; epoch = Some h.card.epoch })
 master_again h w =
@@ -58,7 +60,7 @@ master_again h w =
     let i = ip-ip_text h.card.addr.ip w.card_addr.ip in
     let p = port_again h.card.addr.port w.card_addr.port_low w.card_addr.port_high in
     let e = epoch_again h.card.epoch w.epoch in
-    λ t. wanted 5 (n t) >>= λ master. wanted 6 (i t) >>= λ i. wanted 7 (p t) >>= λ p. wanted 8 (e t) >>= λ epoch. Ok (record { name = master; addr = record { ip = i; port = p }; epoch = epoch })
+    λ t. wanted (BadField 5) (n t) >>= λ master. wanted (BadField 6) (i t) >>= λ i. wanted (BadField 7) (p t) >>= λ p. wanted (BadField 8) (e t) >>= λ epoch. Ok (record { name = master; addr = record { ip = i; port = p }; epoch = epoch })
 
 parts_again : (h : Hello) → IsHello h → hello_of_parts (hello_fields h) ≡ Ok h
 parts_again h w = let s = sender_again h w in let m = master_again h w in λ t. s t >>= λ sender. m t >>= λ of_master. hello_from sender of_master
@@ -67,7 +69,7 @@ pub hello_again : (bytes : List ℕ) (h : Hello) → SpellsHello bytes h → hel
 hello_again bytes h s =
     let w = s.is_hello in
     ap hello_of s.spelled
-    ∙ ap (λ t. unless_not t (hello_of_parts (comma_parts (hello_text h)))) (ascii_utf8 (hello_text h) (ascii_hello h w))
+    ∙ ap (λ t. unless_not t (hello_of_parts (cut_at 44 (hello_text h)))) (ascii_utf8 (hello_text h) (ascii_hello h w))
     ∙ ap hello_of_parts (same_parts (hello_text h) ∙ fields_of-hello_text h w)
     ∙ parts_again h w
 

@@ -12,15 +12,17 @@ use Rattle.ballot_law.specs.declared.replies.Hello.{Hello}
 use Rattle.ballot_law.specs.Hellos.{with_commas, IsHello, SpellsHello}
 use Rattle.ballot_law.specs.NameWords as words
 use Rattle.ballot_law.specs.Names.{IsName}
-use Rattle.ballot_law.specs.Words.{number, number_within, name, with_first, ip, ip_text, run_id, id_text}
+use Rattle.ballot_law.specs.Results.{◌>>=◌, wanted}
+use Rattle.ballot_law.specs.Words.{are_digits, has_leading_zero, is_decimal, number, number_within, canonical_port, name, with_first, cut_at, ip, ip_text, run_id, id_text}
 use Rattle.ballot_law.proofs.WordLemmas.{some_if-some}
 use Rattle.words.proofs.NumberLemmas.{canonical_same}
 use Rattle.node_texts.specs.declared.faults.TextFault.{TextFault}
+use Rattle.node_texts.specs.declared.faults.TextFault.TheVariants.{BadField}
 use Rattle.node_texts.specs.declared.hello_fields.Sender.{Sender}
 use Rattle.node_texts.specs.declared.hello_fields.OfMaster.{OfMaster}
-use Rattle.node_texts.specs.Faults.{◌>>=◌, wanted, unless_not}
-use Rattle.node_texts.specs.Hellos.{comma_parts, are_digits, has_leading_zero, is_decimal, epoch, canonical_port, sender_of, master_of, within_epochs, hello_from, hello_of_parts, hello_of}
-use Rattle.node_texts.proofs.CommaLemmas.{some_parts}
+use Rattle.node_texts.specs.Faults.{unless_not}
+use Rattle.node_texts.specs.Hellos.{epoch, sender_of, master_of, within_epochs, hello_from, hello_of_parts, hello_of}
+use Rattle.node_texts.proofs.CutLemmas.{some_parts}
 use Rattle.node_texts.proofs.WordsBack.{some_if-value, then_within, IsWithin, canonical_is, ip_is, run_id_is}
 
 -- ---- the commas
@@ -29,19 +31,19 @@ commas_first : (b : ℕ) (p : List ℕ) (ps : List (List ℕ)) → with_commas (
 commas_first b p [] = refl
 commas_first b p (q ∷ qs) = refl
 
-parts_by : (b : ℕ) (bs : List ℕ) (t : Bool) → eqb b 44 ≡ t → comma_parts (b ∷ bs) ≡ elim t as (λ _. List (List ℕ)) [ true ↦ [] ∷ comma_parts bs | false ↦ with_first b (comma_parts bs) ]
-parts_by b bs t e = ap (λ t. elim t as (λ _. List (List ℕ)) [ true ↦ [] ∷ comma_parts bs | false ↦ with_first b (comma_parts bs) ]) e
+parts_by : (b : ℕ) (bs : List ℕ) (t : Bool) → eqb b 44 ≡ t → cut_at 44 (b ∷ bs) ≡ elim t as (λ _. List (List ℕ)) [ true ↦ [] ∷ cut_at 44 bs | false ↦ with_first b (cut_at 44 bs) ]
+parts_by b bs t e = ap (λ t. elim t as (λ _. List (List ℕ)) [ true ↦ [] ∷ cut_at 44 bs | false ↦ with_first b (cut_at 44 bs) ]) e
 
-commas_by : (b : ℕ) (bs : List ℕ) (t : Bool) → eqb b 44 ≡ t → with_commas (comma_parts bs) ≡ bs → with_commas (comma_parts (b ∷ bs)) ≡ b ∷ bs
+commas_by : (b : ℕ) (bs : List ℕ) (t : Bool) → eqb b 44 ≡ t → with_commas (cut_at 44 bs) ≡ bs → with_commas (cut_at 44 (b ∷ bs)) ≡ b ∷ bs
 commas_by b bs true e h =
     let comma : b ≡ 44 = grind (arith, nat_tests, e) in
-    let s = some_parts bs in
+    let s = some_parts 44 bs in
     ap with_commas (parts_by b bs true e ∙ ap (λ ps. [] ∷ ps) s.2) ∙ ap (λ ps. 44 ∷ with_commas ps) (sym s.2) ∙ ap (λ t. 44 ∷ t) h ∙ ap (λ d. d ∷ bs) (sym comma)
 commas_by b bs false e h =
-    let s = some_parts bs in
+    let s = some_parts 44 bs in
     ap with_commas (parts_by b bs false e ∙ ap (with_first b) s.2) ∙ commas_first b s.0 s.1 ∙ ap (λ ps. b ∷ with_commas ps) (sym s.2) ∙ ap (λ t. b ∷ t) h
 
-pub with_commas-parts : (bs : List ℕ) → with_commas (comma_parts bs) ≡ bs
+pub with_commas-parts : (bs : List ℕ) → with_commas (cut_at 44 bs) ≡ bs
 with_commas-parts [] = refl
 with_commas-parts (b ∷ bs) = commas_by b bs (eqb b 44) refl (with_commas-parts bs)
 
@@ -78,7 +80,7 @@ record SenderRead (a b c d : List ℕ) (s : Sender) : Type 0 where
   pub current : epoch d ≡ Some s.current
 
 sender_by : (a b c d : List ℕ) (s : Sender) (oi op : Option ℕ) (oid : Option RunId) (oe : Option (Option ℕ)) → ip a ≡ oi → canonical_port b ≡ op → run_id c ≡ oid → epoch d ≡ oe
-    → (wanted 1 oi >>= λ i. wanted 2 op >>= λ p. wanted 3 oid >>= λ id. wanted 4 oe >>= λ current. Ok (record { addr = record { ip = i; port = p }; id = id; current = current })) ≡ Ok s
+    → (wanted (BadField 1) oi >>= λ i. wanted (BadField 2) op >>= λ p. wanted (BadField 3) oid >>= λ id. wanted (BadField 4) oe >>= λ current. Ok (record { addr = record { ip = i; port = p }; id = id; current = current })) ≡ Ok s
     → SenderRead a b c d s
 sender_by a b c d s None op oid oe ei ep eid ee h = absurd cc
 sender_by a b c d s (Some i) None oid oe ei ep eid ee h = absurd cc
@@ -101,7 +103,7 @@ record MasterRead (a b c d : List ℕ) (m : OfMaster) : Type 0 where
   pub epoch : epoch d ≡ Some m.epoch
 
 master_by : (a b c d : List ℕ) (m : OfMaster) (on : Option (List ℕ)) (oi op : Option ℕ) (oe : Option (Option ℕ)) → name a ≡ on → ip b ≡ oi → canonical_port c ≡ op → epoch d ≡ oe
-    → (wanted 5 on >>= λ master. wanted 6 oi >>= λ i. wanted 7 op >>= λ p. wanted 8 oe >>= λ epoch. Ok (record { name = master; addr = record { ip = i; port = p }; epoch = epoch })) ≡ Ok m
+    → (wanted (BadField 5) on >>= λ master. wanted (BadField 6) oi >>= λ i. wanted (BadField 7) op >>= λ p. wanted (BadField 8) oe >>= λ epoch. Ok (record { name = master; addr = record { ip = i; port = p }; epoch = epoch })) ≡ Ok m
     → MasterRead a b c d m
 master_by a b c d m None oi op oe en ei ep ee h = absurd cc
 master_by a b c d m (Some n) None op oe en ei ep ee h = absurd cc
@@ -219,7 +221,7 @@ of_text_by false reading hello r = absurd cc
 pub hello_is : (bytes : List ℕ) (hello : Hello) → hello_of bytes ≡ Ok hello → SpellsHello bytes hello
 hello_is bytes hello r =
     subst (λ (t : List ℕ). SpellsHello t hello) (with_commas-parts bytes)
-    (of_parts (comma_parts bytes) hello (of_text_by (is_utf8 bytes) (hello_of_parts (comma_parts bytes)) hello r))
+    (of_parts (cut_at 44 bytes) hello (of_text_by (is_utf8 bytes) (hello_of_parts (cut_at 44 bytes)) hello r))
 
 pub hello_read : (bytes : List ℕ) (r : Result Hello TextFault) → r ≡ hello_of bytes → IfOk r (λ hello. SpellsHello bytes hello)
 hello_read bytes (Ok hello) e = hello_is bytes hello (sym e)

@@ -1,6 +1,6 @@
 -- What is written as an answer to INFO is read again.
 use Rattle.std.proofs.Common.{◌≡◌, ℕ, ◌≤◌, ◌<◌, ◌^◌, Bool, true, false, ◌&&◌, eqb, ltb, leb, List, [], ◌∷◌, ◌++◌, length, map, refl, ap, ◌∙◌, arith, Option, Some, None, Ok}
-use Rattle.std.specs.Prelude.{codes, decimal}
+use Rattle.std.specs.Prelude.{codes, decimal, unwrap_or}
 use Rattle.std.specs.List.{list_all, AllByRecursion}
 use Rattle.std.specs.Str.{IsAscii}
 use Rattle.std.proofs.lemmas.Bool.{and_parts, leb-true, ltb-true}
@@ -14,14 +14,18 @@ use Rattle.ballot_law.specs.declared.replies.DataRole.{DataRole}
 use Rattle.ballot_law.specs.declared.replies.DataRole.TheVariants.{Master, Replica}
 use Rattle.ballot_law.specs.declared.replies.Info.{Info}
 use Rattle.ballot_law.specs.Hellos.{IsAddr, IsRunId}
+use Rattle.ballot_law.specs.Cuts.{lines}
+use Rattle.ballot_law.specs.Results.{◌>>=◌, wanted}
 use Rattle.ballot_law.specs.Words.{then_some, number, with_first, ip_text, id_text}
 use Rattle.ballot_law.proofs.WordLemmas.{ArePlain, IsWord, spells_decimal, number_within-decimal, ip-ip_text, word_ip_text, word_decimal, port-decimal, run_id-id_text, word_id_text}
 use Rattle.node_texts.specs.declared.info_fields.TheConstants.{COUNT_MAX}
-use Rattle.node_texts.specs.Faults.{◌>>=◌, wanted, unless_not}
-use Rattle.node_texts.specs.Lines.{lines, without_return}
-use Rattle.node_texts.specs.Infos.{role_name, is_up, count, count_or_minus, judged, address_of, or_default, fields_of, info_of_fields, info_of, IsInfo, role_word, link_word, info_lines, ended, info_text}
+use Rattle.node_texts.specs.declared.faults.TextFault.TheVariants.{BadField}
+use Rattle.node_texts.specs.Faults.{unless_not}
+use Rattle.node_texts.specs.Lines.{without_return}
+use Rattle.node_texts.specs.Infos.{role_name, is_up, count, count_or_minus, judged, address_of, fields_of, info_of_fields, info_of, IsInfo, role_word, link_word, info_lines, ended, info_text}
 use Rattle.node_texts.proofs.HelloAgain.{ascii_utf8}
-use Rattle.node_texts.proofs.LineLemmas.{goes_on, return_dropped}
+use Rattle.node_texts.proofs.CutLemmas.{line_goes_on}
+use Rattle.node_texts.proofs.LineLemmas.{return_dropped}
 use Rattle.node_texts.proofs.WordsAgain.{ascii_ip, ascii_id}
 
 -- ---- lines
@@ -31,7 +35,7 @@ not_end b h = grind (arith, nat_tests)
 
 line_more : (line rest : List ℕ) → ArePlain line → lines (line ++ 13 ∷ 10 ∷ rest) ≡ (line ++ 13 ∷ []) ∷ lines rest
 line_more [] rest h = refl
-line_more (b ∷ line) rest h = goes_on b (line ++ 13 ∷ 10 ∷ rest) (not_end b h.0) ∙ ap (with_first b) (line_more line rest h.1)
+line_more (b ∷ line) rest h = line_goes_on b (line ++ 13 ∷ 10 ∷ rest) (not_end b h.0) ∙ ap (with_first b) (line_more line rest h.1)
 
 -- lines of ASCII without control bytes
 abbrev pub AreLines : List (List ℕ) → Type 0
@@ -124,8 +128,8 @@ same_by None role None up d p o hid hm hd hp ho =
     record {
       lined = (role_line role, (status_line up, (number_line (codes "master_link_down_since_seconds:") d refl hd, (number_line (codes "slave_priority:") p refl hp, (number_line (codes "slave_repl_offset:") o refl ho, tt)))));
       read = λ t.
-          judged 2 (Some (r t)) >>= λ given. wanted 2 given >>= λ role. judged 5 (Some (u t)) >>= λ up. judged 6 (Some (dd t)) >>= λ d. judged 7 (Some (pp t)) >>= λ p. judged 8 (Some (oo t)) >>= λ o.
-          Ok (record { id = None; role = role; master = None; link_up = or_default false up; link_down_s = or_default 0 d; priority = or_default 100 p; offset = or_default 0 o });
+          judged 2 (Some (r t)) >>= λ given. wanted (BadField 2) given >>= λ role. judged 5 (Some (u t)) >>= λ up. judged 6 (Some (dd t)) >>= λ d. judged 7 (Some (pp t)) >>= λ p. judged 8 (Some (oo t)) >>= λ o.
+          Ok (record { id = None; role = role; master = None; link_up = unwrap_or up false; link_down_s = unwrap_or d 0; priority = unwrap_or p 100; offset = unwrap_or o 0 });
     }
 same_by None role (Some a) up d p o hid hm hd hp ho =
     let av = hm a refl in
@@ -139,8 +143,8 @@ same_by None role (Some a) up d p o hid hm hd hp ho =
     record {
       lined = (role_line role, (host_line a av, (port_line a av, (status_line up, (number_line (codes "master_link_down_since_seconds:") d refl hd, (number_line (codes "slave_priority:") p refl hp, (number_line (codes "slave_repl_offset:") o refl ho, tt)))))));
       read = λ t.
-          judged 2 (Some (r t)) >>= λ given. wanted 2 given >>= λ role. judged 3 (Some (h t)) >>= λ host. judged 4 (Some (q t)) >>= λ port. judged 5 (Some (u t)) >>= λ up. judged 6 (Some (dd t)) >>= λ d. judged 7 (Some (pp t)) >>= λ p. judged 8 (Some (oo t)) >>= λ o.
-          Ok (record { id = None; role = role; master = address_of host port; link_up = or_default false up; link_down_s = or_default 0 d; priority = or_default 100 p; offset = or_default 0 o });
+          judged 2 (Some (r t)) >>= λ given. wanted (BadField 2) given >>= λ role. judged 3 (Some (h t)) >>= λ host. judged 4 (Some (q t)) >>= λ port. judged 5 (Some (u t)) >>= λ up. judged 6 (Some (dd t)) >>= λ d. judged 7 (Some (pp t)) >>= λ p. judged 8 (Some (oo t)) >>= λ o.
+          Ok (record { id = None; role = role; master = address_of host port; link_up = unwrap_or up false; link_down_s = unwrap_or d 0; priority = unwrap_or p 100; offset = unwrap_or o 0 });
     }
 same_by (Some i) role None up d p o hid hm hd hp ho =
     let iv = hid i refl in
@@ -153,8 +157,8 @@ same_by (Some i) role None up d p o hid hm hd hp ho =
     record {
       lined = (id_line i iv, (role_line role, (status_line up, (number_line (codes "master_link_down_since_seconds:") d refl hd, (number_line (codes "slave_priority:") p refl hp, (number_line (codes "slave_repl_offset:") o refl ho, tt))))));
       read = λ t.
-          judged 1 (Some (ii t)) >>= λ id. judged 2 (Some (r t)) >>= λ given. wanted 2 given >>= λ role. judged 5 (Some (u t)) >>= λ up. judged 6 (Some (dd t)) >>= λ d. judged 7 (Some (pp t)) >>= λ p. judged 8 (Some (oo t)) >>= λ o.
-          Ok (record { id = id; role = role; master = None; link_up = or_default false up; link_down_s = or_default 0 d; priority = or_default 100 p; offset = or_default 0 o });
+          judged 1 (Some (ii t)) >>= λ id. judged 2 (Some (r t)) >>= λ given. wanted (BadField 2) given >>= λ role. judged 5 (Some (u t)) >>= λ up. judged 6 (Some (dd t)) >>= λ d. judged 7 (Some (pp t)) >>= λ p. judged 8 (Some (oo t)) >>= λ o.
+          Ok (record { id = id; role = role; master = None; link_up = unwrap_or up false; link_down_s = unwrap_or d 0; priority = unwrap_or p 100; offset = unwrap_or o 0 });
     }
 same_by (Some i) role (Some a) up d p o hid hm hd hp ho =
     let iv = hid i refl in
@@ -170,8 +174,8 @@ same_by (Some i) role (Some a) up d p o hid hm hd hp ho =
     record {
       lined = (id_line i iv, (role_line role, (host_line a av, (port_line a av, (status_line up, (number_line (codes "master_link_down_since_seconds:") d refl hd, (number_line (codes "slave_priority:") p refl hp, (number_line (codes "slave_repl_offset:") o refl ho, tt))))))));
       read = λ t.
-          judged 1 (Some (ii t)) >>= λ id. judged 2 (Some (r t)) >>= λ given. wanted 2 given >>= λ role. judged 3 (Some (h t)) >>= λ host. judged 4 (Some (q t)) >>= λ port. judged 5 (Some (u t)) >>= λ up. judged 6 (Some (dd t)) >>= λ d. judged 7 (Some (pp t)) >>= λ p. judged 8 (Some (oo t)) >>= λ o.
-          Ok (record { id = id; role = role; master = address_of host port; link_up = or_default false up; link_down_s = or_default 0 d; priority = or_default 100 p; offset = or_default 0 o });
+          judged 1 (Some (ii t)) >>= λ id. judged 2 (Some (r t)) >>= λ given. wanted (BadField 2) given >>= λ role. judged 3 (Some (h t)) >>= λ host. judged 4 (Some (q t)) >>= λ port. judged 5 (Some (u t)) >>= λ up. judged 6 (Some (dd t)) >>= λ d. judged 7 (Some (pp t)) >>= λ p. judged 8 (Some (oo t)) >>= λ o.
+          Ok (record { id = id; role = role; master = address_of host port; link_up = unwrap_or up false; link_down_s = unwrap_or d 0; priority = unwrap_or p 100; offset = unwrap_or o 0 });
     }
 
 same : (info : Info) → IsInfo info → Same info

@@ -1,4 +1,4 @@
-pub mod CommaLemmas
+pub mod CutLemmas
 pub mod HelloAgain
 pub mod HelloBack
 pub mod InfoAgain

@@ -2,7 +2,8 @@
 use Rattle.std.proofs.Common.{◌≡◌, ℕ, List, [], ◌∷◌, map, refl, ap, sym, ◌∙◌, Option, Some, None}
 use Rattle.node_texts.specs.declared.info_fields.Fields.{Fields}
 use Rattle.node_texts.specs.Infos.{newest, newest_fields, fields_of}
-use Rattle.node_texts.specs.Lines.{lines, without_return}
+use Rattle.ballot_law.specs.Cuts.{lines}
+use Rattle.node_texts.specs.Lines.{without_return}
 
 newest_twice : {X : Type 0} (a b c : Option X) → newest (newest a b) c ≡ newest a (newest b c)
 newest_twice a b None = refl

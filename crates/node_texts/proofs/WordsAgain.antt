@@ -14,9 +14,9 @@ use Rattle.ballot_law.specs.declared.cards.TheConstants.{MAX_EPOCH}
 use Rattle.ballot_law.specs.Hellos.{IsRunId}
 use Rattle.ballot_law.specs.Names.{IsName, IsNameByte}
 use Rattle.ballot_law.specs.Orders.{same_bytes}
-use Rattle.ballot_law.specs.Words.{some_if, then_some, is_digit, number_within, is_hex, hex, ip_text, id_text}
+use Rattle.ballot_law.specs.Words.{some_if, then_some, is_digit, are_digits, has_leading_zero, is_decimal, number_within, canonical_port, is_hex, hex, ip_text, id_text}
 use Rattle.ballot_law.proofs.WordLemmas.{same_bytes-refl, spells_decimal, number_within-decimal, spells_hex}
-use Rattle.node_texts.specs.Hellos.{are_digits, has_leading_zero, is_decimal, epoch, canonical_port}
+use Rattle.node_texts.specs.Hellos.{epoch}
 
 -- ---- ASCII
 

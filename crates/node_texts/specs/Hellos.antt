@@ -1,54 +1,35 @@
 -- Reading a hello: its fields around the commas, and what they say.
-use Rattle.std.specs.Prelude.{ℕ, Bool, true, false, not, ◌&&◌, ◌==◌, nat_lt, slice_index, List, [], ◌∷◌, length, Option, Some, None, Result, Ok, Err}
-use Rattle.std.specs.List.{list_all}
+use Rattle.std.specs.Prelude.{ℕ, List, [], ◌∷◌, Option, Some, None, Result, Ok, Err}
 use Rattle.ballot_law.specs.declared.cards.TheConstants.{MAX_EPOCH}
 use Rattle.ballot_law.specs.declared.replies.Hello.{Hello}
-use Rattle.ballot_law.specs.Words.{some_if, is_digit, number_within, canonical_within, name, with_first, ip, run_id}
+use Rattle.ballot_law.specs.Results.{◌>>=◌, wanted}
+use Rattle.ballot_law.specs.Words.{some_if, is_decimal, number_within, canonical_port, name, cut_at, ip, run_id}
 use Rattle.node_texts.specs.declared.faults.TextFault.{TextFault}
-use Rattle.node_texts.specs.declared.faults.TextFault.TheVariants.{FieldCount, EpochTooLarge}
+use Rattle.node_texts.specs.declared.faults.TextFault.TheVariants.{FieldCount, BadField, EpochTooLarge}
 use Rattle.node_texts.specs.declared.hello_fields.Sender.{Sender}
 use Rattle.node_texts.specs.declared.hello_fields.OfMaster.{OfMaster}
-use Rattle.node_texts.specs.Faults.{◌>>=◌, wanted, of_text}
-
--- the parts around the commas
-abbrev pub comma_parts : List ℕ → List (List ℕ)
-comma_parts [] = [] ∷ []
-comma_parts (b ∷ bs) = elim (b == 44) [ true ↦ [] ∷ comma_parts bs | false ↦ with_first b (comma_parts bs) ]
-
-abbrev pub are_digits : List ℕ → Bool
-are_digits bytes = nat_lt 0 (length bytes) && list_all is_digit bytes
-
-abbrev pub has_leading_zero : List ℕ → Bool
-has_leading_zero bytes = nat_lt 1 (length bytes) && (slice_index bytes 0 == 48)
-
--- a decimal number of any size, without leading zeros
-abbrev pub is_decimal : List ℕ → Bool
-is_decimal bytes = are_digits bytes && not (has_leading_zero bytes)
+use Rattle.node_texts.specs.Faults.{of_text}
 
 -- an epoch; inside it none where the number is above the greatest epoch
 abbrev pub epoch : List ℕ → Option (Option ℕ)
 epoch bytes = some_if (is_decimal bytes) (number_within 0 MAX_EPOCH bytes)
 
--- a port without leading zeros
-abbrev pub canonical_port : List ℕ → Option ℕ
-canonical_port = canonical_within 1 65535
-
 -- fields 1 to 4
 abbrev pub sender_of : List ℕ → List ℕ → List ℕ → List ℕ → Result Sender TextFault
 sender_of ip_word port_word id_word epoch_word =
-    wanted 1 (ip ip_word) >>= λ i.
-    wanted 2 (canonical_port port_word) >>= λ p.
-    wanted 3 (run_id id_word) >>= λ id.
-    wanted 4 (epoch epoch_word) >>= λ current.
+    wanted (BadField 1) (ip ip_word) >>= λ i.
+    wanted (BadField 2) (canonical_port port_word) >>= λ p.
+    wanted (BadField 3) (run_id id_word) >>= λ id.
+    wanted (BadField 4) (epoch epoch_word) >>= λ current.
     Ok (record { addr = record { ip = i; port = p }; id = id; current = current })
 
 -- fields 5 to 8
 abbrev pub master_of : List ℕ → List ℕ → List ℕ → List ℕ → Result OfMaster TextFault
 master_of name_word ip_word port_word epoch_word =
-    wanted 5 (name name_word) >>= λ master.
-    wanted 6 (ip ip_word) >>= λ i.
-    wanted 7 (canonical_port port_word) >>= λ p.
-    wanted 8 (epoch epoch_word) >>= λ epoch.
+    wanted (BadField 5) (name name_word) >>= λ master.
+    wanted (BadField 6) (ip ip_word) >>= λ i.
+    wanted (BadField 7) (canonical_port port_word) >>= λ p.
+    wanted (BadField 8) (epoch epoch_word) >>= λ epoch.
     Ok (record { name = master; addr = record { ip = i; port = p }; epoch = epoch })
 
 abbrev pub within_epochs : Option ℕ → Result ℕ TextFault
@@ -75,4 +56,4 @@ hello_of_parts _ = Err FieldCount
 
 -- what a text says, or its first fault
 abbrev pub hello_of : List ℕ → Result Hello TextFault
-hello_of bytes = of_text bytes (hello_of_parts (comma_parts bytes))
+hello_of bytes = of_text bytes (hello_of_parts (cut_at 44 bytes))

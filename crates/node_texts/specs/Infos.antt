@@ -1,11 +1,13 @@
 -- The answer to INFO: its fields, and what they say.
-use Rattle.std.specs.Prelude.{◌≡◌, ◌≤◌, ℕ, Bool, true, false, ◌==◌, List, [], ◌∷◌, ◌++◌, map, codes, bytes_eq, decimal, Option, Some, None, Result, Ok, Err}
+use Rattle.std.specs.Prelude.{◌≡◌, ◌≤◌, ℕ, Bool, true, false, ◌==◌, List, [], ◌∷◌, ◌++◌, map, codes, bytes_eq, decimal, Option, Some, None, option_map, unwrap_or, Result, Ok, Err}
 use Rattle.ballot_law.specs.declared.addresses.Addr.{Addr}
 use Rattle.ballot_law.specs.declared.addresses.RunId.{RunId}
 use Rattle.ballot_law.specs.declared.replies.DataRole.{DataRole}
 use Rattle.ballot_law.specs.declared.replies.DataRole.TheVariants.{Master, Replica}
 use Rattle.ballot_law.specs.declared.replies.Info.{Info}
 use Rattle.ballot_law.specs.Hellos.{IsAddr, IsRunId}
+use Rattle.ballot_law.specs.Cuts.{lines}
+use Rattle.ballot_law.specs.Results.{◌>>=◌, wanted}
 use Rattle.ballot_law.specs.Words.{then_some, number, number_within, ip, ip_text, port, run_id, id_text}
 use Rattle.node_texts.specs.declared.faults.TextFault.{TextFault}
 use Rattle.node_texts.specs.declared.faults.TextFault.TheVariants.{BadField}
@@ -14,8 +16,8 @@ use Rattle.node_texts.specs.declared.info_fields.Fields.{Fields}
 use Rattle.node_texts.specs.declared.info_fields.OwnFields.{OwnFields}
 use Rattle.node_texts.specs.declared.info_fields.LinkFields.{LinkFields}
 use Rattle.node_texts.specs.declared.info_fields.ReplicaFields.{ReplicaFields}
-use Rattle.node_texts.specs.Faults.{◌>>=◌, wanted, of_text}
-use Rattle.node_texts.specs.Lines.{lines, without_return}
+use Rattle.node_texts.specs.Faults.{of_text}
+use Rattle.node_texts.specs.Lines.{without_return}
 
 -- ---- fields of lines
 
@@ -25,10 +27,6 @@ after_label [] line = Some line
 after_label (a ∷ label) [] = None
 after_label (a ∷ label) (b ∷ line) = elim (a == b) as (λ _. Option (List ℕ)) [ true ↦ after_label label line | false ↦ None ]
 
-abbrev pub map_some : {X Y : Type 0} → (X → Y) → Option X → Option Y
-map_some f None = None
-map_some f (Some x) = Some (f x)
-
 -- of two the later one, where there is one
 abbrev pub newest : {X : Type 0} → Option X → Option X → Option X
 newest older None = older
@@ -37,7 +35,7 @@ newest older (Some x) = Some x
 -- what the last line with this label says; inside it none where its value is bad
 abbrev pub last_given : {X : Type 0} → List ℕ → (List ℕ → Option X) → List (List ℕ) → Option (Option X)
 last_given label read [] = None
-last_given label read (line ∷ lines) = newest (map_some read (after_label label line)) (last_given label read lines)
+last_given label read (line ∷ lines) = newest (option_map read (after_label label line)) (last_given label read lines)
 
 -- ---- values
 
@@ -120,10 +118,6 @@ judged n None = Ok None
 judged n (Some None) = Err (BadField n)
 judged n (Some (Some x)) = Ok (Some x)
 
-abbrev pub or_default : {X : Type 0} → X → Option X → X
-or_default default None = default
-or_default default (Some x) = x
-
 -- an address where both halves were given
 abbrev pub address_of : Option ℕ → Option ℕ → Option Addr
 address_of None p = None
@@ -135,7 +129,7 @@ abbrev pub info_of_fields : Fields → Result Info TextFault
 info_of_fields fields =
     judged 1 fields.own.id >>= λ id.
     judged 2 fields.own.role >>= λ given.
-    wanted 2 given >>= λ role.
+    wanted (BadField 2) given >>= λ role.
     judged 3 fields.link.host >>= λ host.
     judged 4 fields.link.port >>= λ port.
     judged 5 fields.link.up >>= λ up.
@@ -146,10 +140,10 @@ info_of_fields fields =
       id = id;
       role = role;
       master = address_of host port;
-      link_up = or_default false up;
-      link_down_s = or_default 0 down_s;
-      priority = or_default 100 priority;
-      offset = or_default 0 offset;
+      link_up = unwrap_or up false;
+      link_down_s = unwrap_or down_s 0;
+      priority = unwrap_or priority 100;
+      offset = unwrap_or offset 0;
     })
 
 -- what a text says, or its first fault

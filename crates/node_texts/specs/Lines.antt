@@ -1,16 +1,17 @@
--- The lines of a text.
-use Rattle.std.specs.Prelude.{ℕ, suc, true, false, ◌==◌, List, [], ◌∷◌, if◌then◌else◌}
-use Rattle.ballot_law.specs.Words.{with_first}
+-- Where a text is cut, and the end of a line.
+use Rattle.std.specs.Prelude.{◌≡◌, ℕ, true, false, ◌==◌, List, [], ◌∷◌, Option, Some, None}
+use Rattle.std.specs.Borrow.{Bor}
+use Rattle.std.specs.List.{AllByRecursion}
+use Rattle.ballot_law.specs.Cuts.{cut_at}
 
--- the lines, each ended by LF, which the last may lack
-abbrev pub lines : List ℕ → List (List ℕ)
-lines [] = []
-lines (b ∷ bs) = elim (b == 10) [ true ↦ [] ∷ lines bs | false ↦ with_first b (lines bs) ]
+-- no byte of this value stands in the text
+abbrev pub HasNo : ℕ → List ℕ → Type 0
+HasNo stop bytes = AllByRecursion (λ b. (b == stop) ≡ false) bytes
 
--- how many bytes stand before the first byte of this value
-abbrev pub before : ℕ → List ℕ → ℕ
-before stop [] = 0
-before stop (b ∷ bs) = if b == stop then 0 else suc (before stop bs)
+-- the parts around the commas that aren't read yet
+abbrev pub parts_left : Option (Bor (List ℕ)) → List (List ℕ)
+parts_left None = []
+parts_left (Some rest) = cut_at 44 rest.now
 
 -- one byte before the rest of a line, unless it is a CR at the line's end
 abbrev pub unless_last_return : ℕ → List ℕ → List ℕ

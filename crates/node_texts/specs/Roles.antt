@@ -1,16 +1,16 @@
 -- The answer to ROLE.
-use Rattle.std.specs.Prelude.{◌≤◌, ℕ, ℤ, pos, negsuc, ◌&&◌, nat_le, List, [], ◌∷◌, codes, Option, Some, None, Result, Ok, Err}
+use Rattle.std.specs.Prelude.{◌≤◌, ℕ, ℤ, pos, negsuc, ◌&&◌, ◌||◌, ◌==◌, nat_le, List, [], ◌∷◌, length, codes, Option, Some, None, Result, Ok, Err, if◌then◌else◌}
 use Rattle.ballot_law.specs.declared.replies.DataRole.{DataRole}
 use Rattle.ballot_law.specs.declared.replies.DataRole.TheVariants as data_role
 use Rattle.ballot_law.specs.declared.replies.Role.{Role}
 use Rattle.ballot_law.specs.declared.replies.Role.TheVariants.{Master, Replica}
 use Rattle.ballot_law.specs.Hellos.{IsAddr}
+use Rattle.ballot_law.specs.Results.{◌>>=◌, wanted}
 use Rattle.ballot_law.specs.Words.{some_if, ip, ip_text}
 use Rattle.resp2_frames.specs.Frame.{Frame, FrameList, int, bulk, items, no_frames, frame}
 use Rattle.node_texts.specs.declared.faults.TextFault.{TextFault}
 use Rattle.node_texts.specs.declared.faults.TextFault.TheVariants.{FieldCount, BadField}
 use Rattle.node_texts.specs.declared.info_fields.TheConstants.{COUNT_MAX}
-use Rattle.node_texts.specs.Faults.{◌>>=◌, wanted}
 use Rattle.node_texts.specs.Infos.{role_name}
 
 -- ---- elements
@@ -53,32 +53,34 @@ replicas_of _ = None
 -- ---- arrays
 
 abbrev pub master_role : Frame → Frame → Result Role TextFault
-master_role offset replicas = wanted 2 (offset_of offset) >>= λ n. wanted 3 (replicas_of replicas) >>= λ _. Ok (Master n)
+master_role offset replicas = wanted (BadField 2) (offset_of offset) >>= λ n. wanted (BadField 3) (replicas_of replicas) >>= λ _. Ok (Master n)
 
 abbrev pub replica_role : Frame → Frame → Frame → Frame → Result Role TextFault
 replica_role host port link offset =
-    wanted 2 (host_of host) >>= λ i.
-    wanted 3 (port_of port) >>= λ p.
-    wanted 4 (link_of link) >>= λ _.
-    wanted 5 (offset_of offset) >>= λ n.
+    wanted (BadField 2) (host_of host) >>= λ i.
+    wanted (BadField 3) (port_of port) >>= λ p.
+    wanted (BadField 4) (link_of link) >>= λ _.
+    wanted (BadField 5) (offset_of offset) >>= λ n.
     Ok (Replica (record { ip = i; port = p }) n)
 
--- an array of three is a master's
-abbrev pub role_of_three : Option DataRole → Frame → Frame → Result Role TextFault
-role_of_three None offset replicas = Err (BadField 1)
-role_of_three (Some data_role.Master) offset replicas = master_role offset replicas
-role_of_three (Some data_role.Replica) offset replicas = Err FieldCount
+-- a master's answer has three elements, a replica's five
+abbrev pub role_length : DataRole → ℕ
+role_length data_role.Master = 3
+role_length data_role.Replica = 5
 
--- an array of five is a replica's
-abbrev pub role_of_five : Option DataRole → Frame → Frame → Frame → Frame → Result Role TextFault
-role_of_five None host port link offset = Err (BadField 1)
-role_of_five (Some data_role.Master) host port link offset = Err FieldCount
-role_of_five (Some data_role.Replica) host port link offset = replica_role host port link offset
+-- what stands behind the name of a role
+abbrev pub role_behind : DataRole → List Frame → Result Role TextFault
+role_behind data_role.Master (offset ∷ replicas ∷ []) = master_role offset replicas
+role_behind data_role.Replica (host ∷ port ∷ link ∷ offset ∷ []) = replica_role host port link offset
+role_behind role _ = Err FieldCount
 
+-- an array that has no role's length is told before anything in it
 abbrev pub role_of_list : List Frame → Result Role TextFault
-role_of_list (kind ∷ offset ∷ replicas ∷ []) = role_of_three (kind_of kind) offset replicas
-role_of_list (kind ∷ host ∷ port ∷ link ∷ offset ∷ []) = role_of_five (kind_of kind) host port link offset
-role_of_list _ = Err FieldCount
+role_of_list [] = Err FieldCount
+role_of_list (kind ∷ others) =
+    if length (kind ∷ others) == role_length data_role.Master || length (kind ∷ others) == role_length data_role.Replica
+    then (wanted (BadField 1) (kind_of kind) >>= λ role. role_behind role others)
+    else Err FieldCount
 
 abbrev pub list_of : FrameList → List Frame
 list_of no_frames = []

@@ -1,7 +1,7 @@
 //! Decimal digits.
 
 ghost use Rattle.std.specs.Prelude.{◌≡◌};
-ghost use Rattle.node_texts.specs.Hellos.{are_digits, has_leading_zero, is_decimal};
+ghost use Rattle.ballot_law.specs.Words.{are_digits, has_leading_zero, is_decimal};
 
 /// Whether these are one or more digits.
 pub(crate) fn are_digits(bytes: &[u8]) -> bool

@@ -59,6 +59,7 @@ pub(crate) fn add(draft: &Draft, text: &mut OutText) -> Result<(), TextFault>
     ensures ok { OnOk result (text.new ≡ text.old ++ draft.now.items) }
     ensures unchanged { OnErr result (text.new ≡ text.old) }
     ensures err { IfErr result (λ fault. fault ≡ TextFault.NoMemory) }
+    ensures fits { length draft.now.items ≤ 512 }
 {
     match text.add(draft.as_slice()) {
         Ok(()) => Ok(()),

@@ -2,7 +2,7 @@
 
 use thiserror::Error;
 
-/// Why a text can't be read or written. The text of each is the variant's name.
+/// Why a text can't be read or written. Each is shown as its name, and `BadField` with its number: `BadField(7)`.
 ///
 /// Of several faults of one text the first of this list is told, except that `NotUtf8` comes before all others.
 #[derive(Clone, Copy, Debug, PartialEq, Eq, Error)]

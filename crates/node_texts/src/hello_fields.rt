@@ -1,13 +1,14 @@
 //! The fields of a hello.
 
-ghost use Rattle.std.specs.Prelude.{◌≡◌, ◌≢◌, ◌<◌, ◌∷◌, [], length, MatchOption};
-ghost use Rattle.ballot_law.specs.Words.{name};
-ghost use Rattle.node_texts.specs.Hellos.{comma_parts, epoch, canonical_port};
+ghost use Rattle.std.specs.Prelude.{◌≡◌, ◌≢◌, ◌∷◌, [], length, MatchOption};
+ghost use Rattle.ballot_law.specs.Words.{cut_at, canonical_port, name};
+ghost use Rattle.node_texts.specs.Hellos.{epoch, sender_of, master_of};
 
 use crate::digits::is_decimal;
 use crate::faults::TextFault;
-use crate::lines::length_before;
+use crate::lines::split_once;
 use ballot_law::{Addr, MAX_EPOCH, Name, RunId};
+use std::marker::Model;
 use words::{canonical_number_of, ip_of, number_of, run_id_of};
 
 /// The greatest TCP port.
@@ -32,64 +33,38 @@ pub(crate) struct OfMaster {
     pub(crate) epoch: Epoch,
 }
 
-/// Four fields that follow each other.
-#[derive(Clone, Copy)]
-pub(crate) struct Four<'a> {
-    first: &'a [u8],
-    second: &'a [u8],
-    third: &'a [u8],
-    fourth: &'a [u8],
+/// The parts of a text around its commas that aren't read yet: none where the last one was read.
+#[derive(Drop)]
+struct Parts<'a> {
+    rest: Option<&'a [u8]>,
 }
 
-/// What stands before the first comma, and what stands behind it.
-fn split_comma(bytes: &[u8]) -> (&[u8], Option<&[u8]>)
-    ensures { MatchOption result.1 (comma_parts bytes.now ≡ result.0.now ∷ [])
-        (λ rest. comma_parts bytes.now ≡ result.0.now ∷ comma_parts rest.now) }
-{
-    let (part, tail) = bytes.split_at(length_before(bytes, b','));
-    match tail.split_first() {
-        Some((_, rest)) => (part, Some(rest)),
-        None => (part, None),
+impl<'a> Model for Parts<'a> {
+    ghost use Rattle.std.specs.Prelude.{List, ℕ};
+    ghost use Rattle.node_texts.specs.Lines.{parts_left};
+
+    ghost Value = { List (List ℕ) };
+
+    ghost view = { λ parts. parts_left parts.rest };
+}
+
+impl<'a> Parts<'a> {
+    /// The parts of this text.
+    fn of(text: &'a [u8]) -> Parts<'a>
+        ensures { result ≡ cut_at 44 text.now }
+    {
+        Parts { rest: Some(text) }
     }
-}
 
-/// The first four fields, and what stands behind their comma; none where there are fewer.
-fn four_of(bytes: &[u8]) -> Option<(Four<'_>, Option<&[u8]>)>
-    ensures { MatchOption result (length (comma_parts bytes.now) < 4)
-        (λ pair. MatchOption pair.1
-        (comma_parts bytes.now
-        ≡ pair.0.first.now ∷ pair.0.second.now ∷ pair.0.third.now ∷ pair.0.fourth.now
-        ∷ [])
-        (λ rest. comma_parts bytes.now
-        ≡ pair.0.first.now ∷ pair.0.second.now ∷ pair.0.third.now ∷ pair.0.fourth.now
-        ∷ comma_parts rest.now)) }
-{
-    let (first, rest) = split_comma(bytes);
-    let (second, rest) = split_comma(rest?);
-    let (third, rest) = split_comma(rest?);
-    let (fourth, rest) = split_comma(rest?);
-    let four = Four {
-        first,
-        second,
-        third,
-        fourth,
-    };
-    Some((four, rest))
-}
-
-/// The four fields of the sender and the four of the master; none where there aren't eight fields.
-pub(crate) fn fields_of(bytes: &[u8]) -> Option<(Four<'_>, Four<'_>)>
-    ensures { MatchOption result (length (comma_parts bytes.now) ≢ 8)
-        (λ pair. comma_parts bytes.now
-        ≡ pair.0.first.now ∷ pair.0.second.now ∷ pair.0.third.now ∷ pair.0.fourth.now
-        ∷ pair.1.first.now ∷ pair.1.second.now ∷ pair.1.third.now ∷ pair.1.fourth.now
-        ∷ []) }
-{
-    let (sender, rest) = four_of(bytes)?;
-    let (master, end) = four_of(rest?)?;
-    match end {
-        Some(_) => None,
-        None => Some((sender, master)),
+    /// Reads the next part.
+    #[tactic(auto, using(crate::proofs::CutLemmas::first_part, crate::proofs::CutLemmas::last_part))]
+    fn next(&mut self) -> Option<&'a [u8]>
+        ensures { MatchOption result ((self.old ≡ []) × (self.new ≡ []))
+            (λ part. self.old ≡ part.now ∷ self.new) }
+    {
+        let (part, rest) = split_once(self.rest?, b',');
+        self.rest = rest;
+        Some(part)
     }
 }
 
@@ -119,18 +94,54 @@ fn name_of(bytes: &[u8]) -> Option<Name>
     Name::from_slice(bytes)
 }
 
-impl Four<'_> {
-    ghost use Rattle.node_texts.specs.Hellos.{sender_of, master_of};
+/// The eight fields of a hello, before they are read.
+#[derive(Clone, Copy)]
+pub(crate) struct HelloFields<'a> {
+    ip: &'a [u8],
+    port: &'a [u8],
+    id: &'a [u8],
+    current: &'a [u8],
+    name: &'a [u8],
+    master_ip: &'a [u8],
+    master_port: &'a [u8],
+    epoch: &'a [u8],
+}
 
-    /// Reads these fields as the sender's.
-    pub(crate) fn sender(&self) -> Result<Sender, TextFault>
-        ensures { result ≡ sender_of self.now.first.now self.now.second.now
-            self.now.third.now self.now.fourth.now }
+impl<'a> HelloFields<'a> {
+    /// The fields around the commas of a text; none where there aren't eight.
+    pub(crate) fn of(text: &'a [u8]) -> Option<HelloFields<'a>>
+        ensures { MatchOption result (length (cut_at 44 text.now) ≢ 8)
+            (λ fields. cut_at 44 text.now
+            ≡ fields.ip.now ∷ fields.port.now ∷ fields.id.now ∷ fields.current.now
+            ∷ fields.name.now ∷ fields.master_ip.now ∷ fields.master_port.now ∷ fields.epoch.now
+            ∷ []) }
     {
-        let ip = ip_of(self.first).ok_or(TextFault::BadField(1))?;
-        let port = canonical_port_of(self.second).ok_or(TextFault::BadField(2))?;
-        let id = run_id_of(self.third).ok_or(TextFault::BadField(3))?;
-        let current = epoch_of(self.fourth).ok_or(TextFault::BadField(4))?;
+        let mut parts = Parts::of(text);
+        let fields = HelloFields {
+            ip: parts.next()?,
+            port: parts.next()?,
+            id: parts.next()?,
+            current: parts.next()?,
+            name: parts.next()?,
+            master_ip: parts.next()?,
+            master_port: parts.next()?,
+            epoch: parts.next()?,
+        };
+        match parts.next() {
+            Some(_) => None,
+            None => Some(fields),
+        }
+    }
+
+    /// Reads fields 1 to 4, which are the sender's.
+    pub(crate) fn sender(&self) -> Result<Sender, TextFault>
+        ensures { result ≡ sender_of self.now.ip.now self.now.port.now
+            self.now.id.now self.now.current.now }
+    {
+        let ip = ip_of(self.ip).ok_or(TextFault::BadField(1))?;
+        let port = canonical_port_of(self.port).ok_or(TextFault::BadField(2))?;
+        let id = run_id_of(self.id).ok_or(TextFault::BadField(3))?;
+        let current = epoch_of(self.current).ok_or(TextFault::BadField(4))?;
         Ok(Sender {
             addr: Addr { ip, port },
             id,
@@ -138,15 +149,15 @@ impl Four<'_> {
         })
     }
 
-    /// Reads these fields as the master's.
+    /// Reads fields 5 to 8, which are the master's.
     pub(crate) fn of_master(&self) -> Result<OfMaster, TextFault>
-        ensures { result ≡ master_of self.now.first.now self.now.second.now
-            self.now.third.now self.now.fourth.now }
+        ensures { result ≡ master_of self.now.name.now self.now.master_ip.now
+            self.now.master_port.now self.now.epoch.now }
     {
-        let name = name_of(self.first).ok_or(TextFault::BadField(5))?;
-        let ip = ip_of(self.second).ok_or(TextFault::BadField(6))?;
-        let port = canonical_port_of(self.third).ok_or(TextFault::BadField(7))?;
-        let epoch = epoch_of(self.fourth).ok_or(TextFault::BadField(8))?;
+        let name = name_of(self.name).ok_or(TextFault::BadField(5))?;
+        let ip = ip_of(self.master_ip).ok_or(TextFault::BadField(6))?;
+        let port = canonical_port_of(self.master_port).ok_or(TextFault::BadField(7))?;
+        let epoch = epoch_of(self.epoch).ok_or(TextFault::BadField(8))?;
         Ok(OfMaster {
             name,
             addr: Addr { ip, port },

@@ -11,7 +11,7 @@ ghost use Rattle.node_texts.specs.Hellos.{hello_from, hello_of};
 use crate::drafts::{Draft, add, put, put_id, put_ip, put_number};
 use crate::encoding::is_utf8;
 use crate::faults::TextFault;
-use crate::hello_fields::{OfMaster, Sender, fields_of};
+use crate::hello_fields::{HelloFields, OfMaster, Sender};
 use arrayvec::ArrayVec;
 use ballot_law::{Addr, Card, Hello};
 use resp2::OutText;
@@ -41,9 +41,9 @@ fn hello_of(bytes: &[u8]) -> Result<Hello, TextFault>
     if !is_utf8(bytes) {
         return Err(TextFault::NotUtf8);
     }
-    let (sender, master) = fields_of(bytes).ok_or(TextFault::FieldCount)?;
-    let sender = sender.sender()?;
-    let of_master = master.of_master()?;
+    let fields = HelloFields::of(bytes).ok_or(TextFault::FieldCount)?;
+    let sender = fields.sender()?;
+    let of_master = fields.of_master()?;
     hello_from(&sender, &of_master)
 }
 

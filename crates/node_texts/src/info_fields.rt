@@ -180,7 +180,8 @@ impl ReplicaFields {
 
 impl Fields {
     ghost use Rattle.std.specs.Prelude.{map};
-    ghost use Rattle.node_texts.specs.Lines.{lines, without_return};
+    ghost use Rattle.ballot_law.specs.Cuts.{lines};
+    ghost use Rattle.node_texts.specs.Lines.{without_return};
     ghost use Rattle.node_texts.specs.Infos.{fields_of, newest_fields};
 
     /// The fields of no line.

@@ -20,8 +20,3 @@ pub use faults::TextFault;
 pub use hellos::{read_hello, write_hello};
 pub use infos::{read_info, write_info};
 pub use roles::{read_role, write_role};
-
-#[cfg(test)]
-mod server_texts;
-#[cfg(test)]
-mod tests;

@@ -1,31 +1,35 @@
-//! The lines of a text.
+//! Where a text is cut: at its commas, and at the ends of its lines.
 
-ghost use Rattle.std.specs.Prelude.{◌≡◌, ◌<◌, ◌≤◌, ◌∷◌, length};
-ghost use Rattle.node_texts.specs.Lines.{lines, before, without_return};
+ghost use Rattle.std.specs.Prelude.{◌≡◌, ◌<◌, ◌∷◌, ◌++◌, length, MatchOption, ⊤};
+ghost use Rattle.ballot_law.specs.Cuts.{lines};
+ghost use Rattle.node_texts.specs.Lines.{HasNo, without_return};
 
-/// How many bytes stand before the first byte of this value.
-pub(crate) fn length_before(bytes: &[u8], stop: u8) -> usize
-    ensures value { result ≡ before stop bytes.now }
-    ensures within { result ≤ length bytes.now }
+use memchr::memchr;
+
+/// What stands before the first byte of this value, and what stands behind it; all of the text where there is no such
+/// byte.
+pub(crate) fn split_once(bytes: &[u8], stop: u8) -> (&[u8], Option<&[u8]>)
+    ensures front { HasNo stop result.0.now }
+    ensures behind { MatchOption result.1 (bytes.now ≡ result.0.now)
+        (λ rest. bytes.now ≡ result.0.now ++ stop ∷ rest.now) }
+    ensures shorter { MatchOption result.1 ⊤ (λ rest. length rest.now < length bytes.now) }
 {
-    for (place, byte) in bytes.iter().enumerate() {
-        if *byte == stop {
-            return place;
-        }
+    match memchr(stop, bytes) {
+        Some(place) => (&bytes[..place], Some(&bytes[place + 1..])),
+        None => (bytes, None),
     }
-    bytes.len()
 }
 
 /// The first line without its end, and what stands behind that.
+#[tactic(auto, using(crate::proofs::CutLemmas::first_line, crate::proofs::CutLemmas::last_line))]
 pub(crate) fn split_line(bytes: &[u8]) -> (&[u8], &[u8])
     requires { 0 < length bytes.now }
     ensures split { lines bytes.now ≡ result.0.now ∷ lines result.1.now }
     ensures shorter { length result.1.now < length bytes.now }
 {
-    let (line, tail) = bytes.split_at(length_before(bytes, b'\n'));
-    match tail.split_first() {
-        Some((_, rest)) => (line, rest),
-        None => (line, tail),
+    match split_once(bytes, b'\n') {
+        (line, Some(rest)) => (line, rest),
+        (line, None) => (line, &[]),
     }
 }
 

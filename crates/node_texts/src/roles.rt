@@ -1,10 +1,11 @@
 //! The answer to ROLE.
 
-ghost use Rattle.std.specs.Prelude.{◌≡◌, ◌≤◌, ◌+◌, ◌++◌, ◌∷◌, length, pos, decimal, map, OnOk, OnErr, IfErr};
+ghost use Rattle.std.specs.Prelude.{◌≡◌, ℕ, ◌≤◌, ◌+◌, List, ◌++◌, ◌∷◌, length, pos, decimal, map, OnOk, OnErr, IfErr};
 ghost use Rattle.arrayvec.specs.ArrayVec.{array_vec_len};
 ghost use Rattle.resp2_frames.specs.Frame as frames;
 ghost use Rattle.resp2_frames.specs.Frame.{view, spelling, line_end};
-ghost use Rattle.node_texts.specs.Roles.{kind_of, offset_of, host_of, port_of, link_of, replicas_of, master_role, replica_role, role_of_three, role_of_five, role_of, role_of_list, IsRole, role_frame};
+ghost use Rattle.resp2_frames.specs.Reading.{frame_at};
+ghost use Rattle.node_texts.specs.Roles.{kind_of, offset_of, host_of, port_of, link_of, replicas_of, master_role, replica_role, role_length, role_behind, role_of, role_of_list, IsRole, role_frame};
 
 use crate::drafts::{Draft, add, put, put_number};
 use crate::faults::TextFault;
@@ -104,33 +105,24 @@ fn replica_role(host: &Value, port: &Value, link: &Value, offset: &Value) -> Res
     })
 }
 
-/// Reads an array of three.
-fn role_of_three(kind: &Value, offset: &Value, replicas: &Value) -> Result<Role, TextFault>
-    ensures { result
-        ≡ role_of_three (kind_of (view kind.now)) (view offset.now) (view replicas.now) }
+/// How many elements the answer of a role has.
+fn role_length(role: DataRole) -> usize
+    ensures { result ≡ role_length role }
 {
-    match kind_of(kind) {
-        None => Err(TextFault::BadField(1)),
-        Some(DataRole::Master) => master_role(offset, replicas),
-        Some(DataRole::Replica) => Err(TextFault::FieldCount),
+    match role {
+        DataRole::Master => 3,
+        DataRole::Replica => 5,
     }
 }
 
-/// Reads an array of five.
-fn role_of_five(
-    kind: &Value,
-    host: &Value,
-    port: &Value,
-    link: &Value,
-    offset: &Value,
-) -> Result<Role, TextFault>
-    ensures { result ≡ role_of_five (kind_of (view kind.now))
-        (view host.now) (view port.now) (view link.now) (view offset.now) }
+/// Reads the elements behind the name of a role.
+fn role_behind(role: DataRole, others: &[Value]) -> Result<Role, TextFault>
+    ensures { result ≡ role_behind role (map view others.now) }
 {
-    match kind_of(kind) {
-        None => Err(TextFault::BadField(1)),
-        Some(DataRole::Master) => Err(TextFault::FieldCount),
-        Some(DataRole::Replica) => replica_role(host, port, link, offset),
+    match (role, others) {
+        (DataRole::Master, [offset, replicas]) => master_role(offset, replicas),
+        (DataRole::Replica, [host, port, link, offset]) => replica_role(host, port, link, offset),
+        _ => Err(TextFault::FieldCount),
     }
 }
 
@@ -138,11 +130,15 @@ fn role_of_five(
 fn role_of_items(items: &[Value]) -> Result<Role, TextFault>
     ensures { result ≡ role_of_list (map view items.now) }
 {
-    match items {
-        [kind, offset, replicas] => role_of_three(kind, offset, replicas),
-        [kind, host, port, link, offset] => role_of_five(kind, host, port, link, offset),
-        _ => Err(TextFault::FieldCount),
+    let [kind, others @ ..] = items else {
+        return Err(TextFault::FieldCount);
+    };
+    let length = items.len();
+    if length != role_length(DataRole::Master) && length != role_length(DataRole::Replica) {
+        return Err(TextFault::FieldCount);
     }
+    let role = kind_of(kind).ok_or(TextFault::BadField(1))?;
+    role_behind(role, others)
 }
 
 /// Reads a data node's answer to ROLE, as the Redis documentation of the command describes it.
@@ -225,6 +221,8 @@ fn role_draft(role: &Role) -> Draft
 pub fn write_role(role: &Role, text: &mut OutText) -> Result<(), TextFault>
     requires { IsRole role.now }
     ensures ok { OnOk result (text.new ≡ text.old ++ spelling (role_frame role.now)) }
+    ensures frame { (rest : List ℕ) → frame_at (spelling (role_frame role.now) ++ rest)
+        ≡ Ok (role_frame role.now, rest) }
     ensures again { role_of (role_frame role.now) ≡ Ok role.now }
     ensures unchanged { OnErr result (text.new ≡ text.old) }
     ensures err { IfErr result (λ fault. fault ≡ TextFault.NoMemory) }

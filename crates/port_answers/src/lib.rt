@@ -11,8 +11,6 @@ mod line_answers;
 mod parts;
 mod row_answers;
 mod rows;
-#[cfg(test)]
-mod tests;
 
 pub use answer_text::{ANSWER_MAX, AnswerText};
 pub use laws::law_answers_fit;

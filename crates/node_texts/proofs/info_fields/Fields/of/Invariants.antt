@@ -1,6 +1,7 @@
 use Rattle.std.proofs.Common.{◌≡◌, map, length}
 use Rattle.node_texts.specs.Infos.{fields_of, newest_fields}
-use Rattle.node_texts.specs.Lines.{lines, without_return}
+use Rattle.ballot_law.specs.Cuts.{lines}
+use Rattle.node_texts.specs.Lines.{without_return}
 use Rattle.node_texts.proofs.info_fields.Fields.of.Given as goal
 
 abbrev pub invariant-loop-rest : goal.invariant-loop-rest

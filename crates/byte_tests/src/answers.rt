@@ -1,7 +1,7 @@
 //! The bytes of each answer, as a client of the port would see them.
 
-use crate::{ANSWER_MAX, AnswerText, MasterRow, ReplicaRow, SentinelRow};
 use ballot_law::{Addr, Name, RunId};
+use port_answers::{ANSWER_MAX, AnswerText, MasterRow, ReplicaRow, SentinelRow};
 use resp2::CommandFault;
 use std::test::Fail;
 
