@@ -26,7 +26,5 @@ pub use watches::Watch;
 
 mod laws;
 mod reports;
-#[cfg(test)]
-mod tests;
 mod tilts;
 mod watches;

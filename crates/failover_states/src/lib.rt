@@ -23,6 +23,4 @@ mod failovers;
 mod periods;
 mod replicas;
 mod states;
-#[cfg(test)]
-mod tests;
 mod turns;

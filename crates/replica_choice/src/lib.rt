@@ -7,8 +7,6 @@
 
 mod candidates;
 mod choices;
-#[cfg(test)]
-mod tests;
 
 pub use candidates::{Candidate, Limits};
 pub use choices::choose;

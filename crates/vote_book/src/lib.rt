@@ -6,8 +6,6 @@
 
 mod laws;
 mod own_vote;
-#[cfg(test)]
-mod tests;
 mod votes_heard;
 
 pub use ballot_law::{MAX_EPOCH, NoMemory};

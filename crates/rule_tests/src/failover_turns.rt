@@ -1,5 +1,7 @@
-use super::*;
+//! The turns of a failover, row by row.
+
 use ballot_law::{Addr, Card, MAX_EPOCH, RunId};
+use failover_states::{Facts, Failover, Row, State};
 use std::test::Fail;
 
 const ME: RunId = RunId { hi: 10, lo: 1 };
@@ -50,40 +52,40 @@ fn promote(failover: &mut Failover, facts: &Facts, from: u64) {
 fn a_failover_goes_through_its_states(rt: HostRuntime) -> Result<(), Fail> {
     let mut failover = Failover::new(rt.alloc(), 3)?;
     let mut known = facts(1_000, 3_000, &UP);
-    assert_eq!(rt; failover.state(), State::Idle);
-    assert_eq!(rt; failover.turn(&known).row, Some(Row::StartFailover));
-    assert_eq!(rt; failover.epoch(), Some(5));
+    assert!(rt; failover.state() == State::Idle);
+    assert!(rt; failover.turn(&known).row == Some(Row::StartFailover));
+    assert!(rt; failover.epoch() == Some(5));
     known.current = 5;
     let act = failover.turn(&known);
-    assert_eq!(rt; act.row, Some(Row::AwaitVotes));
-    assert_eq!(rt; act.vote, Some(ME));
+    assert!(rt; act.row == Some(Row::AwaitVotes));
+    assert!(rt; act.vote == Some(ME));
     known.voted = 5;
     known.own = act.vote;
     known.count = 1;
     let act = failover.turn(&known);
-    assert_eq!(rt; act.row, Some(Row::Elected));
-    assert_eq!(rt; act.vote, None);
-    assert_eq!(rt; failover.choice(), None);
-    assert_eq!(rt; failover.turn(&known).row, Some(Row::ReplicaChosen));
-    assert_eq!(rt; failover.choice(), Some(1));
-    assert_eq!(rt; failover.turn(&known).row, Some(Row::Promote));
-    assert_eq!(rt; failover.turn(&known).row, Some(Row::AwaitPromotion));
+    assert!(rt; act.row == Some(Row::Elected));
+    assert!(rt; act.vote == None);
+    assert!(rt; failover.choice() == None);
+    assert!(rt; failover.turn(&known).row == Some(Row::ReplicaChosen));
+    assert!(rt; failover.choice() == Some(1));
+    assert!(rt; failover.turn(&known).row == Some(Row::Promote));
+    assert!(rt; failover.turn(&known).row == Some(Row::AwaitPromotion));
     failover.at(1_500);
     let card = Card {
         epoch: 5,
         addr: BEST,
     };
-    assert_eq!(rt; failover.promoted(), Some(card));
-    assert_eq!(rt; failover.promoted(), None);
+    assert!(rt; failover.promoted() == Some(card));
+    assert!(rt; failover.promoted() == None);
     known.card_place = 1;
-    assert_eq!(rt; failover.turn(&known).row, Some(Row::Reconfigure));
+    assert!(rt; failover.turn(&known).row == Some(Row::Reconfigure));
     assert!(rt; failover.ordered(2) && !failover.ordered(0) && !failover.ordered(1));
     failover.reconf(2, 2_000);
-    assert_eq!(rt; failover.turn(&known).row, Some(Row::ReconfDone));
-    assert_eq!(rt; failover.epoch(), Some(5));
-    assert_eq!(rt; failover.turn(&known).row, Some(Row::ConfigUpdated));
-    assert_eq!(rt; failover.state(), State::Idle);
-    assert_eq!(rt; failover.epoch(), None);
+    assert!(rt; failover.turn(&known).row == Some(Row::ReconfDone));
+    assert!(rt; failover.epoch() == Some(5));
+    assert!(rt; failover.turn(&known).row == Some(Row::ConfigUpdated));
+    assert!(rt; failover.state() == State::Idle);
+    assert!(rt; failover.epoch() == None);
     Ok(())
 }
 
@@ -91,16 +93,13 @@ fn a_failover_goes_through_its_states(rt: HostRuntime) -> Result<(), Fail> {
 fn starts_two_timeouts_after_the_last_start(rt: HostRuntime) -> Result<(), Fail> {
     let mut failover = Failover::new(rt.alloc(), 2)?;
     failover.mark(5_000);
-    assert_eq!(rt; failover.turn(&facts(10_999, 3_000, &UP)).row, None);
+    assert!(rt; failover.turn(&facts(10_999, 3_000, &UP)).row == None);
     let mut known = facts(11_000, 3_000, &UP);
     known.random = 2_345;
-    assert_eq!(rt; failover.turn(&known).row, Some(Row::StartFailover));
+    assert!(rt; failover.turn(&known).row == Some(Row::StartFailover));
     failover.end();
-    assert_eq!(rt; failover.turn(&facts(17_344, 3_000, &UP)).row, None);
-    assert_eq!(rt;
-        failover.turn(&facts(17_345, 3_000, &UP)).row,
-        Some(Row::StartFailover)
-    );
+    assert!(rt; failover.turn(&facts(17_344, 3_000, &UP)).row == None);
+    assert!(rt; failover.turn(&facts(17_345, 3_000, &UP)).row == Some(Row::StartFailover));
     Ok(())
 }
 
@@ -109,13 +108,13 @@ fn starts_only_with_odown_and_an_epoch_left(rt: HostRuntime) -> Result<(), Fail>
     let mut failover = Failover::new(rt.alloc(), 2)?;
     let mut known = facts(1_000, 3_000, &UP);
     known.odown = false;
-    assert_eq!(rt; failover.turn(&known).row, None);
+    assert!(rt; failover.turn(&known).row == None);
     known.odown = true;
     known.current = MAX_EPOCH;
-    assert_eq!(rt; failover.turn(&known).row, None);
+    assert!(rt; failover.turn(&known).row == None);
     known.current = MAX_EPOCH - 1;
-    assert_eq!(rt; failover.turn(&known).row, Some(Row::StartFailover));
-    assert_eq!(rt; failover.epoch(), Some(281_474_976_710_655));
+    assert!(rt; failover.turn(&known).row == Some(Row::StartFailover));
+    assert!(rt; failover.epoch() == Some(281_474_976_710_655));
     Ok(())
 }
 
@@ -123,15 +122,9 @@ fn starts_only_with_odown_and_an_epoch_left(rt: HostRuntime) -> Result<(), Fail>
 fn awaits_votes_for_no_longer_than_the_timeout(rt: HostRuntime) -> Result<(), Fail> {
     let mut failover = Failover::new(rt.alloc(), 2)?;
     failover.turn(&facts(1_000, 3_000, &UP));
-    assert_eq!(rt;
-        failover.turn(&facts(4_000, 3_000, &UP)).row,
-        Some(Row::AwaitVotes)
-    );
-    assert_eq!(rt;
-        failover.turn(&facts(4_001, 3_000, &UP)).row,
-        Some(Row::ElectionTimeout)
-    );
-    assert_eq!(rt; failover.state(), State::Idle);
+    assert!(rt; failover.turn(&facts(4_000, 3_000, &UP)).row == Some(Row::AwaitVotes));
+    assert!(rt; failover.turn(&facts(4_001, 3_000, &UP)).row == Some(Row::ElectionTimeout));
+    assert!(rt; failover.state() == State::Idle);
     Ok(())
 }
 
@@ -139,14 +132,8 @@ fn awaits_votes_for_no_longer_than_the_timeout(rt: HostRuntime) -> Result<(), Fa
 fn awaits_votes_for_no_longer_than_ten_seconds(rt: HostRuntime) -> Result<(), Fail> {
     let mut failover = Failover::new(rt.alloc(), 2)?;
     failover.turn(&facts(1_000, 180_000, &UP));
-    assert_eq!(rt;
-        failover.turn(&facts(11_000, 180_000, &UP)).row,
-        Some(Row::AwaitVotes)
-    );
-    assert_eq!(rt;
-        failover.turn(&facts(11_001, 180_000, &UP)).row,
-        Some(Row::ElectionTimeout)
-    );
+    assert!(rt; failover.turn(&facts(11_000, 180_000, &UP)).row == Some(Row::AwaitVotes));
+    assert!(rt; failover.turn(&facts(11_001, 180_000, &UP)).row == Some(Row::ElectionTimeout));
     Ok(())
 }
 
@@ -170,8 +157,8 @@ fn only_votes_of_the_campaigns_epoch_elect(rt: HostRuntime) -> Result<(), Fail> 
         known.own = own;
         known.pick = pick;
         let act = failover.turn(&known);
-        assert_eq!(rt; act.vote, vote, "at epoch {current}, voted {voted}");
-        assert_eq!(rt; act.row, Some(row), "at epoch {current}, voted {voted}");
+        assert!(rt; act.vote == vote, "at epoch {current}, voted {voted}");
+        assert!(rt; act.row == Some(row), "at epoch {current}, voted {voted}");
     }
     Ok(())
 }
@@ -182,10 +169,10 @@ fn with_no_replica_to_promote_the_failover_is_aborted(rt: HostRuntime) -> Result
     let mut known = facts(1_000, 3_000, &UP);
     known.count = 1;
     known.best = None;
-    assert_eq!(rt; failover.turn(&known).row, Some(Row::StartFailover));
-    assert_eq!(rt; failover.turn(&known).row, Some(Row::Elected));
-    assert_eq!(rt; failover.turn(&known).row, Some(Row::NoReplica));
-    assert_eq!(rt; failover.state(), State::Idle);
+    assert!(rt; failover.turn(&known).row == Some(Row::StartFailover));
+    assert!(rt; failover.turn(&known).row == Some(Row::Elected));
+    assert!(rt; failover.turn(&known).row == Some(Row::NoReplica));
+    assert!(rt; failover.state() == State::Idle);
     Ok(())
 }
 
@@ -199,10 +186,10 @@ fn waits_for_a_choice_that_is_down(rt: HostRuntime) -> Result<(), Fail> {
         failover.turn(&known);
     }
     known.now = 4_000;
-    assert_eq!(rt; failover.turn(&known).row, Some(Row::AwaitChoice));
+    assert!(rt; failover.turn(&known).row == Some(Row::AwaitChoice));
     known.now = 4_001;
-    assert_eq!(rt; failover.turn(&known).row, Some(Row::ChoiceTimeout));
-    assert_eq!(rt; failover.state(), State::Idle);
+    assert!(rt; failover.turn(&known).row == Some(Row::ChoiceTimeout));
+    assert!(rt; failover.state() == State::Idle);
     Ok(())
 }
 
@@ -213,16 +200,16 @@ fn waits_for_the_promotion(rt: HostRuntime) -> Result<(), Fail> {
     known.count = 1;
     for _ in 0..3 {
         failover.turn(&known);
-        assert_eq!(rt; failover.promoted(), None);
+        assert!(rt; failover.promoted() == None);
     }
     known.now = 9_000;
-    assert_eq!(rt; failover.turn(&known).row, Some(Row::Promote));
+    assert!(rt; failover.turn(&known).row == Some(Row::Promote));
     known.now = 12_000;
-    assert_eq!(rt; failover.turn(&known).row, Some(Row::AwaitPromotion));
+    assert!(rt; failover.turn(&known).row == Some(Row::AwaitPromotion));
     known.now = 12_001;
-    assert_eq!(rt; failover.turn(&known).row, Some(Row::PromotionTimeout));
-    assert_eq!(rt; failover.promoted(), None);
-    assert_eq!(rt; failover.state(), State::Idle);
+    assert!(rt; failover.turn(&known).row == Some(Row::PromotionTimeout));
+    assert!(rt; failover.promoted() == None);
+    assert!(rt; failover.state() == State::Idle);
     Ok(())
 }
 
@@ -239,18 +226,18 @@ fn reconfigures_one_replica_after_another(rt: HostRuntime) -> Result<(), Fail> {
             failover.reconf(2, 22_000);
         }
         known.now = now;
-        assert_eq!(rt; failover.turn(&known).row, Some(Row::Reconfigure));
+        assert!(rt; failover.turn(&known).row == Some(Row::Reconfigure));
         for k in 0..5 {
-            assert_eq!(rt; failover.ordered(k), k == place, "place {k} at {now}");
+            assert!(rt; failover.ordered(k) == (k == place), "place {k} at {now}");
         }
     }
     for second in 24..33 {
         known.now = second * 1_000 + 500;
-        assert_eq!(rt; failover.turn(&known).row, Some(Row::Reconfigure));
+        assert!(rt; failover.turn(&known).row == Some(Row::Reconfigure));
         assert!(rt; !failover.ordered(4), "at second {second}");
     }
     known.now = 33_500;
-    assert_eq!(rt; failover.turn(&known).row, Some(Row::Reconfigure));
+    assert!(rt; failover.turn(&known).row == Some(Row::Reconfigure));
     assert!(rt; failover.ordered(4) && !failover.ordered(2) && !failover.ordered(3));
     Ok(())
 }
@@ -262,16 +249,16 @@ fn reconfigures_all_that_are_left_at_the_timeout(rt: HostRuntime) -> Result<(), 
     known.parallel_syncs = 0;
     promote(&mut failover, &known, 20_000);
     known.card_place = 1;
-    assert_eq!(rt; failover.turn(&known).row, Some(Row::Reconfigure));
+    assert!(rt; failover.turn(&known).row == Some(Row::Reconfigure));
     for k in 0..5 {
         assert!(rt; !failover.ordered(k), "place {k}");
     }
     known.now = 23_001;
-    assert_eq!(rt; failover.turn(&known).row, Some(Row::ReconfTimeout));
+    assert!(rt; failover.turn(&known).row == Some(Row::ReconfTimeout));
     for k in 0..5 {
-        assert_eq!(rt; failover.ordered(k), k > 1, "place {k}");
+        assert!(rt; failover.ordered(k) == (k > 1), "place {k}");
     }
-    assert_eq!(rt; failover.turn(&known).row, Some(Row::ConfigUpdated));
+    assert!(rt; failover.turn(&known).row == Some(Row::ConfigUpdated));
     Ok(())
 }
 
@@ -283,13 +270,13 @@ fn replicas_that_are_down_are_left_alone(rt: HostRuntime) -> Result<(), Fail> {
     let down = [true, false, true, false, true];
     known.down = &down;
     known.parallel_syncs = 4;
-    assert_eq!(rt; failover.turn(&known).row, Some(Row::Reconfigure));
+    assert!(rt; failover.turn(&known).row == Some(Row::Reconfigure));
     for k in 0..5 {
-        assert_eq!(rt; failover.ordered(k), k == 3, "place {k}");
+        assert!(rt; failover.ordered(k) == (k == 3), "place {k}");
     }
     let all = [true; 5];
     known.down = &all;
-    assert_eq!(rt; failover.turn(&known).row, Some(Row::ReconfDone));
+    assert!(rt; failover.turn(&known).row == Some(Row::ReconfDone));
     Ok(())
 }
 
@@ -299,8 +286,8 @@ fn a_newer_configuration_ends_the_failover(rt: HostRuntime) -> Result<(), Fail> 
     let known = facts(21_000, 3_000, &UP);
     promote(&mut failover, &known, 20_000);
     failover.end();
-    assert_eq!(rt; failover.state(), State::Idle);
-    assert_eq!(rt; failover.choice(), None);
-    assert_eq!(rt; failover.promoted(), None);
+    assert!(rt; failover.state() == State::Idle);
+    assert!(rt; failover.choice() == None);
+    assert!(rt; failover.promoted() == None);
     Ok(())
 }

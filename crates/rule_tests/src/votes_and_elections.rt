@@ -1,6 +1,8 @@
-use super::*;
+//! The own vote, the votes heard, and when they elect.
+
 use ballot_law::RunId;
 use std::test::Fail;
+use vote_book::{Heard, VoteBook, elected};
 
 /// The run id of forty `a`.
 const A: RunId = RunId {
@@ -28,8 +30,8 @@ fn one_vote_in_an_epoch(rt: HostRuntime) -> Result<(), Fail> {
         (1, C, B, 2),
     ] {
         let answer = book.ask(epoch, candidate);
-        assert_eq!(rt; answer.leader, Some(leader));
-        assert_eq!(rt; answer.epoch, kept);
+        assert!(rt; answer.leader == Some(leader));
+        assert!(rt; answer.epoch == kept);
     }
     Ok(())
 }
@@ -38,47 +40,47 @@ fn one_vote_in_an_epoch(rt: HostRuntime) -> Result<(), Fail> {
 fn no_vote_in_epoch_0(rt: HostRuntime) {
     let mut book = VoteBook::of(0, 0);
     let answer = book.ask(0, A);
-    assert_eq!(rt; answer.leader, None);
-    assert_eq!(rt; answer.epoch, 0);
+    assert!(rt; answer.leader == None);
+    assert!(rt; answer.epoch == 0);
 }
 
 #[test]
 fn no_vote_in_a_passed_epoch(rt: HostRuntime) {
     let mut book = VoteBook::of(7, 0);
     let answer = book.ask(5, A);
-    assert_eq!(rt; answer.leader, None);
-    assert_eq!(rt; answer.epoch, 0);
-    assert_eq!(rt; book.current(), 7);
+    assert!(rt; answer.leader == None);
+    assert!(rt; answer.epoch == 0);
+    assert!(rt; book.current() == 7);
 }
 
 #[test]
 fn a_restart_forgets_the_candidate(rt: HostRuntime) {
     let mut book = VoteBook::of(1, 1);
     let answer = book.ask(1, A);
-    assert_eq!(rt; answer.leader, None);
-    assert_eq!(rt; answer.epoch, 1);
+    assert!(rt; answer.leader == None);
+    assert!(rt; answer.epoch == 1);
 }
 
 #[test]
 fn no_campaign_after_the_greatest_epoch(rt: HostRuntime) {
     let mut book = VoteBook::of(281_474_976_710_654, 0);
-    assert_eq!(rt; book.open_campaign(), Some(281_474_976_710_655));
-    assert_eq!(rt; book.open_campaign(), None);
-    assert_eq!(rt; book.current(), 281_474_976_710_655);
+    assert!(rt; book.open_campaign() == Some(281_474_976_710_655));
+    assert!(rt; book.open_campaign() == None);
+    assert!(rt; book.current() == 281_474_976_710_655);
 }
 
 #[test]
 fn votes_of_a_later_epoch_do_not_elect(rt: HostRuntime) -> Result<(), Fail> {
     let me = A;
     let mut book = VoteBook::of(4, 0);
-    assert_eq!(rt; book.open_campaign(), Some(5));
+    assert!(rt; book.open_campaign() == Some(5));
     book.ask(5, me);
     book.raise(7);
     let mut heard = Heard::new(rt.alloc(), 5)?;
     heard.hear(1, me, 7);
     heard.hear(2, me, 7);
     heard.hear(3, me, 7);
-    assert_eq!(rt; heard.count(5, me), 0);
+    assert!(rt; heard.count(5, me) == 0);
     assert!(rt; elected(&book, &heard, 5, me, 1));
     assert!(rt; !elected(&book, &heard, 5, me, 3));
     Ok(())
@@ -103,8 +105,8 @@ fn the_smaller_id_leads_on_a_tie(rt: HostRuntime) -> Result<(), Fail> {
     let mut heard = Heard::new(rt.alloc(), 4)?;
     heard.hear(1, B, 5);
     heard.hear(2, A, 5);
-    assert_eq!(rt; heard.pick(5, C), A);
-    assert_eq!(rt; heard.pick(6, C), C);
+    assert!(rt; heard.pick(5, C) == A);
+    assert!(rt; heard.pick(6, C) == C);
     Ok(())
 }
 
@@ -113,10 +115,10 @@ fn the_first_vote_of_an_epoch_counts(rt: HostRuntime) -> Result<(), Fail> {
     let mut heard = Heard::new(rt.alloc(), 4)?;
     heard.hear(1, A, 5);
     heard.hear(1, B, 5);
-    assert_eq!(rt; heard.count(5, A), 1);
-    assert_eq!(rt; heard.count(5, B), 0);
+    assert!(rt; heard.count(5, A) == 1);
+    assert!(rt; heard.count(5, B) == 0);
     heard.hear(1, B, 6);
-    assert_eq!(rt; heard.count(5, A), 0);
-    assert_eq!(rt; heard.count(6, B), 1);
+    assert!(rt; heard.count(5, A) == 0);
+    assert!(rt; heard.count(6, B) == 1);
     Ok(())
 }
