@@ -4,8 +4,6 @@ pub mod FewBest
 pub mod FewPlaces
 pub mod PartSteps
 pub mod PlaceLoops
-pub mod PlanLemmas
 pub mod RoomLemmas
-pub mod NewsLemmas
 pub mod KeptLemmas
 pub mod AnswerRows

@@ -11,12 +11,12 @@ ghost use Rattle.sentinel_rules.specs.Answers.{master_with_card, master_listing,
 ghost use Rattle.sentinel_rules.specs.Plans.{roster_of, me, master_count};
 ghost use Rattle.sentinel_state.specs.Plain.{is_plain};
 
-use crate::plan::Plan;
 use crate::state::State;
 use ballot_law::{
     Addr, Body, Command, KeptMaster, Name, RunId, ShortText, Shown, ShownList, Watched,
 };
 use port_answers::AnswerText;
+use sentinel_plan::Plan;
 
 /// The answer to PING.
 fn pong() -> Body
@@ -58,46 +58,6 @@ fn card_position(masters: &[KeptMaster], addr: Addr) -> Option<usize>
     masters
         .iter()
         .position(|master| addr.is_same(&master.card.addr))
-}
-
-/// Whether the address is among the nodes.
-fn has_node(nodes: &[Addr], addr: Addr) -> bool
-    ensures { result ≡ list_any (same_addr addr) nodes.now }
-{
-    nodes.iter().any(|node| addr.is_same(node))
-}
-
-/// The place of the first master whose list has the address.
-fn list_position(masters: &[Watched], addr: Addr) -> Option<usize>
-    ensures value { result ≡ master_listing masters.now addr }
-    ensures within { IfSome result (λ m. m < length masters.now) }
-{
-    masters
-        .iter()
-        .position(|master| has_node(master.nodes(), addr))
-}
-
-impl Plan {
-    /// The number of the master with this name; a word that can't be a name names none.
-    fn named(&self, name: Option<Name>) -> Option<u16>
-        ensures value { result ≡ named self.now name }
-        ensures known { IfSome result (λ m. m < master_count self.now) }
-    {
-        match name {
-            Some(name) => self.conf().roster().master_named(&name),
-            None => None,
-        }
-    }
-
-    /// The number of the first master whose list has the address.
-    fn listing(&self, addr: Addr) -> Option<u16>
-        ensures { result ≡ master_listing (roster_of self.now).masters addr }
-    {
-        match list_position(self.conf().roster().masters(), addr) {
-            Some(m) => Some(m as u16),
-            None => None,
-        }
-    }
 }
 
 impl State {

@@ -6,10 +6,10 @@ ghost use Rattle.sentinel_rules.specs.Plans.{nodes_of};
 ghost use Rattle.sentinel_rules.specs.States.{is_node_down};
 ghost use Rattle.sentinel_rules.specs.Ticks.{unknown_info, candidate_of, candidates_of, at_places, down_for, limits_of, best_of, campaign_epoch, pick_of, count_of};
 
-use crate::plan::Plan;
 use crate::state::State;
 use ballot_law::{Addr, DataRole, Info, RunId, clock_of};
 use replica_choice::{Candidate, Limits, choose};
+use sentinel_plan::Plan;
 use std::marker::Model;
 
 /// The greatest number of data nodes of a master.

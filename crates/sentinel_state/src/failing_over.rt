@@ -15,10 +15,10 @@ ghost use Rattle.sentinel_state.specs.Rows.{is_promotion};
 
 use crate::frame_list::FrameList;
 use crate::masters::Master;
-use crate::plan::Plan;
 use crate::state::State;
 use ballot_law::Win;
 use failover_states::{Act, Facts, Row};
+use sentinel_plan::Plan;
 use sentinel_rules::Frame;
 
 impl Master {

@@ -10,11 +10,11 @@ ghost use Rattle.sentinel_state.specs.Room.{bounded};
 
 use crate::frame_list::FrameList;
 use crate::nodes::Node;
-use crate::plan::Plan;
 use crate::state::State;
 use ballot_law::{Addr, Card, DataRole, Info, NodeName, clock_of};
 use failover_states::State as Stage;
 use node_texts::{TextFault, read_info};
+use sentinel_plan::Plan;
 use sentinel_rules::Frame;
 
 /// How long a node may say that it is a master though it isn't, in milliseconds.

@@ -14,7 +14,6 @@ mod infos;
 mod masters;
 mod nodes;
 mod peers;
-mod plan;
 mod replies;
 mod rows_of;
 mod sending;
@@ -23,5 +22,5 @@ mod ticks;
 mod votes;
 
 pub use frame_list::FrameList;
-pub use plan::{NodePlace, Plan};
+pub use sentinel_plan::{NodePlace, Plan};
 pub use state::State;

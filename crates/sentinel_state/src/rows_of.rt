@@ -11,10 +11,10 @@ ghost use Rattle.sentinel_rules.specs.Answers.{master_row, replica_row, sentinel
 ghost use Rattle.sentinel_rules.specs.Parts.{shown_of};
 ghost use Rattle.sentinel_rules.specs.Plans.{roster_of, master_count, nodes_of, addr_at};
 
-use crate::plan::Plan;
 use crate::state::State;
 use ballot_law::{Addr, Member, RunId, Shown};
 use port_answers::{AnswerText, MasterRow, ReplicaRow, SentinelRow};
+use sentinel_plan::Plan;
 
 /// The priority of a replica that sent no INFO.
 const UNKNOWN_PRIORITY: u64 = 100;
@@ -28,39 +28,6 @@ fn count_but(one: usize, count: usize) -> usize
         return count - 1;
     }
     count
-}
-
-impl Plan {
-    /// How many data nodes a master has, at most 256.
-    fn node_count(&self, m: u16) -> usize
-        ensures value { result ≡ length (nodes_of self.now m) }
-        ensures few { result ≤ 256 }
-    {
-        self.nodes(m).len()
-    }
-
-    /// The address at a place among a master's nodes.
-    fn addr_at(&self, m: u16, k: usize) -> Addr
-        ensures { result ≡ addr_at self.now m k }
-    {
-        match self.nodes(m).get(k) {
-            Some(addr) => *addr,
-            None => Addr { ip: 0, port: 0 },
-        }
-    }
-
-    /// The Sentinel at a place of the roster.
-    fn member(&self, place: usize) -> Member
-        ensures { result ≡ slice_index_or (roster_of self.now).sentinels place no_member }
-    {
-        match self.roster().sentinels().get(place) {
-            Some(member) => *member,
-            None => Member {
-                id: RunId { hi: 0, lo: 0 },
-                addr: Addr { ip: 0, port: 0 },
-            },
-        }
-    }
 }
 
 impl State {

@@ -12,9 +12,9 @@ use crate::frame_list::FrameList;
 use crate::masters::Master;
 use crate::nodes::Node;
 use crate::peers::Peer;
-use crate::plan::Plan;
 use crate::state::State;
 use ballot_law::{Info, NodeName, RunId, clock_of};
+use sentinel_plan::Plan;
 use sentinel_rules::Frame;
 use std::marker::Model;
 

@@ -9,10 +9,10 @@ ghost use Rattle.sentinel_rules.specs.Plans.{roster_of, group_size, master_count
 use crate::masters::Master;
 use crate::nodes::Node;
 use crate::peers::Peer;
-use crate::plan::Plan;
 use ballot_law::{Addr, Card, Kept, KeptMaster, KeptMasters, Win};
 use down_detector::{Tilt, is_odown};
 use failover_states::State as Stage;
+use sentinel_plan::Plan;
 use std::alloc::{AllocError, Global};
 use std::marker::Model;
 use std::mem;

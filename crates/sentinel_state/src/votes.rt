@@ -7,9 +7,9 @@ ghost use Rattle.sentinel_rules.specs.States.{master_of, with_master};
 ghost use Rattle.sentinel_rules.specs.Ticks.{with_vote};
 ghost use Rattle.sentinel_rules.specs.Votes.{book_of, with_book, mark_for, requested};
 
-use crate::plan::Plan;
 use crate::state::State;
 use ballot_law::{RunId, clock_of};
+use sentinel_plan::Plan;
 use vote_book::VoteBook;
 
 /// A failover that a vote put off starts up to so many milliseconds later still, so that Sentinels don't start together.

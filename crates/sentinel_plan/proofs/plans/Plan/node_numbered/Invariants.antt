@@ -1,6 +1,6 @@
 use Rattle.std.proofs.Common.{◌≡◌, drop}
 use Rattle.sentinel_rules.specs.Plans.{node_numbered}
-use Rattle.sentinel_state.proofs.plan.Plan.node_numbered.Given as goal
+use Rattle.sentinel_plan.proofs.plans.Plan.node_numbered.Given as goal
 
 abbrev pub invariant-loop-master : goal.invariant-loop-master
 invariant-loop-master l =

@@ -1,11 +1,14 @@
 //! What doesn't change while a Sentinel runs.
 
-ghost use Rattle.std.specs.Prelude.{slice_index_or, ◌≡◌, ◌<◌, ◌≤◌, length, position, IfSome, IfNone, None, Some};
-ghost use Rattle.ballot_law.specs.Orders.{same_addr};
+ghost use Rattle.std.specs.Prelude.{slice_index_or, ◌≡◌, ◌<◌, ◌≤◌, ◌&&◌, ◌==◌, not, nat_lt, length, position, IfSome, IfNone, None, Some};
+ghost use Rattle.std.specs.List.{list_any};
+ghost use Rattle.ballot_law.specs.Orders.{same_addr, same_id};
 ghost use Rattle.ballot_law.specs.Rosters.{no_member, master_at, master_named, need};
+ghost use Rattle.sentinel_rules.specs.Answers.{master_listing, named};
+ghost use Rattle.sentinel_rules.specs.News.{is_heeded};
 ghost use Rattle.sentinel_rules.specs.Plans.{roster_of, me, group_size, master_count, settings_at, nodes_of, addr_at, node_place, first_number, node_name, node_numbered, node_named};
 
-use ballot_law::{Addr, Name, NodeName, Roster, RunId};
+use ballot_law::{Addr, Hello, Member, Name, NodeName, Roster, RunId, Watched};
 use sentinel_conf::{Conf, Settings};
 use std::marker::Model;
 
@@ -44,6 +47,23 @@ fn position_of(nodes: &[Addr], addr: Addr) -> Option<usize>
     ensures within { IfSome result (λ place. place < length nodes.now) }
 {
     nodes.iter().position(|node| addr.is_same(node))
+}
+
+/// Whether the address is among these nodes.
+fn has_addr(nodes: &[Addr], addr: Addr) -> bool
+    ensures { result ≡ list_any (same_addr addr) nodes.now }
+{
+    nodes.iter().any(|node| addr.is_same(node))
+}
+
+/// The place of the first master whose list has the address.
+fn list_position(masters: &[Watched], addr: Addr) -> Option<usize>
+    ensures value { result ≡ master_listing masters.now addr }
+    ensures within { IfSome result (λ m. m < length masters.now) }
+{
+    masters
+        .iter()
+        .position(|master| has_addr(master.nodes(), addr))
 }
 
 impl Plan {
@@ -157,7 +177,8 @@ impl Plan {
 
     /// The number of the master with this name.
     pub fn master_named(&self, name: &Name) -> Option<u16>
-        ensures { result ≡ master_named (roster_of self.now) name.now }
+        ensures value { result ≡ master_named (roster_of self.now) name.now }
+        ensures known { IfSome result (λ m. m < master_count self.now) }
     {
         let _sound = &self.conf;
         self.roster().master_named(name)
@@ -228,6 +249,87 @@ impl Plan {
         match name {
             NodeName::StoreAt(number) => self.node_numbered(number),
             NodeName::SentinelAt(_) | NodeName::ClientAt(_) | NodeName::PortAt(_) => None,
+        }
+    }
+
+    /// Whether a Sentinel of the roster has this run id.
+    fn has_sentinel(&self, id: RunId) -> bool
+        ensures { result ≡ list_any (λ member. same_id id member.id) (roster_of self.now).sentinels }
+    {
+        let sentinels = self.roster().sentinels();
+        sentinels.iter().any(|member| id.is_same(&member.id))
+    }
+
+    /// Whether a hello comes from another Sentinel of the roster. A Sentinel is known by its run id alone.
+    pub fn heeds(&self, hello: &Hello) -> bool
+        ensures { result ≡ is_heeded self.now hello.now }
+    {
+        self.has_sentinel(hello.id) && !hello.id.is_same(&self.me())
+    }
+
+    /// Whether this is the place of another Sentinel of the roster.
+    pub fn is_other(&self, place: u16) -> bool
+        ensures { result ≡ (nat_lt place (group_size self.now) && not (place == self.now.place)) }
+    {
+        place < self.group_size() && place != self.place()
+    }
+
+    /// The Sentinel at a place of the roster.
+    pub fn member(&self, place: usize) -> Member
+        ensures { result ≡ slice_index_or (roster_of self.now).sentinels place no_member }
+    {
+        match self.roster().sentinels().get(place) {
+            Some(member) => *member,
+            None => Member {
+                id: RunId { hi: 0, lo: 0 },
+                addr: Addr { ip: 0, port: 0 },
+            },
+        }
+    }
+
+    /// Whether a master has a data node with this address.
+    pub fn has_node(&self, m: u16, addr: Addr) -> bool
+        ensures { result ≡ list_any (same_addr addr) (nodes_of self.now m) }
+    {
+        has_addr(self.nodes(m), addr)
+    }
+
+    /// How many data nodes a master has, at most 256.
+    pub fn node_count(&self, m: u16) -> usize
+        ensures value { result ≡ length (nodes_of self.now m) }
+        ensures few { result ≤ 256 }
+    {
+        self.nodes(m).len()
+    }
+
+    /// The address at a place among a master's nodes; 0.0.0.0:0 where there is no such place.
+    pub fn addr_at(&self, m: u16, k: usize) -> Addr
+        ensures { result ≡ addr_at self.now m k }
+    {
+        match self.nodes(m).get(k) {
+            Some(addr) => *addr,
+            None => Addr { ip: 0, port: 0 },
+        }
+    }
+
+    /// The number of the master with the name of a command; a word that can't be a name names none.
+    pub fn named(&self, name: Option<Name>) -> Option<u16>
+        ensures value { result ≡ named self.now name }
+        ensures known { IfSome result (λ m. m < master_count self.now) }
+    {
+        match name {
+            Some(name) => self.master_named(&name),
+            None => None,
+        }
+    }
+
+    /// The number of the first master whose list has the address.
+    pub fn listing(&self, addr: Addr) -> Option<u16>
+        ensures { result ≡ master_listing (roster_of self.now).masters addr }
+    {
+        match list_position(self.conf().roster().masters(), addr) {
+            Some(m) => Some(m as u16),
+            None => None,
         }
     }
 }

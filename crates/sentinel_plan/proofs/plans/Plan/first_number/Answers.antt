@@ -1,8 +1,8 @@
 use Rattle.std.proofs.Common.{◌≡◌, ◌≤◌, ◌+◌, length, ap, sym, subst, ◌∙◌, arith}
 use Rattle.sentinel_conf.specs.Facts.{IsSoundConf}
 use Rattle.sentinel_rules.specs.Plans.{Plan, first_number, nodes_of}
-use Rattle.sentinel_state.proofs.PlanLemmas.{first_number_zero, first_number_more, first_number_small}
-use Rattle.sentinel_state.proofs.plan.Plan.first_number.Goals as goal
+use Rattle.sentinel_plan.proofs.NodeNumbers.{first_number_zero, first_number_more, first_number_small}
+use Rattle.sentinel_plan.proofs.plans.Plan.first_number.Goals as goal
 
 pub loop-before-init : goal.loop-before-init
 loop-before-init c = sym (first_number_zero c.args.self.now.conf.roster.masters)
