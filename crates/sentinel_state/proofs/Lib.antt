@@ -2,6 +2,7 @@ pub mod AtPlaces
 pub mod Books
 pub mod FewBest
 pub mod FewPlaces
+pub mod Looking
 pub mod PartSteps
 pub mod PlaceLoops
 pub mod RoomLemmas

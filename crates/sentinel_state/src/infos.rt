@@ -105,7 +105,7 @@ impl Node {
 
 impl State {
     /// How far the failover of a master has come.
-    fn stage(&self, m: u16) -> Stage
+    pub(crate) fn stage(&self, m: u16) -> Stage
         ensures { result ≡ (failover_of self.now m).state }
     {
         match self.masters.get(m as usize) {
@@ -177,7 +177,7 @@ impl State {
         ensures { result ≡ can_be_followed plan.now self.now m (clock now) }
     {
         let place = self.card_place(plan, m);
-        !self.is_master_down(plan, m, now) && says_master(self.node(m, place).info)
+        !self.is_node_down(plan, m, now, place, place) && says_master(self.info(m, place))
     }
 
     /// Takes the INFO of a node that isn't the one of the configuration, while no failover runs: where it has long said that it is a

@@ -9,6 +9,7 @@ ghost use Rattle.port_answers.specs.Answers.{masters_frame, replica_frame, repli
 ghost use Rattle.port_answers.specs.Limits.{IsPlace, IsMasterRow, IsReplicaRow};
 ghost use Rattle.sentinel_rules.specs.Answers.{master_row, replica_row, sentinel_row, replica_rows, sentinel_rows, places_but, all_masters, is_usable, usable_count, quorum_frame};
 ghost use Rattle.sentinel_rules.specs.Parts.{shown_of};
+ghost use Rattle.sentinel_rules.specs.States.{card_place};
 ghost use Rattle.sentinel_rules.specs.Plans.{roster_of, master_count, nodes_of, addr_at};
 
 use crate::state::State;
@@ -65,18 +66,19 @@ impl State {
         }
     }
 
-    /// What an answer says of a data node.
-    fn replica_row(&self, plan: &Plan, now: u64, m: u16, k: usize) -> ReplicaRow
+    /// What an answer says of a data node; `card_at` is the place of the node that the configuration names.
+    fn replica_row(&self, plan: &Plan, now: u64, m: u16, card_at: usize, k: usize) -> ReplicaRow
+        requires { card_at ≡ card_place plan.now self.now m }
         ensures value { result ≡ replica_row plan.now self.now (clock now) m k }
         ensures fits { IsReplicaRow result }
     {
-        let (priority, offset) = match self.node(m, k).info {
+        let (priority, offset) = match self.info(m, k) {
             Some(info) => (info.priority, info.offset),
             None => (UNKNOWN_PRIORITY, 0),
         };
         ReplicaRow {
             addr: plan.addr_at(m, k),
-            down: self.is_node_down(plan, m, now, k),
+            down: self.is_node_down(plan, m, now, card_at, k),
             priority,
             offset,
         }
@@ -120,22 +122,23 @@ impl State {
         shown
     }
 
-    /// Writes a replica, unless it is at this place.
+    /// Writes a replica, unless it is at the place of the node that the configuration names.
     #[tactic(auto, using(crate::proofs::AnswerRows::same_text))]
     fn add_replica_but(
         &self,
         plan: &Plan,
         now: u64,
         m: u16,
-        one: usize,
+        card_at: usize,
         k: usize,
         text: &mut AnswerText,
     )
-        ensures value { text.new ≡ bounded (text.old ++ (if k == one then [] else spelling (replica_frame (replica_row plan.now self.now (clock now) m k)))) }
+        requires { card_at ≡ card_place plan.now self.now m }
+        ensures value { text.new ≡ bounded (text.old ++ (if k == card_at then [] else spelling (replica_frame (replica_row plan.now self.now (clock now) m k)))) }
         ensures fits { IsReplicaRow (replica_row plan.now self.now (clock now) m k) }
     {
-        let row = self.replica_row(plan, now, m, k);
-        if k == one {
+        let row = self.replica_row(plan, now, m, card_at, k);
+        if k == card_at {
             let _whole = text.as_slice();
             return;
         }
