@@ -16,6 +16,7 @@ ghost use Rattle.sentinel_state.specs.Room.{bounded};
 use crate::outbox::Outbox;
 use ballot_law::{Body, Command, Event, Hello, Input, Message, NodeName, Note, Output};
 use sentinel_rules::{Frame, law_frames_are_named, law_inputs_keep_sound};
+use sentinel_answers::{answer_by_text, answer_plainly};
 use sentinel_state::{FrameList, Plan, State};
 
 /// A message of this Sentinel.
@@ -89,12 +90,12 @@ fn answer(plan: &Plan, state: &mut State, now: u64, command: &Command, outbox: &
     ensures held_room { outbox.new.held_room ≡ outbox.old.held_room }
     ensures shown_room { outbox.new.shown_room ≡ outbox.old.shown_room }
 {
-    if let Some(body) = state.answer_plainly(plan, now, command) {
+    if let Some(body) = answer_plainly(plan, state, now, command) {
         return body;
     }
     let text = outbox.take_text();
     let shown = outbox.take_list();
-    state.answer_by_text(plan, now, command, text, shown)
+    answer_by_text(plan, state, now, command, text, shown)
 }
 
 /// Has the state take an event that is no command.

@@ -7,4 +7,3 @@ pub mod PartSteps
 pub mod PlaceLoops
 pub mod RoomLemmas
 pub mod KeptLemmas
-pub mod AnswerRows

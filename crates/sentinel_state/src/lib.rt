@@ -4,7 +4,6 @@
 //! state after it, and the frames that it puts out, which are shown at the end of the input.
 #![tactic(auto)]
 
-mod answers;
 mod cards;
 mod facts;
 mod failing_over;
@@ -15,7 +14,6 @@ mod masters;
 mod nodes;
 mod peers;
 mod replies;
-mod rows_of;
 mod sending;
 mod state;
 mod ticks;

@@ -18,7 +18,7 @@ const SPREAD_MS: u64 = 1_000;
 impl State {
     /// A candidate's request for the vote of an epoch: the vote is given where none was in this epoch or a later one and the
     /// epoch hasn't passed; else the current epoch is raised at most. A vote for another Sentinel puts the own failover off.
-    pub(crate) fn ask_vote(&mut self, plan: &Plan, m: u16, now: u64, epoch: u64, candidate: RunId)
+    pub fn ask_vote(&mut self, plan: &Plan, m: u16, now: u64, epoch: u64, candidate: RunId)
         ensures { self.new ≡ requested plan.now m (clock now) epoch candidate self.old }
     {
         let grants = self.voted(m) < epoch && self.kept.current <= epoch;
@@ -79,7 +79,7 @@ impl State {
     }
 
     /// The candidate of the last vote for a master.
-    pub(crate) fn leader(&self, m: u16) -> Option<RunId>
+    pub fn leader(&self, m: u16) -> Option<RunId>
         ensures { result ≡ (master_of self.now m).leader }
     {
         match self.masters.get(m as usize) {

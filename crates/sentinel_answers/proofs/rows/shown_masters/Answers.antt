@@ -1,12 +1,12 @@
 use Rattle.std.proofs.Common.{◌≡◌, ◌+◌, ◌++◌, ◌∷◌, [], map, ap, sym, ◌∙◌, arith}
 use Rattle.sentinel_rules.specs.Parts.{shown_of}
 use Rattle.sentinel_rules.specs.Answers.{numbers_from}
-use Rattle.sentinel_state.proofs.AnswerRows.{shown_more}
-use Rattle.sentinel_state.proofs.state.State.shown_masters.Goals as goal
+use Rattle.sentinel_answers.proofs.AnswerRows.{shown_more}
+use Rattle.sentinel_answers.proofs.rows.shown_masters.Goals as goal
 
 pub loop-m-preserved : goal.loop-m-preserved
 loop-m-preserved c =
-    let shown = shown_of c.args.self.now in
+    let shown = shown_of c.args.state.now in
     let m = c.loop-m.m in
     record {
       value =
