@@ -14,6 +14,7 @@ ghost use Rattle.sentinel_rules.specs.Takes.{next, next_at, part_of, answer_to};
 ghost use Rattle.sentinel_state.specs.Room.{bounded};
 
 use ballot_law::{Body, Command, Event, Hello, Input, Message, NodeName, Note, Output};
+use sentinel_answers::{answer_by_text, answer_plainly};
 use sentinel_outbox::Outbox;
 use sentinel_rules::{Frame, law_hellos_name_masters, law_inputs_keep_sound};
 use sentinel_state::{FrameList, Plan, State};
@@ -90,12 +91,12 @@ fn answer(plan: &Plan, state: &mut State, now: u64, command: &Command, outbox: &
     ensures held_room { outbox.new.held_room ≡ outbox.old.held_room }
     ensures shown_room { outbox.new.shown_room ≡ outbox.old.shown_room }
 {
-    if let Some(body) = state.answer_plainly(plan, now, command) {
+    if let Some(body) = answer_plainly(plan, state, now, command) {
         return body;
     }
     let text = outbox.take_text();
     let shown = outbox.take_list();
-    state.answer_by_text(plan, now, command, text, shown)
+    answer_by_text(plan, state, now, command, text, shown)
 }
 
 /// Has the state take an event that is no command.

@@ -18,18 +18,3 @@ few_kept conf sound =
     let same : length conf.roster.masters ≡ length conf.kept.masters = as_many _ conf.roster.masters conf.kept.masters sound.kept.masters in
     let few : length conf.roster.masters ≤ 16 = sound.few_masters in
     omega arith
-
--- the number that a search by name gives
-number_by : (roster : Roster) (name : List ℕ) (found : Option ℕ) → HasDistinctNames roster → IfSome found (λ m. (m < length roster.masters) × ((master_at roster m).name ≡ name))
-    → IfNone found ((m : ℕ) → m < length roster.masters → (master_at roster m).name ≢ name) → found ≡ master_named roster name
-number_by roster name None distinct some none = sym (no_number_of_name roster name none)
-number_by roster name (Some m) distinct some none = sym (number_of_name roster name m distinct some.0 some.1)
-
-pub number_found : (kept conf : ConfPlan) (roster : Roster) (name : List ℕ) (found : Option ℕ) → conf ≡ kept → roster ≡ conf.roster → IsSoundConf conf
-    → IfSome found (λ m. (m < length roster.masters) × ((master_at roster m).name ≡ name))
-    → IfNone found ((m : ℕ) → m < length roster.masters → (master_at roster m).name ≢ name)
-    → found ≡ master_named kept.roster name
-number_found kept conf roster name found same e sound some none =
-    number_by roster name found (subst HasDistinctNames (sym e) sound.names) some none
-    ∙ ap (λ r. master_named r name) e
-    ∙ ap (λ (c : ConfPlan). master_named c.roster name) same

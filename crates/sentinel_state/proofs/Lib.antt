@@ -2,10 +2,8 @@ pub mod AtPlaces
 pub mod Openings
 pub mod FewBest
 pub mod FewPlaces
+pub mod Looking
 pub mod PartSteps
 pub mod PlaceLoops
-pub mod PlanLemmas
 pub mod RoomLemmas
-pub mod NewsLemmas
 pub mod KeptLemmas
-pub mod AnswerRows

@@ -1,4 +1,3 @@
 pub mod Places
 pub mod Room
 pub mod Rows
-pub mod Plain

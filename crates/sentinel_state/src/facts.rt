@@ -1,15 +1,19 @@
 //! What a turn of a master's failover looks at: the best replica, which nodes are down, and the votes of its campaign.
 
-ghost use Rattle.std.specs.Prelude.{◌≡◌, length, take};
+ghost use Rattle.std.specs.Prelude.{◌≡◌, ◌≤◌, [], None, IfSome, if◌then◌else◌, length, take, unwrap_or};
 ghost use Rattle.ballot_law.specs.Clocks.{clock};
 ghost use Rattle.sentinel_rules.specs.Plans.{nodes_of};
-ghost use Rattle.sentinel_rules.specs.States.{is_node_down};
+ghost use Rattle.sentinel_rules.specs.Plans.{me};
+ghost use Rattle.sentinel_rules.specs.States.{card_place, is_node_down};
 ghost use Rattle.sentinel_rules.specs.Ticks.{candidate_of, candidates_of, at_places, down_for, limits_of, best_of, campaign_epoch, pick_of, count_of};
+ghost use Rattle.sentinel_state.specs.Rows.{looks_at_votes, looks_at_best, looks_at_nodes};
 
-use crate::plan::Plan;
+use crate::nodes::Node;
 use crate::state::State;
 use ballot_law::{Addr, RunId, clock_of};
+use failover_states::State as Stage;
 use replica_choice::{Candidate, Limits, choose};
+use sentinel_plan::Plan;
 use sentinel_rules::ASSUMED_INFO;
 use std::marker::Model;
 
@@ -43,7 +47,41 @@ impl Model for DownPlaces {
     ghost invariant = { λ places. places.count ≤ 256 };
 }
 
+/// Whether the rows of this state look at the votes heard.
+fn looks_at_votes(stage: Stage) -> bool
+    ensures { result ≡ looks_at_votes stage }
+{
+    matches!(stage, Stage::WaitStart { .. })
+}
+
+/// Whether the rows of this state look at the best replica.
+fn looks_at_best(stage: Stage) -> bool
+    ensures { result ≡ looks_at_best stage }
+{
+    matches!(stage, Stage::SelectReplica { .. })
+}
+
+/// Whether the rows of this state look at the nodes: which of them are down, and which one the configuration names.
+fn looks_at_nodes(stage: Stage) -> bool
+    ensures { result ≡ looks_at_nodes stage }
+{
+    matches!(
+        stage,
+        Stage::SendPromotion { .. } | Stage::ReconfReplicas { .. }
+    )
+}
+
 impl DownPlaces {
+    /// Of no node.
+    fn none() -> DownPlaces
+        ensures { result ≡ [] }
+    {
+        DownPlaces {
+            down: [false; NODES_MAX],
+            count: 0,
+        }
+    }
+
     /// One for each data node, in the order of their places.
     pub(crate) fn as_slice(&self) -> &[bool]
         ensures { result.now ≡ self.now }
@@ -52,26 +90,48 @@ impl DownPlaces {
     }
 }
 
-impl State {
-    /// What is known of the node at a place as a replica to choose; the node of the configuration is none.
-    fn candidate(&self, plan: &Plan, m: u16, now: u64, k: usize) -> Candidate
-        ensures { result ≡ candidate_of plan.now self.now m (clock now) k }
+impl Node {
+    /// What is known of it as a replica to choose.
+    fn candidate(&self, sdown: bool) -> Candidate
+        ensures { result ≡ record {
+          sdown = sdown;
+          priority = (unwrap_or self.now.info ASSUMED_INFO).priority;
+          link_down_s = (unwrap_or self.now.info ASSUMED_INFO).link_down_s;
+          last_ping = self.now.last_ping;
+          last_info = self.now.info_at;
+          offset = (unwrap_or self.now.info ASSUMED_INFO).offset;
+          id = (unwrap_or self.now.info ASSUMED_INFO).id;
+        } }
     {
-        let node = self.node(m, k);
-        let info = node.info.unwrap_or(ASSUMED_INFO);
+        let info = self.info.unwrap_or(ASSUMED_INFO);
         Candidate {
-            sdown: k == self.card_place(plan, m) || self.is_node_down(plan, m, now, k),
+            sdown,
             priority: info.priority,
             link_down_s: info.link_down_s,
-            last_ping: node.last_ping,
-            last_info: node.info_at,
+            last_ping: self.last_ping,
+            last_info: self.info_at,
             offset: info.offset,
             id: info.id,
         }
     }
+}
+
+impl State {
+    /// What is known of the node at a place as a replica to choose; the node of the configuration, at `card_at`, is none.
+    fn candidate(&self, plan: &Plan, m: u16, now: u64, card_at: usize, k: usize) -> Candidate
+        requires { card_at ≡ card_place plan.now self.now m }
+        ensures { result ≡ candidate_of plan.now self.now m (clock now) k }
+    {
+        let sdown = k == card_at || self.is_node_down(plan, m, now, card_at, k);
+        match self.kept_node(m, k) {
+            Some(node) => node.candidate(sdown),
+            None => Node::new(0).candidate(sdown),
+        }
+    }
 
     /// Each node of a master as a replica to choose, by its place.
-    fn candidates(&self, plan: &Plan, m: u16, now: u64) -> [Candidate; NODES_MAX]
+    fn candidates(&self, plan: &Plan, m: u16, now: u64, card_at: usize) -> [Candidate; NODES_MAX]
+        requires { card_at ≡ card_place plan.now self.now m }
         ensures { take (length (nodes_of plan.now m)) result ≡ candidates_of plan.now self.now m (clock now) }
     {
         let none = Candidate {
@@ -85,16 +145,17 @@ impl State {
         };
         let mut candidates = [none; NODES_MAX];
         for k in 0..plan.nodes(m).len() {
-            candidates[k] = self.candidate(plan, m, now, k);
+            candidates[k] = self.candidate(plan, m, now, card_at, k);
         }
         candidates
     }
 
     /// For how long the master has been down, beside its setting.
-    fn limits(&self, plan: &Plan, m: u16, now: u64) -> Limits
+    fn limits(&self, plan: &Plan, m: u16, now: u64, card_at: usize) -> Limits
+        requires { card_at ≡ card_place plan.now self.now m }
         ensures { result ≡ limits_of plan.now self.now m (clock now) }
     {
-        let since = self.node_down_since(plan, m, now, self.card_place(plan, m));
+        let since = self.node_down_since(plan, m, now, card_at, card_at);
         Limits {
             after_ms: plan.settings(m).after_ms,
             master_down_ms: down_for(since, clock_of(now)),
@@ -102,24 +163,26 @@ impl State {
     }
 
     /// The best replica of a master to take its place, by its place and its address; none where no replica may.
-    pub(crate) fn best(&self, plan: &Plan, m: u16, now: u64) -> Option<(u16, Addr)>
+    fn best(&self, plan: &Plan, m: u16, now: u64) -> Option<(u16, Addr)>
         ensures { result ≡ best_of plan.now self.now m (clock now) }
     {
         let nodes = plan.nodes(m);
-        let candidates = self.candidates(plan, m, now);
-        let limits = self.limits(plan, m, now);
+        let card_at = self.card_place(plan, m);
+        let candidates = self.candidates(plan, m, now, card_at);
+        let limits = self.limits(plan, m, now, card_at);
         let place = choose(&candidates[..nodes.len()], clock_of(now), limits)?;
         Some((place as u16, nodes[place]))
     }
 
     /// Whether each data node of a master is subjectively down, by its place.
-    pub(crate) fn down_places(&self, plan: &Plan, m: u16, now: u64) -> DownPlaces
+    fn down_places(&self, plan: &Plan, m: u16, now: u64) -> DownPlaces
         ensures { result ≡ at_places (is_node_down plan.now self.now m (clock now)) 0 (length (nodes_of plan.now m)) }
     {
+        let card_at = self.card_place(plan, m);
         let mut down = [false; NODES_MAX];
         let count = plan.nodes(m).len();
         for k in 0..count {
-            down[k] = self.is_node_down(plan, m, now, k);
+            down[k] = self.is_node_down(plan, m, now, card_at, k);
         }
         DownPlaces { down, count }
     }
@@ -136,7 +199,7 @@ impl State {
 
     /// The candidate with most of the votes heard for a master at an epoch, the smaller run id on a tie; the own run id where none
     /// was heard.
-    pub(crate) fn pick(&self, plan: &Plan, m: u16, epoch: u64) -> RunId
+    fn pick(&self, plan: &Plan, m: u16, epoch: u64) -> RunId
         ensures { result ≡ pick_of plan.now self.now m epoch }
     {
         match self.masters.get(m as usize) {
@@ -146,12 +209,76 @@ impl State {
     }
 
     /// How many of the votes heard for a master at an epoch are for this Sentinel.
-    pub(crate) fn count(&self, plan: &Plan, m: u16, epoch: u64) -> u32
+    fn count(&self, plan: &Plan, m: u16, epoch: u64) -> u32
         ensures { result ≡ count_of plan.now self.now m epoch }
     {
         match self.masters.get(m as usize) {
             Some(master) => master.heard.count(epoch, plan.me()),
             None => 0,
+        }
+    }
+
+    /// The pick of the votes heard, where the rows of this state look at it.
+    pub(crate) fn pick_for(&self, plan: &Plan, m: u16, epoch: u64, stage: Stage) -> RunId
+        ensures { result ≡ (if looks_at_votes stage then pick_of plan.now self.now m epoch else me plan.now) }
+    {
+        if looks_at_votes(stage) {
+            self.pick(plan, m, epoch)
+        } else {
+            plan.me()
+        }
+    }
+
+    /// How many votes heard are for this Sentinel, where the rows of this state look at it.
+    pub(crate) fn count_for(&self, plan: &Plan, m: u16, epoch: u64, stage: Stage) -> u32
+        ensures { result ≡ (if looks_at_votes stage then count_of plan.now self.now m epoch else 0) }
+    {
+        if looks_at_votes(stage) {
+            self.count(plan, m, epoch)
+        } else {
+            0
+        }
+    }
+
+    /// The best replica, where the rows of this state look at it.
+    #[tactic(auto, using(crate::proofs::FewBest::best_few))]
+    pub(crate) fn best_for(
+        &self,
+        plan: &Plan,
+        m: u16,
+        now: u64,
+        stage: Stage,
+    ) -> Option<(u16, Addr)>
+        ensures value { result ≡ (if looks_at_best stage then best_of plan.now self.now m (clock now) else None) }
+        ensures few { IfSome result (λ best. best.0 ≤ 256) }
+    {
+        let _few = plan.nodes(m);
+        if looks_at_best(stage) {
+            self.best(plan, m, now)
+        } else {
+            None
+        }
+    }
+
+    /// The place of the node that the configuration names, where the rows of this state look at it.
+    pub(crate) fn card_place_for(&self, plan: &Plan, m: u16, stage: Stage) -> u16
+        ensures { result ≡ (if looks_at_nodes stage then card_place plan.now self.now m else 0) }
+    {
+        if looks_at_nodes(stage) {
+            self.card_place(plan, m) as u16
+        } else {
+            0
+        }
+    }
+
+    /// Which data nodes are subjectively down, where the rows of this state look at it.
+    pub(crate) fn down_for_rows(&self, plan: &Plan, m: u16, now: u64, stage: Stage) -> DownPlaces
+        ensures { result ≡ (if looks_at_nodes stage then at_places (is_node_down plan.now self.now m (clock now)) 0 (length (nodes_of plan.now m)) else []) }
+    {
+        if looks_at_nodes(stage) {
+            self.down_places(plan, m, now)
+        } else {
+            DownPlaces::none()
         }
     }
 }

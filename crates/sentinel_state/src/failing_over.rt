@@ -7,18 +7,18 @@ ghost use Rattle.failover_states.specs.Known.{known};
 ghost use Rattle.failover_states.specs.Replicas.{replica_at};
 ghost use Rattle.failover_states.specs.Table.{turned};
 ghost use Rattle.sentinel_rules.specs.Parts.{frames_from};
-ghost use Rattle.sentinel_rules.specs.Plans.{master_count, nodes_of};
-ghost use Rattle.sentinel_rules.specs.States.{master_of, failover_of, with_failover, is_node_down};
-ghost use Rattle.sentinel_rules.specs.Ticks.{at_places, known_of, turn_of, with_win, promote_frames, order_frames, row_part, start_part, starts_now};
+ghost use Rattle.sentinel_rules.specs.Plans.{master_count};
+ghost use Rattle.sentinel_rules.specs.States.{master_of, failover_of, with_failover};
+ghost use Rattle.sentinel_rules.specs.Ticks.{known_of, turn_of, with_win, promote_frames, order_frames, row_part, start_part, starts_now};
 ghost use Rattle.sentinel_state.specs.Room.{bounded};
-ghost use Rattle.sentinel_state.specs.Rows.{is_promotion};
+ghost use Rattle.sentinel_state.specs.Rows.{is_promotion, looked_at};
 
 use crate::frame_list::FrameList;
 use crate::masters::Master;
-use crate::plan::Plan;
 use crate::state::State;
 use ballot_law::Win;
-use failover_states::{Act, Facts, Row};
+use failover_states::{Act, Facts, Row, State as Stage};
+use sentinel_plan::Plan;
 use sentinel_rules::Frame;
 
 impl Master {
@@ -93,7 +93,7 @@ impl State {
         self.note_win(m, epoch, act.row);
     }
 
-    /// A turn of the failover. Without a master with this number nothing was found down.
+    /// A turn of the failover: the facts that its rows don't look at are left out. Without a master with this number nothing was found down.
     fn turn(&mut self, plan: &Plan, m: u16, now: u64, odown: bool) -> Act
         requires plan { m < master_count plan.now }
         requires odown { odown ≡ true → m < length self.old.masters }
@@ -102,8 +102,9 @@ impl State {
         ensures row { result.row ≡ (turn_of plan.now self.old m (clock now) odown).row }
         ensures vote { result.vote ≡ (turn_of plan.now self.old m (clock now) odown).vote }
     {
-        let down = self.down_places(plan, m, now);
-        let facts = self.facts(plan, m, now, odown, down.as_slice());
+        let stage = self.stage(m);
+        let down = self.down_for_rows(plan, m, now, stage);
+        let facts = self.turn_facts(plan, m, now, odown, stage, down.as_slice());
         match self.masters.get_mut(m as usize) {
             Some(master) => master.turn(&facts),
             None => Act {
@@ -113,15 +114,41 @@ impl State {
         }
     }
 
-    /// What a turn of the failover looks at.
-    #[tactic(auto, using(crate::proofs::FewBest::best_few))]
-    fn facts<'a>(&self, plan: &Plan, m: u16, now: u64, odown: bool, down: &'a [bool]) -> Facts<'a>
+    /// The facts of a turn: it is the same with all facts as with those alone that its rows look at.
+    fn turn_facts<'a>(
+        &self,
+        plan: &Plan,
+        m: u16,
+        now: u64,
+        odown: bool,
+        stage: Stage,
+        down: &'a [bool],
+    ) -> Facts<'a>
         requires plan { m < master_count plan.now }
-        requires down { down.now ≡ at_places (is_node_down plan.now self.now m (clock now)) 0 (length (nodes_of plan.now m)) }
-        ensures known { known result ≡ known_of plan.now self.now m (clock now) odown }
+        requires stage { stage ≡ (failover_of self.now m).state }
+        requires down { down.now ≡ (looked_at stage (known_of plan.now self.now m (clock now) odown)).down }
+        ensures turn { turned (failover_of self.now m) (known result) ≡ turn_of plan.now self.now m (clock now) odown }
         ensures few { IfSome result.best (λ best. best.0 ≤ 256) }
     {
-        let _few = plan.nodes(m);
+        self.facts(plan, m, now, odown, stage, down)
+    }
+
+    /// What a turn of the failover in this state looks at.
+    fn facts<'a>(
+        &self,
+        plan: &Plan,
+        m: u16,
+        now: u64,
+        odown: bool,
+        stage: Stage,
+        down: &'a [bool],
+    ) -> Facts<'a>
+        requires plan { m < master_count plan.now }
+        requires stage { stage ≡ (failover_of self.now m).state }
+        requires down { down.now ≡ (looked_at stage (known_of plan.now self.now m (clock now) odown)).down }
+        ensures known { known result ≡ looked_at (failover_of self.now m).state (known_of plan.now self.now m (clock now) odown) }
+        ensures few { IfSome result.best (λ best. best.0 ≤ 256) }
+    {
         let settings = plan.settings(m);
         let epoch = self.campaign_epoch(m);
         Facts {
@@ -133,10 +160,10 @@ impl State {
             own: self.leader(m),
             me: plan.me(),
             need: plan.need(m),
-            pick: self.pick(plan, m, epoch),
-            count: self.count(plan, m, epoch),
-            best: self.best(plan, m, now),
-            card_place: self.card_place(plan, m) as u16,
+            pick: self.pick_for(plan, m, epoch, stage),
+            count: self.count_for(plan, m, epoch, stage),
+            best: self.best_for(plan, m, now, stage),
+            card_place: self.card_place_for(plan, m, stage),
             down,
             timeout: settings.timeout,
             parallel_syncs: settings.parallel_syncs,

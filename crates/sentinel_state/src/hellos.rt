@@ -13,34 +13,10 @@ ghost use Rattle.sentinel_rules.specs.States.{failover_of, with_failover};
 ghost use Rattle.sentinel_state.specs.Room.{bounded};
 
 use crate::frame_list::FrameList;
-use crate::plan::Plan;
 use crate::state::State;
 use ballot_law::{Addr, Card, Hello, RunId};
 use node_texts::{TextFault, read_hello};
-
-impl Plan {
-    /// Whether a Sentinel of the roster has this run id.
-    fn has_sentinel(&self, id: RunId) -> bool
-        ensures { result ≡ list_any (λ member. same_id id member.id) (roster_of self.now).sentinels }
-    {
-        let sentinels = self.roster().sentinels();
-        sentinels.iter().any(|member| id.is_same(&member.id))
-    }
-
-    /// Whether a hello comes from another Sentinel of the roster. A Sentinel is known by its run id alone.
-    fn heeds(&self, hello: &Hello) -> bool
-        ensures { result ≡ is_heeded self.now hello.now }
-    {
-        self.has_sentinel(hello.id) && !hello.id.is_same(&self.me())
-    }
-
-    /// Whether a master has a data node with this address.
-    fn has_node(&self, m: u16, addr: Addr) -> bool
-        ensures { result ≡ list_any (same_addr addr) (nodes_of self.now m) }
-    {
-        self.nodes(m).iter().any(|node| addr.is_same(node))
-    }
-}
+use sentinel_plan::Plan;
 
 impl State {
     /// Whether a configuration has a greater epoch than the kept one, and names a node of the master.

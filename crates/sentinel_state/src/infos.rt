@@ -10,11 +10,11 @@ ghost use Rattle.sentinel_state.specs.Room.{bounded};
 
 use crate::frame_list::FrameList;
 use crate::nodes::Node;
-use crate::plan::Plan;
 use crate::state::State;
 use ballot_law::{Addr, Card, DataRole, Info, NodeName, clock_of};
 use failover_states::State as Stage;
 use node_texts::{TextFault, read_info};
+use sentinel_plan::Plan;
 use sentinel_rules::{Frame, WRONG_ROLE_MS};
 
 /// Whether this is the role of a master.
@@ -102,7 +102,7 @@ impl Node {
 
 impl State {
     /// How far the failover of a master has come.
-    fn stage(&self, m: u16) -> Stage
+    pub(crate) fn stage(&self, m: u16) -> Stage
         ensures { result ≡ (failover_of self.now m).state }
     {
         match self.masters.get(m as usize) {
@@ -174,7 +174,7 @@ impl State {
         ensures { result ≡ can_be_followed plan.now self.now m (clock now) }
     {
         let place = self.card_place(plan, m);
-        !self.is_master_down(plan, m, now) && says_master(self.node(m, place).info)
+        !self.is_node_down(plan, m, now, place, place) && says_master(self.info(m, place))
     }
 
     /// Takes the INFO of a node that isn't the one of the configuration, while no failover runs: where it has long said that it is a

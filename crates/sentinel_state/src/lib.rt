@@ -4,7 +4,6 @@
 //! state after it, and the frames that it puts out, which are shown at the end of the input.
 #![tactic(auto)]
 
-mod answers;
 mod cards;
 mod facts;
 mod failing_over;
@@ -14,14 +13,12 @@ mod infos;
 mod masters;
 mod nodes;
 mod peers;
-mod plan;
 mod replies;
-mod rows_of;
 mod sending;
 mod state;
 mod ticks;
 mod votes;
 
 pub use frame_list::FrameList;
-pub use plan::{NodePlace, Plan};
+pub use sentinel_plan::{NodePlace, Plan};
 pub use state::State;

@@ -8,9 +8,9 @@ ghost use Rattle.sentinel_rules.specs.States.{with_node};
 
 use crate::nodes::Node;
 use crate::peers::Peer;
-use crate::plan::Plan;
 use crate::state::State;
 use ballot_law::{Addr, NodeName, PingReply, RunId, clock_of};
+use sentinel_plan::Plan;
 
 impl Node {
     /// It replied to a PING.
@@ -33,15 +33,6 @@ impl Peer {
         ensures { self.new ≡ peer_pinged (clock now) reply self.old }
     {
         self.watch.heard(now, reply);
-    }
-}
-
-impl Plan {
-    /// Whether this is the place of another Sentinel of the roster.
-    fn is_other(&self, place: u16) -> bool
-        ensures { result ≡ (nat_lt place (group_size self.now) && not (place == self.now.place)) }
-    {
-        place < self.group_size() && place != self.place()
     }
 }
 

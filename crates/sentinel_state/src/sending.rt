@@ -12,9 +12,9 @@ use crate::frame_list::FrameList;
 use crate::masters::Master;
 use crate::nodes::Node;
 use crate::peers::Peer;
-use crate::plan::Plan;
 use crate::state::State;
 use ballot_law::{Info, NodeName, RunId, clock_of};
+use sentinel_plan::Plan;
 use sentinel_rules::{ASK_MS, BUSY_INFO_MS, Frame, HELLO_MS, INFO_MS, PING_MS};
 use std::marker::Model;
 
@@ -143,16 +143,20 @@ impl Node {
     }
 
     /// Sends the node at a place of a master what is due: PING, INFO, hello.
-    #[tactic(auto, using(crate::proofs::RoomLemmas::bounded_both))]
+    #[tactic(auto, using(crate::proofs::RoomLemmas::bounded_both, crate::proofs::RoomLemmas::bounded_none))]
     fn send(&mut self, plan: &Plan, m: u16, sending: Sending, k: usize, frames: &mut FrameList)
         requires { k ≤ 256 }
         ensures node { self.new ≡ node_after sending k self.old }
         ensures frames { frames.new ≡ bounded (frames.old ++ node_frames plan.now m sending k self.old) }
     {
-        let name = plan.node_name(m, k);
+        let _whole = frames.as_slice();
         let ping = self.is_ping_due(sending);
         let info = self.is_info_due(sending, k);
         let hello = self.is_hello_due(sending);
+        if !ping && !info && !hello {
+            return;
+        }
+        let name = plan.node_name(m, k);
         frames.push_if(ping, Frame::PingTo(name));
         frames.push_if(info, Frame::InfoTo(name));
         frames.push_if(

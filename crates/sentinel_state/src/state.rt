@@ -1,18 +1,19 @@
 //! What a Sentinel keeps while it runs.
 
-ghost use Rattle.std.specs.Prelude.{◌≡◌, ◌<◌, ◌≤◌, length, map, IfOk, slice_set};
+ghost use Rattle.std.specs.Prelude.{◌≡◌, ◌<◌, ◌≤◌, length, map, IfOk, IfSome, IfNone, slice_set};
 ghost use Rattle.ballot_law.specs.Ballots.{card_of, kept_of, voted_of};
 ghost use Rattle.ballot_law.specs.Clocks.{clock};
-ghost use Rattle.sentinel_rules.specs.States.{opened, is_tilted, card_place, node_down_since, is_node_down, is_master_down, is_peer_down, is_odown_at, is_failing_over, is_idle, new_master, with_current, with_card, node_of, peer_of};
+ghost use Rattle.sentinel_rules.specs.States.{opened, is_tilted, card_place, node_down_since, is_node_down, is_master_down, is_peer_down, is_odown_at, is_failing_over, is_idle, new_master, with_current, with_card, node_of, no_node, peer_of};
+ghost use Rattle.sentinel_rules.specs.Answers.{master_with_card};
 ghost use Rattle.sentinel_rules.specs.Plans.{roster_of, group_size, master_count};
 
 use crate::masters::Master;
 use crate::nodes::Node;
 use crate::peers::Peer;
-use crate::plan::Plan;
-use ballot_law::{Addr, Card, Kept, KeptMaster, KeptMasters, NoMemory, Win};
+use ballot_law::{Addr, Card, Info, Kept, KeptMaster, KeptMasters, NoMemory, Win};
 use down_detector::{Tilt, is_odown};
 use failover_states::State as Stage;
+use sentinel_plan::Plan;
 use std::alloc::{AllocError, Global};
 use std::marker::Model;
 use std::mem;
@@ -99,6 +100,16 @@ fn is_idle(stage: Stage) -> bool
     }
 }
 
+/// The place of the first master whose configuration has the address.
+fn card_position(masters: &[KeptMaster], addr: Addr) -> Option<usize>
+    ensures value { result ≡ master_with_card masters.now addr }
+    ensures within { IfSome result (λ m. m < length masters.now) }
+{
+    masters
+        .iter()
+        .position(|master| addr.is_same(&master.card.addr))
+}
+
 impl State {
     /// What a Sentinel keeps at its start: what its file holds, and nothing else. The only error is want of memory.
     pub fn open(alloc: Global, plan: &Plan, now: u64) -> Result<State, NoMemory>
@@ -138,7 +149,7 @@ impl State {
     }
 
     /// Whether the clock is not to be trusted (TILT).
-    pub(crate) fn is_tilted(&self) -> bool
+    pub fn is_tilted(&self) -> bool
         ensures { result ≡ is_tilted self.now }
     {
         self.clock.holds()
@@ -157,14 +168,26 @@ impl State {
         }
     }
 
-    pub(crate) fn card_place(&self, plan: &Plan, m: u16) -> usize
+    /// The number of the first master whose configuration has the address.
+    pub fn master_with_card(&self, addr: Addr) -> Option<u16>
+        ensures { result ≡ master_with_card self.now.kept.masters addr }
+    {
+        match card_position(self.kept.masters.as_slice(), addr) {
+            Some(m) => Some(m as u16),
+            None => None,
+        }
+    }
+
+    /// The place of the node that a master's configuration names; their number where it is none of the master's.
+    pub fn card_place(&self, plan: &Plan, m: u16) -> usize
         ensures value { result ≡ card_place plan.now self.now m }
         ensures within { result ≤ 256 }
     {
         plan.node_place(m, self.card(m).addr)
     }
 
-    pub(crate) fn is_failing_over(&self, m: u16) -> bool
+    /// Whether a failover of the master runs.
+    pub fn is_failing_over(&self, m: u16) -> bool
         ensures { result ≡ is_failing_over self.now m }
     {
         match self.masters.get(m as usize) {
@@ -173,27 +196,44 @@ impl State {
         }
     }
 
-    pub(crate) fn node_down_since(&self, plan: &Plan, m: u16, now: u64, k: usize) -> Option<u64>
+    /// Since when the node at a place has been subjectively down; `card_at` is the place of the node that the configuration names.
+    pub(crate) fn node_down_since(
+        &self,
+        plan: &Plan,
+        m: u16,
+        now: u64,
+        card_at: usize,
+        k: usize,
+    ) -> Option<u64>
+        requires { card_at ≡ card_place plan.now self.now m }
         ensures { result ≡ node_down_since plan.now self.now m (clock now) k }
     {
-        let as_master = k == self.card_place(plan, m);
+        let as_master = k == card_at;
         let after_ms = plan.settings(m).after_ms;
-        self.node(m, k).watch.sdown_since(now, after_ms, as_master)
+        match self.kept_node(m, k) {
+            Some(node) => node.watch.sdown_since(now, after_ms, as_master),
+            None => Node::new(0).watch.sdown_since(now, after_ms, as_master),
+        }
     }
 
-    pub(crate) fn is_node_down(&self, plan: &Plan, m: u16, now: u64, k: usize) -> bool
+    /// Whether the node at a place is subjectively down; `card_at` is the place of the node that the configuration names.
+    pub fn is_node_down(&self, plan: &Plan, m: u16, now: u64, card_at: usize, k: usize) -> bool
+        requires { card_at ≡ card_place plan.now self.now m }
         ensures { result ≡ is_node_down plan.now self.now m (clock now) k }
     {
-        self.node_down_since(plan, m, now, k).is_some()
+        self.node_down_since(plan, m, now, card_at, k).is_some()
     }
 
-    pub(crate) fn is_master_down(&self, plan: &Plan, m: u16, now: u64) -> bool
+    /// Whether a master is subjectively down: whether the node of its configuration is.
+    pub fn is_master_down(&self, plan: &Plan, m: u16, now: u64) -> bool
         ensures { result ≡ is_master_down plan.now self.now m (clock now) }
     {
-        self.is_node_down(plan, m, now, self.card_place(plan, m))
+        let card_at = self.card_place(plan, m);
+        self.is_node_down(plan, m, now, card_at, card_at)
     }
 
-    pub(crate) fn is_peer_down(&self, plan: &Plan, now: u64, place: usize) -> bool
+    /// Whether the Sentinel at a place is subjectively down, by the first master's `down-after-milliseconds`.
+    pub fn is_peer_down(&self, plan: &Plan, now: u64, place: usize) -> bool
         ensures { result ≡ is_peer_down plan.now self.now (clock now) place }
     {
         self.peer(place)
@@ -201,7 +241,8 @@ impl State {
             .is_sdown(now, plan.settings(0).after_ms, false)
     }
 
-    pub(crate) fn is_odown(&self, plan: &Plan, m: u16, now: u64) -> bool
+    /// Whether a master is objectively down: this Sentinel and enough of the others found it down.
+    pub fn is_odown(&self, plan: &Plan, m: u16, now: u64) -> bool
         requires { m < master_count plan.now }
         ensures { result ≡ is_odown_at plan.now self.now m (clock now) }
     {
@@ -232,7 +273,28 @@ impl State {
         self.set_kept(m, self.card(m), voted);
     }
 
-    /// What is kept of a data node; what is kept of a new one at 0 where there is no such node.
+    /// What is kept of a data node; none where there is no such node.
+    pub(crate) fn kept_node(&self, m: u16, k: usize) -> Option<&Node>
+        ensures some { IfSome result (λ node. node.now ≡ node_of self.now m k) }
+        ensures none { IfNone result (node_of self.now m k ≡ no_node) }
+    {
+        match self.masters.get(m as usize) {
+            Some(master) => master.nodes.get(k),
+            None => None,
+        }
+    }
+
+    /// The last INFO of a data node, where it sent one.
+    pub fn info(&self, m: u16, k: usize) -> Option<Info>
+        ensures { result ≡ (node_of self.now m k).info }
+    {
+        match self.kept_node(m, k) {
+            Some(node) => node.info,
+            None => None,
+        }
+    }
+
+    /// A copy of what is kept of a data node; of what is kept of a new one at 0 where there is no such node.
     pub(crate) fn node(&self, m: u16, k: usize) -> Node
         ensures { result ≡ node_of self.now m k }
     {
@@ -253,7 +315,7 @@ impl State {
     }
 
     /// The epoch of the last vote for a master.
-    pub(crate) fn voted(&self, m: u16) -> u64
+    pub fn voted(&self, m: u16) -> u64
         ensures { result ≡ voted_of self.now.kept m }
     {
         match self.kept.masters.as_slice().get(m as usize) {

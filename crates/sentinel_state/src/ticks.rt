@@ -9,8 +9,8 @@ ghost use Rattle.sentinel_rules.specs.Ticks.{row_part, odown_part, failover_part
 ghost use Rattle.sentinel_state.specs.Room.{bounded};
 
 use crate::frame_list::FrameList;
-use crate::plan::Plan;
 use crate::state::State;
+use sentinel_plan::Plan;
 
 impl State {
     /// A tick of a master, with a random number: the clock takes a turn, what is due is sent, and unless the clock is in TILT the

@@ -6,16 +6,16 @@ ghost use Rattle.sentinel_rules.specs.States.{master_of, with_master};
 ghost use Rattle.sentinel_rules.specs.Ticks.{with_vote};
 ghost use Rattle.sentinel_rules.specs.Votes.{book_of, with_book, mark_for, requested};
 
-use crate::plan::Plan;
 use crate::state::State;
 use ballot_law::{RunId, clock_of};
 use failover_states::SPREAD_MS;
+use sentinel_plan::Plan;
 use vote_book::VoteBook;
 
 impl State {
     /// A candidate's request for the vote of an epoch: the vote is given where none was in this epoch or a later one and the
     /// epoch hasn't passed; else the current epoch is raised at most. A vote for another Sentinel puts the own failover off.
-    pub(crate) fn ask_vote(&mut self, plan: &Plan, m: u16, now: u64, epoch: u64, candidate: RunId)
+    pub fn ask_vote(&mut self, plan: &Plan, m: u16, now: u64, epoch: u64, candidate: RunId)
         ensures { self.new ≡ requested plan.now m (clock now) epoch candidate self.old }
     {
         let mut book = self.book(m);
@@ -76,7 +76,7 @@ impl State {
     }
 
     /// The candidate of the last vote for a master.
-    pub(crate) fn leader(&self, m: u16) -> Option<RunId>
+    pub fn leader(&self, m: u16) -> Option<RunId>
         ensures { result ≡ (master_of self.now m).leader }
     {
         match self.masters.get(m as usize) {

@@ -1,12 +1,14 @@
 //! What one Sentinel keeps, with its plan and the frames of its last input, for tests.
 
 ghost use Rattle.std.specs.Prelude.{◌≡◌, false};
-ghost use Rattle.sentinel_state.specs.Plain.{is_plain};
+ghost use Rattle.sentinel_answers.specs.Plain.{is_plain};
 
 use ballot_law::{Addr, Body, Command, RunId, Shown, Win};
+use sentinel_answers::{answer_by_text, answer_plainly};
 use sentinel_conf::read;
 use sentinel_rules::Frame;
-use sentinel_state::{FrameList, Plan, State};
+use sentinel_plan::Plan;
+use sentinel_state::{FrameList, State};
 use std::alloc::Global;
 use std::marker::Model;
 use std::test::Fail;
@@ -116,7 +118,7 @@ impl LoneState {
 
     /// The configuration that the answer to the command shows; none where it is another answer.
     pub(crate) fn address(&mut self, now: u64, command: &Command) -> Option<Shown> {
-        let Some(Body::AddressAnswer(shown)) = self.state.answer_plainly(&self.plan, now, command)
+        let Some(Body::AddressAnswer(shown)) = answer_plainly(&self.plan, &mut self.state, now, command)
         else {
             return None;
         };
@@ -144,7 +146,7 @@ impl LoneState {
                 leader,
                 epoch,
             },
-        ) = self.state.answer_plainly(&self.plan, now, &command)
+        ) = answer_plainly(&self.plan, &mut self.state, now, &command)
         else {
             return None;
         };

@@ -1,0 +1,276 @@
+//! The answers to the commands of a Sentinel's port.
+
+ghost use Rattle.std.specs.Prelude.{◌≡◌, ◌≤◌, ◌<◌, ◌↔◌, ◌∷◌, [], true, false, codes, length, map, vec_capacity, IsSome, IfSome};
+ghost use Rattle.ballot_law.specs.declared.messages.Body.TheVariants.{PingText, PortReply};
+ghost use Rattle.ballot_law.specs.Clocks.{clock};
+ghost use Rattle.resp2_frames.specs.Frame.{spelling};
+ghost use Rattle.port_answers.specs.Answers.{master_frame, masters_frame, replicas_frame, sentinels_frame, no_such_master, ok_line, id_frame};
+ghost use Rattle.sentinel_rules.specs.Answers.{master_with_card, asked_of, master_row, replica_rows, sentinel_rows, all_masters, quorum_frame, reply, named, about, address_of, commanded};
+ghost use Rattle.sentinel_rules.specs.Plans.{roster_of, me, master_count};
+ghost use Rattle.sentinel_answers.specs.Plain.{is_plain};
+
+use crate::rows::{
+    add_masters, add_quorum, add_replicas, add_sentinels, master_row, shown_card, shown_masters,
+};
+use ballot_law::{Addr, Body, Command, Name, RunId, ShortText, Shown, ShownList};
+use port_answers::AnswerText;
+use sentinel_plan::Plan;
+use sentinel_state::State;
+
+/// The answer to PING.
+fn pong() -> Body
+    ensures { result ≡ PingText false (codes "PONG") }
+{
+    let text = ShortText::from_slice(b"PONG").unwrap();
+    Body::PingText {
+        is_error: false,
+        text,
+    }
+}
+
+/// The answer with these bytes, which shows these configurations.
+fn reply(text: AnswerText, shown: Vec<Shown>) -> Body
+    ensures { result ≡ PortReply shown.items text }
+{
+    Body::PortReply {
+        shown: ShownList::from_vec(shown),
+        text: text.into_text(),
+    }
+}
+
+/// The answer about a name that no master has.
+#[tactic(auto, using(crate::proofs::AnswerRows::unknown_whole))]
+fn no_such_master(text: AnswerText, shown: Vec<Shown>) -> Body
+    requires { text ≡ [] }
+    ensures { result ≡ PortReply shown.items (spelling no_such_master) }
+{
+    let mut text = text;
+    text.add_no_such_master();
+    reply(text, shown)
+}
+
+/// The answer to a command that needs no text: PING, `SENTINEL IS-MASTER-DOWN-BY-ADDR`, which may give a vote, and
+/// `SENTINEL GET-MASTER-ADDR-BY-NAME`. For the others there is none, and nothing changes.
+pub fn answer_plainly(plan: &Plan, state: &mut State, now: u64, command: &Command) -> Option<Body>
+    ensures plain { IsSome result ↔ (is_plain command.now ≡ true) }
+    ensures state { state.new ≡ (commanded plan.now (clock now) command.now state.old).core }
+    ensures body { IfSome result (λ body. body ≡ (commanded plan.now (clock now) command.now state.old).body) }
+{
+    match *command {
+        Command::Ping => Some(pong()),
+        Command::IsMasterDownByAddr {
+            addr,
+            epoch,
+            candidate,
+        } => Some(answer_down(plan, state, now, addr, epoch, candidate)),
+        Command::GetMasterAddrByName(name) => {
+            Some(Body::AddressAnswer(shown_by_name(plan, state, name)))
+        }
+        Command::Masters
+        | Command::Master(_)
+        | Command::Replicas(_)
+        | Command::Sentinels(_)
+        | Command::MyId
+        | Command::CkQuorum(_)
+        | Command::FlushConfig => None,
+    }
+}
+
+/// The answer to any other command, in the room of these two buffers: 65,536 bytes and 16 configurations hold every
+/// answer. No memory is taken.
+pub fn answer_by_text(
+    plan: &Plan,
+    state: &State,
+    now: u64,
+    command: &Command,
+    text: Vec<u8>,
+    shown: Vec<Shown>,
+) -> Body
+    requires text { 65536 ≤ vec_capacity text }
+    requires list { 16 ≤ vec_capacity shown }
+    requires empty { (text.items ≡ []) × (shown.items ≡ []) }
+    requires kind { is_plain command.now ≡ false }
+    ensures body { result ≡ (commanded plan.now (clock now) command.now state.now).body }
+    ensures state { (commanded plan.now (clock now) command.now state.now).core ≡ state.now }
+{
+    let text = AnswerText::from_vec(text);
+    match *command {
+        Command::Masters => answer_masters(plan, state, now, text, shown),
+        Command::Master(name) => answer_master(plan, state, now, name, text, shown),
+        Command::Replicas(name) => answer_replicas(plan, state, now, name, text, shown),
+        Command::Sentinels(name) => answer_sentinels(plan, state, now, name, text, shown),
+        Command::MyId => answer_id(plan, text, shown),
+        Command::CkQuorum(name) => answer_quorum(plan, state, now, name, text, shown),
+        Command::FlushConfig => answer_done(text, shown),
+        Command::Ping | Command::IsMasterDownByAddr { .. } | Command::GetMasterAddrByName(_) =>
+            unreachable!(),
+    }
+}
+
+/// Whether the master at the address is down, and the vote that a candidate asks for.
+fn answer_down(
+    plan: &Plan,
+    state: &mut State,
+    now: u64,
+    addr: Addr,
+    epoch: u64,
+    candidate: Option<RunId>,
+) -> Body
+    ensures state { state.new ≡ (asked_of plan.now (clock now) addr epoch candidate (master_with_card state.old.kept.masters addr) state.old).core }
+    ensures body { result ≡ (asked_of plan.now (clock now) addr epoch candidate (master_with_card state.old.kept.masters addr) state.old).body }
+{
+    let Some(master) = state.master_with_card(addr) else {
+        return Body::Answer {
+            master: plan.listing(addr).unwrap_or(0),
+            addr,
+            down: false,
+            leader: None,
+            epoch: 0,
+        };
+    };
+    let down = state.is_master_down(plan, master, now) && !state.is_tilted();
+    let Some(candidate) = candidate else {
+        return Body::Answer {
+            master,
+            addr,
+            down,
+            leader: None,
+            epoch: 0,
+        };
+    };
+    state.ask_vote(plan, master, now, epoch, candidate);
+    Body::Answer {
+        master,
+        addr,
+        down,
+        leader: state.leader(master),
+        epoch: state.voted(master),
+    }
+}
+
+/// The configuration of the master with this name.
+fn shown_by_name(plan: &Plan, state: &State, name: Option<Name>) -> Option<Shown>
+    ensures { result ≡ address_of state.now (named plan.now name) }
+{
+    match plan.named(name) {
+        Some(master) => Some(shown_card(state, master)),
+        None => None,
+    }
+}
+
+fn answer_masters(plan: &Plan, state: &State, now: u64, text: AnswerText, shown: Vec<Shown>) -> Body
+    requires text { text ≡ [] }
+    requires room { 16 ≤ vec_capacity shown }
+    requires list { shown.items ≡ [] }
+    ensures { result ≡ reply state.now (all_masters plan.now) (masters_frame (map (master_row plan.now state.now (clock now)) (all_masters plan.now))) }
+{
+    let mut text = text;
+    add_masters(plan, state, now, &mut text);
+    reply(text, shown_masters(plan, state, shown))
+}
+
+#[tactic(auto, using(crate::proofs::AnswerRows::master_whole))]
+fn answer_master(
+    plan: &Plan,
+    state: &State,
+    now: u64,
+    name: Option<Name>,
+    text: AnswerText,
+    shown: Vec<Shown>,
+) -> Body
+    requires text { text ≡ [] }
+    requires room { 16 ≤ vec_capacity shown }
+    requires list { shown.items ≡ [] }
+    ensures { result ≡ about state.now (named plan.now name) (λ m. reply state.now (m ∷ []) (master_frame (master_row plan.now state.now (clock now) m))) }
+{
+    let Some(m) = plan.named(name) else {
+        return no_such_master(text, shown);
+    };
+    let mut text = text;
+    let mut shown = shown;
+    text.add_master(&master_row(plan, state, now, m));
+    shown.push_reserved(shown_card(state, m));
+    reply(text, shown)
+}
+
+fn answer_replicas(
+    plan: &Plan,
+    state: &State,
+    now: u64,
+    name: Option<Name>,
+    text: AnswerText,
+    shown: Vec<Shown>,
+) -> Body
+    requires text { text ≡ [] }
+    requires list { shown.items ≡ [] }
+    ensures { result ≡ about state.now (named plan.now name) (λ m. reply state.now [] (replicas_frame (replica_rows plan.now state.now (clock now) m))) }
+{
+    let Some(m) = plan.named(name) else {
+        return no_such_master(text, shown);
+    };
+    let mut text = text;
+    add_replicas(plan, state, now, m, &mut text);
+    reply(text, shown)
+}
+
+fn answer_sentinels(
+    plan: &Plan,
+    state: &State,
+    now: u64,
+    name: Option<Name>,
+    text: AnswerText,
+    shown: Vec<Shown>,
+) -> Body
+    requires text { text ≡ [] }
+    requires list { shown.items ≡ [] }
+    ensures { result ≡ about state.now (named plan.now name) (λ m. reply state.now [] (sentinels_frame (sentinel_rows plan.now state.now (clock now)))) }
+{
+    if plan.named(name).is_none() {
+        return no_such_master(text, shown);
+    }
+    let mut text = text;
+    add_sentinels(plan, state, now, &mut text);
+    reply(text, shown)
+}
+
+fn answer_quorum(
+    plan: &Plan,
+    state: &State,
+    now: u64,
+    name: Option<Name>,
+    text: AnswerText,
+    shown: Vec<Shown>,
+) -> Body
+    requires text { text ≡ [] }
+    requires list { shown.items ≡ [] }
+    ensures { result ≡ about state.now (named plan.now name) (λ m. reply state.now [] (quorum_frame plan.now state.now (clock now) m)) }
+{
+    let Some(m) = plan.named(name) else {
+        return no_such_master(text, shown);
+    };
+    let mut text = text;
+    add_quorum(plan, state, now, m, &mut text);
+    reply(text, shown)
+}
+
+/// The own run id.
+#[tactic(auto, using(crate::proofs::AnswerRows::id_whole))]
+fn answer_id(plan: &Plan, text: AnswerText, shown: Vec<Shown>) -> Body
+    requires text { text ≡ [] }
+    ensures { result ≡ PortReply shown.items (spelling (id_frame (me plan.now))) }
+{
+    let mut text = text;
+    text.add_id(plan.me());
+    reply(text, shown)
+}
+
+/// That the command was done.
+#[tactic(auto, using(crate::proofs::AnswerRows::ok_whole))]
+fn answer_done(text: AnswerText, shown: Vec<Shown>) -> Body
+    requires text { text ≡ [] }
+    ensures { result ≡ PortReply shown.items (spelling ok_line) }
+{
+    let mut text = text;
+    text.add_ok();
+    reply(text, shown)
+}

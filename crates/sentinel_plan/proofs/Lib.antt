@@ -1,0 +1,2 @@
+pub mod MasterNames
+pub mod NodeNumbers
