@@ -4,6 +4,7 @@ use Rattle.std.specs.Prelude.{◌≢◌, ◌⊎◌, ◌↔◌, All, IfSome, code
 use Rattle.std.proofs.lemmas.List.Elements.{All-nil, All-cons}
 use Rattle.ballot_law.specs.declared.cards.Kept.{Kept}
 use Rattle.ballot_law.specs.declared.cards.TheConstants.{MAX_EPOCH}
+use Rattle.ballot_law.specs.declared.cards.Shown.{Shown}
 use Rattle.ballot_law.specs.declared.commands.Command.TheVariants.{Masters, FlushConfig}
 use Rattle.ballot_law.specs.declared.events.Event.{Event}
 use Rattle.ballot_law.specs.declared.events.Event.TheVariants.{Tick, Command, Become}
@@ -20,7 +21,7 @@ use Rattle.ballot_law.specs.RosterFaults.{IsRoster}
 use Rattle.ballot_law.specs.Messages.{published, passed_on}
 use Rattle.ballot_law.specs.Ballots.{Ballot, Open, Cast, Win_at, Choose, Enact, card_of, voted_of}
 use Rattle.ballot_law.specs.Worlds.{Ready, Stopped, Other, World, sentinel_at, IsFlush, Choice, IsChoice, IsPassable, after_refused, after_stop, after_answer, stores_of, started, Run}
-use Rattle.ballot_law.specs.Law.{IsWellFormed, IsFreshOther, IsStart}
+use Rattle.ballot_law.specs.Law.{IsWellFormed, IsFresh, IsFreshOther, IsStart}
 use Rattle.ballot_law.specs.Refusals.{addr, own_id, roster, first_card, second_card, first_file, begin, me, pong, question, others_speak, asked, refused_old, refused_new, elected, flushed, steps, IsEnd, RefusalsHappen}
 use Rattle.ballot_law.proofs.Runs.{steps_join}
 use Rattle.ballot_law.proofs.Scripts.{choose, take_as, store_as, release_as, start_as, other_takes, other_stores, other_releases, message, event_from, becomes, IsCard, held_none, held_one, right_cards}
@@ -55,7 +56,8 @@ w7 = other_takes w6 (ClientAt 5) (Send question ∷ [])
 abbrev w9 : World
 w9 = other_releases (other_stores w7 (ClientAt 5)) (ClientAt 5)
 
-passes : (name : NodeName) (event : Event) (it : Message) → it.sender ≡ name → published it.body ≡ None → passed_on it.body ≡ None → All (IsPassable name event) (Send it ∷ [])
+passes : (name : NodeName) (event : Event) (it : Message) → it.sender ≡ name → published it.body ≡ None → passed_on it.body ≡ None
+    → All (IsPassable name event) (Send it ∷ [])
 passes name event it sender no_publish no_text =
     All-cons (IsPassable name event) (Send it) []
     (record { sender = sender; no_publish = no_publish; handed = λ hello e. let never : None ≡ Some hello = sym no_text ∙ e in absurd (cc) })
@@ -113,7 +115,8 @@ asked_as w = take_as w 0 (tells w told)
 nothing_new : (event : Event) (kept : Kept) → (IsFlush event → ⊥) → (false ≡ true) ↔ (IsFlush event ⊎ (kept ≢ kept))
 nothing_new event kept no_flush = ((λ e. absurd (cc)), ⊎_elim (λ f. absurd (no_flush f)) (λ n. absurd (n refl)))
 
-tells_card : (w : World) → card_of (sentinel_at w 0).parts.kept 0 ≡ first_card → IsChoice roster 0 (event_from question) (sentinel_at w 0) (tells w told)
+tells_card : (w : World) → card_of (sentinel_at w 0).parts.kept 0 ≡ first_card
+    → IsChoice roster 0 (event_from question) (sentinel_at w 0) (tells w told)
 tells_card w e =
     record {
       moved = refl;
@@ -142,6 +145,9 @@ w16 = take_as w15 0 (tells w15 listed)
 abbrev w18 : World
 w18 = release_as roster (store_as w16 0) 0
 
+abbrev Right : Shown → Type 0
+Right = IsCard (tells w15 listed).parts
+
 lists : IsChoice roster 0 (Command (PortAt 0) Masters) (sentinel_at w15 0) (tells w15 listed)
 lists =
     record {
@@ -149,8 +155,8 @@ lists =
       must_store = nothing_new (Command (PortAt 0) Masters) (sentinel_at w15 0).parts.kept (λ f. f);
       held = held_one roster 0 (tells w15 listed).parts listed
           (right_cards roster 0 (tells w15 listed).parts listed refl
-          (All-cons (IsCard (tells w15 listed).parts) (record { master = 0; card = first_card }) ((record { master = 1; card = second_card }) ∷ []) refl
-          (All-cons (IsCard (tells w15 listed).parts) (record { master = 1; card = second_card }) [] refl (All-nil (IsCard (tells w15 listed).parts))))
+          (All-cons Right (record { master = 0; card = first_card }) ((record { master = 1; card = second_card }) ∷ []) refl
+          (All-cons Right (record { master = 1; card = second_card }) [] refl (All-nil Right)))
           refl refl refl);
     }
 
@@ -376,7 +382,8 @@ flushing = (
 
 -- The whole
 
-then : (w next last : World) (before after : List Step) → Run roster before w next → Run roster after next last → Run roster (before ++ after) w last
+then : (w next last : World) (before after : List Step) → Run roster before w next → Run roster after next last
+    → Run roster (before ++ after) w last
 then w next last before after = steps_join roster w next last before after
 
 run : Run roster steps begin w35
@@ -424,21 +431,25 @@ same_card i j m k l =
     only (λ n. card_of (sentinel_at begin n).file m ≡ card_of (sentinel_at begin j).file m)
     (only (λ n. card_of first_file m ≡ card_of (sentinel_at begin n).file m) refl j l) i k
 
-none_before : (n : ℕ) (clients : List (Option Other)) → All (λ client. IfSome client IsFreshOther) clients → All (λ client. IfSome client IsFreshOther) (replicate n None ++ clients)
+abbrev IsFreshClient : Option Other → Type 0
+IsFreshClient client = IfSome client IsFreshOther
+
+none_before : (n : ℕ) (clients : List (Option Other)) → All IsFreshClient clients → All IsFreshClient (replicate n None ++ clients)
 none_before zero clients fresh = fresh
-none_before (suc n) clients fresh = All-cons (λ client. IfSome client IsFreshOther) None (replicate n None ++ clients) tt (none_before n clients fresh)
+none_before (suc n) clients fresh =
+    All-cons IsFreshClient None (replicate n None ++ clients) tt (none_before n clients fresh)
 
 starts : IsStart roster begin
 starts =
     record {
       count = refl;
-      fresh = only (λ i. (sentinel_at begin i ≡ started roster (sentinel_at begin i).file) ⊎ (sentinel_at begin i ≡ record (started roster (sentinel_at begin i).file) { state = Stopped })) (inr refl);
+      fresh = only (λ i. IsFresh roster (sentinel_at begin i)) (inr refl);
       files = only (λ i. IsWellFormed roster (sentinel_at begin i).file) formed;
       same_cards = same_card;
       stores = All-cons IsFreshOther (record { state = Stopped; held = [] }) ((record { state = Ready; held = [] }) ∷ []) (inr refl, refl)
           (All-cons IsFreshOther (record { state = Ready; held = [] }) [] (inl refl, refl) (All-nil IsFreshOther));
       clients = none_before 5 (Some (record { state = Ready; held = [] }) ∷ [])
-          (All-cons (λ client. IfSome client IsFreshOther) (Some (record { state = Ready; held = [] })) [] (inl refl, refl) (All-nil (λ client. IfSome client IsFreshOther)));
+          (All-cons IsFreshClient (Some (record { state = Ready; held = [] })) [] (inl refl, refl) (All-nil IsFreshClient));
       messages = refl;
       votes = refl;
       elected = refl;

@@ -79,13 +79,19 @@ IsCard parts shown = shown.card ≡ card_of parts.kept shown.master
 pub held_none : (roster : Roster) (i : ℕ) (parts : Parts) → All (IsRightOutput roster i parts) []
 held_none roster i parts = All-nil (IsRightOutput roster i parts)
 
-pub held_one : (roster : Roster) (i : ℕ) (parts : Parts) (message : Message) → IsRight roster i parts message → All (IsRightOutput roster i parts) (Send message ∷ [])
+pub held_one : (roster : Roster) (i : ℕ) (parts : Parts) (message : Message) → IsRight roster i parts message
+    → All (IsRightOutput roster i parts) (Send message ∷ [])
 held_one roster i parts message right =
     All-cons (IsRightOutput roster i parts) (Send message) [] right (All-nil (IsRightOutput roster i parts))
 
 -- an answer that shows these configurations, and neither a vote nor a hello
-pub right_cards : (roster : Roster) (i : ℕ) (parts : Parts) (message : Message) → message.sender ≡ SentinelAt i → All (IsCard parts) (advertised roster message.body)
-    → vote_shown message.sender message.body ≡ None → published message.body ≡ None → passed_on message.body ≡ None → IsRight roster i parts message
+pub right_cards : (roster : Roster) (i : ℕ) (parts : Parts) (message : Message)
+    → message.sender ≡ SentinelAt i
+    → All (IsCard parts) (advertised roster message.body)
+    → vote_shown message.sender message.body ≡ None
+    → published message.body ≡ None
+    → passed_on message.body ≡ None
+    → IsRight roster i parts message
 right_cards roster i parts message sender cards votes hellos text =
     record {
       sender = sender;
