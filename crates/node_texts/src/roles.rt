@@ -2,8 +2,8 @@
 
 ghost use Rattle.std.specs.Prelude.{◌≡◌, ◌≤◌, ◌+◌, ◌++◌, ◌∷◌, length, pos, decimal, map, OnOk, OnErr, IfErr};
 ghost use Rattle.arrayvec.specs.ArrayVec.{array_vec_len};
-ghost use Rattle.resp2.specs.Frame as frames;
-ghost use Rattle.resp2.specs.Frame.{view, spelling, line_end};
+ghost use Rattle.resp2_frames.specs.Frame as frames;
+ghost use Rattle.resp2_frames.specs.Frame.{view, spelling, line_end};
 ghost use Rattle.node_texts.specs.Roles.{kind_of, offset_of, host_of, port_of, link_of, replicas_of, master_role, replica_role, role_of_three, role_of_five, role_of, role_of_list, IsRole, role_frame};
 
 use crate::drafts::{Draft, add, put, put_number};
