@@ -1,5 +1,6 @@
 pub mod CountedVotes
 pub mod Counting
+pub mod CutLemmas
 pub mod ElectedWins
 pub mod Example
 pub mod Fits

@@ -1,5 +1,5 @@
 -- A text cut at each byte of one value.
-use Rattle.std.specs.Prelude.{ℕ, true, false, ◌==◌, List, [], ◌∷◌}
+use Rattle.std.specs.Prelude.{ℕ, ◌≡◌, ◌≤◌, ◌<◌, Bool, true, false, ◌==◌, List, [], ◌∷◌, length, slice_index}
 
 -- one byte before the first part
 abbrev pub with_first : ℕ → List (List ℕ) → List (List ℕ)
@@ -15,3 +15,9 @@ cut_at stop (b ∷ bs) = elim (b == stop) [ true ↦ [] ∷ cut_at stop bs | fal
 abbrev pub lines : List ℕ → List (List ℕ)
 lines [] = []
 lines (b ∷ bs) = elim (b == 10) [ true ↦ [] ∷ lines bs | false ↦ with_first b (lines bs) ]
+
+-- the first place whose byte passes the test, or the length where none does
+pub record IsEnd (test : ℕ → Bool) (text : List ℕ) (end : ℕ) : Type 0 where
+  pub within : end ≤ length text
+  pub before : (k : ℕ) → k < end → test (slice_index text k) ≡ false
+  pub here : end < length text → test (slice_index text end) ≡ true

@@ -7,6 +7,10 @@ mod answers;
 #[cfg(test)]
 mod bounded_lists;
 #[cfg(test)]
+mod commands;
+#[cfg(test)]
+mod frames;
+#[cfg(test)]
 mod hellos;
 #[cfg(test)]
 mod infos;
@@ -14,3 +18,5 @@ mod infos;
 mod roles;
 #[cfg(test)]
 mod server_infos;
+#[cfg(test)]
+mod words_and_numbers;

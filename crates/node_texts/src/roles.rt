@@ -2,9 +2,9 @@
 
 ghost use Rattle.std.specs.Prelude.{◌≡◌, ℕ, ◌≤◌, ◌+◌, List, ◌++◌, ◌∷◌, length, pos, decimal, map, OnOk, OnErr, IfErr};
 ghost use Rattle.arrayvec.specs.ArrayVec.{array_vec_len};
-ghost use Rattle.resp2.specs.Frame as frames;
-ghost use Rattle.resp2.specs.Frame.{view, spelling, line_end};
-ghost use Rattle.resp2.specs.Reading.{frame_at};
+ghost use Rattle.resp2_frames.specs.Frame as frames;
+ghost use Rattle.resp2_frames.specs.Frame.{view, spelling, line_end};
+ghost use Rattle.resp2_frames.specs.Reading.{frame_at};
 ghost use Rattle.node_texts.specs.Roles.{kind_of, offset_of, host_of, port_of, link_of, replicas_of, master_role, replica_role, role_length, role_behind, role_of, role_of_list, IsRole, role_frame};
 
 use crate::drafts::{Draft, add, put, put_number};

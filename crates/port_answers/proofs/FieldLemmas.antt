@@ -2,7 +2,7 @@
 use Rattle.std.proofs.Common.{◌≡◌, ℕ, ◌+◌, List, [], ◌∷◌, ◌++◌, take, drop, refl, ap, sym, ◌∙◌, length, length-append, arith, append_assoc, append-nil}
 use Rattle.std.proofs.lemmas.List.{take-append-drop}
 use Rattle.std.specs.Prelude.{decimal}
-use Rattle.resp2.specs.Frame.{bulk, spelling, line_end}
+use Rattle.resp2_frames.specs.Frame.{bulk, spelling, line_end}
 use Rattle.port_answers.specs.Room.{ANSWER_MAX, bounded}
 use Rattle.port_answers.specs.Answers.{fields_text, header}
 use Rattle.bounded_list.proofs.Bounded.{added_both, two_adds}

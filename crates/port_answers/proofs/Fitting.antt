@@ -3,7 +3,7 @@ use Rattle.std.proofs.Common.{ℕ, ◌+◌, ◌*◌, ◌≤◌, length, arith}
 use Rattle.std.specs.Prelude.{codes}
 use Rattle.ballot_law.specs.declared.addresses.RunId.{RunId}
 use Rattle.ballot_law.specs.Words.{id_text}
-use Rattle.resp2.specs.Frame.{Frame, spelling}
+use Rattle.resp2_frames.specs.Frame.{Frame, spelling}
 use Rattle.resp2.specs.declared.command.CommandFault.{CommandFault}
 use Rattle.resp2.specs.declared.command.CommandFault.TheVariants.{NotACommand, UnknownCommand, WrongArguments, BadAddress, BadEpoch, BadRunId}
 use Rattle.port_answers.specs.declared.rows.SentinelRow.{SentinelRow}

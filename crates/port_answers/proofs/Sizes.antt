@@ -6,7 +6,7 @@ use Rattle.std.proofs.lemmas.Fmt.{length-decimal-le}
 use Rattle.ballot_law.specs.declared.addresses.Addr.{Addr}
 use Rattle.ballot_law.specs.declared.addresses.RunId.{RunId}
 use Rattle.ballot_law.specs.Words.{ip_text, id_text, hex, hex_digit}
-use Rattle.resp2.specs.Frame.{Frame, bulk, items, frames_of, count, spelling, spellings, line_end}
+use Rattle.resp2_frames.specs.Frame.{Frame, bulk, items, frames_of, count, spelling, spellings, line_end}
 use Rattle.port_answers.specs.declared.rows.MasterRow.{MasterRow}
 use Rattle.port_answers.specs.declared.rows.ReplicaRow.{ReplicaRow}
 use Rattle.port_answers.specs.declared.rows.SentinelRow.{SentinelRow}

@@ -1,7 +1,7 @@
 //! The answers of one line or one word.
 
 ghost use Rattle.std.specs.Prelude.{◌≡◌, ◌∷◌, ◌++◌, decimal};
-ghost use Rattle.resp2.specs.Frame.{spelling, line_end};
+ghost use Rattle.resp2_frames.specs.Frame.{spelling, line_end};
 ghost use Rattle.port_answers.specs.Room.{bounded};
 ghost use Rattle.port_answers.specs.Answers.{no_such_master, ok_line, quorum_reached, no_quorum, id_frame, fault_text, command_fault, protocol_error};
 

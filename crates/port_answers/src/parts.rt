@@ -2,8 +2,8 @@
 
 ghost use Rattle.std.specs.Prelude.{◌≡◌, [], ◌∷◌, ◌++◌, decimal};
 ghost use Rattle.ballot_law.specs.Words.{ip_text, id_text};
-ghost use Rattle.resp2.specs.Frame as frames;
-ghost use Rattle.resp2.specs.Frame.{spelling, line_end};
+ghost use Rattle.resp2_frames.specs.Frame as frames;
+ghost use Rattle.resp2_frames.specs.Frame.{spelling, line_end};
 ghost use Rattle.port_answers.specs.Room.{bounded};
 ghost use Rattle.port_answers.specs.Answers.{addr_text, addr_fields, fields_text};
 

@@ -4,8 +4,8 @@ use Rattle.std.proofs.lemmas.Bool.{and_parts, leb-true}
 use Rattle.ballot_law.specs.Orders.{same_bytes}
 use Rattle.ballot_law.specs.Words.{some_if, then_some, number, number_within, canonical_within}
 use Rattle.ballot_law.proofs.WordLemmas.{same_bytes-refl, same_bytes-true, number_within-decimal}
-use Rattle.resp2.specs.Reading.{number_of}
-use Rattle.resp2.proofs.Numbers.{some_is, number_takes, number_again}
+use Rattle.resp2_frames.specs.Reading.{number_of}
+use Rattle.resp2_frames.proofs.Numbers.{some_is, number_takes, number_again}
 
 pub then_some_is : {X Y : Type 0} (o : Option X) (f : X → Option Y) (y : Y) → then_some o f ≡ Some y → (x : X) × (o ≡ Some x) × (f x ≡ Some y)
 then_some_is (Some x) f y e = (x, refl, e)

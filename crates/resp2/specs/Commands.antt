@@ -10,7 +10,7 @@ use Rattle.ballot_law.specs.Results.{◌>>=◌, wanted}
 use Rattle.ballot_law.specs.Words.{then_some, canonical_within, canonical_address, run_id, name, lower, ip_text, id_text}
 use Rattle.resp2.specs.declared.command.CommandFault.{CommandFault}
 use Rattle.resp2.specs.declared.command.CommandFault.TheVariants.{NotACommand, UnknownCommand, WrongArguments, BadAddress, BadEpoch, BadRunId}
-use Rattle.resp2.specs.Frame.{Frame, FrameList, bulk, items, no_frames, frame}
+use Rattle.resp2_frames.specs.Frame.{Frame, FrameList, bulk, items, no_frames, frame}
 
 -- ---- words
 

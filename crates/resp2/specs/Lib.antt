@@ -1,5 +1,1 @@
-pub mod Frame
-pub mod Reading
-pub mod Stream
-pub mod Writing
 pub mod Commands

@@ -1,12 +1,12 @@
 //! The commands of a Sentinel's port, as values.
 ghost use Rattle.std.specs.Prelude.{◌≡◌, IfOk};
-ghost use Rattle.ballot_law.specs.Words.{name};
+ghost use Rattle.ballot_law.specs.Words.{name, lower};
 ghost use Rattle.resp2.specs.Commands as commands;
-ghost use Rattle.resp2.specs.Frame as frames;
-ghost use Rattle.resp2.specs.Frame.{view, frames_view};
+ghost use Rattle.resp2_frames.specs.Frame as frames;
+ghost use Rattle.resp2_frames.specs.Frame.{view, frames_view};
 
-use crate::value::Value;
 use ballot_law::{Command, MAX_EPOCH, Name, RunId};
+use resp2_frames::Value;
 use thiserror::Error;
 use words::{canonical_address_of, canonical_number_of, run_id_of};
 
@@ -42,27 +42,14 @@ fn word_of(value: &Value) -> &[u8]
 {
     match value {
         Value::Bulk(bytes) => bytes.as_slice(),
-        Value::Simple(_) => &[],
-        Value::Fault(_) => &[],
-        Value::Int(_) => &[],
-        Value::NullBulk => &[],
-        Value::Items(_) => &[],
-        Value::NullItems => &[],
+        _ => &[],
     }
 }
 
 fn is_bulk(value: &Value) -> bool
     ensures { result ≡ commands.is_bulk (view value.now) }
 {
-    match value {
-        Value::Bulk(_) => true,
-        Value::Simple(_) => false,
-        Value::Fault(_) => false,
-        Value::Int(_) => false,
-        Value::NullBulk => false,
-        Value::Items(_) => false,
-        Value::NullItems => false,
-    }
+    matches!(value, Value::Bulk(_))
 }
 
 fn are_bulk(items: &[Value]) -> bool
@@ -74,6 +61,16 @@ fn are_bulk(items: &[Value]) -> bool
         }
     }
     true
+}
+
+/// Whether the word is the name, whatever the case of its letters. Nearly all words come in capitals, which one
+/// comparison tells.
+fn is_called(word: &[u8], capitals: &[u8], name: &[u8]) -> bool
+    requires capitals { lower capitals.now ≡ name.now }
+    requires name { lower name.now ≡ name.now }
+    ensures { result ≡ commands.is_called name.now word.now }
+{
+    word.len() == name.len() && (word == capitals || word.eq_ignore_ascii_case(name))
 }
 
 /// The run id that the word is, or none for `*`.
@@ -145,23 +142,23 @@ fn sentinel_command(words: &[Value]) -> Result<Command, CommandFault>
         return Err(CommandFault::UnknownCommand);
     };
     let name = word_of(first);
-    if name.eq_ignore_ascii_case(b"is-master-down-by-addr") {
+    if is_called(name, b"IS-MASTER-DOWN-BY-ADDR", b"is-master-down-by-addr") {
         is_master_down_by_addr(args)
-    } else if name.eq_ignore_ascii_case(b"get-master-addr-by-name") {
+    } else if is_called(name, b"GET-MASTER-ADDR-BY-NAME", b"get-master-addr-by-name") {
         Ok(Command::GetMasterAddrByName(master_of(args)?))
-    } else if name.eq_ignore_ascii_case(b"masters") {
+    } else if is_called(name, b"MASTERS", b"masters") {
         alone(Command::Masters, args)
-    } else if name.eq_ignore_ascii_case(b"master") {
+    } else if is_called(name, b"MASTER", b"master") {
         Ok(Command::Master(master_of(args)?))
-    } else if name.eq_ignore_ascii_case(b"replicas") || name.eq_ignore_ascii_case(b"slaves") {
+    } else if is_called(name, b"REPLICAS", b"replicas") || is_called(name, b"SLAVES", b"slaves") {
         Ok(Command::Replicas(master_of(args)?))
-    } else if name.eq_ignore_ascii_case(b"sentinels") {
+    } else if is_called(name, b"SENTINELS", b"sentinels") {
         Ok(Command::Sentinels(master_of(args)?))
-    } else if name.eq_ignore_ascii_case(b"myid") {
+    } else if is_called(name, b"MYID", b"myid") {
         alone(Command::MyId, args)
-    } else if name.eq_ignore_ascii_case(b"ckquorum") {
+    } else if is_called(name, b"CKQUORUM", b"ckquorum") {
         Ok(Command::CkQuorum(master_of(args)?))
-    } else if name.eq_ignore_ascii_case(b"flushconfig") {
+    } else if is_called(name, b"FLUSHCONFIG", b"flushconfig") {
         alone(Command::FlushConfig, args)
     } else {
         Err(CommandFault::UnknownCommand)
@@ -178,9 +175,9 @@ fn command_of_items(words: &[Value]) -> Result<Command, CommandFault>
     let Some((name, args)) = words.split_first() else {
         return Err(CommandFault::NotACommand);
     };
-    if word_of(name).eq_ignore_ascii_case(b"sentinel") {
+    if is_called(word_of(name), b"SENTINEL", b"sentinel") {
         sentinel_command(args)
-    } else if word_of(name).eq_ignore_ascii_case(b"ping") {
+    } else if is_called(word_of(name), b"PING", b"ping") {
         alone(Command::Ping, args)
     } else {
         Err(CommandFault::UnknownCommand)
@@ -199,11 +196,6 @@ pub fn command_of(value: &Value) -> Result<Command, CommandFault>
 {
     match value {
         Value::Items(items) => command_of_items(items),
-        Value::Simple(_) => Err(CommandFault::NotACommand),
-        Value::Fault(_) => Err(CommandFault::NotACommand),
-        Value::Int(_) => Err(CommandFault::NotACommand),
-        Value::Bulk(_) => Err(CommandFault::NotACommand),
-        Value::NullBulk => Err(CommandFault::NotACommand),
-        Value::NullItems => Err(CommandFault::NotACommand),
+        _ => Err(CommandFault::NotACommand),
     }
 }

@@ -22,7 +22,7 @@ use Rattle.port_answers.specs.Answers.{command_fault, master_frame, replicas_fra
 use Rattle.port_answers.specs.Room.{bounded}
 use Rattle.resp2.specs.declared.command.CommandFault.{CommandFault}
 use Rattle.resp2.specs.declared.command.CommandFault.TheVariants.{NotACommand, UnknownCommand, WrongArguments, BadAddress, BadEpoch, BadRunId}
-use Rattle.resp2.specs.Frame.{Frame, spelling, IsLine}
+use Rattle.resp2_frames.specs.Frame.{Frame, spelling, IsLine}
 use Rattle.sentinel_conf.specs.Meaning.{ConfPlan}
 use Rattle.sentinel_conf.specs.Rewritten.{IsKeptMaster, IsKeptPart}
 use Rattle.sentinel_rules.specs.Answers.{commanded, asked_of, master_with_card, named, about, reply, master_row, replica_rows, sentinel_rows, quorum_frame}

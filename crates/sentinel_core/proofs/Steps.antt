@@ -3,15 +3,15 @@ use Rattle.std.proofs.Common.{◌≡◌, ◌≢◌, ◌<◌, ◌≤◌, ◌+◌,
 use Rattle.std.proofs.lemmas.List.{append-nil}
 use Rattle.std.proofs.Math.Seq.{take-append-add}
 use Rattle.ballot_law.specs.declared.cards.Kept.{Kept}
-use Rattle.resp2.specs.declared.fault.FrameFault.{FrameFault}
-use Rattle.resp2.specs.declared.fault.FrameFault.TheVariants.{BadKind, BadLength, BadNumber, MissingEnd, TooLong, TooDeep, TooMany, NoMemory}
-use Rattle.resp2.specs.declared.fault.Unread.TheVariants.{NeedsMore}
-use Rattle.resp2.specs.declared.value.Value.{Value}
-use Rattle.resp2.specs.Frame.{Frame, view, spelling, simple, fault, int, bulk, null_bulk, items, null_items}
-use Rattle.resp2.specs.Reading.{frame_at}
-use Rattle.resp2.specs.Stream.{Held, reading, ended, Feeds, Answers, Parts, Splits, SoFar, held_size}
-use Rattle.resp2.proofs.Drains.{fault_drains, value_drains, end_drains, fed_so_far, nothing_waits}
-use Rattle.resp2.proofs.Streams.{parts_longer}
+use Rattle.resp2_frames.specs.declared.fault.FrameFault.{FrameFault}
+use Rattle.resp2_frames.specs.declared.fault.FrameFault.TheVariants.{BadKind, BadLength, BadNumber, MissingEnd, TooLong, TooDeep, TooMany, NoMemory}
+use Rattle.resp2_frames.specs.declared.fault.Unread.TheVariants.{NeedsMore}
+use Rattle.resp2_frames.specs.declared.value.Value.{Value}
+use Rattle.resp2_frames.specs.Frame.{Frame, view, spelling, simple, fault, int, bulk, null_bulk, items, null_items}
+use Rattle.resp2_frames.specs.Reading.{frame_at}
+use Rattle.resp2_frames.specs.Stream.{Held, reading, ended, Feeds, Answers, Parts, Splits, SoFar, held_size}
+use Rattle.resp2_frames.proofs.Drains.{fault_drains, value_drains, end_drains, fed_so_far, nothing_waits}
+use Rattle.resp2_frames.proofs.Streams.{parts_longer}
 use Rattle.std.specs.Prelude.{OnOk, IfErr, is_err, false}
 use Rattle.std.specs.Io.KnownBytes.{Appends, Consumes, Keeps}
 use Rattle.sentinel_rules.specs.Plans.{Plan}

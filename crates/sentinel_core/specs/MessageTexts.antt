@@ -11,7 +11,7 @@ use Rattle.ballot_law.specs.Words.{ip_text}
 use Rattle.node_texts.specs.Infos.{info_text, IsInfo}
 use Rattle.node_texts.specs.Roles.{role_frame, IsRole}
 use Rattle.resp2.specs.Commands.{bulks, ask_frame, candidate_text}
-use Rattle.resp2.specs.Frame.{Frame, simple, fault, int, bulk, items, null_items, no_frames, frame, spelling, IsLine}
+use Rattle.resp2_frames.specs.Frame.{Frame, simple, fault, int, bulk, items, null_items, no_frames, frame, spelling, IsLine}
 
 -- an array of bulk strings
 abbrev pub words_frame : List (List ℕ) → Frame

@@ -10,13 +10,13 @@ use Rattle.ballot_law.specs.declared.messages.Output.{Output}
 use Rattle.ballot_law.specs.declared.messages.Output.TheVariants.{Send, Tell}
 use Rattle.port_answers.specs.Answers.{command_fault, protocol_error}
 use Rattle.resp2.specs.declared.command.CommandFault.{CommandFault}
-use Rattle.resp2.specs.declared.fault.FrameFault.{FrameFault}
-use Rattle.resp2.specs.declared.fault.FrameFault.TheVariants.{NoMemory}
-use Rattle.resp2.specs.declared.fault.Unread.TheVariants.{NeedsMore}
+use Rattle.resp2_frames.specs.declared.fault.FrameFault.{FrameFault}
+use Rattle.resp2_frames.specs.declared.fault.FrameFault.TheVariants.{NoMemory}
+use Rattle.resp2_frames.specs.declared.fault.Unread.TheVariants.{NeedsMore}
 use Rattle.resp2.specs.Commands.{command_of}
-use Rattle.resp2.specs.Frame.{Frame, spelling}
-use Rattle.resp2.specs.Reading.{frame_at}
-use Rattle.resp2.specs.Stream.{Held, reading, ended, Parts, Splits}
+use Rattle.resp2_frames.specs.Frame.{Frame, spelling}
+use Rattle.resp2_frames.specs.Reading.{frame_at}
+use Rattle.resp2_frames.specs.Stream.{Held, reading, ended, Parts, Splits}
 use Rattle.sentinel_conf.specs.Meaning.{ConfPlan}
 use Rattle.sentinel_conf.specs.Rewritten.{rewritten}
 use Rattle.sentinel_rules.specs.Plans.{Plan}

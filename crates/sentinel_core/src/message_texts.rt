@@ -7,8 +7,8 @@ ghost use Rattle.ballot_law.specs.Words.{ip_text};
 ghost use Rattle.node_texts.specs.Infos.{IsInfo, info_text};
 ghost use Rattle.node_texts.specs.Roles.{IsRole, role_frame};
 ghost use Rattle.resp2.specs.Commands.{ask_frame, candidate_text};
-ghost use Rattle.resp2.specs.Frame as frames;
-ghost use Rattle.resp2.specs.Frame.{view, spelling};
+ghost use Rattle.resp2_frames.specs.Frame as frames;
+ghost use Rattle.resp2_frames.specs.Frame.{view, spelling};
 ghost use Rattle.sentinel_core.specs.MessageTexts.{words_frame, answer_frame, ping_frame, hello_channel, replica_of_frame, address_frame, message_bytes, IsWritable};
 
 use ballot_law::{Addr, Body, Hello, Info, Message, Name, Role, RunId, Shown};

@@ -20,7 +20,7 @@ use Rattle.ballot_law.specs.Orders.{same_addr}
 use Rattle.ballot_law.specs.Worlds.{IsRightOutput}
 use Rattle.node_texts.specs.Hellos.{hello_of}
 use Rattle.node_texts.specs.Infos.{info_of}
-use Rattle.resp2.specs.Frame.{Frame as Reply}
+use Rattle.resp2_frames.specs.Frame.{Frame as Reply}
 use Rattle.port_answers.specs.Answers.{master_frame, masters_frame, replicas_frame, sentinels_frame, no_such_master, ok_line, id_frame}
 use Rattle.sentinel_rules.specs.Plans.{Plan, roster_of, me, master_count}
 use Rattle.sentinel_rules.specs.States.{Core, master_of, is_tilted, is_master_down}

@@ -3,7 +3,7 @@ use Rattle.std.proofs.Common.{◌≡◌, ◌≢◌, ℕ, zero, suc, ◌+◌, ◌
 use Rattle.std.proofs.lemmas.Bool.Decides.{nat_tests}
 use Rattle.std.specs.List.{flat_map, AllByRecursion}
 use Rattle.ballot_law.specs.declared.addresses.RunId.{RunId}
-use Rattle.resp2.specs.Frame.{Frame, items, frames_of, spelling}
+use Rattle.resp2_frames.specs.Frame.{Frame, items, frames_of, spelling}
 use Rattle.port_answers.specs.declared.rows.MasterRow.{MasterRow}
 use Rattle.port_answers.specs.declared.rows.ReplicaRow.{ReplicaRow}
 use Rattle.port_answers.specs.declared.rows.SentinelRow.{SentinelRow}

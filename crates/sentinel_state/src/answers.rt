@@ -5,7 +5,7 @@ ghost use Rattle.std.specs.List.{list_any};
 ghost use Rattle.ballot_law.specs.declared.messages.Body.TheVariants.{PingText, PortReply};
 ghost use Rattle.ballot_law.specs.Clocks.{clock};
 ghost use Rattle.ballot_law.specs.Orders.{same_addr};
-ghost use Rattle.resp2.specs.Frame.{spelling};
+ghost use Rattle.resp2_frames.specs.Frame.{spelling};
 ghost use Rattle.port_answers.specs.Answers.{master_frame, masters_frame, replicas_frame, sentinels_frame, no_such_master, ok_line, id_frame};
 ghost use Rattle.sentinel_rules.specs.Answers.{master_with_card, master_listing, asked_of, master_row, replica_rows, sentinel_rows, all_masters, quorum_frame, reply, named, about, address_of, commanded};
 ghost use Rattle.sentinel_rules.specs.Plans.{roster_of, me, master_count};

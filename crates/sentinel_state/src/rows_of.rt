@@ -3,7 +3,7 @@
 ghost use Rattle.std.specs.Prelude.{◌≡◌, ◌≤◌, ◌<◌, ◌++◌, [], ◌==◌, if◌then◌else◌, length, map, slice_index_or, vec_capacity};
 ghost use Rattle.ballot_law.specs.Clocks.{clock};
 ghost use Rattle.ballot_law.specs.Rosters.{no_member};
-ghost use Rattle.resp2.specs.Frame.{spelling};
+ghost use Rattle.resp2_frames.specs.Frame.{spelling};
 ghost use Rattle.port_answers.specs.Room.{bounded};
 ghost use Rattle.port_answers.specs.Answers.{masters_frame, replica_frame, replicas_frame, sentinel_frame, sentinels_frame};
 ghost use Rattle.port_answers.specs.Limits.{IsPlace, IsMasterRow, IsReplicaRow};

@@ -1,43 +1,20 @@
 //! IPv4 addresses and TCP ports.
 
-ghost use Rattle.std.specs.Prelude.{◌≡◌, ◌+◌, ◌*◌, ◌<◌, ◌≤◌, ◌∷◌, ◌++◌, [], length, decimal, MatchOption, OnOk, OnErr, vec_len, vec_capacity};
+ghost use Rattle.std.specs.Prelude.{◌≡◌, ◌+◌, ◌*◌, ◌≤◌, ◌++◌, decimal};
 ghost use Rattle.arrayvec.specs.ArrayVec.{array_vec_len};
-ghost use Rattle.ballot_law.specs.Words.{parts, ip_part, ip, ip_text, port, address, canonical_address};
-ghost use Rattle.words.specs.Dots.{before_dot};
+ghost use Rattle.ballot_law.specs.Words.{ip_part, ip, ip_text, port, canonical_port, address, canonical_address};
 
+use crate::cuts::split_at_byte;
 use crate::numbers::{canonical_number_of, number_of};
 use arrayvec::ArrayVec;
 use ballot_law::Addr;
 use itoa::Buffer;
-use std::alloc::AllocError;
 
 /// The greatest TCP port.
-const PORT_MAX: u64 = 65_535;
+pub const PORT_MAX: u64 = 65_535;
 
 /// How many bytes the longest IPv4 address has as a text.
 pub const IP_TEXT_MAX: usize = 15;
-
-/// How many bytes stand before the first dot.
-fn before_dot(bytes: &[u8]) -> usize
-    ensures { result ≡ before_dot bytes.now }
-{
-    for (place, byte) in bytes.iter().enumerate() {
-        if *byte == b'.' {
-            return place;
-        }
-    }
-    bytes.len()
-}
-
-/// What stands before the first dot, and what stands behind it.
-fn split_at_dot(bytes: &[u8]) -> Option<(&[u8], &[u8])>
-    ensures { MatchOption result (parts bytes.now ≡ bytes.now ∷ [])
-        (λ pair. parts bytes.now ≡ pair.0.now ∷ parts pair.1.now) }
-{
-    let (part, tail) = bytes.split_at(before_dot(bytes));
-    let (_, rest) = tail.split_first()?;
-    Some((part, rest))
-}
 
 /// One of the four parts of an address: 0 to 255, without leading zeros.
 fn part_of(bytes: &[u8]) -> Option<u8>
@@ -58,10 +35,10 @@ fn joined(a: u8, b: u8, c: u8, d: u8) -> u32
 pub fn ip_of(bytes: &[u8]) -> Option<u32>
     ensures { result ≡ ip bytes.now }
 {
-    let (first, rest) = split_at_dot(bytes)?;
-    let (second, rest) = split_at_dot(rest)?;
-    let (third, fourth) = split_at_dot(rest)?;
-    if split_at_dot(fourth).is_some() {
+    let (first, rest) = split_at_byte(bytes, b'.')?;
+    let (second, rest) = split_at_byte(rest, b'.')?;
+    let (third, fourth) = split_at_byte(rest, b'.')?;
+    if split_at_byte(fourth, b'.').is_some() {
         return None;
     }
     Some(joined(
@@ -80,6 +57,14 @@ pub fn port_of(bytes: &[u8]) -> Option<u16>
     Some(port as u16)
 }
 
+/// The TCP port that is spelled so: 1 to 65,535, without leading zeros.
+pub fn canonical_port_of(bytes: &[u8]) -> Option<u16>
+    ensures { result ≡ canonical_port bytes.now }
+{
+    let port = canonical_number_of(bytes, 1, PORT_MAX)?;
+    Some(port as u16)
+}
+
 /// The address of an IPv4 address and a port, leading zeros allowed in the port.
 pub fn address_of(ip_bytes: &[u8], port_bytes: &[u8]) -> Option<Addr>
     ensures { result ≡ address ip_bytes.now port_bytes.now }
@@ -94,11 +79,8 @@ pub fn canonical_address_of(ip_bytes: &[u8], port_bytes: &[u8]) -> Option<Addr>
     ensures { result ≡ canonical_address ip_bytes.now port_bytes.now }
 {
     let ip = ip_of(ip_bytes)?;
-    let port = canonical_number_of(port_bytes, 1, PORT_MAX)?;
-    Some(Addr {
-        ip,
-        port: port as u16,
-    })
+    let port = canonical_port_of(port_bytes)?;
+    Some(Addr { ip, port })
 }
 
 /// Adds one of the four parts of an address in decimal.
@@ -125,17 +107,4 @@ pub fn ip_text(ip: u32) -> ArrayVec<u8, IP_TEXT_MAX>
     text.push(b'.');
     push_part(&mut text, (ip % 256) as u8);
     text
-}
-
-/// Adds an IPv4 address at the end of a text.
-///
-/// `AllocError` leaves the text as it was, and comes only where the text has no room for the address.
-pub fn add_ip(out: &mut Vec<u8>, ip: u32) -> Result<(), AllocError>
-    ensures added { OnOk result (out.new.items ≡ out.old.items ++ ip_text ip) }
-    ensures len { OnOk result (vec_len out.new ≡ vec_len out.old + length (ip_text ip)) }
-    ensures kept { OnErr result (out.new.items ≡ out.old.items) }
-    ensures capacity { vec_capacity out.old ≤ vec_capacity out.new }
-    ensures full { OnErr result (vec_capacity out.old < vec_len out.old + length (ip_text ip)) }
-{
-    out.extend_from_slice(ip_text(ip).as_slice())
 }

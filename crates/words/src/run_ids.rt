@@ -1,13 +1,12 @@
 //! Run ids.
 
-ghost use Rattle.std.specs.Prelude.{◌≡◌, ◌+◌, ◌^◌, ◌<◌, ◌≤◌, ◌++◌, length, IfSome, OnOk, OnErr, vec_len, vec_capacity};
+ghost use Rattle.std.specs.Prelude.{◌≡◌, ◌+◌, ◌/◌, ◌%◌, ◌^◌, ◌<◌, ◌≤◌, ◌++◌, length, IfSome};
 ghost use Rattle.std.specs.List.{list_all};
 ghost use Rattle.ballot_law.specs.Words.{some_if, is_hex, hex_value, hex_on, run_id, hex_digit, hex, id_text};
 ghost use Rattle.arrayvec.specs.ArrayVec.{array_vec_len};
 
 use arrayvec::ArrayVec;
 use ballot_law::RunId;
-use std::alloc::AllocError;
 
 /// How many hex digits a run id has.
 pub const RUN_ID_LENGTH: usize = 40;
@@ -65,17 +64,50 @@ fn hex_digit(digit: u8) -> u8
     }
 }
 
-/// Adds the last `digits` hex digits of a number.
-fn push_hex(text: &mut ArrayVec<u8, RUN_ID_LENGTH>, number: u128, digits: usize)
-    requires { array_vec_len text.old + digits ≤ 40 }
-    ensures items { text.new.items ≡ text.old.items ++ hex digits number }
-    ensures len { array_vec_len text.new ≡ array_vec_len text.old + digits }
+/// The last hex digit of a number.
+fn last_digit(number: u128) -> u8
+    ensures { result ≡ hex_digit (number % 16) }
 {
-    if digits == 0 {
-        return;
-    }
-    push_hex(text, number / 16, digits - 1);
-    text.push(hex_digit((number % 16) as u8));
+    hex_digit((number % 16) as u8)
+}
+
+/// What stands before the last eight hex digits of a number.
+fn before_eight(number: u128) -> u128
+    ensures { result ≡ number / 16 / 16 / 16 / 16 / 16 / 16 / 16 / 16 }
+{
+    number / 16 / 16 / 16 / 16 / 16 / 16 / 16 / 16
+}
+
+/// The last eight hex digits of a number.
+#[tactic(auto, using(crate::proofs::HexLemmas::eight_digits))]
+fn eight_digits(number: u128) -> [u8; 8]
+    ensures { result ≡ hex 8 number }
+{
+    let second = number / 16;
+    let third = second / 16;
+    let fourth = third / 16;
+    let fifth = fourth / 16;
+    let sixth = fifth / 16;
+    let seventh = sixth / 16;
+    [
+        last_digit(seventh / 16),
+        last_digit(seventh),
+        last_digit(sixth),
+        last_digit(fifth),
+        last_digit(fourth),
+        last_digit(third),
+        last_digit(second),
+        last_digit(number),
+    ]
+}
+
+/// Adds the last eight hex digits of a number.
+fn push_eight(text: &mut ArrayVec<u8, RUN_ID_LENGTH>, number: u128)
+    requires { array_vec_len text.old + 8 ≤ 40 }
+    ensures items { text.new.items ≡ text.old.items ++ hex 8 number }
+    ensures len { array_vec_len text.new ≡ array_vec_len text.old + 8 }
+{
+    text.try_extend_from_slice(&eight_digits(number)).unwrap()
 }
 
 /// A run id as a text: 40 lower case hex digits.
@@ -83,21 +115,13 @@ pub fn run_id_text(id: RunId) -> ArrayVec<u8, RUN_ID_LENGTH>
     ensures items { result.items ≡ id_text id }
     ensures len { array_vec_len result ≡ 40 }
 {
+    let third = before_eight(id.hi);
+    let second = before_eight(third);
     let mut text = ArrayVec::new();
-    push_hex(&mut text, id.hi, HIGH_LENGTH);
-    push_hex(&mut text, u128::from(id.lo), RUN_ID_LENGTH - HIGH_LENGTH);
+    push_eight(&mut text, before_eight(second));
+    push_eight(&mut text, second);
+    push_eight(&mut text, third);
+    push_eight(&mut text, id.hi);
+    push_eight(&mut text, u128::from(id.lo));
     text
-}
-
-/// Adds a run id at the end of a text.
-///
-/// `AllocError` leaves the text as it was, and comes only where the text has no room for the 40 digits.
-pub fn add_run_id(out: &mut Vec<u8>, id: RunId) -> Result<(), AllocError>
-    ensures added { OnOk result (out.new.items ≡ out.old.items ++ id_text id) }
-    ensures len { OnOk result (vec_len out.new ≡ vec_len out.old + 40) }
-    ensures kept { OnErr result (out.new.items ≡ out.old.items) }
-    ensures capacity { vec_capacity out.old ≤ vec_capacity out.new }
-    ensures full { OnErr result (vec_capacity out.old < vec_len out.old + 40) }
-{
-    out.extend_from_slice(run_id_text(id).as_slice())
 }

@@ -10,4 +10,4 @@ returns-then-is_some c =
     let t = c.in_ok-third.third.now in
     let d = c.in_ok-third.fourth.now in
     sym (ap ip_of_parts c.in_ok-first.ensures ∙ ap (λ ps. ip_of_parts (a ∷ ps)) c.in_ok-second.ensures ∙ ap (λ ps. ip_of_parts (a ∷ b ∷ ps)) c.in_ok-third.ensures
-    ∙ more_parts a b t d c.split_at_dot-4.result (λ p. p.0.now) (λ p. p.1.now) c.split_at_dot-4.ensures (sym c.is_some.ensures ∙ c.if-is_some.true))
+    ∙ more_parts a b t d c.split_at_byte-4.result (λ p. p.0.now) (λ p. p.1.now) c.split_at_byte-4.ensures (sym c.is_some.ensures ∙ c.if-is_some.true))

@@ -1,6 +1,6 @@
 use Rattle.std.proofs.Common.{◌≡◌, ◌+◌, ◌++◌, ◌∷◌, length, ap, ◌∙◌, arith}
 use Rattle.ballot_law.specs.Words.{ip_text}
-use Rattle.resp2.specs.Frame.{bulk, spelling}
+use Rattle.resp2_frames.specs.Frame.{bulk, spelling}
 use Rattle.port_answers.specs.Room.{bounded}
 use Rattle.port_answers.proofs.FieldLemmas.{bulk_of}
 use Rattle.port_answers.proofs.answer_text.AnswerText.add_addr_text.Goals as goal

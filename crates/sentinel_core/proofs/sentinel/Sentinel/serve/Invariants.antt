@@ -1,6 +1,6 @@
 use Rattle.std.proofs.Common.{◌≡◌, List, ℕ, ◌+◌, ◌*◌, ◌≤◌}
 use Rattle.std.specs.Io.KnownBytes.{Consumes, Appends}
-use Rattle.resp2.specs.Stream.{held_size}
+use Rattle.resp2_frames.specs.Stream.{held_size}
 use Rattle.sentinel_core.specs.declared.phase.Phase.TheVariants.{Ready}
 use Rattle.sentinel_core.specs.Serving.{IsIdle}
 use Rattle.sentinel_core.proofs.sentinel.Sentinel.serve.Given as goal

@@ -1,5 +1,5 @@
 use Rattle.std.proofs.Common.{◌≡◌, List, ℕ, Option, ◌+◌, ◌≤◌}
-use Rattle.resp2.specs.Stream.{held_size}
+use Rattle.resp2_frames.specs.Stream.{held_size}
 use Rattle.sentinel_rules.specs.States.{Core}
 use Rattle.sentinel_core.specs.declared.phase.Phase.TheVariants.{Ready}
 use Rattle.sentinel_core.specs.Serving.{IsAnswered}

@@ -1,6 +1,6 @@
 use Rattle.std.proofs.Common.{◌≡◌, ℕ, ◌<◌, ◌++◌}
 use Rattle.ballot_law.specs.Clocks.{clock}
-use Rattle.resp2.specs.Frame.{spelling}
+use Rattle.resp2_frames.specs.Frame.{spelling}
 use Rattle.port_answers.specs.Room.{bounded}
 use Rattle.port_answers.specs.Answers.{header, master_frame}
 use Rattle.port_answers.specs.Limits.{IsMasterRow}

@@ -1,0 +1,254 @@
+//! Rows of bytes and of values, and streams in pieces.
+ghost use Rattle.std.specs.Prelude.{IfOk, IfSome};
+ghost use Rattle.resp2_frames.specs.Frame.{view, HasLines};
+
+use ballot_law::Text;
+use resp2::{FrameFault, Frames, NoMemory, OutText, Value, values_of_pieces, write_value};
+use std::alloc::Global;
+use std::test::Fail;
+
+/// What a fresh reader answers to these bytes.
+fn answer(alloc: Global, bytes: &[u8]) -> Result<Option<Value>, FrameFault>
+    ensures { IfOk result (λ given. IfSome given (λ value. HasLines (view value))) }
+{
+    let mut frames = Frames::new(alloc);
+    frames.feed(bytes)?;
+    frames.next()
+}
+
+fn bulk(alloc: Global, bytes: &[u8]) -> Result<Value, NoMemory> {
+    Ok(Value::Bulk(Text::from_slice(alloc, bytes)?))
+}
+
+/// Four asks for a vote, in epochs 1, 1, 2 and 1.
+const ASKS: &str =
+    "*6\r\n$8\r\nSENTINEL\r\n$22\r\nIS-MASTER-DOWN-BY-ADDR\r\n$9\r\n127.0.0.1\r\n$4\r\n6379\r\n$1\r\n1\r\n$40\r\naaaaaaaaaaaaaaaaaaaaaaaaaaaaaaaaaaaaaaaa\r\n\
+*6\r\n$8\r\nSENTINEL\r\n$22\r\nIS-MASTER-DOWN-BY-ADDR\r\n$9\r\n127.0.0.1\r\n$4\r\n6379\r\n$1\r\n1\r\n$40\r\nbbbbbbbbbbbbbbbbbbbbbbbbbbbbbbbbbbbbbbbb\r\n\
+*6\r\n$8\r\nSENTINEL\r\n$22\r\nIS-MASTER-DOWN-BY-ADDR\r\n$9\r\n127.0.0.1\r\n$4\r\n6379\r\n$1\r\n2\r\n$40\r\nbbbbbbbbbbbbbbbbbbbbbbbbbbbbbbbbbbbbbbbb\r\n\
+*6\r\n$8\r\nSENTINEL\r\n$22\r\nIS-MASTER-DOWN-BY-ADDR\r\n$9\r\n127.0.0.1\r\n$4\r\n6379\r\n$1\r\n1\r\n$40\r\ncccccccccccccccccccccccccccccccccccccccc\r\n";
+
+fn ask(alloc: Global, epoch: &[u8], id: &[u8]) -> Result<Value, Fail> {
+    Ok(Value::Items(vec![in alloc;
+        bulk(alloc, b"SENTINEL")?,
+        bulk(alloc, b"IS-MASTER-DOWN-BY-ADDR")?,
+        bulk(alloc, b"127.0.0.1")?,
+        bulk(alloc, b"6379")?,
+        bulk(alloc, epoch)?,
+        bulk(alloc, id)?,
+    ]?))
+}
+
+/// The four asks as values, or fewer of them.
+fn asks(alloc: Global, count: usize) -> Result<Vec<Value>, Fail> {
+    let mut values = vec![in alloc;
+        ask(alloc, b"1", b"aaaaaaaaaaaaaaaaaaaaaaaaaaaaaaaaaaaaaaaa")?,
+        ask(alloc, b"1", b"bbbbbbbbbbbbbbbbbbbbbbbbbbbbbbbbbbbbbbbb")?,
+        ask(alloc, b"2", b"bbbbbbbbbbbbbbbbbbbbbbbbbbbbbbbbbbbbbbbb")?,
+        ask(alloc, b"1", b"cccccccccccccccccccccccccccccccccccccccc")?,
+    ]?;
+    values.truncate(count);
+    Ok(values)
+}
+
+#[test]
+fn fed_one_byte_at_a_time(rt: HostRuntime) -> Result<(), Fail> {
+    let alloc = rt.alloc();
+    let mut frames = Frames::new(alloc);
+    let mut values = Vec::new(alloc);
+    for byte in ASKS.as_bytes() {
+        frames.feed(&[*byte])?;
+        if let Some(value) = frames.next()? {
+            values.push(value)?;
+        }
+    }
+    assert!(rt; values == asks(alloc, 4)?);
+    assert_eq!(rt; frames.next(), Ok(None));
+    Ok(())
+}
+
+#[test]
+fn cut_in_two_at_any_place(rt: HostRuntime) -> Result<(), Fail> {
+    let alloc = rt.alloc();
+    let expected = asks(alloc, 4)?;
+    let bytes = ASKS.as_bytes();
+    for i in 0..bytes.len() {
+        let (front, back) = bytes.split_at(i);
+        let pieces = vec![in alloc;
+            Vec::from_slice(alloc, front)?,
+            Vec::from_slice(alloc, back)?,
+        ]?;
+        let values = values_of_pieces(alloc, pieces.as_slice())?;
+        assert!(rt; values == expected);
+    }
+    Ok(())
+}
+
+#[test]
+fn last_value_waits_for_its_last_byte(rt: HostRuntime) -> Result<(), Fail> {
+    let alloc = rt.alloc();
+    let bytes = ASKS.as_bytes();
+    let (whole, _) = bytes.split_at(bytes.len().saturating_sub(1));
+    let pieces = vec![in alloc; Vec::from_slice(alloc, whole)?]?;
+    let values = values_of_pieces(alloc, pieces.as_slice())?;
+    assert!(rt; values == asks(alloc, 3)?);
+    Ok(())
+}
+
+#[test]
+fn lengths_have_one_form_and_bounds(rt: HostRuntime) -> Result<(), Fail> {
+    let alloc = rt.alloc();
+    assert_eq!(rt; answer(alloc, b"$-2\r\n"), Err(FrameFault::BadLength));
+    assert_eq!(rt; answer(alloc, b"*-2\r\n"), Err(FrameFault::BadLength));
+    assert_eq!(rt; answer(alloc, b"*00\r\n"), Err(FrameFault::BadLength));
+    assert_eq!(rt; answer(alloc, b"$65527\r\n"), Err(FrameFault::TooLong));
+    assert_eq!(rt;
+        answer(alloc, b"$99999999999999999999999\r\n"),
+        Err(FrameFault::TooLong)
+    );
+    assert_eq!(rt; answer(alloc, b"$65526\r\n"), Ok(None));
+    assert_eq!(rt; answer(alloc, b"*1025\r\n"), Err(FrameFault::TooMany));
+    assert_eq!(rt; answer(alloc, b"*1024\r\n"), Ok(None));
+    Ok(())
+}
+
+#[test]
+fn integers_have_one_form_and_64_bits(rt: HostRuntime) -> Result<(), Fail> {
+    let alloc = rt.alloc();
+    assert_eq!(rt; answer(alloc, b":+05\r\n"), Err(FrameFault::BadNumber));
+    assert_eq!(rt; answer(alloc, b":-0\r\n"), Err(FrameFault::BadNumber));
+    assert_eq!(rt;
+        answer(alloc, b":9223372036854775808\r\n"),
+        Err(FrameFault::BadNumber)
+    );
+    assert_eq!(rt;
+        answer(alloc, b":-9223372036854775809\r\n"),
+        Err(FrameFault::BadNumber)
+    );
+    assert_eq!(rt;
+        answer(alloc, b":9223372036854775807\r\n"),
+        Ok(Some(Value::Int(9_223_372_036_854_775_807)))
+    );
+    assert_eq!(rt;
+        answer(alloc, b":-9223372036854775808\r\n"),
+        Ok(Some(Value::Int(-9_223_372_036_854_775_808)))
+    );
+    Ok(())
+}
+
+#[test]
+fn ends_and_kinds_are_judged(rt: HostRuntime) -> Result<(), Fail> {
+    let alloc = rt.alloc();
+    assert_eq!(rt; answer(alloc, b"$1\r\nab\r\n"), Err(FrameFault::MissingEnd));
+    assert_eq!(rt; answer(alloc, b"$5\nab"), Err(FrameFault::MissingEnd));
+    assert_eq!(rt; answer(alloc, b"+a\rb"), Err(FrameFault::MissingEnd));
+    assert_eq!(rt; answer(alloc, b"+a\r"), Ok(None));
+    assert_eq!(rt; answer(alloc, b"!"), Err(FrameFault::BadKind));
+    assert_eq!(rt; answer(alloc, b""), Ok(None));
+    Ok(())
+}
+
+#[test]
+fn ninth_depth_is_too_deep(rt: HostRuntime) -> Result<(), Fail> {
+    let alloc = rt.alloc();
+    let mut bytes = Vec::new(alloc);
+    for _ in 0..8 {
+        bytes.extend_from_slice(b"*1\r\n")?;
+    }
+    assert_eq!(rt; answer(alloc, bytes.as_slice()), Ok(None));
+    bytes.extend_from_slice(b":")?;
+    assert_eq!(rt; answer(alloc, bytes.as_slice()), Err(FrameFault::TooDeep));
+    Ok(())
+}
+
+#[test]
+fn line_without_end_is_too_long_at_byte_65537(rt: HostRuntime) -> Result<(), Fail> {
+    let alloc = rt.alloc();
+    let mut frames = Frames::new(alloc);
+    frames.feed(b"+")?;
+    for _ in 0..65_535 {
+        frames.feed(b"a")?;
+    }
+    assert_eq!(rt; frames.next(), Ok(None));
+    frames.feed(b"a")?;
+    assert_eq!(rt; frames.next(), Err(FrameFault::TooLong));
+    assert_eq!(rt; frames.feed(b"a"), Err(FrameFault::TooLong));
+    assert_eq!(rt; frames.next(), Err(FrameFault::TooLong));
+    Ok(())
+}
+
+#[test]
+fn array_of_1024_empty_bulk_strings(rt: HostRuntime) -> Result<(), Fail> {
+    let alloc = rt.alloc();
+    let mut bytes = Vec::from_slice(alloc, b"*1024\r\n")?;
+    let mut items = Vec::new(alloc);
+    for _ in 0..1024 {
+        bytes.extend_from_slice(b"$0\r\n\r\n")?;
+        items.push(bulk(alloc, b"")?)?;
+    }
+    assert_eq!(rt;
+        answer(alloc, bytes.as_slice()),
+        Ok(Some(Value::Items(items)))
+    );
+    Ok(())
+}
+
+#[test]
+fn values_before_a_fault_are_given_and_the_fault_stays(rt: HostRuntime) -> Result<(), Fail> {
+    let alloc = rt.alloc();
+    let mut frames = Frames::new(alloc);
+    frames.feed(b"$-1\r\n*-1\r\n!+OK\r\n")?;
+    assert_eq!(rt; frames.next(), Ok(Some(Value::NullBulk)));
+    assert_eq!(rt; frames.next(), Ok(Some(Value::NullItems)));
+    assert_eq!(rt; frames.next(), Err(FrameFault::BadKind));
+    assert_eq!(rt; frames.next(), Err(FrameFault::BadKind));
+    Ok(())
+}
+
+#[test]
+fn integers_and_nulls_are_written(rt: HostRuntime) -> Result<(), Fail> {
+    let alloc = rt.alloc();
+    let mut text = OutText::new(alloc);
+    write_value(&Value::Int(-5), &mut text)?;
+    write_value(&Value::NullBulk, &mut text)?;
+    write_value(&Value::NullItems, &mut text)?;
+    assert_eq!(rt; text.as_slice(), b":-5\r\n$-1\r\n*-1\r\n".as_slice());
+    Ok(())
+}
+
+#[test]
+fn what_was_read_is_written_the_same(rt: HostRuntime) -> Result<(), Fail> {
+    let alloc = rt.alloc();
+    let bytes = b"*4\r\n+OK\r\n-ERR no\r\n*2\r\n:-7\r\n*0\r\n$2\r\n\r\n\r\n".as_slice();
+    let value = answer(alloc, bytes)?.ok_or("no value")?;
+    let mut text = OutText::new(alloc);
+    write_value(&value, &mut text)?;
+    assert_eq!(rt; text.as_slice(), bytes);
+    Ok(())
+}
+
+#[test]
+fn values_cut_inside_a_length_and_a_bulk(rt: HostRuntime) -> Result<(), Fail> {
+    let alloc = rt.alloc();
+    let first = Vec::from_slice(alloc, b":1\r\n$2\r")?;
+    let second = Vec::from_slice(alloc, b"\na")?;
+    let third = Vec::from_slice(alloc, b"b\r\n:3")?;
+    let pieces = vec![in alloc; first, second, third]?;
+    let values = values_of_pieces(alloc, pieces.as_slice())?;
+    let expected = vec![in alloc; Value::Int(1), bulk(alloc, b"ab")?]?;
+    assert!(rt; values == expected);
+    Ok(())
+}
+
+#[test]
+fn text_is_cleared_and_taken_back(rt: HostRuntime) -> Result<(), Fail> {
+    let alloc = rt.alloc();
+    let mut text = OutText::new(alloc);
+    write_value(&Value::Int(-5), &mut text)?;
+    text.add(b"+OK\r\n")?;
+    assert_eq!(rt; text.len(), 10);
+    text.truncate(5);
+    assert_eq!(rt; text.as_slice(), b":-5\r\n".as_slice());
+    text.clear();
+    assert_eq!(rt; text.as_slice(), b"".as_slice());
+    Ok(())
+}

@@ -1,0 +1,15 @@
+pub mod Steps
+pub mod Lines
+pub mod Numbers
+pub mod Takes
+pub mod Again
+pub mod Keeps
+pub mod Loop
+pub mod Window
+pub mod Streams
+pub mod Named
+pub mod Answered
+pub mod Drains
+pub mod HaveLines
+pub mod Written
+pub mod Adding

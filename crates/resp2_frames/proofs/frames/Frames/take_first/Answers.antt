@@ -1,0 +1,11 @@
+use Rattle.std.proofs.Common.{◌≡◌, rules}
+use Rattle.resp2_frames.specs.Frame.{view}
+use Rattle.resp2_frames.specs.Stream.{reading}
+use Rattle.resp2_frames.proofs.Named.{fault_answers}
+use Rattle.resp2_frames.proofs.frames.Frames.take_first.Goals as goal
+
+pub returns-in-Err-At-Faulty : goal.returns-in-Err-At-Faulty
+returns-in-Err-At-Faulty c =
+    let held : c.args.self.now ≡ reading c.self.inside.bytes.items = search rules in
+    let read = rw (c.in-Err-At-Faulty.field-0-is, c.in-Err-At-Faulty.field-0-0-is, c.as_slice.ensures) at c.in-Err-At-Faulty.ensures.gives in
+    rw held (fault_answers view c.self.inside.bytes.items c.in-Err-At-Faulty.fault read)

@@ -1,0 +1,4 @@
+pub mod Frame
+pub mod Reading
+pub mod Stream
+pub mod Writing

@@ -1,0 +1,137 @@
+//! A reader of values from a stream that comes in pieces.
+ghost use Rattle.std.specs.Prelude.{◌≡◌, ℕ, ◌≤◌, ◌++◌, [], List, length, take, drop, map, IfOk, IfSome, MatchResult, MatchOption};
+ghost use Rattle.resp2_frames.specs.declared.fault.FrameFault.TheVariants.{NoMemory};
+ghost use Rattle.resp2_frames.specs.Frame.{Frame, view, spelling, IsFrame};
+ghost use Rattle.resp2_frames.specs.Reading.{Gives, frame_at};
+ghost use Rattle.resp2_frames.specs.Stream.{Held, held_of, reading, Feeds, Answers};
+
+use crate::fault::{FrameFault, Stopped, Unread};
+use crate::reading::value_of;
+use crate::value::Value;
+use bytes::BytesMut;
+use std::alloc::Global;
+use std::marker::Model;
+
+/// How many bytes a frame may have.
+const LONGEST: usize = 65_536;
+
+/// How deep a frame may be.
+const DEEPEST: usize = 8;
+
+/// The bytes that a frame may have.
+fn window_of(bytes: &[u8]) -> &[u8]
+    ensures value { result.now ≡ take 65536 bytes.now }
+    ensures short { length result.now ≤ 65536 }
+    ensures within { length result.now ≤ length bytes.now }
+{
+    &bytes[..bytes.len().min(LONGEST)]
+}
+
+/// The first value, and how many bytes spell it.
+fn frame_of(alloc: Global, bytes: &[u8]) -> Result<(Value, usize), Stopped>
+    ensures gives { Gives (λ x. (view x.0, drop x.1 bytes.now)) result (frame_at bytes.now) }
+    ensures within { IfOk result (λ x. x.1 ≤ length bytes.now) }
+{
+    let window = window_of(bytes);
+    match value_of(alloc, window, LONGEST - window.len(), DEEPEST) {
+        Ok((value, rest)) => Ok((value, window.len().saturating_sub(rest.len()))),
+        Err(Stopped::At(Unread::Faulty(fault))) => Err(Stopped::fault(fault)),
+        Err(Stopped::At(Unread::NeedsMore)) => {
+            if bytes.len() > LONGEST {
+                Err(Stopped::fault(FrameFault::TooLong))
+            } else {
+                Err(Stopped::At(Unread::NeedsMore))
+            }
+        }
+        Err(Stopped::Memory) => Err(Stopped::Memory),
+    }
+}
+
+/// A reader of the values of one stream. Contracts see the bytes that came and were not given yet,
+/// or the fault that was answered.
+///
+/// The pieces may be cut anywhere: the values are those of the whole stream. A value that is given
+/// is cut off the front of the bytes held with no copy, and their room is used again, so the memory
+/// taken goes with the bytes held and not with the length of the stream. Take every whole value
+/// before the next `feed`, so that no more than one frame and one piece are held.
+#[derive(Drop)]
+pub struct Frames {
+    bytes: BytesMut,
+    fault: Option<FrameFault>,
+}
+
+impl Model for Frames {
+    ghost Value = { Held };
+
+    ghost view = { λ frames. held_of frames.fault frames.bytes.items };
+}
+
+impl Frames {
+    /// A reader to which no bytes came. No memory is taken.
+    pub fn new(alloc: Global) -> Frames
+        ensures { result ≡ reading [] }
+    {
+        Frames {
+            bytes: BytesMut::new(alloc),
+            fault: None,
+        }
+    }
+
+    /// Adds the next piece of the stream, of any length.
+    ///
+    /// `NoMemory` leaves the reader unchanged. Any other fault is one that `next` has answered
+    /// before, and the piece is dropped.
+    pub fn feed(&mut self, piece: &[u8]) -> Result<(), FrameFault>
+        ensures { Feeds self.old piece.now result self.new }
+    {
+        if let Some(fault) = self.fault {
+            return Err(fault);
+        }
+        match self.bytes.extend_from_slice(piece) {
+            Ok(()) => Ok(()),
+            Err(_) => Err(FrameFault::NoMemory),
+        }
+    }
+
+    /// Takes the first whole value out of the bytes that came; `None` where more bytes are needed.
+    ///
+    /// `NoMemory` leaves the reader unchanged. Any other fault is one of the bytes: the values
+    /// before it were given, and every later call of `next` and `feed` answers it again.
+    pub fn next(&mut self) -> Result<Option<Value>, FrameFault>
+        // What it answers, and what it leaves.
+        ensures exact { Answers view self.old result self.new }
+        // The value that is given stands at the front in its one spelling, and what is behind
+        // it stays.
+        ensures found { IfOk result (λ given. IfSome given (λ value.
+            (rest : List ℕ) × IsFrame (view value)
+            × (self.old ≡ reading (spelling (view value) ++ rest)) × (self.new ≡ reading rest))) }
+        // Where a value stands at the front, that one is given, unless memory is wanting.
+        ensures only { (f : Frame) (rest : List ℕ) → IsFrame f
+            → self.old ≡ reading (spelling f ++ rest)
+            → MatchResult result
+            (λ given. MatchOption given ⊥ (λ value. (view value ≡ f) × (self.new ≡ reading rest)))
+            (λ fault. fault ≡ NoMemory) }
+    {
+        self.take_first()
+    }
+
+    fn take_first(&mut self) -> Result<Option<Value>, FrameFault>
+        ensures { Answers view self.old result self.new }
+    {
+        if let Some(fault) = self.fault {
+            return Err(fault);
+        }
+        match frame_of(*self.bytes.allocator(), self.bytes.as_slice()) {
+            Ok((value, count)) => {
+                self.bytes.advance(count);
+                Ok(Some(value))
+            }
+            Err(Stopped::At(Unread::NeedsMore)) => Ok(None),
+            Err(Stopped::At(Unread::Faulty(fault))) => {
+                self.fault = Some(fault);
+                Err(fault)
+            }
+            Err(Stopped::Memory) => Err(FrameFault::NoMemory),
+        }
+    }
+}

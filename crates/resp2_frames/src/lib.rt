@@ -1,0 +1,25 @@
+//! Values of the Redis serialization protocol, version 2 (RESP2), read from a stream that comes in any pieces and written
+//! in their one spelling.
+//!
+//! `Frames` reads and `write_value` writes to an `OutText`. The grammar, its limits and its faults stand in docs/RESP2.md.
+#![tactic(auto)]
+
+mod fault;
+mod frames;
+mod laws;
+mod out_text;
+mod pieces;
+mod reading;
+mod value;
+mod writing;
+
+pub use fault::{FrameFault, Unread};
+pub use frames::Frames;
+pub use laws::{
+    law_fault_and_value_stay, law_no_value_behind_a_fault, law_one_spelling, law_one_split,
+    law_reading_is_spelling, law_waits_within_a_frame,
+};
+pub use out_text::OutText;
+pub use pieces::values_of_pieces;
+pub use value::Value;
+pub use writing::write_value;
