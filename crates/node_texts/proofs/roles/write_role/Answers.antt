@@ -1,5 +1,5 @@
 use Rattle.std.proofs.Common.{◌≤◌, length, ap, arith}
-use Rattle.resp2.proofs.Window.{frame_again}
+use Rattle.resp2_frames.proofs.Window.{frame_again}
 use Rattle.resp2_frames.specs.Frame.{spelling}
 use Rattle.node_texts.specs.Roles.{role_frame}
 use Rattle.node_texts.proofs.RoleAgain.{role_again, role_is_frame}
