@@ -12,7 +12,7 @@ use Rattle.ballot_law.specs.Orders.{same_addr, same_id}
 use Rattle.ballot_law.specs.OwnVotes.{Book, grants, asked, raised}
 use Rattle.ballot_law.specs.Rosters.{AtLeast, HasNode, size, need, no_addr}
 use Rattle.ballot_law.specs.VotesHeard.{kept_at, is_for, count_in, own_votes, IsElectedIn}
-use Rattle.ballot_law.proofs.CountedVotes.{AtLeast-kept, same_id-equal}
+use Rattle.ballot_law.proofs.CountedVotes.{both, eqb-true, AtLeast-kept, same_id-equal}
 use Rattle.failover_states.specs.declared.states.State.{State}
 use Rattle.failover_states.specs.declared.states.State.TheVariants.{Idle, WaitStart, SelectReplica, SendPromotion, WaitPromotion, ReconfReplicas, UpdateConfig}
 use Rattle.failover_states.specs.declared.states.Row.{Row}
@@ -34,10 +34,10 @@ use Rattle.std.proofs.lemmas.Option.{IfSome_then}
 use Rattle.ballot_law.specs.declared.cards.KeptMaster.{KeptMaster}
 use Rattle.sentinel_rules.proofs.Framing.{master_same, master_other, sound_alike, awaited_still}
 use Rattle.sentinel_rules.proofs.Turns.{Best, turn_by, turn_vote}
-use Rattle.sentinel_rules.proofs.Choices.{both, eqb-true, same_addr-same, best_awaited}
-use Rattle.sentinel_rules.proofs.FineTicks.{fine_if, row_fine, busy_is, idle_is, start_within, start_fine, peers_fine, nodes_fine, odown_fine}
-use Rattle.sentinel_rules.proofs.Leads.{Leads, leads_then, leads_more, kept_as, IsTwin, twin_then, twin_leads, twin_master, twin_state, same_leads, drop_leads, choose_leads, win_leads, open_leads, voted_core, cast_leads}
-use Rattle.sentinel_rules.proofs.LeadNews.{stay_leads, leads_if, within_core, mark_twin, voted_is}
+use Rattle.sentinel_rules.proofs.Choices.{same_addr-same, best_awaited}
+use Rattle.sentinel_rules.proofs.SoundTicks.{keeps_if, row_keeps, busy_is, idle_is, start_within, start_keeps, peers_keeps, nodes_keeps, odown_keeps}
+use Rattle.sentinel_rules.proofs.StepsTo.{StepsTo, steps_then, steps_more, kept_as, IsTwin, twin_then, twin_steps, twin_master, twin_state, same_steps, drop_steps, choose_steps, win_steps, open_steps, voted_core, cast_steps}
+use Rattle.sentinel_rules.proofs.StepNews.{stay_steps, steps_if, within_core, mark_twin, voted_is}
 
 -- Votes that are counted
 
@@ -80,53 +80,53 @@ enough_votes plan master m epoch book parts p o long none voted leader elected =
 
 -- how the core with the row's failover is reached
 abbrev IsReached : Plan → Event → (m epoch : ℕ) → Core → Option Row → Failover → Type 0
-IsReached plan event m epoch core row f = (last : Core) → IsTwin m core last (campaign_in f.state) → Leads plan event 1 core (with_win m epoch row last)
+IsReached plan event m epoch core row f = (last : Core) → IsTwin m core last (campaign_in f.state) → StepsTo plan event 1 core (with_win m epoch row last)
 
 pub place_is_node : (plan : Plan) (core : Core) (m place : ℕ) (addr : Addr) → IsAwaited plan core.kept m (record { place = place; addr = addr }) → HasNode (roster_of plan) m addr
 place_is_node plan core m place addr a =
     list_any_at (same_addr addr) (nodes_of plan m) place no_addr a.listed (subst (λ (x : Addr). same_addr addr x ≡ true) a.addressed (same_addr-same addr))
 
 module _ (plan : Plan) (event : Event) (m : ℕ) (k : Known) (f : Failover) (core : Core) (lt : m < length core.masters) (inside : m < master_count plan) (none : core.won ≡ None) (best : Best plan core.kept m k.best) where
-  stay : (epoch : ℕ) (row : Option Row) (state : State) (last : Core) → campaign_in (failover_of core m).state ≡ campaign_in state → IsTwin m core last (campaign_in state) → Leads plan event 1 core last
-  stay epoch row state last runs t = twin_leads plan event 1 m core last lt (twin_state m core last (campaign_in state) (campaign_in (failover_of core m).state) (sym runs) t)
+  stay : (epoch : ℕ) (row : Option Row) (state : State) (last : Core) → campaign_in (failover_of core m).state ≡ campaign_in state → IsTwin m core last (campaign_in state) → StepsTo plan event 1 core last
+  stay epoch row state last runs t = twin_steps plan event 1 m core last lt (twin_state m core last (campaign_in state) (campaign_in (failover_of core m).state) (sym runs) t)
 
-  chosen_leads : (epoch : ℕ) (best : Option (ℕ × Addr)) (g : Failover) → Best plan core.kept m best → campaign_in (failover_of core m).state ≡ Won epoch → is_some best ≡ true → IsReached plan event m epoch core (Some ReplicaChosen) (chosen epoch best g k)
-  chosen_leads epoch None g b won h last t = absurd (cc)
-  chosen_leads epoch (Some choice) g b won h last t =
-      choose_leads plan event m epoch choice.1 core last lt inside won (place_is_node plan core m choice.0 choice.1 b) b.other t
+  chosen_steps : (epoch : ℕ) (best : Option (ℕ × Addr)) (g : Failover) → Best plan core.kept m best → campaign_in (failover_of core m).state ≡ Won epoch → is_some best ≡ true → IsReached plan event m epoch core (Some ReplicaChosen) (chosen epoch best g k)
+  chosen_steps epoch None g b won h last t = absurd (cc)
+  chosen_steps epoch (Some choice) g b won h last t =
+      choose_steps plan event m epoch choice.1 core last lt inside won (place_is_node plan core m choice.0 choice.1 b) b.other t
 
-  pub turn_leads : (state : State) → f.state ≡ state → campaign_in (failover_of core m).state ≡ campaign_in state → (state ≡ Idle → ⊥)
+  pub turn_steps : (state : State) → f.state ≡ state → campaign_in (failover_of core m).state ≡ campaign_in state → (state ≡ Idle → ⊥)
       → ((epoch : ℕ) → state ≡ WaitStart epoch → is_elected epoch k ≡ true → (parts : Parts) → IsPartsOf core (kept_as core parts) → AtLeast (HasVoted (roster_of plan) plan.place (kept_as core parts) m epoch) (size (roster_of plan)) (need (roster_of plan) m))
       → IsReached plan event m (unwrap_or (epoch_of state) 0) core (turn_in state (expiring state k.now (quieted f)) k).row (turn_in state (expiring state k.now (quieted f)) k).failover
-  turn_leads Idle e runs busy enough = absurd (busy refl)
-  turn_leads (WaitStart epoch) e runs busy enough =
+  turn_steps Idle e runs busy enough = absurd (busy refl)
+  turn_steps (WaitStart epoch) e runs busy enough =
       let same = ap (λ (st : State). campaign_in st) e in
       turn_by (IsReached plan event m epoch core) (quieted f) (vote_of (WaitStart epoch) k) (table (WaitStart epoch) (quieted f) k)
       (λ last t. stay epoch None f.state last (runs ∙ sym same) t) (
-        (λ fits last t. win_leads plan event m epoch core last lt inside none runs (enough epoch refl fits) t),
-        ((λ fits last t. drop_leads plan event m core last lt inside t), ((λ fits last t. stay epoch None f.state last (runs ∙ sym same) t), tt)),
+        (λ fits last t. win_steps plan event m epoch core last lt inside none runs (enough epoch refl fits) t),
+        ((λ fits last t. drop_steps plan event m core last lt inside t), ((λ fits last t. stay epoch None f.state last (runs ∙ sym same) t), tt)),
       )
-  turn_leads (SelectReplica epoch) e runs busy enough =
+  turn_steps (SelectReplica epoch) e runs busy enough =
       let same = ap (λ (st : State). campaign_in st) e in
       turn_by (IsReached plan event m epoch core) (quieted f) None (table (SelectReplica epoch) (quieted f) k)
       (λ last t. stay epoch None f.state last (runs ∙ sym same) t)
-      ((λ fits. chosen_leads epoch k.best (quieted f) best runs fits), ((λ fits last t. drop_leads plan event m core last lt inside t), tt))
-  turn_leads (SendPromotion epoch choice) e runs busy enough =
+      ((λ fits. chosen_steps epoch k.best (quieted f) best runs fits), ((λ fits last t. drop_steps plan event m core last lt inside t), tt))
+  turn_steps (SendPromotion epoch choice) e runs busy enough =
       let same = ap (λ (st : State). campaign_in st) e in
       turn_by (IsReached plan event m epoch core) (quieted f) None (table (SendPromotion epoch choice) (quieted f) k)
       (λ last t. stay epoch None f.state last (runs ∙ sym same) t) (
-        (λ fits last t. drop_leads plan event m core last lt inside t),
+        (λ fits last t. drop_steps plan event m core last lt inside t),
         (
           (λ fits last t. stay epoch None f.state last (runs ∙ sym same) t),
           ((λ fits last t. stay epoch None (SendPromotion epoch choice) last runs t), tt),
         ),
       )
-  turn_leads (WaitPromotion epoch choice former) e runs busy enough =
+  turn_steps (WaitPromotion epoch choice former) e runs busy enough =
       let same = ap (λ (st : State). campaign_in st) e in
       turn_by (IsReached plan event m epoch core) (quieted f) None (table (WaitPromotion epoch choice former) (quieted f) k)
       (λ last t. stay epoch None f.state last (runs ∙ sym same) t)
-      ((λ fits last t. drop_leads plan event m core last lt inside t), ((λ fits last t. stay epoch None f.state last (runs ∙ sym same) t), tt))
-  turn_leads (ReconfReplicas epoch choice former) e runs busy enough =
+      ((λ fits last t. drop_steps plan event m core last lt inside t), ((λ fits last t. stay epoch None f.state last (runs ∙ sym same) t), tt))
+  turn_steps (ReconfReplicas epoch choice former) e runs busy enough =
       let same = ap (λ (st : State). campaign_in st) e in
       let g : Failover = expiring (ReconfReplicas epoch choice former) k.now (quieted f) in
       turn_by (IsReached plan event m epoch core) g None (table (ReconfReplicas epoch choice former) g k)
@@ -137,11 +137,11 @@ module _ (plan : Plan) (event : Event) (m : ℕ) (k : Known) (f : Failover) (cor
           ((λ fits last t. stay epoch None f.state last (runs ∙ sym same) t), tt),
         ),
       )
-  turn_leads (UpdateConfig epoch choice) e runs busy enough =
+  turn_steps (UpdateConfig epoch choice) e runs busy enough =
       let same = ap (λ (st : State). campaign_in st) e in
       turn_by (IsReached plan event m epoch core) (quieted f) None (table (UpdateConfig epoch choice) (quieted f) k)
       (λ last t. stay epoch None f.state last (runs ∙ sym same) t)
-      ((λ fits last t. drop_leads plan event m core last lt inside t), tt)
+      ((λ fits last t. drop_steps plan event m core last lt inside t), tt)
 
 -- The own vote
 
@@ -218,13 +218,13 @@ module _ (plan : Plan) (event : Event) (m now : ℕ) (core : Core) (p : IsSoundP
   -- where no vote is given
   quiet_turn : (state : State) → (failover_of core m).state ≡ state → (state ≡ Idle → ⊥) → (turn_in_state state).vote ≡ None
       → ((epoch : ℕ) → state ≡ WaitStart epoch → grants (book_of core m) epoch ≡ false)
-      → Leads plan event 2 core (with_win m (unwrap_or (epoch_of state) 0) (turn_in_state state).row (with_vote plan m now (unwrap_or (epoch_of state) 0) (turn_in_state state).vote (with_failover core m (turn_in_state state).failover)))
+      → StepsTo plan event 2 core (with_win m (unwrap_or (epoch_of state) 0) (turn_in_state state).row (with_vote plan m now (unwrap_or (epoch_of state) 0) (turn_in_state state).vote (with_failover core m (turn_in_state state).failover)))
   quiet_turn state e busy no_vote past =
       subst
-      (λ (vote : Option RunId). Leads plan event 2 core (with_win m (unwrap_or (epoch_of state) 0) (turn_in_state state).row (with_vote plan m now (unwrap_or (epoch_of state) 0) vote (with_failover core m (turn_in_state state).failover))))
+      (λ (vote : Option RunId). StepsTo plan event 2 core (with_win m (unwrap_or (epoch_of state) 0) (turn_in_state state).row (with_vote plan m now (unwrap_or (epoch_of state) 0) vote (with_failover core m (turn_in_state state).failover))))
       (sym no_vote)
-      (leads_more plan event 1 2 core (with_win m (unwrap_or (epoch_of state) 0) (turn_in_state state).row (with_failover core m (turn_in_state state).failover)) (omega arith)
-      (turn_leads plan event m (known_of plan core m now false) (failover_of core m) core lt inside none (best_awaited plan core m now p inside) state e (ap (λ (st : State). campaign_in st) e) busy enough
+      (steps_more plan event 1 2 core (with_win m (unwrap_or (epoch_of state) 0) (turn_in_state state).row (with_failover core m (turn_in_state state).failover)) (omega arith)
+      (turn_steps plan event m (known_of plan core m now false) (failover_of core m) core lt inside none (best_awaited plan core m now p inside) state e (ap (λ (st : State). campaign_in st) e) busy enough
       (with_failover core m (turn_in_state state).failover)
       (twin_master core m (record (master_of core m) { failover = (turn_in_state state).failover }) lt refl refl)))
     where
@@ -236,17 +236,17 @@ module _ (plan : Plan) (event : Event) (m now : ℕ) (core : Core) (p : IsSoundP
 
   -- where the own vote is given
   voting_turn : (epoch : ℕ) → (failover_of core m).state ≡ WaitStart epoch → grants (book_of core m) epoch ≡ true → (turn_in_state (WaitStart epoch)).vote ≡ Some (known_of plan core m now false).pick
-      → Leads plan event 2 core (with_win m epoch (turn_in_state (WaitStart epoch)).row (with_vote plan m now epoch (turn_in_state (WaitStart epoch)).vote (with_failover core m (turn_in_state (WaitStart epoch)).failover)))
+      → StepsTo plan event 2 core (with_win m epoch (turn_in_state (WaitStart epoch)).row (with_vote plan m now epoch (turn_in_state (WaitStart epoch)).vote (with_failover core m (turn_in_state (WaitStart epoch)).failover)))
   voting_turn epoch e can gives =
       subst
-      (λ (vote : Option RunId). Leads plan event 2 core (with_win m epoch turn.row (with_vote plan m now epoch vote next)))
+      (λ (vote : Option RunId). StepsTo plan event 2 core (with_win m epoch turn.row (with_vote plan m now epoch vote next)))
       (sym gives)
       (subst
-      (λ (c : Core). Leads plan event 2 core (with_win m epoch turn.row (mark_for plan m now pick c)))
+      (λ (c : Core). StepsTo plan event 2 core (with_win m epoch turn.row (mark_for plan m now pick c)))
       (sym (voted_is next m epoch pick can_next))
-      (leads_then plan event 1 1 core voted (with_win m epoch turn.row (mark_for plan m now pick (voted_core next m epoch pick)))
-      (cast_leads plan event m epoch pick core lt inside (omega (arith, low, high)) newer)
-      (turn_leads plan event m (known_of plan core m now false) (failover_of core m) voted voted_lt inside none best_voted (WaitStart epoch) e
+      (steps_then plan event 1 1 core voted (with_win m epoch turn.row (mark_for plan m now pick (voted_core next m epoch pick)))
+      (cast_steps plan event m epoch pick core lt inside (omega (arith, low, high)) newer)
+      (turn_steps plan event m (known_of plan core m now false) (failover_of core m) voted voted_lt inside none best_voted (WaitStart epoch) e
       (ap (λ (x : MasterState). campaign_in x.failover.state) (master_same core m told lt) ∙ ap (λ (st : State). campaign_in st) e)
       (λ b. absurd (cc))
       enough
@@ -317,7 +317,7 @@ module _ (plan : Plan) (event : Event) (m now : ℕ) (core : Core) (p : IsSoundP
           (elected_by epoch e (subst (λ (n : ℕ). is_elected n (known_of plan core m now false) ≡ true) (sym same) h)))
 
   turn_by_state : (state : State) → (failover_of core m).state ≡ state → (state ≡ Idle → ⊥)
-      → Leads plan event 2 core (with_win m (unwrap_or (epoch_of state) 0) (turn_in_state state).row (with_vote plan m now (unwrap_or (epoch_of state) 0) (turn_in_state state).vote (with_failover core m (turn_in_state state).failover)))
+      → StepsTo plan event 2 core (with_win m (unwrap_or (epoch_of state) 0) (turn_in_state state).row (with_vote plan m now (unwrap_or (epoch_of state) 0) (turn_in_state state).vote (with_failover core m (turn_in_state state).failover)))
   turn_by_state Idle e busy = absurd (busy refl)
   turn_by_state (WaitStart epoch) e busy = known (grants (book_of core m) epoch) refl
     where
@@ -325,7 +325,7 @@ module _ (plan : Plan) (event : Event) (m now : ℕ) (core : Core) (p : IsSoundP
       given = turn_vote (quieted (failover_of core m)) (vote_in epoch (known_of plan core m now false)) (table (WaitStart epoch) (quieted (failover_of core m)) (known_of plan core m now false))
 
       known : (b : Bool) → grants (book_of core m) epoch ≡ b
-          → Leads plan event 2 core (with_win m epoch (turn_in_state (WaitStart epoch)).row (with_vote plan m now epoch (turn_in_state (WaitStart epoch)).vote (with_failover core m (turn_in_state (WaitStart epoch)).failover)))
+          → StepsTo plan event 2 core (with_win m epoch (turn_in_state (WaitStart epoch)).row (with_vote plan m now epoch (turn_in_state (WaitStart epoch)).vote (with_failover core m (turn_in_state (WaitStart epoch)).failover)))
       known true h = voting_turn epoch e h (given ∙ some_if_true (grants (book_of core m) epoch) (known_of plan core m now false).pick h)
       known false h =
           quiet_turn (WaitStart epoch) e busy (given ∙ some_if_false (grants (book_of core m) epoch) (known_of plan core m now false).pick h)
@@ -343,13 +343,13 @@ module _ (plan : Plan) (event : Event) (m now : ℕ) (core : Core) (p : IsSoundP
       quiet_turn (UpdateConfig epoch choice) e busy (turn_vote (quieted (failover_of core m)) None (table (UpdateConfig epoch choice) (quieted (failover_of core m)) (known_of plan core m now false))) (λ epoch2 at. absurd (cc))
 
   -- a vote at most, and a step of the campaign at most
-  pub row_leads : ((failover_of core m).state ≡ Idle → ⊥) → Leads plan event 2 core (row_part plan m now core).core
-  row_leads busy = turn_by_state (failover_of core m).state refl busy
+  pub row_steps : ((failover_of core m).state ≡ Idle → ⊥) → StepsTo plan event 2 core (row_part plan m now core).core
+  row_steps busy = turn_by_state (failover_of core m).state refl busy
 
 -- A start
 
-start_leads : (plan : Plan) (event : Event) (m now : ℕ) (core : Core) → IsSound plan core → m < master_count plan → (failover_of core m).state ≡ Idle → Leads plan event 1 core (after_start m (start_turn plan core m now) core)
-start_leads plan event m now core s inside idle = subst (λ (x : Failover). Leads plan event 1 core (after_start m (turned x k) core)) (sym same) from_idle
+start_steps : (plan : Plan) (event : Event) (m now : ℕ) (core : Core) → IsSound plan core → m < master_count plan → (failover_of core m).state ≡ Idle → StepsTo plan event 1 core (after_start m (start_turn plan core m now) core)
+start_steps plan event m now core s inside idle = subst (λ (x : Failover). StepsTo plan event 1 core (after_start m (turned x k) core)) (sym same) from_idle
   where
     k : Known
     k = known_of plan core m now (master_of core m).odown
@@ -367,18 +367,18 @@ start_leads plan event m now core s inside idle = subst (λ (x : Failover). Lead
     runs = ap (λ (st : State). campaign_in st) idle
 
     Q : Option Row → Failover → Type 0
-    Q row f2 = Leads plan event 1 core (if is_some row then with_current (with_failover core m f2) (core.kept.current + 1) else with_failover core m f2)
+    Q row f2 = StepsTo plan event 1 core (if is_some row then with_current (with_failover core m f2) (core.kept.current + 1) else with_failover core m f2)
 
-    from_idle : Leads plan event 1 core (after_start m (turned f k) core)
+    from_idle : StepsTo plan event 1 core (after_start m (turned f k) core)
     from_idle =
         turn_by Q (quieted f) None (table Idle (quieted f) k)
-        (twin_leads plan event 1 m core (with_failover core m (quieted f)) lt (twin_state m core (with_failover core m (quieted f)) NoCampaign (campaign_in (failover_of core m).state) (sym runs) (twin_master core m (record (master_of core m) { failover = quieted f }) lt refl refl)))
-        ((λ h. open_leads plan event m core (with_failover core m (started (quieted f) k)) lt inside runs (start_within (quieted f) k h) (twin_master core m (record (master_of core m) { failover = started (quieted f) k }) lt refl refl)), tt)
+        (twin_steps plan event 1 m core (with_failover core m (quieted f)) lt (twin_state m core (with_failover core m (quieted f)) NoCampaign (campaign_in (failover_of core m).state) (sym runs) (twin_master core m (record (master_of core m) { failover = quieted f }) lt refl refl)))
+        ((λ h. open_steps plan event m core (with_failover core m (started (quieted f) k)) lt inside runs (start_within (quieted f) k h) (twin_master core m (record (master_of core m) { failover = started (quieted f) k }) lt refl refl)), tt)
 
-starts_leads : (plan : Plan) (event : Event) (m now : ℕ) (core : Core) → IsSound plan core → m < master_count plan → Leads plan event 1 core (start_part plan m now core).core
-starts_leads plan event m now core s inside =
-    leads_if plan event 1 (not (is_failing_over core m)) core (λ c. quiet (after_start m (start_turn plan c m now) c))
-    (λ h. start_leads plan event m now core s inside (idle_is (failover_of core m).state h))
+starts_steps : (plan : Plan) (event : Event) (m now : ℕ) (core : Core) → IsSound plan core → m < master_count plan → StepsTo plan event 1 core (start_part plan m now core).core
+starts_steps plan event m now core s inside =
+    steps_if plan event 1 (not (is_failing_over core m)) core (λ c. quiet (after_start m (start_turn plan c m now) c))
+    (λ h. start_steps plan event m now core s inside (idle_is (failover_of core m).state h))
 
 -- no election yet
 
@@ -401,31 +401,31 @@ peers_won plan (suc m) now core = refl
 
 -- The whole tick
 
-peers_leads : (plan : Plan) (event : Event) (m now : ℕ) (core : Core) → Leads plan event 0 core (peers_part plan m now core).core
-peers_leads plan event zero now core = same_leads plan event 0 core (record core { peers = changed_from (peer_after plan now) 0 core.peers }) refl refl refl
-peers_leads plan event (suc m) now core = stay_leads plan event 0 core
+peers_steps : (plan : Plan) (event : Event) (m now : ℕ) (core : Core) → StepsTo plan event 0 core (peers_part plan m now core).core
+peers_steps plan event zero now core = same_steps plan event 0 core (record core { peers = changed_from (peer_after plan now) 0 core.peers }) refl refl refl
+peers_steps plan event (suc m) now core = stay_steps plan event 0 core
 
-nodes_leads : (plan : Plan) (event : Event) (m now : ℕ) (core : Core) → m < length core.masters → Leads plan event 0 core (nodes_part plan m now core).core
-nodes_leads plan event m now core lt =
+nodes_steps : (plan : Plan) (event : Event) (m now : ℕ) (core : Core) → m < length core.masters → StepsTo plan event 0 core (nodes_part plan m now core).core
+nodes_steps plan event m now core lt =
     let new : MasterState = record (master_of core m) { nodes = changed_from (node_after (sending_of plan core m now)) 0 (master_of core m).nodes } in
-    twin_leads plan event 0 m core (with_master core m new) lt (twin_master core m new lt refl refl)
+    twin_steps plan event 0 m core (with_master core m new) lt (twin_master core m new lt refl refl)
 
-odown_leads : (plan : Plan) (event : Event) (m now : ℕ) (core : Core) → m < length core.masters → Leads plan event 0 core (odown_part plan m now core).core
-odown_leads plan event m now core lt =
+odown_steps : (plan : Plan) (event : Event) (m now : ℕ) (core : Core) → m < length core.masters → StepsTo plan event 0 core (odown_part plan m now core).core
+odown_steps plan event m now core lt =
     let new : MasterState = record (master_of core m) { odown = is_odown_at plan core m now } in
-    twin_leads plan event 0 m core (with_master core m new) lt (twin_master core m new lt refl refl)
+    twin_steps plan event 0 m core (with_master core m new) lt (twin_master core m new lt refl refl)
 
-ask_leads : (plan : Plan) (event : Event) (m now : ℕ) (started : Bool) (core : Core) → m < length core.masters → Leads plan event 0 core (ask_part plan m now started core).core
-ask_leads plan event m now started core lt =
-    leads_if plan event 0 (is_master_down plan core m now && is_ask_due started (master_of core m).ask_sent now) core
+ask_steps : (plan : Plan) (event : Event) (m now : ℕ) (started : Bool) (core : Core) → m < length core.masters → StepsTo plan event 0 core (ask_part plan m now started core).core
+ask_steps plan event m now started core lt =
+    steps_if plan event 0 (is_master_down plan core m now && is_ask_due started (master_of core m).ask_sent now) core
     (λ c. puts (with_master c m (record (master_of c m) { ask_sent = Some now })) (frames_from (ask_frames plan m (ask_candidate plan c m)) 0 c.peers))
-    (λ h. twin_leads plan event 0 m core (with_master core m (record (master_of core m) { ask_sent = Some now })) lt (twin_master core m (record (master_of core m) { ask_sent = Some now }) lt refl refl))
+    (λ h. twin_steps plan event 0 m core (with_master core m (record (master_of core m) { ask_sent = Some now })) lt (twin_master core m (record (master_of core m) { ask_sent = Some now }) lt refl refl))
 
-failover_leads : (plan : Plan) (event : Event) (m now : ℕ) (core : Core) → IsSoundPlan plan → IsSound plan core → m < master_count plan → core.won ≡ None → Leads plan event 3 core (failover_part plan m now core).core
-failover_leads plan event m now core p s inside none =
-    leads_then plan event 3 0 core rowed (failover_part plan m now core).core
-    (leads_then plan event 1 2 core begun rowed (starts_leads plan event m now core s inside) (rows begun (start_fine plan m now core s).sound (start_won plan m now core ∙ none)))
-    (ask_leads plan event m now (starts_now plan core m now) rowed (within_core plan rowed m rowed_sound inside))
+failover_steps : (plan : Plan) (event : Event) (m now : ℕ) (core : Core) → IsSoundPlan plan → IsSound plan core → m < master_count plan → core.won ≡ None → StepsTo plan event 3 core (failover_part plan m now core).core
+failover_steps plan event m now core p s inside none =
+    steps_then plan event 3 0 core rowed (failover_part plan m now core).core
+    (steps_then plan event 1 2 core begun rowed (starts_steps plan event m now core s inside) (rows begun (start_keeps plan m now core s).sound (start_won plan m now core ∙ none)))
+    (ask_steps plan event m now (starts_now plan core m now) rowed (within_core plan rowed m rowed_sound inside))
   where
     begun : Core
     begun = (start_part plan m now core).core
@@ -433,40 +433,40 @@ failover_leads plan event m now core p s inside none =
     rowed : Core
     rowed = (part_if (is_failing_over begun m) begun (row_part plan m now)).core
 
-    rows : (c : Core) → IsSound plan c → c.won ≡ None → Leads plan event 2 c (part_if (is_failing_over c m) c (row_part plan m now)).core
-    rows c t n = leads_if plan event 2 (is_failing_over c m) c (row_part plan m now) (λ h. row_leads plan event m now c p t inside n (busy_is (failover_of c m).state h))
+    rows : (c : Core) → IsSound plan c → c.won ≡ None → StepsTo plan event 2 c (part_if (is_failing_over c m) c (row_part plan m now)).core
+    rows c t n = steps_if plan event 2 (is_failing_over c m) c (row_part plan m now) (λ h. row_steps plan event m now c p t inside n (busy_is (failover_of c m).state h))
 
     rowed_sound : IsSound plan rowed
-    rowed_sound = (fine_if plan 257 (is_failing_over begun m) begun (row_part plan m now) (start_fine plan m now core s).sound (λ h. row_fine plan m now begun p inside (busy_is (failover_of begun m).state h) (start_fine plan m now core s).sound)).sound
+    rowed_sound = (keeps_if plan 257 (is_failing_over begun m) begun (row_part plan m now) (start_keeps plan m now core s).sound (λ h. row_keeps plan m now begun p inside (busy_is (failover_of begun m).state h) (start_keeps plan m now core s).sound)).sound
 
-judging_leads : (plan : Plan) (event : Event) (m now : ℕ) (core : Core) → IsSoundPlan plan → IsSound plan core → m < master_count plan → core.won ≡ None → Leads plan event 3 core (judging_part plan m now core).core
-judging_leads plan event m now core p s inside none =
-    leads_if plan event 3 (not (is_tilted core)) core (λ c. then_part (odown_part plan m now c) (failover_part plan m now))
-    (λ h. leads_then plan event 0 3 core judged (failover_part plan m now judged).core
-    (odown_leads plan event m now core (within_core plan core m s inside))
-    (failover_leads plan event m now judged p (odown_fine plan m now core s).sound inside none))
+judging_steps : (plan : Plan) (event : Event) (m now : ℕ) (core : Core) → IsSoundPlan plan → IsSound plan core → m < master_count plan → core.won ≡ None → StepsTo plan event 3 core (judging_part plan m now core).core
+judging_steps plan event m now core p s inside none =
+    steps_if plan event 3 (not (is_tilted core)) core (λ c. then_part (odown_part plan m now c) (failover_part plan m now))
+    (λ h. steps_then plan event 0 3 core judged (failover_part plan m now judged).core
+    (odown_steps plan event m now core (within_core plan core m s inside))
+    (failover_steps plan event m now judged p (odown_keeps plan m now core s).sound inside none))
   where
     judged : Core
     judged = (odown_part plan m now core).core
 
-master_leads : (plan : Plan) (event : Event) (m now : ℕ) (core : Core) → IsSoundPlan plan → IsSound plan core → m < master_count plan → core.won ≡ None → Leads plan event 3 core (master_part plan m now core).core
-master_leads plan event m now core p s inside none =
-    leads_then plan event 0 3 core sent (master_part plan m now core).core
-    (leads_then plan event 0 0 core asked_peers sent (peers_leads plan event m now core) (nodes_leads plan event m now asked_peers (within_core plan asked_peers m asked_sound inside)))
-    (judging_leads plan event m now sent p (nodes_fine plan m now asked_peers p inside asked_sound).sound inside (peers_won plan m now core ∙ none))
+master_steps : (plan : Plan) (event : Event) (m now : ℕ) (core : Core) → IsSoundPlan plan → IsSound plan core → m < master_count plan → core.won ≡ None → StepsTo plan event 3 core (master_part plan m now core).core
+master_steps plan event m now core p s inside none =
+    steps_then plan event 0 3 core sent (master_part plan m now core).core
+    (steps_then plan event 0 0 core asked_peers sent (peers_steps plan event m now core) (nodes_steps plan event m now asked_peers (within_core plan asked_peers m asked_sound inside)))
+    (judging_steps plan event m now sent p (nodes_keeps plan m now asked_peers p inside asked_sound).sound inside (peers_won plan m now core ∙ none))
   where
     asked_peers : Core
     asked_peers = (peers_part plan m now core).core
 
     asked_sound : IsSound plan asked_peers
-    asked_sound = (peers_fine plan m now core p s).sound
+    asked_sound = (peers_keeps plan m now core p s).sound
 
     sent : Core
     sent = (nodes_part plan m now asked_peers).core
 
-pub tick_leads : (plan : Plan) (event : Event) (m random now : ℕ) (core : Core) → IsSoundPlan plan → IsSound plan core → core.won ≡ None → Leads plan event 3 core (tick plan m random now core).core
-tick_leads plan event m random now core p s none =
-    leads_then plan event 0 3 core (with_reading now random core) (tick plan m random now core).core
-    (same_leads plan event 0 core (with_reading now random core) refl refl refl)
-    (leads_if plan event 3 (nat_lt m (master_count plan)) (with_reading now random core) (master_part plan m now)
-    (λ h. master_leads plan event m now (with_reading now random core) p (sound_alike plan core (with_reading now random core) refl refl refl s) (ltb-true m (master_count plan) h) none))
+pub tick_steps : (plan : Plan) (event : Event) (m random now : ℕ) (core : Core) → IsSoundPlan plan → IsSound plan core → core.won ≡ None → StepsTo plan event 3 core (tick plan m random now core).core
+tick_steps plan event m random now core p s none =
+    steps_then plan event 0 3 core (with_reading now random core) (tick plan m random now core).core
+    (same_steps plan event 0 core (with_reading now random core) refl refl refl)
+    (steps_if plan event 3 (nat_lt m (master_count plan)) (with_reading now random core) (master_part plan m now)
+    (λ h. master_steps plan event m now (with_reading now random core) p (sound_alike plan core (with_reading now random core) refl refl refl s) (ltb-true m (master_count plan) h) none))

@@ -21,8 +21,8 @@ use Rattle.sentinel_rules.specs.Takes.{next_at, part_of, cleared}
 use Rattle.sentinel_rules.specs.Facts.{IsSoundPlan, IsSound, IsWithinEvent}
 use Rattle.sentinel_rules.specs.Room.{InputsKeepFew}
 use Rattle.sentinel_rules.proofs.Framing.{sound_alike}
-use Rattle.sentinel_rules.proofs.FineTicks.{fine_more, tick_fine, book_sound, mark_sound}
-use Rattle.sentinel_rules.proofs.FineNews.{hello_fine, answered_sound, pinged_sound, info_fine}
+use Rattle.sentinel_rules.proofs.SoundTicks.{keeps_more, tick_keeps, book_sound, mark_sound}
+use Rattle.sentinel_rules.proofs.SoundNews.{hello_keeps, answered_sound, pinged_sound, info_keeps}
 
 pub requested_sound : (plan : Plan) (m now epoch : ℕ) (candidate : RunId) (core : Core) → epoch ≤ MAX_EPOCH → IsSound plan core → IsSound plan (requested plan m now epoch candidate core)
 requested_sound plan m now epoch candidate core h s = known (grants (book_of core m) epoch)
@@ -57,15 +57,15 @@ commanded_sound plan now FlushConfig core h s = s
 cleared_sound : (plan : Plan) (core : Core) → IsSound plan core → IsSound plan (cleared core)
 cleared_sound plan core s = sound_alike plan core (cleared core) refl refl refl s
 
-at_fine : (plan : Plan) (core : Core) (now : ℕ) (event : Event) → IsSoundPlan plan → IsSound plan core → IsWithinEvent event → IsSound plan (next_at plan now event core).core × (length (part_of plan now event core).frames ≤ FRAMES_MAX)
-at_fine plan core now (Tick m random) p s h = let f = tick_fine plan m random now core p s in (f.sound, f.few)
-at_fine plan core now (Commanded sender command) p s h = (commanded_sound plan now command core h s, omega arith)
-at_fine plan core now (AnswerCame voter m addr down leader epoch) p s h = (answered_sound plan voter m now addr down leader epoch core s, omega arith)
-at_fine plan core now (Pinged node reply) p s h = (pinged_sound plan node now reply core s, omega arith)
-at_fine plan core now (InfoRead node text) p s h = let f = fine_more plan 1 1536 _ (omega arith) (info_fine plan node now (info_of text) core s) in (f.sound, f.few)
-at_fine plan core now (HelloRead text) p s h = let f = fine_more plan 1 1536 _ (omega arith) (hello_fine plan now text core s) in (f.sound, f.few)
-at_fine plan core now (Become priority offset link_down) p s h = (s, omega arith)
-at_fine plan core now (Handed message) p s h = (s, omega arith)
+at_keeps : (plan : Plan) (core : Core) (now : ℕ) (event : Event) → IsSoundPlan plan → IsSound plan core → IsWithinEvent event → IsSound plan (next_at plan now event core).core × (length (part_of plan now event core).frames ≤ FRAMES_MAX)
+at_keeps plan core now (Tick m random) p s h = let f = tick_keeps plan m random now core p s in (f.sound, f.few)
+at_keeps plan core now (Commanded sender command) p s h = (commanded_sound plan now command core h s, omega arith)
+at_keeps plan core now (AnswerCame voter m addr down leader epoch) p s h = (answered_sound plan voter m now addr down leader epoch core s, omega arith)
+at_keeps plan core now (Pinged node reply) p s h = (pinged_sound plan node now reply core s, omega arith)
+at_keeps plan core now (InfoRead node text) p s h = let f = keeps_more plan 1 1536 _ (omega arith) (info_keeps plan node now (info_of text) core s) in (f.sound, f.few)
+at_keeps plan core now (HelloRead text) p s h = let f = keeps_more plan 1 1536 _ (omega arith) (hello_keeps plan now text core s) in (f.sound, f.few)
+at_keeps plan core now (Become priority offset link_down) p s h = (s, omega arith)
+at_keeps plan core now (Handed message) p s h = (s, omega arith)
 
 pub inputs_keep_few : InputsKeepFew
-inputs_keep_few plan core now event p s h = at_fine plan (cleared core) (clock now) event p (cleared_sound plan core s) h
+inputs_keep_few plan core now event p s h = at_keeps plan (cleared core) (clock now) event p (cleared_sound plan core s) h

@@ -20,7 +20,7 @@ use Rattle.sentinel_rules.specs.Steps.{campaign_in, IsOpenOf, wins_of, IsPartsOf
 use Rattle.sentinel_rules.proofs.Framing.{master_same, master_other}
 
 -- few steps lead from these parts to parts of the core
-pub record Led (plan : Plan) (event : Event) (most : ℕ) (core : Core) (parts : Parts) : Type 0 where
+pub record Stepped (plan : Plan) (event : Event) (most : ℕ) (core : Core) (parts : Parts) : Type 0 where
   pub ballots : List Ballot
   pub last : Parts
   pub few : length ballots ≤ most
@@ -28,13 +28,13 @@ pub record Led (plan : Plan) (event : Event) (most : ℕ) (core : Core) (parts :
   pub are_parts : IsPartsOf core last
 
 -- and so from all parts of a core
-abbrev pub Leads : Plan → Event → (most : ℕ) → Core → Core → Type 0
-Leads plan event most core core2 = (parts : Parts) → IsPartsOf core parts → Led plan event most core2 parts
+abbrev pub StepsTo : Plan → Event → (most : ℕ) → Core → Core → Type 0
+StepsTo plan event most core core2 = (parts : Parts) → IsPartsOf core parts → Stepped plan event most core2 parts
 
-pub leads_then : (plan : Plan) (event : Event) (a b : ℕ) (core next last : Core) → Leads plan event a core next → Leads plan event b next last → Leads plan event (a + b) core last
-leads_then plan event a b core next last f g parts is =
-    let x : Led plan event a next parts = f parts is in
-    let y : Led plan event b last x.last = g x.last x.are_parts in
+pub steps_then : (plan : Plan) (event : Event) (a b : ℕ) (core next last : Core) → StepsTo plan event a core next → StepsTo plan event b next last → StepsTo plan event (a + b) core last
+steps_then plan event a b core next last f g parts is =
+    let x : Stepped plan event a next parts = f parts is in
+    let y : Stepped plan event b last x.last = g x.last x.are_parts in
     record {
       ballots = x.ballots ++ y.ballots;
       last = y.last;
@@ -46,27 +46,27 @@ leads_then plan event a b core next last f g parts is =
       are_parts = y.are_parts;
     }
 
-pub leads_more : (plan : Plan) (event : Event) (a b : ℕ) (core last : Core) → a ≤ b → Leads plan event a core last → Leads plan event b core last
-leads_more plan event a b core last le f parts is =
-    let x : Led plan event a last parts = f parts is in
+pub steps_more : (plan : Plan) (event : Event) (a b : ℕ) (core last : Core) → a ≤ b → StepsTo plan event a core last → StepsTo plan event b core last
+steps_more plan event a b core last le f parts is =
+    let x : Stepped plan event a last parts = f parts is in
     record { ballots = x.ballots; last = x.last; few = let p : length x.ballots ≤ a = x.few in omega arith; moved = x.moved; are_parts = x.are_parts }
 
 -- the parts with just what the core keeps
 abbrev pub kept_as : Core → Parts → Parts
 kept_as core parts = record parts { kept = core.kept }
 
-pub leads_kept : (plan : Plan) (event : Event) (most : ℕ) (core core2 : Core) → ((parts : Parts) → IsPartsOf core (kept_as core parts) → Led plan event most core2 (kept_as core parts)) → Leads plan event most core core2
-leads_kept plan event most core core2 f parts is =
+pub steps_kept : (plan : Plan) (event : Event) (most : ℕ) (core core2 : Core) → ((parts : Parts) → IsPartsOf core (kept_as core parts) → Stepped plan event most core2 (kept_as core parts)) → StepsTo plan event most core core2
+steps_kept plan event most core core2 f parts is =
     let same : parts ≡ kept_as core parts = ap (λ (kept : Kept). let x : Parts = record parts { kept = kept } in x) is.kept in
-    subst (λ (p : Parts). Led plan event most core2 p) (sym same) (f parts (subst (λ (p : Parts). IsPartsOf core p) same is))
+    subst (λ (p : Parts). Stepped plan event most core2 p) (sym same) (f parts (subst (λ (p : Parts). IsPartsOf core p) same is))
 
 -- with one step
-pub leads_one : (plan : Plan) (event : Event) (ballot : Ballot) (core core2 : Core)
+pub steps_one : (plan : Plan) (event : Event) (ballot : Ballot) (core core2 : Core)
     → ((parts : Parts) → IsPartsOf core (kept_as core parts) → IsAllowed (roster_of plan) plan.place event (kept_as core parts) ballot)
     → ((parts : Parts) → IsPartsOf core (kept_as core parts) → IsPartsOf core2 (after plan.place (kept_as core parts) ballot))
-    → Leads plan event 1 core core2
-leads_one plan event ballot core core2 allowed there =
-    leads_kept plan event 1 core core2
+    → StepsTo plan event 1 core core2
+steps_one plan event ballot core core2 allowed there =
+    steps_kept plan event 1 core core2
     (λ parts is. record { ballots = ballot ∷ []; last = after plan.place (kept_as core parts) ballot; few = omega arith; moved = (allowed parts is, refl); are_parts = there parts is })
 
 -- Parts of a core of which one master changed
@@ -140,9 +140,9 @@ pub kept_back : (kept : Kept) (m : ℕ) → (let x : Kept = record { current = k
 kept_back kept m = ap (λ (masters : List KeptMaster). let x : Kept = record { current = kept.current; masters = masters } in x) (set-get_or kept.masters m no_kept)
 
 -- nothing that the model sees changed
-pub twin_leads : (plan : Plan) (event : Event) (most m : ℕ) (core core2 : Core) → m < length core.masters → IsTwin m core core2 (campaign_in (failover_of core m).state) → Leads plan event most core core2
-twin_leads plan event most m core core2 lt t =
-    leads_kept plan event most core core2
+pub twin_steps : (plan : Plan) (event : Event) (most m : ℕ) (core core2 : Core) → m < length core.masters → IsTwin m core core2 (campaign_in (failover_of core m).state) → StepsTo plan event most core core2
+twin_steps plan event most m core core2 lt t =
+    steps_kept plan event most core core2
     (λ parts is. let o : IsOpenOf m (master_of core m) (open_of parts m) = is.each m lt in
     record {
       ballots = [];
@@ -161,8 +161,8 @@ twin_leads plan event most m core core2 lt t =
     })
 
 -- what soundness doesn't look at, and the model neither
-pub same_leads : (plan : Plan) (event : Event) (most : ℕ) (core core2 : Core) → core2.kept ≡ core.kept → core2.masters ≡ core.masters → core2.won ≡ core.won → Leads plan event most core core2
-same_leads plan event most core core2 kept masters won parts is =
+pub same_steps : (plan : Plan) (event : Event) (most : ℕ) (core core2 : Core) → core2.kept ≡ core.kept → core2.masters ≡ core.masters → core2.won ≡ core.won → StepsTo plan event most core core2
+same_steps plan event most core core2 kept masters won parts is =
     record {
       ballots = [];
       last = parts;
@@ -195,35 +195,35 @@ twin_state m core core2 c d e t = subst (λ (x : Campaign). IsTwin m core core2 
 
 -- Steps of a campaign
 
-pub campaign_leads : (plan : Plan) (event : Event) (ballot : Ballot) (campaign : Campaign) (m : ℕ) (core core2 : Core) → m < length core.masters → IsTwin m core core2 campaign
+pub campaign_steps : (plan : Plan) (event : Event) (ballot : Ballot) (campaign : Campaign) (m : ℕ) (core core2 : Core) → m < length core.masters → IsTwin m core core2 campaign
     → ((parts : Parts) → IsPartsOf core (kept_as core parts) → IsAllowed (roster_of plan) plan.place event (kept_as core parts) ballot)
     → ((parts : Parts) → after plan.place (kept_as core parts) ballot ≡ with_campaign (kept_as core parts) core.kept.current m campaign)
-    → Leads plan event 1 core core2
-campaign_leads plan event ballot campaign m core core2 lt t allowed same =
-    leads_one plan event ballot core core2 allowed
+    → StepsTo plan event 1 core core2
+campaign_steps plan event ballot campaign m core core2 lt t allowed same =
+    steps_one plan event ballot core core2 allowed
     (λ parts is. subst (λ (p : Parts). IsPartsOf core2 p) (sym (same parts))
     (parts_at core core2 m (kept_as core parts) (with_campaign (kept_as core parts) core.kept.current m campaign) (record (open_of parts m) { campaign = campaign }) is lt t.count t.others
     (twin_open m core core2 campaign (open_of parts m) t (is.each m lt))
     (kept_back core.kept m ∙ sym t.kept) refl (is.wins ∙ ap (λ (w : Option Win). wins_of w) (sym t.won))))
 
-pub drop_leads : (plan : Plan) (event : Event) (m : ℕ) (core core2 : Core) → m < length core.masters → m < master_count plan → IsTwin m core core2 NoCampaign → Leads plan event 1 core core2
-drop_leads plan event m core core2 lt inside t = campaign_leads plan event (Drop m) NoCampaign m core core2 lt t (λ parts is. inside) (λ parts. refl)
+pub drop_steps : (plan : Plan) (event : Event) (m : ℕ) (core core2 : Core) → m < length core.masters → m < master_count plan → IsTwin m core core2 NoCampaign → StepsTo plan event 1 core core2
+drop_steps plan event m core core2 lt inside t = campaign_steps plan event (Drop m) NoCampaign m core core2 lt t (λ parts is. inside) (λ parts. refl)
 
-pub choose_leads : (plan : Plan) (event : Event) (m epoch : ℕ) (choice : Addr) (core core2 : Core) → m < length core.masters → m < master_count plan
+pub choose_steps : (plan : Plan) (event : Event) (m epoch : ℕ) (choice : Addr) (core core2 : Core) → m < length core.masters → m < master_count plan
     → campaign_in (failover_of core m).state ≡ Won epoch → HasNode (roster_of plan) m choice → choice ≢ (card_of core.kept m).addr
-    → IsTwin m core core2 (Chosen epoch choice) → Leads plan event 1 core core2
-choose_leads plan event m epoch choice core core2 lt inside won there other t =
-    campaign_leads plan event (Choose m epoch choice) (Chosen epoch choice) m core core2 lt t
+    → IsTwin m core core2 (Chosen epoch choice) → StepsTo plan event 1 core core2
+choose_steps plan event m epoch choice core core2 lt inside won there other t =
+    campaign_steps plan event (Choose m epoch choice) (Chosen epoch choice) m core core2 lt t
     (λ parts is. (inside, (is.each m lt).campaign ∙ won, there, other)) (λ parts. refl)
 
 -- an election: the first of the input
-pub win_leads : (plan : Plan) (event : Event) (m epoch : ℕ) (core core2 : Core) → m < length core.masters → m < master_count plan
+pub win_steps : (plan : Plan) (event : Event) (m epoch : ℕ) (core core2 : Core) → m < length core.masters → m < master_count plan
     → core.won ≡ None
     → campaign_in (failover_of core m).state ≡ Running epoch
     → ((parts : Parts) → IsPartsOf core (kept_as core parts) → AtLeast (HasVoted (roster_of plan) plan.place (kept_as core parts) m epoch) (size (roster_of plan)) (need (roster_of plan) m))
-    → IsTwin m core core2 (Won epoch) → Leads plan event 1 core (record core2 { won = Some (record { master = m; epoch = epoch }) })
-win_leads plan event m epoch core core2 lt inside none running enough t =
-    leads_one plan event (Win_at m epoch) core (record core2 { won = Some (record { master = m; epoch = epoch }) })
+    → IsTwin m core core2 (Won epoch) → StepsTo plan event 1 core (record core2 { won = Some (record { master = m; epoch = epoch }) })
+win_steps plan event m epoch core core2 lt inside none running enough t =
+    steps_one plan event (Win_at m epoch) core (record core2 { won = Some (record { master = m; epoch = epoch }) })
     (λ parts is. (inside, (is.each m lt).campaign ∙ running, enough parts is))
     (λ parts is. parts_at core (record core2 { won = Some (record { master = m; epoch = epoch }) }) m (kept_as core parts) (after plan.place (kept_as core parts) (Win_at m epoch)) (record (open_of parts m) { campaign = Won epoch }) is lt t.count t.others
     (twin_open m core core2 (Won epoch) (open_of parts m) t (is.each m lt))
@@ -231,11 +231,11 @@ win_leads plan event m epoch core core2 lt inside none running enough t =
     (ap (λ (wins : List Win). wins ++ record { master = m; epoch = epoch } ∷ []) (is.wins ∙ ap (λ (w : Option Win). wins_of w) none)))
 
 -- a start: the campaign's epoch is the next one, and the current one then
-pub open_leads : (plan : Plan) (event : Event) (m : ℕ) (core core2 : Core) → m < length core.masters → m < master_count plan
+pub open_steps : (plan : Plan) (event : Event) (m : ℕ) (core core2 : Core) → m < length core.masters → m < master_count plan
     → campaign_in (failover_of core m).state ≡ NoCampaign → core.kept.current < MAX_EPOCH
-    → IsTwin m core core2 (Running (core.kept.current + 1)) → Leads plan event 1 core (with_current core2 (core.kept.current + 1))
-open_leads plan event m core core2 lt inside idle room t =
-    leads_one plan event (Open m) core (with_current core2 (core.kept.current + 1))
+    → IsTwin m core core2 (Running (core.kept.current + 1)) → StepsTo plan event 1 core (with_current core2 (core.kept.current + 1))
+open_steps plan event m core core2 lt inside idle room t =
+    steps_one plan event (Open m) core (with_current core2 (core.kept.current + 1))
     (λ parts is. (inside, (is.each m lt).campaign ∙ idle, room))
     (λ parts is. parts_at core (with_current core2 (core.kept.current + 1)) m (kept_as core parts) (after plan.place (kept_as core parts) (Open m)) (record (open_of parts m) { campaign = Running (core.kept.current + 1) }) is lt t.count t.others
     (twin_open m core core2 (Running (core.kept.current + 1)) (open_of parts m) t (is.each m lt))
@@ -244,9 +244,9 @@ open_leads plan event m core core2 lt inside idle room t =
 
 -- The current epoch
 
-pub raise_leads : (plan : Plan) (event : Event) (epoch : ℕ) (core : Core) → core.kept.current < epoch → Leads plan event 1 core (with_current core epoch)
-raise_leads plan event epoch core above =
-    leads_one plan event (Raise epoch) core (with_current core epoch) (λ parts is. above)
+pub raise_steps : (plan : Plan) (event : Event) (epoch : ℕ) (core : Core) → core.kept.current < epoch → StepsTo plan event 1 core (with_current core epoch)
+raise_steps plan event epoch core above =
+    steps_one plan event (Raise epoch) core (with_current core epoch) (λ parts is. above)
     (λ parts is. record { kept = refl; count = is.count; each = is.each; wins = is.wins })
 
 -- Votes
@@ -257,10 +257,10 @@ voted_core core m epoch candidate =
     (with_master core m (record (master_of core m) { leader = Some candidate }))
     { kept = record { current = epoch; masters = slice_set core.kept.masters m (record (kept_of core.kept m) { voted = epoch }) } }
 
-pub cast_leads : (plan : Plan) (event : Event) (m epoch : ℕ) (candidate : RunId) (core : Core) → m < length core.masters → m < master_count plan
-    → core.kept.current ≡ epoch → voted_of core.kept m < epoch → Leads plan event 1 core (voted_core core m epoch candidate)
-cast_leads plan event m epoch candidate core lt inside now_open later =
-    leads_one plan event (Cast m epoch candidate) core (voted_core core m epoch candidate)
+pub cast_steps : (plan : Plan) (event : Event) (m epoch : ℕ) (candidate : RunId) (core : Core) → m < length core.masters → m < master_count plan
+    → core.kept.current ≡ epoch → voted_of core.kept m < epoch → StepsTo plan event 1 core (voted_core core m epoch candidate)
+cast_steps plan event m epoch candidate core lt inside now_open later =
+    steps_one plan event (Cast m epoch candidate) core (voted_core core m epoch candidate)
     (λ parts is. (inside, now_open, later))
     (λ parts is. let o : IsOpenOf m (master_of core m) (open_of parts m) = is.each m lt in
     parts_at core (voted_core core m epoch candidate) m (kept_as core parts) (after plan.place (kept_as core parts) (Cast m epoch candidate)) (record (open_of parts m) { candidate = Some candidate }) is lt

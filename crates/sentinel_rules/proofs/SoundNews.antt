@@ -30,6 +30,7 @@ use Rattle.failover_states.specs.Replicas.{forgotten, followed, replica_at}
 use Rattle.node_texts.specs.declared.faults.TextFault.{TextFault}
 use Rattle.node_texts.specs.Hellos.{hello_of}
 use Rattle.node_texts.proofs.HelloBack.{hello_is}
+use Rattle.ballot_law.proofs.CountedVotes.{both}
 use Rattle.sentinel_rules.specs.declared.frames.Frame.TheVariants.{FollowTo, NoteOf}
 use Rattle.sentinel_rules.specs.Plans.{Plan, NodePlace, roster_of, group_size, master_count, settings_at, nodes_of, node_name, node_named}
 use Rattle.sentinel_rules.specs.States.{Core, MasterState, NodeState, master_of, node_of, peer_of, failover_of, card_place, is_failing_over, is_tilted, with_master, with_node, with_failover, with_card}
@@ -39,8 +40,8 @@ use Rattle.sentinel_rules.specs.Facts.{IsSound, IsAwaited, awaited}
 use Rattle.sentinel_rules.proofs.KeptParts.{kept_at, kept_with, kept_raised, other_entry}
 use Rattle.sentinel_rules.proofs.Framing.{sound_at, sound_master, sound_current, sound_alike, nodes_with, master_same}
 use Rattle.sentinel_rules.proofs.Turns.{IsSoundFailover, ended_sound}
-use Rattle.sentinel_rules.proofs.Choices.{both, same_addr-equal}
-use Rattle.sentinel_rules.proofs.FineTicks.{IsFine, fine_quiet, fine_if, one_frame, master_alike, sound_failover, own_failover}
+use Rattle.sentinel_rules.proofs.Choices.{same_addr-equal}
+use Rattle.sentinel_rules.proofs.SoundTicks.{KeepsSound, keeps_quiet, keeps_if, one_frame, master_alike, sound_failover, own_failover}
 
 -- A configuration is taken
 
@@ -70,12 +71,12 @@ card_sound plan core m card s low there none =
     core2 : Core
     core2 = with_card core m card
 
-pub card_fine : (plan : Plan) (m now : ℕ) (card : Card) (core : Core) → IsSound plan core
+pub card_keeps : (plan : Plan) (m now : ℕ) (card : Card) (core : Core) → IsSound plan core
     → (m < master_count plan → card.epoch ≤ core.kept.current)
     → (m < master_count plan → Contains (nodes_of plan m) card.addr)
     → (m < master_count plan → awaited (failover_of core m).state ≡ None)
-    → IsFine plan 1 (card_taken m now card core)
-card_fine plan m now card core s low there none = known (same_addr (card_of core.kept m).addr card.addr)
+    → KeepsSound plan 1 (card_taken m now card core)
+card_keeps plan m now card core s low there none = known (same_addr (card_of core.kept m).addr card.addr)
   where
     carded : IsSound plan (with_card core m card)
     carded = card_sound plan core m card s low there none
@@ -86,11 +87,11 @@ card_fine plan m now card core s low there none = known (same_addr (card_of core
     new : MasterState
     new = at_new_address now (master_of core m)
 
-    known : (b : Bool) → IsFine plan 1
+    known : (b : Bool) → KeepsSound plan 1
         (if b then quiet (with_card (with_master core m (at_same_address (master_of core m))) m card)
         else puts (with_card (with_master core m (at_new_address now (master_of core m))) m card) (NoteOf m (card_of core.kept m).addr ∷ []))
     known true =
-        fine_quiet plan 1 (with_card (with_master core m same) m card)
+        keeps_quiet plan 1 (with_card (with_master core m same) m card)
         (sound_master plan (with_card core m card) m same carded
         (λ lt. master_alike plan (with_card core m card).kept m (master_of core m) same (carded.each m lt) refl refl (length-map (master_of core m).nodes hello_soon) refl))
     known false =
@@ -107,9 +108,9 @@ raised_sound plan epoch core h s =
     let high : max core.kept.current epoch ≤ MAX_EPOCH = let c : core.kept.current ≤ MAX_EPOCH = s.kept.current in omega arith in
     sound_current plan core (max core.kept.current epoch) s (omega arith) (kept_raised plan.conf core.kept (max core.kept.current epoch) (omega arith) high s.kept)
 
-pub adopted_fine : (plan : Plan) (m now : ℕ) (card : Card) (core : Core) → card.epoch ≤ MAX_EPOCH → Contains (nodes_of plan m) card.addr → IsSound plan core → IsFine plan 1 (adopted m now card core)
-adopted_fine plan m now card core h there s =
-    card_fine plan m now card (with_failover high m end) stopped (λ lt. omega arith) (λ lt. there)
+pub adopted_keeps : (plan : Plan) (m now : ℕ) (card : Card) (core : Core) → card.epoch ≤ MAX_EPOCH → Contains (nodes_of plan m) card.addr → IsSound plan core → KeepsSound plan 1 (adopted m now card core)
+adopted_keeps plan m now card core h there s =
+    card_keeps plan m now card (with_failover high m end) stopped (λ lt. omega arith) (λ lt. there)
     (λ lt. ap (λ (master : MasterState). awaited master.failover.state) (master_same high m (record (master_of high m) { failover = end }) (subst (λ (n : ℕ). m < n) (sym s.masters) lt)))
   where
     high : Core
@@ -123,10 +124,10 @@ adopted_fine plan m now card core h there s =
         sound_failover plan high m end (raised_sound plan card.epoch core h s)
         (λ lt. ended_sound plan high.kept m (failover_of core m) (s.each m lt).replicas)
 
-known_fine : (plan : Plan) (m now : ℕ) (text : List ℕ) (hello : Hello) (core : Core) → SpellsHello text hello → IsSound plan core → IsFine plan 1 (hello_of_known plan m now hello core)
-known_fine plan m now text hello core spelled s =
-    fine_if plan 1 (is_newer plan high m hello.card) high (adopted m now hello.card) t
-    (λ h. adopted_fine plan m now hello.card high spelled.is_hello.epoch (Contains-from_any {eq = same_addr} same_addr-equal hello.card.addr (nodes_of plan m) (both (nat_lt (card_of high.kept m).epoch hello.card.epoch) (list_any (same_addr hello.card.addr) (nodes_of plan m)) h).1) t)
+known_keeps : (plan : Plan) (m now : ℕ) (text : List ℕ) (hello : Hello) (core : Core) → SpellsHello text hello → IsSound plan core → KeepsSound plan 1 (hello_of_known plan m now hello core)
+known_keeps plan m now text hello core spelled s =
+    keeps_if plan 1 (is_newer plan high m hello.card) high (adopted m now hello.card) t
+    (λ h. adopted_keeps plan m now hello.card high spelled.is_hello.epoch (Contains-from_any {eq = same_addr} same_addr-equal hello.card.addr (nodes_of plan m) (both (nat_lt (card_of high.kept m).epoch hello.card.epoch) (list_any (same_addr hello.card.addr) (nodes_of plan m)) h).1) t)
   where
     high : Core
     high = raised_to hello.current core
@@ -134,18 +135,18 @@ known_fine plan m now text hello core spelled s =
     t : IsSound plan high
     t = raised_sound plan hello.current core spelled.is_hello.current s
 
-heeded_fine : (plan : Plan) (now : ℕ) (m : Option ℕ) (text : List ℕ) (hello : Hello) (core : Core) → SpellsHello text hello → IsSound plan core → IsFine plan 1 (hello_heeded plan now m hello core)
-heeded_fine plan now None text hello core spelled s = fine_quiet plan 1 core s
-heeded_fine plan now (Some m) text hello core spelled s = known_fine plan m now text hello core spelled s
+heeded_keeps : (plan : Plan) (now : ℕ) (m : Option ℕ) (text : List ℕ) (hello : Hello) (core : Core) → SpellsHello text hello → IsSound plan core → KeepsSound plan 1 (hello_heeded plan now m hello core)
+heeded_keeps plan now None text hello core spelled s = keeps_quiet plan 1 core s
+heeded_keeps plan now (Some m) text hello core spelled s = known_keeps plan m now text hello core spelled s
 
-read_fine : (plan : Plan) (now : ℕ) (text : List ℕ) (read : Result Hello TextFault) (core : Core) → hello_of text ≡ read → IsSound plan core → IsFine plan 1 (hello_read plan now read core)
-read_fine plan now text (Err fault) core e s = fine_quiet plan 1 core s
-read_fine plan now text (Ok hello) core e s =
-    fine_if plan 1 (is_heeded plan hello) core (hello_heeded plan now (master_named (roster_of plan) hello.master) hello) s
-    (λ h. heeded_fine plan now (master_named (roster_of plan) hello.master) text hello core (hello_is text hello e) s)
+read_keeps : (plan : Plan) (now : ℕ) (text : List ℕ) (read : Result Hello TextFault) (core : Core) → hello_of text ≡ read → IsSound plan core → KeepsSound plan 1 (hello_read plan now read core)
+read_keeps plan now text (Err fault) core e s = keeps_quiet plan 1 core s
+read_keeps plan now text (Ok hello) core e s =
+    keeps_if plan 1 (is_heeded plan hello) core (hello_heeded plan now (master_named (roster_of plan) hello.master) hello) s
+    (λ h. heeded_keeps plan now (master_named (roster_of plan) hello.master) text hello core (hello_is text hello e) s)
 
-pub hello_fine : (plan : Plan) (now : ℕ) (text : List ℕ) (core : Core) → IsSound plan core → IsFine plan 1 (hello_read plan now (hello_of text) core)
-hello_fine plan now text core s = read_fine plan now text (hello_of text) core refl s
+pub hello_keeps : (plan : Plan) (now : ℕ) (text : List ℕ) (core : Core) → IsSound plan core → KeepsSound plan 1 (hello_read plan now (hello_of text) core)
+hello_keeps plan now text core s = read_keeps plan now text (hello_of text) core refl s
 
 -- Answers
 
@@ -223,12 +224,12 @@ pinged_sound plan (PortAt number) now reply core s = s
 
 -- INFO
 
-promotion_fine : (plan : Plan) (m k now : ℕ) (info : Info) (state : State) (core : Core) → (failover_of core m).state ≡ state → IsSound plan core → IsFine plan 1 (promotion m k now info state core)
-promotion_fine plan m k now info (WaitPromotion epoch choice former) core e s =
-    fine_if plan 1 ((k == choice.place) && is_master_role info.role) core
+promotion_keeps : (plan : Plan) (m k now : ℕ) (info : Info) (state : State) (core : Core) → (failover_of core m).state ≡ state → IsSound plan core → KeepsSound plan 1 (promotion m k now info state core)
+promotion_keeps plan m k now info (WaitPromotion epoch choice former) core e s =
+    keeps_if plan 1 ((k == choice.place) && is_master_role info.role) core
     (λ c. card_taken m now (record { epoch = epoch; addr = choice.addr })
     (with_failover c m (promoted (WaitPromotion epoch choice former) (record (failover_of c m) { moment = now })))) s
-    (λ h. card_fine plan m now (record { epoch = epoch; addr = choice.addr }) (with_failover core m f)
+    (λ h. card_keeps plan m now (record { epoch = epoch; addr = choice.addr }) (with_failover core m f)
     (sound_failover plan core m f s (λ lt. record { replicas = length-map (failover_of core m).replicas forgotten ∙ (s.each m lt).replicas; epoch = low lt; choice = tt }))
     low
     (λ lt. let c : IsAwaited plan core.kept m choice = subst (λ (st : State). IfSome (awaited st) (IsAwaited plan core.kept m)) e (s.each m lt).choice in
@@ -240,21 +241,21 @@ promotion_fine plan m k now info (WaitPromotion epoch choice former) core e s =
 
     low : m < master_count plan → epoch ≤ core.kept.current
     low lt = subst (λ (st : State). IfSome (epoch_of st) (λ epoch. epoch ≤ core.kept.current)) e (s.each m lt).epoch
-promotion_fine plan m k now info _ core e s = fine_quiet plan 1 core s
+promotion_keeps plan m k now info _ core e s = keeps_quiet plan 1 core s
 
 pub reconfigured_sound : (plan : Plan) (kept : Kept) (m : ℕ) (state : State) (f : Failover) (k : ℕ) → IsSoundFailover plan kept m f → IsSoundFailover plan kept m (reconfigured state f k)
 reconfigured_sound plan kept m (ReconfReplicas epoch choice former) f k s =
     record { replicas = length-set f.replicas k (followed (replica_at f.replicas k)) ∙ s.replicas; epoch = s.epoch; choice = s.choice }
 reconfigured_sound plan kept m _ f k s = s
 
-reconfiguration_fine : (plan : Plan) (m k : ℕ) (info : Info) (core : Core) → IsSound plan core → IsFine plan 1 (reconfiguration m k info core)
-reconfiguration_fine plan m k info core s =
-    fine_if plan 1 (has_followed info (card_of core.kept m).addr) core (λ c. quiet (with_failover c m (reconfigured (failover_of c m).state (failover_of c m) k))) s
-    (λ h. fine_quiet plan 1 (with_failover core m (reconfigured (failover_of core m).state (failover_of core m) k))
+reconfiguration_keeps : (plan : Plan) (m k : ℕ) (info : Info) (core : Core) → IsSound plan core → KeepsSound plan 1 (reconfiguration m k info core)
+reconfiguration_keeps plan m k info core s =
+    keeps_if plan 1 (has_followed info (card_of core.kept m).addr) core (λ c. quiet (with_failover c m (reconfigured (failover_of c m).state (failover_of c m) k))) s
+    (λ h. keeps_quiet plan 1 (with_failover core m (reconfigured (failover_of core m).state (failover_of core m) k))
     (sound_failover plan core m (reconfigured (failover_of core m).state (failover_of core m) k) s (λ lt. reconfigured_sound plan core.kept m (failover_of core m).state (failover_of core m) k (own_failover plan core m s lt))))
 
-correction_fine : (plan : Plan) (m k now : ℕ) (info : Info) (core : Core) → IsSound plan core → IsFine plan 1 (correction plan m k now info core)
-correction_fine plan m k now info core s =
+correction_keeps : (plan : Plan) (m k now : ℕ) (info : Info) (core : Core) → IsSound plan core → KeepsSound plan 1 (correction plan m k now info core)
+correction_keeps plan m k now info core s =
     let wrong : Wrong = wrong_of now info (card_of core.kept m).addr (node_of core m k) in
     let role_told : Bool = is_role_overdue now wrong && can_be_followed plan core m now in
     let address_told : Bool = is_address_overdue (settings_at plan m).timeout now wrong && can_be_followed plan core m now in
@@ -263,28 +264,28 @@ correction_fine plan m k now info core s =
       few = one_frame (if role_told then true else address_told) (FollowTo (node_name plan m k) m);
     }
 
-fine_cond : (plan : Plan) (room : ℕ) (test : Bool) (a b : Part) → IsFine plan room a → IsFine plan room b → IsFine plan room (if test then a else b)
-fine_cond plan room true a b f g = f
-fine_cond plan room false a b f g = g
+keeps_cond : (plan : Plan) (room : ℕ) (test : Bool) (a b : Part) → KeepsSound plan room a → KeepsSound plan room b → KeepsSound plan room (if test then a else b)
+keeps_cond plan room true a b f g = f
+keeps_cond plan room false a b f g = g
 
-judged_fine : (plan : Plan) (m k now : ℕ) (info : Info) (core : Core) → IsSound plan core → IsFine plan 1 (judged plan m k now info core)
-judged_fine plan m k now info core s =
-    fine_cond plan 1 (is_failing_over core m)
+judged_keeps : (plan : Plan) (m k now : ℕ) (info : Info) (core : Core) → IsSound plan core → KeepsSound plan 1 (judged plan m k now info core)
+judged_keeps plan m k now info core s =
+    keeps_cond plan 1 (is_failing_over core m)
     (if is_reconfiguring (failover_of core m).state then reconfiguration m k info core else promotion m k now info (failover_of core m).state core)
     (part_if (not (k == card_place plan core m)) core (correction plan m k now info))
-    (fine_cond plan 1 (is_reconfiguring (failover_of core m).state) (reconfiguration m k info core) (promotion m k now info (failover_of core m).state core) (reconfiguration_fine plan m k info core s) (promotion_fine plan m k now info (failover_of core m).state core refl s))
-    (fine_if plan 1 (not (k == card_place plan core m)) core (correction plan m k now info) s (λ h. correction_fine plan m k now info core s))
+    (keeps_cond plan 1 (is_reconfiguring (failover_of core m).state) (reconfiguration m k info core) (promotion m k now info (failover_of core m).state core) (reconfiguration_keeps plan m k info core s) (promotion_keeps plan m k now info (failover_of core m).state core refl s))
+    (keeps_if plan 1 (not (k == card_place plan core m)) core (correction plan m k now info) s (λ h. correction_keeps plan m k now info core s))
 
-at_node_fine : (plan : Plan) (m k now : ℕ) (info : Info) (core : Core) → IsSound plan core → IsFine plan 1 (info_at_node plan m k now info core)
-at_node_fine plan m k now info core s =
+at_node_keeps : (plan : Plan) (m k now : ℕ) (info : Info) (core : Core) → IsSound plan core → KeepsSound plan 1 (info_at_node plan m k now info core)
+at_node_keeps plan m k now info core s =
     let t : IsSound plan (info_kept m k now info core) = node_sound plan core m k (with_info now info (node_of core m k)) s in
-    fine_if plan 1 (not (is_tilted (info_kept m k now info core))) (info_kept m k now info core) (judged plan m k now info) t
-    (λ h. judged_fine plan m k now info (info_kept m k now info core) t)
+    keeps_if plan 1 (not (is_tilted (info_kept m k now info core))) (info_kept m k now info core) (judged plan m k now info) t
+    (λ h. judged_keeps plan m k now info (info_kept m k now info core) t)
 
-of_node_fine : (plan : Plan) (now : ℕ) (at : Option NodePlace) (info : Info) (core : Core) → IsSound plan core → IsFine plan 1 (info_of_node plan now at info core)
-of_node_fine plan now None info core s = fine_quiet plan 1 core s
-of_node_fine plan now (Some at) info core s = at_node_fine plan at.master at.place now info core s
+of_node_keeps : (plan : Plan) (now : ℕ) (at : Option NodePlace) (info : Info) (core : Core) → IsSound plan core → KeepsSound plan 1 (info_of_node plan now at info core)
+of_node_keeps plan now None info core s = keeps_quiet plan 1 core s
+of_node_keeps plan now (Some at) info core s = at_node_keeps plan at.master at.place now info core s
 
-pub info_fine : (plan : Plan) (node : NodeName) (now : ℕ) (read : Result Info TextFault) (core : Core) → IsSound plan core → IsFine plan 1 (info_read plan node now read core)
-info_fine plan node now (Err fault) core s = fine_quiet plan 1 core s
-info_fine plan node now (Ok info) core s = of_node_fine plan now (node_named plan node) info core s
+pub info_keeps : (plan : Plan) (node : NodeName) (now : ℕ) (read : Result Info TextFault) (core : Core) → IsSound plan core → KeepsSound plan 1 (info_read plan node now read core)
+info_keeps plan node now (Err fault) core s = keeps_quiet plan 1 core s
+info_keeps plan node now (Ok info) core s = of_node_keeps plan now (node_named plan node) info core s

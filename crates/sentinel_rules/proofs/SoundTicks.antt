@@ -34,23 +34,23 @@ use Rattle.sentinel_rules.proofs.Choices.{best_awaited}
 -- Parts
 
 -- the core is sound, and no more is put out than that
-pub record IsFine (plan : Plan) (room : ℕ) (part : Part) : Type 0 where
+pub record KeepsSound (plan : Plan) (room : ℕ) (part : Part) : Type 0 where
   pub sound : IsSound plan part.core
   pub few : length part.frames ≤ room
 
-pub fine_quiet : (plan : Plan) (room : ℕ) (core : Core) → IsSound plan core → IsFine plan room (quiet core)
-fine_quiet plan room core s = record { sound = s; few = omega arith }
+pub keeps_quiet : (plan : Plan) (room : ℕ) (core : Core) → IsSound plan core → KeepsSound plan room (quiet core)
+keeps_quiet plan room core s = record { sound = s; few = omega arith }
 
-pub fine_more : (plan : Plan) (room more : ℕ) (part : Part) → room ≤ more → IsFine plan room part → IsFine plan more part
-fine_more plan room more part le f = record { sound = f.sound; few = let l : length part.frames ≤ room = f.few in omega arith }
+pub keeps_more : (plan : Plan) (room more : ℕ) (part : Part) → room ≤ more → KeepsSound plan room part → KeepsSound plan more part
+keeps_more plan room more part le f = record { sound = f.sound; few = let l : length part.frames ≤ room = f.few in omega arith }
 
-pub fine_if : (plan : Plan) (room : ℕ) (test : Bool) (core : Core) (part : Core → Part) → IsSound plan core → (test ≡ true → IsFine plan room (part core)) → IsFine plan room (part_if test core part)
-fine_if plan room true core part s f = f refl
-fine_if plan room false core part s f = fine_quiet plan room core s
+pub keeps_if : (plan : Plan) (room : ℕ) (test : Bool) (core : Core) (part : Core → Part) → IsSound plan core → (test ≡ true → KeepsSound plan room (part core)) → KeepsSound plan room (part_if test core part)
+keeps_if plan room true core part s f = f refl
+keeps_if plan room false core part s f = keeps_quiet plan room core s
 
-pub fine_then : (plan : Plan) (room more : ℕ) (first : Part) (part : Core → Part) → IsFine plan room first → (IsSound plan first.core → IsFine plan more (part first.core)) → IsFine plan (room + more) (then_part first part)
-fine_then plan room more first part f g =
-    let after : IsFine plan more (part first.core) = g f.sound in
+pub keeps_then : (plan : Plan) (room more : ℕ) (first : Part) (part : Core → Part) → KeepsSound plan room first → (IsSound plan first.core → KeepsSound plan more (part first.core)) → KeepsSound plan (room + more) (then_part first part)
+keeps_then plan room more first part f g =
+    let after : KeepsSound plan more (part first.core) = g f.sound in
     record {
       sound = after.sound;
       few = let a : length first.frames ≤ room = f.few in
@@ -99,15 +99,15 @@ few_nodes plan core m p s lt =
 
 -- What is due
 
-pub peers_fine : (plan : Plan) (m now : ℕ) (core : Core) → IsSoundPlan plan → IsSound plan core → IsFine plan 64 (peers_part plan m now core)
-peers_fine plan zero now core p s =
+pub peers_keeps : (plan : Plan) (m now : ℕ) (core : Core) → IsSoundPlan plan → IsSound plan core → KeepsSound plan 64 (peers_part plan m now core)
+peers_keeps plan zero now core p s =
     record {
       sound = sound_alike plan core (record core { peers = changed_from (peer_after plan now) 0 core.peers }) refl refl (length-changed_from (peer_after plan now) 0 core.peers) s;
       few = let a : length (frames_from (peer_frames plan now) 0 core.peers) ≤ length core.peers = one_each (peer_frames plan now) (λ k x. one_frame (is_peer_due plan now k x) (PingTo _)) 0 core.peers in
           let b : length core.peers ≤ 64 = few_peers plan core p s in
           omega arith;
     }
-peers_fine plan (suc m) now core p s = fine_quiet plan 64 core s
+peers_keeps plan (suc m) now core p s = keeps_quiet plan 64 core s
 
 node_few : (plan : Plan) (m : ℕ) (s : Sending) (k : ℕ) (node : NodeState) → length (node_frames plan m s k node) ≤ 3
 node_few plan m s k node =
@@ -119,8 +119,8 @@ node_few plan m s k node =
       length-append (frame_if (is_info_due s k node) (InfoTo (node_name plan m k))) (frame_if (is_hello_due s node) (HelloTo (node_name plan m k) m)),
     ) (omega arith)
 
-pub nodes_fine : (plan : Plan) (m now : ℕ) (core : Core) → IsSoundPlan plan → m < master_count plan → IsSound plan core → IsFine plan 768 (nodes_part plan m now core)
-nodes_fine plan m now core p lt s =
+pub nodes_keeps : (plan : Plan) (m now : ℕ) (core : Core) → IsSoundPlan plan → m < master_count plan → IsSound plan core → KeepsSound plan 768 (nodes_part plan m now core)
+nodes_keeps plan m now core p lt s =
     let g : Sending = sending_of plan core m now in
     let nodes : List NodeState = (master_of core m).nodes in
     record {
@@ -145,9 +145,9 @@ master_alike plan kept m master master2 s heard reports nodes failover =
       choice = subst (λ (f : Failover). IfSome (awaited f.state) (IsAwaited plan kept m)) (sym failover) s.choice;
     }
 
-pub odown_fine : (plan : Plan) (m now : ℕ) (core : Core) → IsSound plan core → IsFine plan 0 (odown_part plan m now core)
-odown_fine plan m now core s =
-    fine_quiet
+pub odown_keeps : (plan : Plan) (m now : ℕ) (core : Core) → IsSound plan core → KeepsSound plan 0 (odown_part plan m now core)
+odown_keeps plan m now core s =
+    keeps_quiet
     plan
     0
     (with_master core m (record (master_of core m) { odown = is_odown_at plan core m now }))
@@ -261,8 +261,8 @@ turn_of_sound plan core m now p s lt busy =
     (best_awaited plan core m now p lt)
     busy
 
-pub row_fine : (plan : Plan) (m now : ℕ) (core : Core) → IsSoundPlan plan → m < master_count plan → ((failover_of core m).state ≡ Idle → ⊥) → IsSound plan core → IsFine plan 257 (row_part plan m now core)
-row_fine plan m now core p lt busy s =
+pub row_keeps : (plan : Plan) (m now : ℕ) (core : Core) → IsSoundPlan plan → m < master_count plan → ((failover_of core m).state ≡ Idle → ⊥) → IsSound plan core → KeepsSound plan 257 (row_part plan m now core)
+row_keeps plan m now core p lt busy s =
     let turn : Turn = turn_of plan core m now false in
     let epoch : ℕ = campaign_epoch core m in
     let f : IsSoundFailover plan core.kept m turn.failover = turn_of_sound plan core m now p s lt busy in
@@ -294,7 +294,7 @@ idle_is (UpdateConfig epoch choice) h = absurd (cc)
 pub busy_is : (state : State) → not (is_idle state) ≡ true → state ≡ Idle → ⊥
 busy_is state h e = let never : false ≡ true = sym (ap (λ (s : State). not (is_idle s)) e) ∙ h in absurd (cc)
 
-third : (a b c : Bool) → (a && b && c) ≡ true → c ≡ true
+pub third : (a b c : Bool) → (a && b && c) ≡ true → c ≡ true
 third true true c h = h
 third true false c h = cc
 third false b c h = cc
@@ -333,16 +333,16 @@ start_sound plan m now core s idle = subst (λ (f : Failover). IsSound plan (aft
         (sound_failover plan core m (quieted f) s (λ lt. record { replicas = long lt; epoch = tt; choice = tt }))
         (begun, tt)
 
-pub start_fine : (plan : Plan) (m now : ℕ) (core : Core) → IsSound plan core → IsFine plan 0 (start_part plan m now core)
-start_fine plan m now core s =
-    fine_if plan 0 (not (is_failing_over core m)) core (λ c. quiet (after_start m (start_turn plan c m now) c)) s
-    (λ h. fine_quiet plan 0 (after_start m (start_turn plan core m now) core) (start_sound plan m now core s (idle_is (failover_of core m).state h)))
+pub start_keeps : (plan : Plan) (m now : ℕ) (core : Core) → IsSound plan core → KeepsSound plan 0 (start_part plan m now core)
+start_keeps plan m now core s =
+    keeps_if plan 0 (not (is_failing_over core m)) core (λ c. quiet (after_start m (start_turn plan c m now) c)) s
+    (λ h. keeps_quiet plan 0 (after_start m (start_turn plan core m now) core) (start_sound plan m now core s (idle_is (failover_of core m).state h)))
 
 -- The whole tick
 
-ask_fine : (plan : Plan) (m now : ℕ) (started : Bool) (core : Core) → IsSoundPlan plan → IsSound plan core → IsFine plan 64 (ask_part plan m now started core)
-ask_fine plan m now started core p s =
-    fine_if
+ask_keeps : (plan : Plan) (m now : ℕ) (started : Bool) (core : Core) → IsSoundPlan plan → IsSound plan core → KeepsSound plan 64 (ask_part plan m now started core)
+ask_keeps plan m now started core p s =
+    keeps_if
     plan
     64
     (is_master_down plan core m now && is_ask_due started (master_of core m).ask_sent now)
@@ -356,30 +356,30 @@ ask_fine plan m now started core p s =
           omega arith;
     })
 
-failover_fine : (plan : Plan) (m now : ℕ) (core : Core) → IsSoundPlan plan → m < master_count plan → IsSound plan core → IsFine plan 321 (failover_part plan m now core)
-failover_fine plan m now core p lt s =
-    fine_then plan 257 64 (then_part (start_part plan m now core) (λ c. part_if (is_failing_over c m) c (row_part plan m now))) (ask_part plan m now (starts_now plan core m now))
-    (fine_then plan 0 257 (start_part plan m now core) (λ c. part_if (is_failing_over c m) c (row_part plan m now)) (start_fine plan m now core s) (λ t. rows (start_part plan m now core).core t))
-    (λ t. ask_fine plan m now (starts_now plan core m now) (then_part (start_part plan m now core) (λ c. part_if (is_failing_over c m) c (row_part plan m now))).core p t)
+failover_keeps : (plan : Plan) (m now : ℕ) (core : Core) → IsSoundPlan plan → m < master_count plan → IsSound plan core → KeepsSound plan 321 (failover_part plan m now core)
+failover_keeps plan m now core p lt s =
+    keeps_then plan 257 64 (then_part (start_part plan m now core) (λ c. part_if (is_failing_over c m) c (row_part plan m now))) (ask_part plan m now (starts_now plan core m now))
+    (keeps_then plan 0 257 (start_part plan m now core) (λ c. part_if (is_failing_over c m) c (row_part plan m now)) (start_keeps plan m now core s) (λ t. rows (start_part plan m now core).core t))
+    (λ t. ask_keeps plan m now (starts_now plan core m now) (then_part (start_part plan m now core) (λ c. part_if (is_failing_over c m) c (row_part plan m now))).core p t)
   where
-    rows : (c : Core) → IsSound plan c → IsFine plan 257 (part_if (is_failing_over c m) c (row_part plan m now))
-    rows c t = fine_if plan 257 (is_failing_over c m) c (row_part plan m now) t (λ h. row_fine plan m now c p lt (busy_is (failover_of c m).state h) t)
+    rows : (c : Core) → IsSound plan c → KeepsSound plan 257 (part_if (is_failing_over c m) c (row_part plan m now))
+    rows c t = keeps_if plan 257 (is_failing_over c m) c (row_part plan m now) t (λ h. row_keeps plan m now c p lt (busy_is (failover_of c m).state h) t)
 
-judging_fine : (plan : Plan) (m now : ℕ) (core : Core) → IsSoundPlan plan → m < master_count plan → IsSound plan core → IsFine plan 321 (judging_part plan m now core)
-judging_fine plan m now core p lt s =
-    fine_if plan 321 (not (is_tilted core)) core (λ c. then_part (odown_part plan m now c) (failover_part plan m now)) s
-    (λ h. fine_then plan 0 321 (odown_part plan m now core) (failover_part plan m now) (odown_fine plan m now core s) (λ t. failover_fine plan m now (odown_part plan m now core).core p lt t))
+judging_keeps : (plan : Plan) (m now : ℕ) (core : Core) → IsSoundPlan plan → m < master_count plan → IsSound plan core → KeepsSound plan 321 (judging_part plan m now core)
+judging_keeps plan m now core p lt s =
+    keeps_if plan 321 (not (is_tilted core)) core (λ c. then_part (odown_part plan m now c) (failover_part plan m now)) s
+    (λ h. keeps_then plan 0 321 (odown_part plan m now core) (failover_part plan m now) (odown_keeps plan m now core s) (λ t. failover_keeps plan m now (odown_part plan m now core).core p lt t))
 
-master_fine : (plan : Plan) (m now : ℕ) (core : Core) → IsSoundPlan plan → m < master_count plan → IsSound plan core → IsFine plan 1153 (master_part plan m now core)
-master_fine plan m now core p lt s =
-    fine_then plan 832 321 (then_part (peers_part plan m now core) (nodes_part plan m now)) (judging_part plan m now)
-    (fine_then plan 64 768 (peers_part plan m now core) (nodes_part plan m now) (peers_fine plan m now core p s) (λ t. nodes_fine plan m now (peers_part plan m now core).core p lt t))
-    (λ t. judging_fine plan m now (then_part (peers_part plan m now core) (nodes_part plan m now)).core p lt t)
+master_keeps : (plan : Plan) (m now : ℕ) (core : Core) → IsSoundPlan plan → m < master_count plan → IsSound plan core → KeepsSound plan 1153 (master_part plan m now core)
+master_keeps plan m now core p lt s =
+    keeps_then plan 832 321 (then_part (peers_part plan m now core) (nodes_part plan m now)) (judging_part plan m now)
+    (keeps_then plan 64 768 (peers_part plan m now core) (nodes_part plan m now) (peers_keeps plan m now core p s) (λ t. nodes_keeps plan m now (peers_part plan m now core).core p lt t))
+    (λ t. judging_keeps plan m now (then_part (peers_part plan m now core) (nodes_part plan m now)).core p lt t)
 
-pub tick_fine : (plan : Plan) (m random now : ℕ) (core : Core) → IsSoundPlan plan → IsSound plan core → IsFine plan 1536 (tick plan m random now core)
-tick_fine plan m random now core p s =
-    fine_if plan 1536 (nat_lt m (master_count plan)) (with_reading now random core) (master_part plan m now) (read now)
-    (λ h. fine_more plan 1153 1536 (master_part plan m now (with_reading now random core)) (omega arith) (master_fine plan m now (with_reading now random core) p (ltb-true m (master_count plan) h) (read now)))
+pub tick_keeps : (plan : Plan) (m random now : ℕ) (core : Core) → IsSoundPlan plan → IsSound plan core → KeepsSound plan 1536 (tick plan m random now core)
+tick_keeps plan m random now core p s =
+    keeps_if plan 1536 (nat_lt m (master_count plan)) (with_reading now random core) (master_part plan m now) (read now)
+    (λ h. keeps_more plan 1153 1536 (master_part plan m now (with_reading now random core)) (omega arith) (master_keeps plan m now (with_reading now random core) p (ltb-true m (master_count plan) h) (read now)))
   where
     read : (now : ℕ) → IsSound plan (with_reading now random core)
     read now = sound_alike plan core (with_reading now random core) refl refl refl s
