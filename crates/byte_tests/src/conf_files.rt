@@ -1,10 +1,9 @@
 //! Files read, refused and rewritten, with the bytes that an operator would see.
 
-use crate::{
-    Conf, ConfFault, ConfKind, ConfStore, ConfText, LoadFault, MemoryStore, Settings, StoreRefused,
-    read, rewrite_into,
-};
+ghost use Rattle.std.specs.Prelude.{◌≡◌, ◌∷◌, [], IfOk};
+
 use ballot_law::{Addr, Card, Kept, KeptMaster, KeptMasters, RosterFault};
+use sentinel_conf::{Conf, ConfFault, ConfKind, ConfText, Settings, read, rewrite_into};
 use std::alloc::Global;
 use std::test::Fail;
 
@@ -96,7 +95,12 @@ fn at(line: u64, kind: ConfKind) -> Option<ConfFault> {
 }
 
 /// One master's part at this port.
-fn kept_at(alloc: Global, current: u64, epoch: u64, port: u16, voted: u64) -> Result<Kept, Fail> {
+fn kept_at(alloc: Global, current: u64, epoch: u64, port: u16, voted: u64) -> Result<Kept, Fail>
+    ensures { IfOk result (λ kept. kept ≡ record {
+      current = current;
+      masters = (record { card = record { epoch = epoch; addr = record { ip = HERE; port = port } }; voted = voted }) ∷ [];
+    }) }
+{
     let addr = Addr { ip: HERE, port };
     let card = Card { epoch, addr };
     Ok(Kept {
@@ -239,24 +243,8 @@ fn a_fault_is_shown_by_its_innermost_name(rt: HostRuntime) -> Result<(), Fail> {
     let kind = ConfKind::Roster(RosterFault::SameRunId);
     assert_eq!(rt; format!(in alloc; "{kind}")?.as_str(), "SameRunId");
     let kind = ConfKind::BadNumber;
+    let fault = ConfFault { line: 7, kind };
     assert_eq!(rt; format!(in alloc; "{kind}")?.as_str(), "BadNumber");
-    Ok(())
-}
-
-#[test]
-fn a_store_in_memory_refuses_the_next_text(rt: HostRuntime) -> Result<(), Fail> {
-    let mut store = MemoryStore::holding(rt.alloc(), b"one")?;
-    assert_eq!(rt; store.replace(b"two"), Ok(()));
-    assert_eq!(rt; store.text(), b"two".as_slice());
-    store.refuse_next(false);
-    assert_eq!(rt; store.replace(b"three"), Err(StoreRefused));
-    assert_eq!(rt; store.text(), b"two".as_slice());
-    store.refuse_next(true);
-    assert_eq!(rt; store.replace(b"four"), Err(StoreRefused));
-    assert_eq!(rt; store.text(), b"four".as_slice());
-    assert_eq!(rt; store.failures(), 2);
-    let loaded = store.load()?;
-    assert_eq!(rt; loaded.as_slice(), b"four".as_slice());
-    assert_eq!(rt; store.replace(b"five"), Ok(()));
+    assert_eq!(rt; format!(in alloc; "{fault}")?.as_str(), "BadNumber");
     Ok(())
 }
