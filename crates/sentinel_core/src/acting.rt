@@ -15,8 +15,8 @@ ghost use Rattle.sentinel_state.specs.Room.{bounded};
 
 use crate::outbox::Outbox;
 use ballot_law::{Body, Command, Event, Hello, Input, Message, NodeName, Note, Output};
-use sentinel_rules::{Frame, law_frames_are_named, law_inputs_keep_sound};
 use sentinel_answers::{answer_by_text, answer_plainly};
+use sentinel_rules::{Frame, law_frames_are_named, law_inputs_keep_sound};
 use sentinel_state::{FrameList, Plan, State};
 
 /// A message of this Sentinel.
