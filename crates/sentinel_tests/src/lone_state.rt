@@ -6,8 +6,8 @@ ghost use Rattle.sentinel_answers.specs.Plain.{is_plain};
 use ballot_law::{Addr, Body, Command, RunId, Shown, Win};
 use sentinel_answers::{answer_by_text, answer_plainly};
 use sentinel_conf::read;
-use sentinel_rules::Frame;
 use sentinel_plan::Plan;
+use sentinel_rules::Frame;
 use sentinel_state::{FrameList, State};
 use std::alloc::Global;
 use std::marker::Model;
@@ -107,9 +107,7 @@ impl LoneState {
     {
         let text = Vec::with_capacity(alloc, 65_536)?;
         let shown = Vec::with_capacity(alloc, 16)?;
-        let body = self
-            .state
-            .answer_by_text(&self.plan, now, command, text, shown);
+        let body = answer_by_text(&self.plan, &self.state, now, command, text, shown);
         let Body::PortReply { shown, text } = body else {
             return Ok(false);
         };
@@ -118,8 +116,12 @@ impl LoneState {
 
     /// The configuration that the answer to the command shows; none where it is another answer.
     pub(crate) fn address(&mut self, now: u64, command: &Command) -> Option<Shown> {
-        let Some(Body::AddressAnswer(shown)) = answer_plainly(&self.plan, &mut self.state, now, command)
-        else {
+        let Some(Body::AddressAnswer(shown)) = answer_plainly(
+            &self.plan,
+            &mut self.state,
+            now,
+            command,
+        ) else {
             return None;
         };
         shown
