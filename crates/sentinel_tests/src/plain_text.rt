@@ -22,8 +22,10 @@ fn add_words(alloc: Global, line: &str, bytes: &mut OutText) -> Result<(), Fail>
 /// Adds what a line stands for: behind `$` a bulk string; a line that begins with `*`, `:`, `+` or `-` itself; else its words, as an
 /// array of bulk strings.
 pub(crate) fn add_line(alloc: Global, line: &str, bytes: &mut OutText) -> Result<(), Fail> {
+    if let Some(word) = line.strip_prefix("$") {
+        return add_bulk(alloc, word, bytes);
+    }
     match line.as_bytes().first() {
-        Some(b'$') => add_bulk(alloc, &line[1..], bytes),
         Some(b'*' | b':' | b'+' | b'-') => {
             Ok(bytes.add(format!(in alloc; "{line}\r\n")?.as_bytes())?)
         }

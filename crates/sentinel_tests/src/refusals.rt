@@ -239,7 +239,7 @@ fn the_file_is_written_where_it_changes_or_for_flushconfig(rt: HostRuntime) -> R
 const THIRD_OF_FOUR: &[u8] = b"sentinel myid bbbbbbbbbbbbbbbbbbbbbbbbbbbbbbbbbbbbbbbb\n\
 sentinel monitor mymaster 127.0.0.1 6379 2\n\
 sentinel known-sentinel mymaster 127.0.0.1 26380 aaaaaaaaaaaaaaaaaaaaaaaaaaaaaaaaaaaaaaaa\n\
-sentinel known-sentinel mymaster 127.0.0.1 26379 0000000000000000000000000000000000000000\n\
+sentinel known-sentinel mymaster 127.0.0.1 26381 0000000000000000000000000000000000000000\n\
 sentinel known-sentinel mymaster 127.0.0.1 26382 cccccccccccccccccccccccccccccccccccccccc\n";
 
 #[test]
