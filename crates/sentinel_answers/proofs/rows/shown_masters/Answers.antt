@@ -11,8 +11,8 @@ loop-m-preserved c =
     record {
       value =
           c.push_reserved.ensures.items
-          ∙ ap (λ t. t ++ c.shown.result ∷ []) c.loop-m.invariant.value
-          ∙ ap (λ s. map shown (numbers_from 0 m) ++ s ∷ []) c.shown.ensures
+          ∙ ap (λ t. t ++ c.shown_card.result ∷ []) c.loop-m.invariant.value
+          ∙ ap (λ s. map shown (numbers_from 0 m) ++ s ∷ []) c.shown_card.ensures
           ∙ sym (shown_more shown m);
       len = c.push_reserved.ensures.len ∙ ap (λ n. n + 1) c.loop-m.invariant.len;
       room = omega (arith, c.push_reserved.ensures.capacity, c.loop-m.invariant.room);
