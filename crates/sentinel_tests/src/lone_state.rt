@@ -107,9 +107,7 @@ impl LoneState {
     {
         let text = Vec::with_capacity(alloc, 65_536)?;
         let shown = Vec::with_capacity(alloc, 16)?;
-        let body = self
-            .state
-            .answer_by_text(&self.plan, now, command, text, shown);
+        let body = answer_by_text(&self.plan, &self.state, now, command, text, shown);
         let Body::PortReply { shown, text } = body else {
             return Ok(false);
         };
