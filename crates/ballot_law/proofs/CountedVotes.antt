@@ -16,7 +16,7 @@ use Rattle.ballot_law.specs.VotesHeard.{Hearing, greater, latest, is_for, is_lea
 abbrev with_one : (ℕ → Bool) → (one : ℕ) → ℕ → Bool
 with_one p one v = if eqb v one then true else p v
 
-eqb-true : (a b : ℕ) → eqb a b ≡ true → a ≡ b
+pub eqb-true : (a b : ℕ) → eqb a b ≡ true → a ≡ b
 eqb-true a b h = grind (arith, nat_tests)
 
 eqb-of_less : (v one : ℕ) → v < one → eqb v one ≡ false
@@ -25,7 +25,7 @@ eqb-of_less v one lt = grind (arith, nat_tests)
 eqb-of_greater : (v one : ℕ) → one < v → eqb v one ≡ false
 eqb-of_greater v one lt = grind (arith, nat_tests)
 
-eqb-same : (v : ℕ) → eqb v v ≡ true
+pub eqb-same : (v : ℕ) → eqb v v ≡ true
 eqb-same v = grind (arith, nat_tests)
 
 count_below-before : (p : ℕ → Bool) (one n : ℕ) → n ≤ one → count_below (with_one p one) n ≡ count_below p n
@@ -80,7 +80,7 @@ same_id-equal a b h =
     let parts = same_parts a.hi b.hi a.lo b.lo h in
     ap (λ (hi : ℕ). record { hi = hi; lo = a.lo }) parts.0 ∙ ap (λ (lo : ℕ). record { hi = b.hi; lo = lo }) parts.1
 
-both : (a b : Bool) → (a && b) ≡ true → (a ≡ true) × (b ≡ true)
+pub both : (a b : Bool) → (a && b) ≡ true → (a ≡ true) × (b ≡ true)
 both true b h = (refl, h)
 both false b h = (cc, cc)
 

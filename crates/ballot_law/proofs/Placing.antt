@@ -80,13 +80,14 @@ module _ {X : Type 0} (before : X → X → Bool) where
   onto_push [] x list = refl
   onto_push (y ∷ xs) x list = ap (add before y) (onto_push xs x list)
 
+-- within the list it doesn't matter what stands for a place that isn't there
+pub get_or_any : {X : Type 0} (list : List X) (i : ℕ) (d e : X) → i < length list → get_or list i d ≡ get_or list i e
+get_or_any [] i d e l = absurd (omega arith)
+get_or_any (y ∷ ys) zero d e l = refl
+get_or_any (y ∷ ys) (suc i) d e l = get_or_any ys i d e (omega arith)
+
 -- the loop that looks for a repetition
 module _ {X : Type 0} (same : X → X → Bool) where
-  get_or_any : (list : List X) (i : ℕ) (d e : X) → i < length list → get_or list i d ≡ get_or list i e
-  get_or_any [] i d e l = absurd (omega arith)
-  get_or_any (y ∷ ys) zero d e l = refl
-  get_or_any (y ∷ ys) (suc i) d e l = get_or_any ys i d e (omega arith)
-
   any_at : (p : X → Bool) (list : List X) (j : ℕ) (d : X) → j < length list → list_any p (drop j list) ≡ (p (get_or list j d) || list_any p (drop (j + 1) list))
   any_at p list j d l = ap (list_any p) (drop-cons list j d l) ∙ ap (λ n. p (get_or list j d) || list_any p (drop n list)) (sym (add-one j))
 

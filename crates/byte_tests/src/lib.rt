@@ -1,5 +1,5 @@
 //! Tests of the crates that read and write bytes, by their public calls: words and numbers, frames, commands, files, hellos, INFO, ROLE,
-//! the answers of a port.
+//! the answers of a port. The values that they expect come from public standards and from what Redis writes.
 #![tactic(auto)]
 
 #[cfg(test)]
@@ -8,6 +8,10 @@ mod answers;
 mod bounded_lists;
 #[cfg(test)]
 mod commands;
+#[cfg(test)]
+mod conf_files;
+#[cfg(test)]
+mod conf_stores;
 #[cfg(test)]
 mod frames;
 #[cfg(test)]

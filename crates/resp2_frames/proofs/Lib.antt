@@ -13,3 +13,5 @@ pub mod Drains
 pub mod HaveLines
 pub mod Written
 pub mod Adding
+pub mod Stops
+pub mod Told

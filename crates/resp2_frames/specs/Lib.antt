@@ -2,3 +2,4 @@ pub mod Frame
 pub mod Reading
 pub mod Stream
 pub mod Writing
+pub mod Faults

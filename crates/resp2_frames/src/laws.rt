@@ -1,10 +1,12 @@
 //! Laws of the spelling and of the reading, for all values and all bytes.
 ghost use Rattle.std.specs.Prelude.{◌≡◌, ◌↔◌, ◌≤◌, ◌++◌, ℕ, List, length, Ok, Err};
 ghost use Rattle.resp2_frames.specs.declared.fault.FrameFault.{FrameFault};
+ghost use Rattle.resp2_frames.specs.declared.fault.FrameFault.TheVariants.{NoMemory};
 ghost use Rattle.resp2_frames.specs.declared.fault.Unread.TheVariants.{NeedsMore, Faulty};
 ghost use Rattle.resp2_frames.specs.Frame.{Frame, spelling, IsPlain, IsFrame};
 ghost use Rattle.resp2_frames.specs.Reading.{frame_at, Stays};
 ghost use Rattle.resp2_frames.specs.Stream.{Held, Splits};
+ghost use Rattle.resp2_frames.specs.Faults.{IsFaulted, MayGoOn};
 
 /// No spelling begins another value's spelling.
 #[tactic(auto, using(crate::proofs::Streams::one_spelling))]
@@ -41,4 +43,14 @@ pub fn law_no_value_behind_a_fault()
 /// More bytes are needed only while a frame may still go on.
 pub fn law_waits_within_a_frame()
     ensures { (bytes : List ℕ) → frame_at bytes ≡ Err NeedsMore → length bytes ≤ 65536 }
+{}
+
+/// A fault of a stream shows exactly where the grammar's table says so, and is the one that it names; more bytes are needed
+/// exactly where these may still become a frame. No reader stands in the table.
+pub fn law_faults()
+    ensures fault { (bytes : List ℕ) (fault : FrameFault)
+        → (frame_at bytes ≡ Err (Faulty fault)) ↔ IsFaulted fault bytes }
+    ensures waits { (bytes : List ℕ) → (frame_at bytes ≡ Err NeedsMore) ↔ MayGoOn bytes }
+    // Want of memory is no fault of the bytes.
+    ensures memory { (bytes : List ℕ) → frame_at bytes ≡ Err (Faulty NoMemory) → ⊥ }
 {}

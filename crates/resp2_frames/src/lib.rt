@@ -16,8 +16,8 @@ mod writing;
 pub use fault::{FrameFault, Unread};
 pub use frames::Frames;
 pub use laws::{
-    law_fault_and_value_stay, law_no_value_behind_a_fault, law_one_spelling, law_one_split,
-    law_reading_is_spelling, law_waits_within_a_frame,
+    law_fault_and_value_stay, law_faults, law_no_value_behind_a_fault, law_one_spelling,
+    law_one_split, law_reading_is_spelling, law_waits_within_a_frame,
 };
 pub use out_text::OutText;
 pub use pieces::values_of_pieces;

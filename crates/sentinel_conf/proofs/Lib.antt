@@ -1,4 +1,4 @@
-mod WorkedFiles
+pub mod WorkedFiles
 pub mod RoomLemmas
 pub mod Fitting
 pub mod ReadSteps

@@ -1,24 +1,27 @@
 -- Worked files, evaluated by the definitions.
-use Rattle.std.proofs.Common.{◌≡◌, ℕ, List, [], ◌∷◌, ◌++◌, refl, Option, Some, None, Result, Ok, Err}
-use Rattle.std.specs.Prelude.{codes}
+use Rattle.std.proofs.Common.{◌≡◌, ℕ, List, [], ◌∷◌, ◌++◌, refl, subst, arith, Option, Some, None, Result, Ok, Err}
+use Rattle.std.specs.Prelude.{codes, Bool, true, false, not, nat_lt, length}
+use Rattle.std.specs.Str.{is_utf8}
 use Rattle.std.specs.Fmt.{digits}
-use Rattle.conf_lines.specs.declared.faults.ConfKind.TheVariants.{BadAddress, BadNumber, UnknownMaster, Twice, NoMyId, BadDirective}
+use Rattle.std.specs.Bool.{⊤}
+use Rattle.conf_lines.specs.declared.faults.ConfKind.{ConfKind}
+use Rattle.conf_lines.specs.declared.faults.ConfKind.TheVariants.{TooLong, NotUtf8, BadAddress, BadNumber, UnknownMaster, Twice, NoMyId, BadDirective}
 use Rattle.conf_lines.specs.declared.faults.ConfFault.{ConfFault}
 use Rattle.ballot_law.specs.Words.{hex}
 use Rattle.conf_lines.specs.Words.{lines, words_of}
 use Rattle.sentinel_conf.specs.Meaning.{ConfPlan}
 use Rattle.ballot_law.specs.declared.cards.Kept.{Kept as KeptPlan}
-use Rattle.sentinel_conf.specs.Rewritten.{rewritten}
-use Rattle.sentinel_conf.specs.Reading.{conf_of_lines}
+use Rattle.sentinel_conf.specs.Rewritten.{rewritten, IsKeptPart}
+use Rattle.sentinel_conf.specs.Reading.{FILE_MAX, guard, ◌>>=◌, conf_of_lines, conf_of_bytes}
 use Rattle.conf_lines.specs.Faults.{fault_at}
 
-abbrev file : List ℕ
+abbrev pub file : List ℕ
 file = codes "# group one\nport 26379\nbind 127.0.0.1\nsentinel monitor mymaster 127.0.0.1 6379 2\nsentinel auth-pass mymaster secret\nsentinel down-after-milliseconds mymaster 5000\nsentinel known-replica mymaster 127.0.0.1 6381\nsentinel known-replica mymaster 127.0.0.1 6380\nsentinel known-sentinel mymaster 127.0.0.1 26380 bbbbbbbbbbbbbbbbbbbbbbbbbbbbbbbbbbbbbbbb\nsentinel myid aaaaaaaaaaaaaaaaaaaaaaaaaaaaaaaaaaaaaaaa"
 
 abbrev short_file : List ℕ
 short_file = codes "# group one\nport 26379\nbind 127.0.0.1\nsentinel monitor mymaster 127.0.0.1 6379 2\nsentinel auth-pass mymaster secret\nsentinel down-after-milliseconds mymaster 5000\nsentinel known-replica mymaster 127.0.0.1 6381\nsentinel known-replica mymaster 127.0.0.1 6380\nsentinel known-sentinel mymaster 127.0.0.1 26380 bbbbbbbbbbbbbbbbbbbbbbbbbbbbbbbbbbbbbbbb"
 
-abbrev kept : KeptPlan
+abbrev pub kept : KeptPlan
 kept = record {
   current = 3;
   masters = (record { card = record { epoch = 2; addr = record { ip = 2130706433; port = 6380 } }; voted = 3 }) ∷ [];
@@ -74,3 +77,21 @@ first_line_first = refl
 unknown_last : fault_of (conf_of_lines (lines (codes "sentinel config-epoch other 3\nport"))) ≡ Some (fault_at 2 BadDirective)
 unfolding digits hex
 unknown_last = refl
+
+-- the part that the file above keeps after a failover is one of its masters
+abbrev IsPartOf : Result ConfPlan ConfFault → Type 0
+IsPartOf (Ok conf) = IsKeptPart conf kept
+IsPartOf (Err fault) = ⊤
+
+part_of_file : IsPartOf (conf_of_lines (lines file))
+unfolding digits hex
+part_of_file = record { current = omega arith; masters = (record { addr = (1, omega arith, refl); epoch = omega arith; voted = omega arith }, tt) }
+
+guarded : (a b : Bool) (one other : ConfKind) (read : Result ConfPlan ConfFault) (conf : ConfPlan) → (guard a one >>= λ _. guard b other >>= λ _. read) ≡ Ok conf → read ≡ Ok conf
+guarded true b one other read conf e = cc
+guarded false true one other read conf e = cc
+guarded false false one other read conf e = e
+
+pub file_part : (conf : ConfPlan) → conf_of_bytes file ≡ Ok conf → IsKeptPart conf kept
+file_part conf e =
+    subst IsPartOf (guarded (nat_lt FILE_MAX (length file)) (not (is_utf8 file)) TooLong NotUtf8 (conf_of_lines (lines file)) conf e) part_of_file

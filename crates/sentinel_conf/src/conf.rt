@@ -84,6 +84,8 @@ impl Conf {
 
     /// The settings of the master with this number; none where there is no such master.
     pub fn settings(&self, m: u16) -> Option<Settings>
+        ensures some { IfSome result (λ settings. (m < length self.now.roster.masters)
+            × (slice_index_or self.now.settings m settings ≡ settings)) }
         ensures none { IfNone result (length self.now.roster.masters ≤ m) }
         ensures known { m < length self.now.roster.masters → result
             ≡ Some (slice_index_or self.now.settings m no_settings) }

@@ -19,8 +19,6 @@ mod meaning;
 mod members;
 mod reading;
 mod settings;
-#[cfg(test)]
-mod tests;
 mod writing;
 
 pub use ballot_law::NoMemory;

@@ -3,7 +3,6 @@ use Rattle.std.proofs.Common.{◌≡◌, ℕ, zero, suc, ◌+◌, ◌<◌, Bool,
 use Rattle.std.specs.Prelude.{not, ◌&&◌, ◌||◌, option_map, position}
 use Rattle.std.specs.List.{position_or_len}
 use Rattle.std.proofs.lemmas.Bool.{lt-ltb, eqb-false, or_parts, cases_order}
-use Rattle.std.proofs.lemmas.Bool.Decides.{nat_tests}
 use Rattle.std.proofs.lemmas.List.Quantifiers.{position-Some}
 use Rattle.ballot_law.specs.declared.addresses.Addr.{Addr}
 use Rattle.ballot_law.specs.Ballots.{card_of}
@@ -12,6 +11,7 @@ use Rattle.ballot_law.specs.Rosters.{no_addr}
 use Rattle.replica_choice.specs.declared.candidates.Candidate.{Candidate}
 use Rattle.replica_choice.specs.declared.candidates.Limits.{Limits}
 use Rattle.replica_choice.specs.Choices.{is_eligible, is_better, candidate_at, no_candidate, with_place, choice_below, choice_of}
+use Rattle.ballot_law.proofs.CountedVotes.{both, eqb-true, eqb-same}
 use Rattle.sentinel_rules.specs.Plans.{Plan, master_count, nodes_of, addr_at, node_place}
 use Rattle.sentinel_rules.specs.States.{Core, card_place, is_node_down}
 use Rattle.sentinel_rules.specs.Ticks.{at_places, candidate_of, candidates_of, limits_of, best_of}
@@ -19,16 +19,6 @@ use Rattle.sentinel_rules.specs.Facts.{IsSoundPlan}
 use Rattle.sentinel_rules.proofs.Turns.{Best}
 
 -- Places and addresses
-
-pub eqb-true : (a b : ℕ) → eqb a b ≡ true → a ≡ b
-eqb-true a b h = grind (arith, nat_tests)
-
-pub eqb-same : (a : ℕ) → eqb a a ≡ true
-eqb-same a = grind (arith, nat_tests)
-
-pub both : (a b : Bool) → (a && b) ≡ true → (a ≡ true) × (b ≡ true)
-both true b h = (refl, h)
-both false b h = (cc, cc)
 
 pub same_addr-equal : (a b : Addr) → same_addr a b ≡ true → a ≡ b
 same_addr-equal a b h =

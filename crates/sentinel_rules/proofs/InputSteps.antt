@@ -32,13 +32,13 @@ use Rattle.sentinel_rules.specs.Takes.{Next, next_at, shown_after, answer_to, cl
 use Rattle.sentinel_rules.specs.Ticks.{tick}
 use Rattle.sentinel_rules.specs.Facts.{IsSoundPlan, IsSound, IsWithinEvent}
 use Rattle.sentinel_rules.specs.Steps.{IsPartsOf, IsTake, InputsAreSteps}
-use Rattle.sentinel_rules.proofs.FineTicks.{tick_fine}
-use Rattle.sentinel_rules.proofs.FineNews.{hello_fine, answered_sound, pinged_sound, info_fine}
-use Rattle.sentinel_rules.proofs.FineInputs.{commanded_sound}
+use Rattle.sentinel_rules.proofs.SoundTicks.{tick_keeps}
+use Rattle.sentinel_rules.proofs.SoundNews.{hello_keeps, answered_sound, pinged_sound, info_keeps}
+use Rattle.sentinel_rules.proofs.SoundInputs.{commanded_sound}
 use Rattle.sentinel_rules.proofs.Framing.{sound_alike}
-use Rattle.sentinel_rules.proofs.Leads.{Led, Leads}
-use Rattle.sentinel_rules.proofs.LeadNews.{stay_leads, within_core, requested_leads, hello_leads, answered_leads, pinged_leads, info_leads}
-use Rattle.sentinel_rules.proofs.LeadTicks.{tick_leads}
+use Rattle.sentinel_rules.proofs.StepsTo.{Stepped, StepsTo}
+use Rattle.sentinel_rules.proofs.StepNews.{stay_steps, within_core, requested_steps, hello_steps, answered_steps, pinged_steps, info_steps}
+use Rattle.sentinel_rules.proofs.StepTicks.{tick_steps}
 use Rattle.sentinel_rules.proofs.ShownOutputs.{AreNamed, frames_right, silent, showing, answer_right, shown_right}
 use Rattle.sentinel_rules.proofs.NamedFrames.{tick_frames, hello_frames, info_frames}
 
@@ -47,28 +47,28 @@ use Rattle.sentinel_rules.proofs.NamedFrames.{tick_frames, hello_frames, info_fr
 card_master : (masters : List KeptMaster) (addr : Addr) (m : ℕ) → master_with_card masters addr ≡ Some m → m < length masters
 card_master masters addr m e = (position-Some (λ (master : KeptMaster). same_addr addr master.card.addr) masters m no_kept e).0
 
-asked_at_leads : (plan : Plan) (event : Event) (m now : ℕ) (addr : Addr) (epoch : ℕ) (down : Bool) (candidate : Option RunId) (core : Core) → IsSound plan core → m < master_count plan → Leads plan event 2 core (asked_at plan m now addr epoch down candidate core).core
-asked_at_leads plan event m now addr epoch down None core s lt = stay_leads plan event 2 core
-asked_at_leads plan event m now addr epoch down (Some candidate) core s lt = requested_leads plan event m now epoch candidate core (within_core plan core m s lt) lt
+asked_at_steps : (plan : Plan) (event : Event) (m now : ℕ) (addr : Addr) (epoch : ℕ) (down : Bool) (candidate : Option RunId) (core : Core) → IsSound plan core → m < master_count plan → StepsTo plan event 2 core (asked_at plan m now addr epoch down candidate core).core
+asked_at_steps plan event m now addr epoch down None core s lt = stay_steps plan event 2 core
+asked_at_steps plan event m now addr epoch down (Some candidate) core s lt = requested_steps plan event m now epoch candidate core (within_core plan core m s lt) lt
 
-asked_of_leads : (plan : Plan) (event : Event) (now : ℕ) (addr : Addr) (epoch : ℕ) (candidate : Option RunId) (m : Option ℕ) (core : Core) → IsSound plan core → ((j : ℕ) → m ≡ Some j → j < master_count plan) → Leads plan event 2 core (asked_of plan now addr epoch candidate m core).core
-asked_of_leads plan event now addr epoch candidate None core s f = stay_leads plan event 2 core
-asked_of_leads plan event now addr epoch candidate (Some m) core s f = asked_at_leads plan event m now addr epoch (is_master_down plan core m now && not (is_tilted core)) candidate core s (f m refl)
+asked_of_steps : (plan : Plan) (event : Event) (now : ℕ) (addr : Addr) (epoch : ℕ) (candidate : Option RunId) (m : Option ℕ) (core : Core) → IsSound plan core → ((j : ℕ) → m ≡ Some j → j < master_count plan) → StepsTo plan event 2 core (asked_of plan now addr epoch candidate m core).core
+asked_of_steps plan event now addr epoch candidate None core s f = stay_steps plan event 2 core
+asked_of_steps plan event now addr epoch candidate (Some m) core s f = asked_at_steps plan event m now addr epoch (is_master_down plan core m now && not (is_tilted core)) candidate core s (f m refl)
 
 card_within : (plan : Plan) (core : Core) (addr : Addr) → IsSound plan core → (j : ℕ) → master_with_card core.kept.masters addr ≡ Some j → j < master_count plan
 card_within plan core addr s j e = subst (λ (n : ℕ). j < n) s.kept_masters (card_master core.kept.masters addr j e)
 
-commanded_leads : (plan : Plan) (event : Event) (now : ℕ) (command : Command) (core : Core) → IsSound plan core → Leads plan event 2 core (commanded plan now command core).core
-commanded_leads plan event now (IsMasterDownByAddr addr epoch candidate) core s = asked_of_leads plan event now addr epoch candidate (master_with_card core.kept.masters addr) core s (card_within plan core addr s)
-commanded_leads plan event now Ping core s = stay_leads plan event 2 core
-commanded_leads plan event now (GetMasterAddrByName name) core s = stay_leads plan event 2 core
-commanded_leads plan event now Masters core s = stay_leads plan event 2 core
-commanded_leads plan event now (Master name) core s = stay_leads plan event 2 core
-commanded_leads plan event now (Replicas name) core s = stay_leads plan event 2 core
-commanded_leads plan event now (Sentinels name) core s = stay_leads plan event 2 core
-commanded_leads plan event now MyId core s = stay_leads plan event 2 core
-commanded_leads plan event now (CkQuorum name) core s = stay_leads plan event 2 core
-commanded_leads plan event now FlushConfig core s = stay_leads plan event 2 core
+commanded_steps : (plan : Plan) (event : Event) (now : ℕ) (command : Command) (core : Core) → IsSound plan core → StepsTo plan event 2 core (commanded plan now command core).core
+commanded_steps plan event now (IsMasterDownByAddr addr epoch candidate) core s = asked_of_steps plan event now addr epoch candidate (master_with_card core.kept.masters addr) core s (card_within plan core addr s)
+commanded_steps plan event now Ping core s = stay_steps plan event 2 core
+commanded_steps plan event now (GetMasterAddrByName name) core s = stay_steps plan event 2 core
+commanded_steps plan event now Masters core s = stay_steps plan event 2 core
+commanded_steps plan event now (Master name) core s = stay_steps plan event 2 core
+commanded_steps plan event now (Replicas name) core s = stay_steps plan event 2 core
+commanded_steps plan event now (Sentinels name) core s = stay_steps plan event 2 core
+commanded_steps plan event now MyId core s = stay_steps plan event 2 core
+commanded_steps plan event now (CkQuorum name) core s = stay_steps plan event 2 core
+commanded_steps plan event now FlushConfig core s = stay_steps plan event 2 core
 
 -- Answers
 
@@ -129,11 +129,11 @@ cleared_parts core parts is = record { kept = is.kept; count = is.count; each = 
 
 take_by : (plan : Plan) (core : Core) (parts : Parts) (event : Event) (most : ℕ) (done : Next) → most ≤ 6 → IsPartsOf core parts
     → IsSound plan done.core
-    → Leads plan event most (cleared core) done.core
+    → StepsTo plan event most (cleared core) done.core
     → ((last : Parts) → IsPartsOf done.core last → All (IsRightOutput (roster_of plan) plan.place last) done.outputs)
     → IsTake plan core parts event done.core done.outputs
 take_by plan core parts event most done few is sound leads right =
-    let led : Led plan event most done.core (emptied parts) = leads (emptied parts) (cleared_parts core parts is) in
+    let led : Stepped plan event most done.core (emptied parts) = leads (emptied parts) (cleared_parts core parts is) in
     record {
       ballots = led.ballots;
       moved_to = led.last;
@@ -145,7 +145,7 @@ take_by plan core parts event most done few is sound leads right =
     }
 
 take_of_part : (plan : Plan) (core : Core) (parts : Parts) (event : Event) (most : ℕ) (part : Part) → most ≤ 6 → IsSoundPlan plan → IsPartsOf core parts
-    → IsSound plan part.core → Leads plan event most (cleared core) part.core → AreNamed plan part.frames
+    → IsSound plan part.core → StepsTo plan event most (cleared core) part.core → AreNamed plan part.frames
     → IsTake plan core parts event (shown_after plan part).core (shown_after plan part).outputs
 take_of_part plan core parts event most part few p is sound leads frames =
     take_by plan core parts event most (shown_after plan part) few is sound leads (λ last l. frames_right plan part.core last part.frames p sound l frames)
@@ -153,28 +153,28 @@ take_of_part plan core parts event most part few p is sound leads frames =
 input_by : (plan : Plan) (core : Core) (parts : Parts) (now : ℕ) (event : Event) → IsSoundPlan plan → IsSound plan (cleared core) → IsPartsOf core parts → IsWithinEvent event
     → IsTake plan core parts event (next_at plan now event (cleared core)).core (next_at plan now event (cleared core)).outputs
 input_by plan core parts now (Tick m random) p s is h =
-    take_of_part plan core parts (Tick m random) 3 (tick plan m random now (cleared core)) (omega arith) p is (tick_fine plan m random now (cleared core) p s).sound (tick_leads plan (Tick m random) m random now (cleared core) p s refl) (tick_frames plan m random now (cleared core))
+    take_of_part plan core parts (Tick m random) 3 (tick plan m random now (cleared core)) (omega arith) p is (tick_keeps plan m random now (cleared core) p s).sound (tick_steps plan (Tick m random) m random now (cleared core) p s refl) (tick_frames plan m random now (cleared core))
 input_by plan core parts now (Commanded sender command) p s is h =
     let done : Answered = commanded plan now command (cleared core) in
     let t : IsSound plan done.core = commanded_sound plan now command (cleared core) h s in
-    take_by plan core parts (Commanded sender command) 2 (answer_to plan sender done) (omega arith) is t (commanded_leads plan (Commanded sender command) now command (cleared core) s)
+    take_by plan core parts (Commanded sender command) 2 (answer_to plan sender done) (omega arith) is t (commanded_steps plan (Commanded sender command) now command (cleared core) s)
     (λ last l. All-cons (IsRightOutput (roster_of plan) plan.place last) (send plan sender done.body) [] (commanded_right plan last sender now command (cleared core) s t l) (All-nil (IsRightOutput (roster_of plan) plan.place last)))
 input_by plan core parts now (AnswerCame voter m addr down leader epoch) p s is h =
     take_of_part plan core parts (AnswerCame voter m addr down leader epoch) 1 (quiet (answered plan voter m now addr down leader epoch (cleared core))) (omega arith) p is
-    (answered_sound plan voter m now addr down leader epoch (cleared core) s) (answered_leads plan voter m now addr down leader epoch (cleared core) s) tt
+    (answered_sound plan voter m now addr down leader epoch (cleared core) s) (answered_steps plan voter m now addr down leader epoch (cleared core) s) tt
 input_by plan core parts now (Pinged node reply) p s is h =
     take_of_part plan core parts (Pinged node reply) 0 (quiet (pinged plan node now reply (cleared core))) (omega arith) p is
-    (pinged_sound plan node now reply (cleared core) s) (pinged_leads plan (Pinged node reply) node now reply (cleared core) s) tt
+    (pinged_sound plan node now reply (cleared core) s) (pinged_steps plan (Pinged node reply) node now reply (cleared core) s) tt
 input_by plan core parts now (InfoRead node text) p s is h =
     take_of_part plan core parts (InfoRead node text) 1 (info_read plan node now (info_of text) (cleared core)) (omega arith) p is
-    (info_fine plan node now (info_of text) (cleared core) s).sound (info_leads plan (InfoRead node text) node now (info_of text) (cleared core) s) (info_frames plan node now (info_of text) (cleared core))
+    (info_keeps plan node now (info_of text) (cleared core) s).sound (info_steps plan (InfoRead node text) node now (info_of text) (cleared core) s) (info_frames plan node now (info_of text) (cleared core))
 input_by plan core parts now (HelloRead text) p s is h =
     take_of_part plan core parts (HelloRead text) 2 (hello_read plan now (hello_of text) (cleared core)) (omega arith) p is
-    (hello_fine plan now text (cleared core) s).sound (hello_leads plan now text (cleared core) s) (hello_frames plan now (hello_of text) (cleared core))
+    (hello_keeps plan now text (cleared core) s).sound (hello_steps plan now text (cleared core) s) (hello_frames plan now (hello_of text) (cleared core))
 input_by plan core parts now (Become priority offset link_down) p s is h =
-    take_of_part plan core parts (Become priority offset link_down) 0 (quiet (cleared core)) (omega arith) p is s (stay_leads plan (Become priority offset link_down) 0 (cleared core)) tt
+    take_of_part plan core parts (Become priority offset link_down) 0 (quiet (cleared core)) (omega arith) p is s (stay_steps plan (Become priority offset link_down) 0 (cleared core)) tt
 input_by plan core parts now (Handed message) p s is h =
-    take_of_part plan core parts (Handed message) 0 (quiet (cleared core)) (omega arith) p is s (stay_leads plan (Handed message) 0 (cleared core)) tt
+    take_of_part plan core parts (Handed message) 0 (quiet (cleared core)) (omega arith) p is s (stay_steps plan (Handed message) 0 (cleared core)) tt
 
 pub inputs_are_steps : InputsAreSteps
 inputs_are_steps plan core parts now event p s is h = input_by plan core parts (clock now) event p (sound_alike plan core (cleared core) refl refl refl s) is h

@@ -25,7 +25,7 @@ use Rattle.sentinel_rules.specs.Takes.{next_at, part_of, cleared}
 use Rattle.sentinel_rules.specs.Facts.{IsSoundPlan, IsSound, IsWithinEvent}
 use Rattle.sentinel_rules.specs.Limits.{IsWithinBody, IsWithinOutput, OutputsAreWithin, MessagesComeWithin}
 use Rattle.sentinel_rules.specs.Named.{IsNamed}
-use Rattle.sentinel_rules.proofs.FineInputs.{inputs_keep_few}
+use Rattle.sentinel_rules.proofs.SoundInputs.{inputs_keep_few}
 use Rattle.sentinel_rules.proofs.NamedFrames.{hellos_name_masters}
 use Rattle.sentinel_rules.proofs.ShownOutputs.{AreNamed, hello_is_hello}
 

@@ -2,8 +2,9 @@
 //!
 //! `specs/` reads from below: `Plans` (what doesn't change), `States` (what is kept, and what is down), `Parts` (what is put out),
 //! `Votes`, `Ticks`, `News` (hellos, answers, replies, INFO), `Answers` (the commands of the port), `Takes` (one input as a whole),
-//! `Facts` (what is known of each plan and core), `Steps` (an input by steps of the ballot model), `Room`, `Named` and `Limits` (how much is
-//! put out, of which masters, and with which numbers), `Changes` (what an input changes of what is kept), `Ignored` (what changes nothing), `Worked` (whole runs, computed).
+//! `Facts` (what is known of each plan and core), `Steps` (an input by steps of the ballot model), `Room`, `Named` and `Limits` (how
+//! much is put out, of which masters, and with which numbers), `Changes` (what an input changes of what is kept), `Ignored` (what
+//! changes nothing), `Worked` (whole runs, computed).
 //! `docs/SENTINEL.md` says the same in words.
 #![tactic(auto)]
 

@@ -12,13 +12,8 @@ use Rattle.sentinel_rules.specs.Plans.{Plan}
 use Rattle.sentinel_rules.specs.States.{Core, master_of, failover_of, is_failing_over}
 use Rattle.sentinel_rules.specs.Votes.{book_of}
 use Rattle.sentinel_rules.specs.Ticks.{known_of, start_turn}
-use Rattle.sentinel_rules.proofs.FineTicks.{idle_is}
+use Rattle.sentinel_rules.proofs.SoundTicks.{idle_is, third}
 use Rattle.sentinel_rules.proofs.Turns.{turn_by}
-
-last_of_three : (a b c : Bool) → (a && b && c) ≡ true → c ≡ true
-last_of_three true true c h = h
-last_of_three true false c h = absurd (cc)
-last_of_three false b c h = absurd (cc)
 
 idle_not : (b : Bool) → b ≡ false → not b ≡ true
 idle_not b h = ap not h
@@ -37,7 +32,7 @@ start_opens plan core m now idle = from (failover_of core m) (idle_is (failover_
         let g : Failover = record f { state = Idle } in
         turn_by Q (quieted g) None (table Idle (quieted g) k)
         (λ none. absurd (cc))
-        ((λ fits _. last_of_three k.odown (is_long_ago g.last_start (2 * k.timeout) k.now) (can_open (book_of core m)) fits), tt)
+        ((λ fits _. third k.odown (is_long_ago g.last_start (2 * k.timeout) k.now) (can_open (book_of core m)) fits), tt)
 
     from : (f : Failover) → f.state ≡ Idle → is_some (turned f k).row ≡ true → can_open (book_of core m) ≡ true
     from f e =

@@ -197,6 +197,21 @@ impl LoneSentinel {
         self.sentinel.address_now(m)
     }
 
+    /// Its place among the Sentinels of its roster.
+    pub(crate) fn place(&self) -> u16 {
+        self.sentinel.place()
+    }
+
+    /// The number of the master with this address in its roster.
+    pub(crate) fn master_at(&self, addr: Addr) -> Option<u16> {
+        self.sentinel.roster().master_at(addr)
+    }
+
+    /// Whether it was stopped.
+    pub(crate) fn is_stopped(&self) -> bool {
+        self.sentinel.is_stopped()
+    }
+
     /// The election of the last input.
     pub(crate) fn won(&self) -> Option<(u16, u64)> {
         self.sentinel.won()

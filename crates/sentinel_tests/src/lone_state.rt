@@ -6,8 +6,8 @@ ghost use Rattle.sentinel_answers.specs.Plain.{is_plain};
 use ballot_law::{Addr, Body, Command, RunId, Shown, Win};
 use sentinel_answers::{answer_by_text, answer_plainly};
 use sentinel_conf::read;
-use sentinel_rules::Frame;
 use sentinel_plan::Plan;
+use sentinel_rules::Frame;
 use sentinel_state::{FrameList, State};
 use std::alloc::Global;
 use std::marker::Model;
@@ -116,8 +116,12 @@ impl LoneState {
 
     /// The configuration that the answer to the command shows; none where it is another answer.
     pub(crate) fn address(&mut self, now: u64, command: &Command) -> Option<Shown> {
-        let Some(Body::AddressAnswer(shown)) = answer_plainly(&self.plan, &mut self.state, now, command)
-        else {
+        let Some(Body::AddressAnswer(shown)) = answer_plainly(
+            &self.plan,
+            &mut self.state,
+            now,
+            command,
+        ) else {
             return None;
         };
         shown

@@ -234,3 +234,22 @@ fn the_file_is_written_where_it_changes_or_for_flushconfig(rt: HostRuntime) -> R
     }
     Ok(())
 }
+
+/// The file of four Sentinels as the one with the run id of forty `b` has it.
+const THIRD_OF_FOUR: &[u8] = b"sentinel myid bbbbbbbbbbbbbbbbbbbbbbbbbbbbbbbbbbbbbbbb\n\
+sentinel monitor mymaster 127.0.0.1 6379 2\n\
+sentinel known-sentinel mymaster 127.0.0.1 26380 aaaaaaaaaaaaaaaaaaaaaaaaaaaaaaaaaaaaaaaa\n\
+sentinel known-sentinel mymaster 127.0.0.1 26379 0000000000000000000000000000000000000000\n\
+sentinel known-sentinel mymaster 127.0.0.1 26382 cccccccccccccccccccccccccccccccccccccccc\n";
+
+#[test]
+fn a_sentinel_tells_its_place_its_roster_and_its_stop(rt: HostRuntime) -> Result<(), Fail> {
+    let mut lone = LoneSentinel::open(rt.alloc(), THIRD_OF_FOUR, 0)?;
+    assert!(rt; lone.place() == 2);
+    assert!(rt; lone.master_at(here(6379)) == Some(0));
+    assert!(rt; lone.master_at(here(6380)).is_none());
+    assert!(rt; !lone.is_stopped());
+    lone.stop();
+    assert!(rt; lone.is_stopped());
+    Ok(())
+}

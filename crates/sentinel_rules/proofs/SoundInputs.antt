@@ -1,0 +1,71 @@
+-- Each input keeps a core sound, and puts out few frames.
+use Rattle.std.proofs.Common.{ℕ, ◌≤◌, Bool, true, false, Option, Some, None, length, refl, arith}
+use Rattle.std.specs.Prelude.{if◌then◌else◌, not, ◌&&◌}
+use Rattle.ballot_law.specs.declared.addresses.Addr.{Addr}
+use Rattle.ballot_law.specs.declared.addresses.RunId.{RunId}
+use Rattle.ballot_law.specs.declared.cards.TheConstants.{MAX_EPOCH}
+use Rattle.ballot_law.specs.declared.commands.Command.{Command}
+use Rattle.ballot_law.specs.declared.commands.Command.TheVariants.{Ping, IsMasterDownByAddr, GetMasterAddrByName, Masters, Master, Replicas, Sentinels, MyId, CkQuorum, FlushConfig}
+use Rattle.ballot_law.specs.declared.events.Event.{Event}
+use Rattle.ballot_law.specs.declared.events.Event.TheVariants.{Tick, Command as Commanded, Answered as AnswerCame, Pinged, InfoRead, HelloRead, Become, Handed}
+use Rattle.ballot_law.specs.Clocks.{clock}
+use Rattle.ballot_law.specs.OwnVotes.{grants, asked}
+use Rattle.node_texts.specs.Infos.{info_of}
+use Rattle.resp2.specs.Commands.{IsWithin}
+use Rattle.sentinel_rules.specs.declared.frames.TheConstants.{FRAMES_MAX}
+use Rattle.sentinel_rules.specs.Plans.{Plan}
+use Rattle.sentinel_rules.specs.States.{Core, is_tilted, is_master_down}
+use Rattle.sentinel_rules.specs.Votes.{book_of, with_book, mark_for, requested}
+use Rattle.sentinel_rules.specs.Answers.{asked_at, asked_of, commanded, master_with_card}
+use Rattle.sentinel_rules.specs.Takes.{next_at, part_of, cleared}
+use Rattle.sentinel_rules.specs.Facts.{IsSoundPlan, IsSound, IsWithinEvent}
+use Rattle.sentinel_rules.specs.Room.{InputsKeepFew}
+use Rattle.sentinel_rules.proofs.Framing.{sound_alike}
+use Rattle.sentinel_rules.proofs.SoundTicks.{keeps_more, tick_keeps, book_sound, mark_sound}
+use Rattle.sentinel_rules.proofs.SoundNews.{hello_keeps, answered_sound, pinged_sound, info_keeps}
+
+pub requested_sound : (plan : Plan) (m now epoch : ℕ) (candidate : RunId) (core : Core) → epoch ≤ MAX_EPOCH → IsSound plan core → IsSound plan (requested plan m now epoch candidate core)
+requested_sound plan m now epoch candidate core h s = known (grants (book_of core m) epoch)
+  where
+    voted : Core
+    voted = with_book core m (asked (book_of core m) epoch candidate)
+
+    known : (b : Bool) → IsSound plan (if b then mark_for plan m now candidate voted else voted)
+    known true = mark_sound plan m now candidate voted (book_sound plan core m epoch candidate h s)
+    known false = book_sound plan core m epoch candidate h s
+
+asked_at_sound : (plan : Plan) (m now : ℕ) (addr : Addr) (epoch : ℕ) (down : Bool) (candidate : Option RunId) (core : Core) → epoch ≤ MAX_EPOCH → IsSound plan core → IsSound plan (asked_at plan m now addr epoch down candidate core).core
+asked_at_sound plan m now addr epoch down None core h s = s
+asked_at_sound plan m now addr epoch down (Some candidate) core h s = requested_sound plan m now epoch candidate core h s
+
+asked_of_sound : (plan : Plan) (now : ℕ) (addr : Addr) (epoch : ℕ) (candidate : Option RunId) (m : Option ℕ) (core : Core) → epoch ≤ MAX_EPOCH → IsSound plan core → IsSound plan (asked_of plan now addr epoch candidate m core).core
+asked_of_sound plan now addr epoch candidate None core h s = s
+asked_of_sound plan now addr epoch candidate (Some m) core h s = asked_at_sound plan m now addr epoch (is_master_down plan core m now && not (is_tilted core)) candidate core h s
+
+pub commanded_sound : (plan : Plan) (now : ℕ) (command : Command) (core : Core) → IsWithin command → IsSound plan core → IsSound plan (commanded plan now command core).core
+commanded_sound plan now (IsMasterDownByAddr addr epoch candidate) core h s = asked_of_sound plan now addr epoch candidate (master_with_card core.kept.masters addr) core h s
+commanded_sound plan now Ping core h s = s
+commanded_sound plan now (GetMasterAddrByName name) core h s = s
+commanded_sound plan now Masters core h s = s
+commanded_sound plan now (Master name) core h s = s
+commanded_sound plan now (Replicas name) core h s = s
+commanded_sound plan now (Sentinels name) core h s = s
+commanded_sound plan now MyId core h s = s
+commanded_sound plan now (CkQuorum name) core h s = s
+commanded_sound plan now FlushConfig core h s = s
+
+cleared_sound : (plan : Plan) (core : Core) → IsSound plan core → IsSound plan (cleared core)
+cleared_sound plan core s = sound_alike plan core (cleared core) refl refl refl s
+
+at_keeps : (plan : Plan) (core : Core) (now : ℕ) (event : Event) → IsSoundPlan plan → IsSound plan core → IsWithinEvent event → IsSound plan (next_at plan now event core).core × (length (part_of plan now event core).frames ≤ FRAMES_MAX)
+at_keeps plan core now (Tick m random) p s h = let f = tick_keeps plan m random now core p s in (f.sound, f.few)
+at_keeps plan core now (Commanded sender command) p s h = (commanded_sound plan now command core h s, omega arith)
+at_keeps plan core now (AnswerCame voter m addr down leader epoch) p s h = (answered_sound plan voter m now addr down leader epoch core s, omega arith)
+at_keeps plan core now (Pinged node reply) p s h = (pinged_sound plan node now reply core s, omega arith)
+at_keeps plan core now (InfoRead node text) p s h = let f = keeps_more plan 1 1536 _ (omega arith) (info_keeps plan node now (info_of text) core s) in (f.sound, f.few)
+at_keeps plan core now (HelloRead text) p s h = let f = keeps_more plan 1 1536 _ (omega arith) (hello_keeps plan now text core s) in (f.sound, f.few)
+at_keeps plan core now (Become priority offset link_down) p s h = (s, omega arith)
+at_keeps plan core now (Handed message) p s h = (s, omega arith)
+
+pub inputs_keep_few : InputsKeepFew
+inputs_keep_few plan core now event p s h = at_keeps plan (cleared core) (clock now) event p (cleared_sound plan core s) h
