@@ -1,7 +1,8 @@
 //! Values of the Redis serialization protocol, version 2 (RESP2), read from a stream that comes in any pieces and written
 //! in their one spelling.
 //!
-//! `Frames` reads and `write_value` writes to an `OutText`. The grammar, its limits and its faults stand in docs/RESP2.md.
+//! `Frames` reads and `write_value` writes to an `OutText`. The parts of a value are written by `push_bulk` and its kin to any
+//! `ByteSink`: what they add at its end is exactly the spelling. The grammar, its limits and its faults stand in docs/RESP2.md.
 #![tactic(auto)]
 
 mod fault;
@@ -10,6 +11,7 @@ mod laws;
 mod out_text;
 mod pieces;
 mod reading;
+mod sink;
 mod value;
 mod writing;
 
@@ -21,5 +23,6 @@ pub use laws::{
 };
 pub use out_text::OutText;
 pub use pieces::values_of_pieces;
+pub use sink::{ByteSink, push_bulk, push_int, push_kind, push_line, push_size};
 pub use value::Value;
 pub use writing::write_value;

@@ -91,7 +91,7 @@ outputs_are_within plan core now event p s h =
 -- Messages that come to a Sentinel
 
 event_within : (message : Message) (reply : PingReply) (info : List ℕ) (sender : NodeName) (b : Body) → IsWithinBody b → IsWithinEvent (heard_as reply info message sender b)
-event_within message reply info sender (body.Ask addr epoch candidate) h = h
+event_within message reply info sender (body.Ask master addr epoch candidate) h = h
 event_within message reply info sender (body.Answer m addr down leader epoch) h = tt
 event_within message reply info sender body.Ping h = tt
 event_within message reply info sender (body.PingText is_error text) h = tt

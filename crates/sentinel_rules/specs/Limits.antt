@@ -17,7 +17,7 @@ use Rattle.sentinel_rules.specs.Facts.{IsSoundPlan, IsSound, IsWithinEvent}
 
 -- the epoch of a question is in range, and so is all that a hello shows
 abbrev pub IsWithinBody : Body → Type 0
-IsWithinBody (Ask addr epoch candidate) = epoch ≤ MAX_EPOCH
+IsWithinBody (Ask master addr epoch candidate) = epoch ≤ MAX_EPOCH
 IsWithinBody (Publish hello) = IsHello hello
 IsWithinBody (HelloText hello) = IsHello hello
 IsWithinBody body = Unit {0}

@@ -9,8 +9,8 @@ pub add_items-returns : goal.add_items-returns
 add_items-returns t c =
     let vs = c.args.items.now.items in
     let n = length c.as_slice.result.now in
-    adds_both c.add_values.result c.args.out.now c.add_size.new.out c.add_values.new.out (42 ∷ (decimal n ++ line_end)) (spellings (frames_of (map view vs))) (spelling (items (frames_of (map view vs))))
-    c.in_ok-add_size.ensures c.add_values.ensures (items_spelled vs n (ap (λ (xs : List Value). length xs) c.as_slice.ensures.value))
+    adds_both c.add_values.result c.args.out.now c.push_size.new.sink c.add_values.new.out (42 ∷ (decimal n ++ line_end)) (spellings (frames_of (map view vs))) (spelling (items (frames_of (map view vs))))
+    c.in_ok-push_size.ensures c.add_values.ensures (items_spelled vs n (ap (λ (xs : List Value). length xs) c.as_slice.ensures.value))
 
 pub add_values-loop-item-preserved : goal.add_values-loop-item-preserved
 add_values-loop-item-preserved t c =
