@@ -2,8 +2,8 @@
 
 ghost use Rattle.std.specs.Prelude.{◌≡◌, ◌≤◌, [], None, IfSome, if◌then◌else◌, length, take, unwrap_or};
 ghost use Rattle.ballot_law.specs.Clocks.{clock};
-ghost use Rattle.sentinel_rules.specs.Plans.{nodes_of};
-ghost use Rattle.sentinel_rules.specs.Plans.{me};
+ghost use Rattle.sentinel_rules.specs.declared.assumed.TheConstants.{ASSUMED_INFO};
+ghost use Rattle.sentinel_rules.specs.Plans.{me, nodes_of};
 ghost use Rattle.sentinel_rules.specs.States.{card_place, is_node_down};
 ghost use Rattle.sentinel_rules.specs.Ticks.{candidate_of, candidates_of, at_places, down_for, limits_of, best_of, campaign_epoch, pick_of, count_of};
 ghost use Rattle.sentinel_state.specs.Rows.{looks_at_votes, looks_at_best, looks_at_nodes};
