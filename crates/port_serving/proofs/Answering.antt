@@ -19,6 +19,7 @@ use Rattle.ballot_law.specs.Ballots.{no_kept, voted_of}
 use Rattle.ballot_law.specs.Clocks.{clock}
 use Rattle.ballot_law.specs.Rosters.{MasterPlan}
 use Rattle.port_answers.specs.Answers.{command_fault, master_frame, replicas_frame, sentinels_frame}
+use Rattle.bounded_list.specs.BoundedLists.{bounded as within_limit}
 use Rattle.port_answers.specs.Room.{bounded}
 use Rattle.resp2.specs.declared.command.CommandFault.{CommandFault}
 use Rattle.resp2.specs.declared.command.CommandFault.TheVariants.{NotACommand, UnknownCommand, WrongArguments, BadAddress, BadEpoch, BadRunId}
@@ -34,7 +35,7 @@ use Rattle.message_texts.specs.MessageTexts.{IsWritable}
 -- ---- lines
 
 pub line_fits : (fault : CommandFault) → bounded (spelling (command_fault fault)) ≡ spelling (command_fault fault)
-unfolding bounded
+unfolding within_limit
 line_fits NotACommand = refl
 line_fits UnknownCommand = refl
 line_fits WrongArguments = refl
