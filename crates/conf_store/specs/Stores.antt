@@ -24,7 +24,7 @@ outcome_of store text =
     elim store.refusal as (λ _. Option Outcome) [
       | None ↦ within store.room text (record { is_stored = true; text = text })
       | Some new ↦ elim new as (λ _. Option Outcome) [
-          | true ↦ within store.room text (record { is_stored = false; text = text })
-          | false ↦ Some (record { is_stored = false; text = store.text })
-        ]
+        | true ↦ within store.room text (record { is_stored = false; text = text })
+        | false ↦ Some (record { is_stored = false; text = store.text })
+      ]
     ]

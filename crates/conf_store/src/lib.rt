@@ -4,6 +4,5 @@
 
 mod stores;
 
-pub use ballot_law::NoMemory;
-pub use ballot_law::Text as FileText;
+pub use ballot_law::{NoMemory, Text as FileText};
 pub use stores::{ConfStore, LoadFault, MemoryStore, StoreRefused};
