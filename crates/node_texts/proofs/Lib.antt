@@ -7,6 +7,7 @@ pub mod LabelLemmas
 pub mod LineLemmas
 pub mod NewestLemmas
 pub mod RoleAgain
+pub mod RoleText
 pub mod Utf8Lemmas
 pub mod WordsAgain
 pub mod WordsBack

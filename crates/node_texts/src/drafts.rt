@@ -11,7 +11,7 @@ use itoa::Buffer;
 use resp2::OutText;
 use words::{ip_text, run_id_text};
 
-/// How many bytes a text may have that is made here: more than any hello, INFO or ROLE.
+/// How many bytes a text may have that is made here: more than any hello or INFO.
 const DRAFT_MAX: usize = 512;
 
 /// A text that is being made.

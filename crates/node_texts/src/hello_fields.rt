@@ -1,7 +1,7 @@
 //! The fields of a hello.
 
 ghost use Rattle.std.specs.Prelude.{◌≡◌, ◌≢◌, ◌∷◌, [], length, MatchOption};
-ghost use Rattle.ballot_law.specs.Words.{cut_at, canonical_port, name};
+ghost use Rattle.ballot_law.specs.Words.{cut_at, name};
 ghost use Rattle.node_texts.specs.Hellos.{epoch, sender_of, master_of};
 
 use crate::digits::is_decimal;
@@ -9,10 +9,7 @@ use crate::faults::TextFault;
 use crate::lines::split_once;
 use ballot_law::{Addr, MAX_EPOCH, Name, RunId};
 use std::marker::Model;
-use words::{canonical_number_of, ip_of, number_of, run_id_of};
-
-/// The greatest TCP port.
-const PORT_MAX: u64 = 65_535;
+use words::{canonical_port_of, ip_of, number_of, run_id_of};
 
 /// An epoch's number; none where it is above `MAX_EPOCH`.
 type Epoch = Option<u64>;
@@ -77,14 +74,6 @@ fn epoch_of(bytes: &[u8]) -> Option<Epoch>
     } else {
         None
     }
-}
-
-/// The port of this spelling, without leading zeros.
-fn canonical_port_of(bytes: &[u8]) -> Option<u16>
-    ensures { result ≡ canonical_port bytes.now }
-{
-    let port = canonical_number_of(bytes, 1, PORT_MAX)?;
-    Some(port as u16)
 }
 
 /// The name with these bytes.

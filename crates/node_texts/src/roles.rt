@@ -1,19 +1,19 @@
 //! The answer to ROLE.
 
-ghost use Rattle.std.specs.Prelude.{◌≡◌, ℕ, ◌≤◌, ◌+◌, List, ◌++◌, ◌∷◌, length, pos, decimal, map, OnOk, OnErr, IfErr};
-ghost use Rattle.arrayvec.specs.ArrayVec.{array_vec_len};
-ghost use Rattle.resp2_frames.specs.Frame as frames;
-ghost use Rattle.resp2_frames.specs.Frame.{view, spelling, line_end};
+ghost use Rattle.std.specs.Prelude.{◌≡◌, ℕ, ◌≤◌, List, ◌++◌, length, map, OnOk, OnErr, IfErr};
+ghost use Rattle.ballot_law.specs.Words.{ip_text};
+ghost use Rattle.resp2_frames.specs.Frame.{view, spelling, IsFrame};
 ghost use Rattle.resp2_frames.specs.Reading.{frame_at};
+ghost use Rattle.resp2_frames.specs.Writing.{Adds};
+ghost use Rattle.node_texts.specs.declared.info_fields.TheConstants.{COUNT_MAX};
 ghost use Rattle.node_texts.specs.Roles.{kind_of, offset_of, host_of, port_of, link_of, replicas_of, master_role, replica_role, role_length, role_behind, role_of, role_of_list, IsRole, role_frame};
 
-use crate::drafts::{Draft, add, put, put_number};
 use crate::faults::TextFault;
 use crate::info_fields::role_of_name;
-use arrayvec::ArrayVec;
-use ballot_law::{Addr, DataRole, Role};
+use ballot_law::{Addr, DataRole, NoMemory, Role};
 use resp2::{OutText, Value};
-use words::{ip_of, ip_text};
+use resp2_frames::{push_bulk, push_int, push_size};
+use words::{PORT_MAX, ip_of, ip_text};
 
 /// The role that the first element names.
 fn kind_of(value: &Value) -> Option<DataRole>
@@ -51,7 +51,7 @@ fn port_of(value: &Value) -> Option<u16>
 {
     match value {
         Value::Int(port) => {
-            if 1 <= *port && *port <= 65_535 {
+            if 1 <= *port && *port <= PORT_MAX as i64 {
                 Some(*port as u16)
             } else {
                 None
@@ -157,59 +157,42 @@ pub fn read_role(value: &Value) -> Result<Role, TextFault>
     }
 }
 
-/// Adds the byte of a kind, a number, and CR LF.
-fn put_size(draft: &mut Draft, kind: u8, size: u64)
-    requires { array_vec_len draft.old + 23 ≤ 512 }
-    ensures items { draft.new.items ≡ draft.old.items ++ kind ∷ (decimal size ++ line_end) }
-    ensures len { array_vec_len draft.new ≤ array_vec_len draft.old + 23 }
+/// Adds the answer of a master, with no replica in its list.
+fn push_master(text: &mut OutText, offset: u64) -> Result<(), NoMemory>
+    requires { offset ≤ COUNT_MAX }
+    ensures { Adds result text.old text.new (spelling (role_frame (Role.Master offset))) }
 {
-    put(draft, &[kind]);
-    put_number(draft, size);
-    put(draft, b"\r\n");
+    push_size(text, b'*', role_length(DataRole::Master))?;
+    push_bulk(text, b"master")?;
+    push_int(text, offset as i64)?;
+    push_size(text, b'*', 0)
 }
 
-/// Adds a bulk string.
-fn put_bulk(draft: &mut Draft, bytes: &[u8])
-    requires { array_vec_len draft.old + length bytes.now + 25 ≤ 512 }
-    ensures items { draft.new.items ≡ draft.old.items ++ spelling (frames.bulk bytes.now) }
-    ensures len { array_vec_len draft.new ≤ array_vec_len draft.old + length bytes.now + 25 }
+/// Adds the answer of a replica, with the link state `connected`.
+fn push_replica(text: &mut OutText, addr: Addr, offset: u64) -> Result<(), NoMemory>
+    requires { offset ≤ COUNT_MAX }
+    ensures written { Adds result text.old text.new
+        (spelling (role_frame (Role.Replica addr offset))) }
+    ensures host { length (ip_text addr.ip) ≤ 15 }
 {
-    put_size(draft, b'$', bytes.len() as u64);
-    put(draft, bytes);
-    put(draft, b"\r\n");
+    let host = ip_text(addr.ip);
+    push_size(text, b'*', role_length(DataRole::Replica))?;
+    push_bulk(text, b"slave")?;
+    push_bulk(text, host.as_slice())?;
+    push_int(text, i64::from(addr.port))?;
+    push_bulk(text, b"connected")?;
+    push_int(text, offset as i64)
 }
 
-/// Adds an integer.
-fn put_int(draft: &mut Draft, number: u64)
-    requires { array_vec_len draft.old + 23 ≤ 512 }
-    ensures items { draft.new.items ≡ draft.old.items ++ spelling (frames.int (pos number)) }
-    ensures len { array_vec_len draft.new ≤ array_vec_len draft.old + 23 }
+/// Adds the answer of a role.
+fn push_role(text: &mut OutText, role: &Role) -> Result<(), NoMemory>
+    requires { IsRole role.now }
+    ensures written { Adds result text.old text.new (spelling (role_frame role.now)) }
+    ensures whole { IsFrame (role_frame role.now) }
 {
-    put_size(draft, b':', number);
-}
-
-/// The text of a role.
-fn role_draft(role: &Role) -> Draft
-    ensures { result.items ≡ spelling (role_frame role.now) }
-{
-    let mut draft = ArrayVec::new();
     match role {
-        Role::Master { offset } => {
-            put_size(&mut draft, b'*', 3);
-            put_bulk(&mut draft, b"master");
-            put_int(&mut draft, *offset);
-            put_size(&mut draft, b'*', 0);
-            draft
-        }
-        Role::Replica { addr, offset } => {
-            put_size(&mut draft, b'*', 5);
-            put_bulk(&mut draft, b"slave");
-            put_bulk(&mut draft, ip_text(addr.ip).as_slice());
-            put_int(&mut draft, u64::from(addr.port));
-            put_bulk(&mut draft, b"connected");
-            put_int(&mut draft, *offset);
-            draft
-        }
+        Role::Master { offset } => push_master(text, *offset),
+        Role::Replica { addr, offset } => push_replica(text, *addr, *offset),
     }
 }
 
@@ -227,5 +210,12 @@ pub fn write_role(role: &Role, text: &mut OutText) -> Result<(), TextFault>
     ensures unchanged { OnErr result (text.new ≡ text.old) }
     ensures err { IfErr result (λ fault. fault ≡ TextFault.NoMemory) }
 {
-    add(&role_draft(role), text)
+    let len = text.len();
+    match push_role(text, role) {
+        Ok(()) => Ok(()),
+        Err(_) => {
+            text.truncate(len);
+            Err(TextFault::NoMemory)
+        }
+    }
 }
