@@ -1,13 +1,13 @@
 -- What holds of one master at one Sentinel, and how it lasts while the history grows.
 use Rattle.std.proofs.Common.{◌≡◌, ◌≢◌, ◌⊎◌, ℕ, ◌<◌, ◌≤◌, Some, List, ◌++◌, ap, inl, inr, ⊎_elim, arith}
 use Rattle.std.specs.Prelude.{All, Contains}
-use Rattle.std.proofs.lemmas.List.Elements.{All-nil, All-weaker, All-contains, Contains-append_left, Contains-append_right, Contains-append_cases}
+use Rattle.std.proofs.lemmas.List.Elements.{All-weaker, All-contains, Contains-append_left, Contains-append_right, Contains-append_cases}
 use Rattle.ballot_law.specs.declared.addresses.Addr.{Addr}
 use Rattle.ballot_law.specs.declared.addresses.RunId.{RunId}
 use Rattle.ballot_law.specs.declared.cards.Card.{Card}
 use Rattle.ballot_law.specs.Rosters.{Roster, size, id_of, need, AtLeast}
 use Rattle.ballot_law.specs.Messages.{Vote}
-use Rattle.ballot_law.specs.Ballots.{OpenMaster, Campaign, Idle, Running, Won, Chosen, vote, empty}
+use Rattle.ballot_law.specs.Ballots.{OpenMaster, Campaign, Idle, Running, Won, Chosen, vote}
 use Rattle.ballot_law.specs.declared.cards.KeptMaster.{KeptMaster}
 use Rattle.ballot_law.proofs.Counting.{AtLeast-weaker}
 
@@ -159,21 +159,6 @@ MasterOk-raised t h i m current current2 kept opened l ok =
       heard = ok.heard;
       candidate = ok.candidate;
       campaign = campaign_raised t h i m current current2 kept.card opened.campaign l ok.campaign;
-    }
-
--- without the open part
-pub MasterOk-closed : (t : Group) (h : History) (i m current : ℕ) (kept : KeptMaster) (opened : OpenMaster) → MasterOk t h i m current kept opened → MasterOk t h i m current kept empty
-MasterOk-closed t h i m current kept opened ok =
-    record {
-      one_vote = ok.one_vote;
-      vote_bound = ok.vote_bound;
-      one_pick = ok.one_pick;
-      pick_bound = ok.pick_bound;
-      card = ok.card;
-      card_bound = ok.card_bound;
-      heard = All-nil (Contains h.votes);
-      candidate = λ c x. absurd (cc);
-      campaign = tt;
     }
 
 -- no card is below the one with which its master began

@@ -3,7 +3,7 @@ use Rattle.std.proofs.Common.{◌≡◌, ◌≢◌, ◌⊎◌, ℕ, zero, suc, �
 use Rattle.std.specs.Prelude.{All, Contains}
 use Rattle.std.proofs.lemmas.Bool.{cases_eq}
 use Rattle.std.proofs.lemmas.List.{length-replicate}
-use Rattle.std.proofs.lemmas.List.Elements.{All-weaker, Contains-append_left, Contains-push, Contains-push_cases}
+use Rattle.std.proofs.lemmas.List.Elements.{All-nil, All-weaker, Contains-append_left, Contains-push, Contains-push_cases}
 use Rattle.ballot_law.specs.declared.addresses.Addr.{Addr}
 use Rattle.ballot_law.specs.declared.addresses.RunId.{RunId}
 use Rattle.ballot_law.specs.declared.cards.Card.{Card}
@@ -11,7 +11,7 @@ use Rattle.ballot_law.specs.Messages.{Vote}
 use Rattle.ballot_law.specs.Ballots.{OpenMaster, Campaign, Running, Won, Chosen, vote, empty, no_kept, kept_of}
 use Rattle.ballot_law.specs.declared.cards.Kept.{Kept}
 use Rattle.ballot_law.specs.declared.cards.KeptMaster.{KeptMaster}
-use Rattle.ballot_law.proofs.History.{Pick, History, Group, pick, Voted, Picked, NotPicked, Backed, CardOk, IsUnderWay, CampaignOk, MasterOk, Within, Grows, Backed-grows, CardOk-grows, campaign_grows, MasterOk-grows, MasterOk-raised, MasterOk-closed, origin_below}
+use Rattle.ballot_law.proofs.History.{Pick, History, Group, pick, Voted, Picked, NotPicked, Backed, CardOk, IsUnderWay, CampaignOk, MasterOk, Within, Grows, Backed-grows, CardOk-grows, campaign_grows, MasterOk-grows, MasterOk-raised, origin_below}
 
 -- One master
 
@@ -29,6 +29,10 @@ reopened t h i m current kept opened opened2 ok heard candidate campaign =
       candidate = candidate;
       campaign = campaign;
     }
+
+-- without the open part
+pub MasterOk-closed : (t : Group) (h : History) (i m current : ℕ) (kept : KeptMaster) (opened : OpenMaster) → MasterOk t h i m current kept opened → MasterOk t h i m current kept empty
+MasterOk-closed t h i m current kept opened ok = reopened t h i m current kept opened empty ok (All-nil (Contains h.votes)) (λ c x. absurd (cc)) tt
 
 -- another campaign
 pub campaigned : (t : Group) (h : History) (i m current : ℕ) (kept : KeptMaster) (opened : OpenMaster) (campaign : Campaign) → MasterOk t h i m current kept opened → CampaignOk t h i m current kept.card campaign → MasterOk t h i m current kept (record opened { campaign = campaign })

@@ -17,6 +17,7 @@ mod memory;
 mod messages;
 mod names;
 mod ordering;
+mod padding;
 mod records;
 mod replies;
 mod rosters;

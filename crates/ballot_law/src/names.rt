@@ -1,12 +1,12 @@
 //! The names of masters.
 
-ghost use Rattle.std.specs.Prelude.{◌≡◌, ◌↔◌, ◌≤◌, ◌<◌, ◌++◌, ◌-◌, length, IsSome, IfSome, IsTrue};
+ghost use Rattle.std.specs.Prelude.{◌≡◌, ◌↔◌, ◌≤◌, ◌<◌, length, IsSome, IfSome, IsTrue};
 ghost use Rattle.ballot_law.specs.Names.{IsName, IsNameByte};
 ghost use Rattle.ballot_law.specs.Orders.{bytes_before};
-ghost use Rattle.ballot_law.specs.Padding.{zeros};
 
 use crate::comparisons::is_bytes_before;
 use crate::ordering::Placed;
+use crate::padding::padded;
 use std::marker::Model;
 
 /// The greatest length of a name, in bytes.
@@ -42,17 +42,6 @@ fn is_name_byte(byte: u8) -> bool
     ensures { IsTrue result ↔ IsNameByte byte }
 {
     byte.is_ascii_alphanumeric() || byte == b'.' || byte == b'-' || byte == b'_'
-}
-
-/// The bytes, and zeros after them.
-fn padded(bytes: &[u8]) -> [u8; 64]
-    requires { length bytes.now ≤ 64 }
-    ensures whole { result ≡ bytes.now ++ zeros (64 - length bytes.now) }
-    ensures len { length result ≡ 64 }
-{
-    let mut held = [0u8; 64];
-    held[..bytes.len()].copy_from_slice(bytes);
-    held
 }
 
 impl Name {

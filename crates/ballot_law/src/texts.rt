@@ -1,11 +1,11 @@
 //! Texts inside plain data, which contracts see as lists of bytes.
 
-ghost use Rattle.std.specs.Prelude.{◌≡◌, ◌↔◌, ◌≤◌, IsSome, IfSome, IfOk, length, nat_eq, ◌++◌, ◌-◌};
+ghost use Rattle.std.specs.Prelude.{◌≡◌, ◌↔◌, ◌≤◌, IsSome, IfSome, IfOk, length, nat_eq};
 ghost use Rattle.std.specs.Cmp.{partial_equiv_from_equiv};
 ghost use Rattle.std.specs.Cmp.Lexicographic.{pointwise, nat_list_eq_equiv};
-ghost use Rattle.ballot_law.specs.Padding.{zeros};
 
 use crate::memory::NoMemory;
+use crate::padding::padded;
 use std::alloc::Global;
 use std::marker::Model;
 
@@ -91,17 +91,6 @@ impl Model for ShortText {
     ghost inverse = { text_of };
 
     ghost inverse_ok = { text_of_bytes_of };
-}
-
-/// The bytes, and zeros after them.
-fn padded(bytes: &[u8]) -> [u8; 128]
-    requires { length bytes.now ≤ 128 }
-    ensures whole { result ≡ bytes.now ++ zeros (128 - length bytes.now) }
-    ensures len { length result ≡ 128 }
-{
-    let mut held = [0u8; 128];
-    held[..bytes.len()].copy_from_slice(bytes);
-    held
 }
 
 impl ShortText {

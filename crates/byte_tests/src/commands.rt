@@ -18,9 +18,9 @@ fn array(alloc: Global, line: &[u8]) -> Result<Value, Fail> {
     Ok(Value::Items(items))
 }
 
-/// Whether each line is refused for this reason.
-fn are_refused(alloc: Global, lines: &[&[u8]], fault: CommandFault) -> Result<bool, Fail> {
-    for line in lines {
+/// Whether each of these lines is refused for this reason.
+fn are_refused(alloc: Global, lines: &[u8], fault: CommandFault) -> Result<bool, Fail> {
+    for line in lines.split(|byte| *byte == b'\n') {
         let value = array(alloc, line)?;
         if command_of(&value) != Err(fault) {
             return Ok(false);
@@ -163,82 +163,73 @@ fn other_values_are_no_commands(rt: HostRuntime) -> Result<(), Fail> {
 
 #[test]
 fn other_names_are_unknown(rt: HostRuntime) -> Result<(), Fail> {
-    let lines = [
-        b"SENTINEL".as_slice(),
-        b"PONG".as_slice(),
-        b"MASTER mymaster".as_slice(),
-        b"".as_slice(),
-        b"SENTINEL FAILOVER mymaster".as_slice(),
-        b"SENTINEL HELP".as_slice(),
-        b"SENTINEL REPLICA mymaster".as_slice(),
-        b"SENTINEL  IS-MASTER-DOWN-BY-ADDR".as_slice(),
-    ];
-    assert!(rt; are_refused(rt.alloc(), &lines, CommandFault::UnknownCommand)?);
+    let lines = b"SENTINEL\n\
+PONG\n\
+MASTER mymaster\n\
+\n\
+SENTINEL FAILOVER mymaster\n\
+SENTINEL HELP\n\
+SENTINEL REPLICA mymaster\n\
+SENTINEL  IS-MASTER-DOWN-BY-ADDR";
+    assert!(rt; are_refused(rt.alloc(), lines, CommandFault::UnknownCommand)?);
     Ok(())
 }
 
 #[test]
 fn number_of_words_is_judged_before_them(rt: HostRuntime) -> Result<(), Fail> {
-    let lines = [
-        b"PING x".as_slice(),
-        b"SENTINEL IS-MASTER-DOWN-BY-ADDR".as_slice(),
-        b"SENTINEL IS-MASTER-DOWN-BY-ADDR nowhere 6379 1".as_slice(),
-        b"SENTINEL IS-MASTER-DOWN-BY-ADDR nowhere 6379 1 * *".as_slice(),
-        b"SENTINEL GET-MASTER-ADDR-BY-NAME".as_slice(),
-        b"SENTINEL MASTERS mymaster".as_slice(),
-        b"SENTINEL MASTER".as_slice(),
-        b"SENTINEL MASTER a b".as_slice(),
-        b"SENTINEL REPLICAS".as_slice(),
-        b"SENTINEL SLAVES bad/name b".as_slice(),
-        b"SENTINEL SENTINELS".as_slice(),
-        b"SENTINEL MYID x".as_slice(),
-        b"SENTINEL CKQUORUM".as_slice(),
-        b"SENTINEL FLUSHCONFIG ".as_slice(),
-    ];
-    assert!(rt; are_refused(rt.alloc(), &lines, CommandFault::WrongArguments)?);
+    let lines = b"PING x\n\
+SENTINEL IS-MASTER-DOWN-BY-ADDR\n\
+SENTINEL IS-MASTER-DOWN-BY-ADDR nowhere 6379 1\n\
+SENTINEL IS-MASTER-DOWN-BY-ADDR nowhere 6379 1 * *\n\
+SENTINEL GET-MASTER-ADDR-BY-NAME\n\
+SENTINEL MASTERS mymaster\n\
+SENTINEL MASTER\n\
+SENTINEL MASTER a b\n\
+SENTINEL REPLICAS\n\
+SENTINEL SLAVES bad/name b\n\
+SENTINEL SENTINELS\n\
+SENTINEL MYID x\n\
+SENTINEL CKQUORUM\n\
+SENTINEL FLUSHCONFIG ";
+    assert!(rt; are_refused(rt.alloc(), lines, CommandFault::WrongArguments)?);
     Ok(())
 }
 
 #[test]
 fn addresses_are_judged_before_epochs(rt: HostRuntime) -> Result<(), Fail> {
-    let lines = [
-        b"SENTINEL IS-MASTER-DOWN-BY-ADDR 127.0.0.256 6379 1 *".as_slice(),
-        b"SENTINEL IS-MASTER-DOWN-BY-ADDR 127.0.00.1 6379 1 *".as_slice(),
-        b"SENTINEL IS-MASTER-DOWN-BY-ADDR 127.0.1 6379 1 *".as_slice(),
-        b"SENTINEL IS-MASTER-DOWN-BY-ADDR 127.0.0.1. 6379 1 *".as_slice(),
-        b"SENTINEL IS-MASTER-DOWN-BY-ADDR localhost 6379 1 *".as_slice(),
-        b"SENTINEL IS-MASTER-DOWN-BY-ADDR 127.0.0.1 0 1 *".as_slice(),
-        b"SENTINEL IS-MASTER-DOWN-BY-ADDR 127.0.0.1 65536 1 *".as_slice(),
-        b"SENTINEL IS-MASTER-DOWN-BY-ADDR 127.0.0.1 06379 1 *".as_slice(),
-        b"SENTINEL IS-MASTER-DOWN-BY-ADDR 127.0.0.1 +1 x x".as_slice(),
-    ];
-    assert!(rt; are_refused(rt.alloc(), &lines, CommandFault::BadAddress)?);
+    let lines = b"SENTINEL IS-MASTER-DOWN-BY-ADDR 127.0.0.256 6379 1 *\n\
+SENTINEL IS-MASTER-DOWN-BY-ADDR 127.0.00.1 6379 1 *\n\
+SENTINEL IS-MASTER-DOWN-BY-ADDR 127.0.1 6379 1 *\n\
+SENTINEL IS-MASTER-DOWN-BY-ADDR 127.0.0.1. 6379 1 *\n\
+SENTINEL IS-MASTER-DOWN-BY-ADDR localhost 6379 1 *\n\
+SENTINEL IS-MASTER-DOWN-BY-ADDR 127.0.0.1 0 1 *\n\
+SENTINEL IS-MASTER-DOWN-BY-ADDR 127.0.0.1 65536 1 *\n\
+SENTINEL IS-MASTER-DOWN-BY-ADDR 127.0.0.1 06379 1 *\n\
+SENTINEL IS-MASTER-DOWN-BY-ADDR 127.0.0.1 +1 x x";
+    assert!(rt; are_refused(rt.alloc(), lines, CommandFault::BadAddress)?);
     Ok(())
 }
 
 #[test]
 fn epochs_are_judged_before_run_ids(rt: HostRuntime) -> Result<(), Fail> {
-    let lines = [
-        b"SENTINEL IS-MASTER-DOWN-BY-ADDR 127.0.0.1 6379 281474976710656 *".as_slice(),
-        b"SENTINEL IS-MASTER-DOWN-BY-ADDR 127.0.0.1 6379 99999999999999999999999 *".as_slice(),
-        b"SENTINEL IS-MASTER-DOWN-BY-ADDR 127.0.0.1 6379 01 *".as_slice(),
-        b"SENTINEL IS-MASTER-DOWN-BY-ADDR 127.0.0.1 6379 -1 *".as_slice(),
-        b"SENTINEL IS-MASTER-DOWN-BY-ADDR 127.0.0.1 6379  *".as_slice(),
-        b"SENTINEL IS-MASTER-DOWN-BY-ADDR 127.0.0.1 6379 x x".as_slice(),
-    ];
-    assert!(rt; are_refused(rt.alloc(), &lines, CommandFault::BadEpoch)?);
+    let lines = b"SENTINEL IS-MASTER-DOWN-BY-ADDR 127.0.0.1 6379 281474976710656 *\n\
+SENTINEL IS-MASTER-DOWN-BY-ADDR 127.0.0.1 6379 99999999999999999999999 *\n\
+SENTINEL IS-MASTER-DOWN-BY-ADDR 127.0.0.1 6379 01 *\n\
+SENTINEL IS-MASTER-DOWN-BY-ADDR 127.0.0.1 6379 -1 *\n\
+SENTINEL IS-MASTER-DOWN-BY-ADDR 127.0.0.1 6379  *\n\
+SENTINEL IS-MASTER-DOWN-BY-ADDR 127.0.0.1 6379 x x";
+    assert!(rt; are_refused(rt.alloc(), lines, CommandFault::BadEpoch)?);
     Ok(())
 }
 
 #[test]
 fn run_ids_have_40_lower_case_hex_digits(rt: HostRuntime) -> Result<(), Fail> {
-    let lines = [
-        b"SENTINEL IS-MASTER-DOWN-BY-ADDR 127.0.0.1 6379 1 aaaaaaaaaaaaaaaaaaaaaaaaaaaaaaaaaaaaaaa".as_slice(),
-        b"SENTINEL IS-MASTER-DOWN-BY-ADDR 127.0.0.1 6379 1 Aaaaaaaaaaaaaaaaaaaaaaaaaaaaaaaaaaaaaaaa".as_slice(),
-        b"SENTINEL IS-MASTER-DOWN-BY-ADDR 127.0.0.1 6379 1 gaaaaaaaaaaaaaaaaaaaaaaaaaaaaaaaaaaaaaaa".as_slice(),
-        b"SENTINEL IS-MASTER-DOWN-BY-ADDR 127.0.0.1 6379 1 **".as_slice(),
-        b"SENTINEL IS-MASTER-DOWN-BY-ADDR 127.0.0.1 6379 1 ".as_slice(),
-    ];
-    assert!(rt; are_refused(rt.alloc(), &lines, CommandFault::BadRunId)?);
+    let lines =
+        b"SENTINEL IS-MASTER-DOWN-BY-ADDR 127.0.0.1 6379 1 aaaaaaaaaaaaaaaaaaaaaaaaaaaaaaaaaaaaaaa\n\
+SENTINEL IS-MASTER-DOWN-BY-ADDR 127.0.0.1 6379 1 Aaaaaaaaaaaaaaaaaaaaaaaaaaaaaaaaaaaaaaaa\n\
+SENTINEL IS-MASTER-DOWN-BY-ADDR 127.0.0.1 6379 1 gaaaaaaaaaaaaaaaaaaaaaaaaaaaaaaaaaaaaaaa\n\
+SENTINEL IS-MASTER-DOWN-BY-ADDR 127.0.0.1 6379 1 **\n\
+SENTINEL IS-MASTER-DOWN-BY-ADDR 127.0.0.1 6379 1 ";
+    assert!(rt; are_refused(rt.alloc(), lines, CommandFault::BadRunId)?);
     Ok(())
 }

@@ -83,21 +83,31 @@ fn hello_with(rt: &HostRuntime, n: usize, field: &[u8]) -> Result<TextFault, Fai
     Ok(fault_of(&text).ok_or("it was read")?)
 }
 
+/// Fields that are refused, each with its place.
+const BAD_FIELDS: [(u8, &[u8]); 13] = [
+    (2, b"026379"),
+    (1, b"localhost"),
+    (1, b"127.0.0.01"),
+    (2, b"0"),
+    (2, b"65536"),
+    (3, b"aaaa"),
+    (4, b"01"),
+    (4, b"-1"),
+    (4, b""),
+    (5, b"my master"),
+    (6, b"256.0.0.1"),
+    (7, b"+6381"),
+    (8, b"1 "),
+];
+
 #[test]
 fn hello_with_a_bad_field(rt: HostRuntime) -> Result<(), Fail> {
-    assert!(rt; hello_with(&rt, 2, b"026379")? == TextFault::BadField(2));
-    assert!(rt; hello_with(&rt, 1, b"localhost")? == TextFault::BadField(1));
-    assert!(rt; hello_with(&rt, 1, b"127.0.0.01")? == TextFault::BadField(1));
-    assert!(rt; hello_with(&rt, 2, b"0")? == TextFault::BadField(2));
-    assert!(rt; hello_with(&rt, 2, b"65536")? == TextFault::BadField(2));
-    assert!(rt; hello_with(&rt, 3, b"aaaa")? == TextFault::BadField(3));
-    assert!(rt; hello_with(&rt, 4, b"01")? == TextFault::BadField(4));
-    assert!(rt; hello_with(&rt, 4, b"-1")? == TextFault::BadField(4));
-    assert!(rt; hello_with(&rt, 4, b"")? == TextFault::BadField(4));
-    assert!(rt; hello_with(&rt, 5, b"my master")? == TextFault::BadField(5));
-    assert!(rt; hello_with(&rt, 6, b"256.0.0.1")? == TextFault::BadField(6));
-    assert!(rt; hello_with(&rt, 7, b"+6381")? == TextFault::BadField(7));
-    assert!(rt; hello_with(&rt, 8, b"1 ")? == TextFault::BadField(8));
+    for (n, field) in BAD_FIELDS {
+        assert!(rt;
+            hello_with(&rt, usize::from(n), field)? == TextFault::BadField(n),
+            "field {n}"
+        );
+    }
     assert!(rt; hello_with(&rt, 8, b"1\xff")? == TextFault::NotUtf8);
     Ok(())
 }

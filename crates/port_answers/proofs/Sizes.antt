@@ -7,6 +7,7 @@ use Rattle.ballot_law.specs.declared.addresses.Addr.{Addr}
 use Rattle.ballot_law.specs.declared.addresses.RunId.{RunId}
 use Rattle.ballot_law.specs.Words.{ip_text, id_text, hex, hex_digit}
 use Rattle.resp2_frames.specs.Frame.{Frame, bulk, items, frames_of, count, spelling, spellings, line_end}
+use Rattle.resp2.proofs.Asks.{ip_size}
 use Rattle.port_answers.specs.declared.rows.MasterRow.{MasterRow}
 use Rattle.port_answers.specs.declared.rows.ReplicaRow.{ReplicaRow}
 use Rattle.port_answers.specs.declared.rows.SentinelRow.{SentinelRow}
@@ -21,26 +22,6 @@ number_size n h = length-decimal-le 20 n (omega arith) (omega arith) h
 
 port_size : (n : ℕ) → n ≤ 65535 → length (decimal n) ≤ 5
 port_size n h = length-decimal-le 5 n (omega arith) (omega arith) (omega arith)
-
-part_size : (n : ℕ) → n < 256 → length (decimal n) ≤ 3
-part_size n h = length-decimal-le 3 n (omega arith) (omega arith) (omega arith)
-
-ip_size : (n : ℕ) → n < 2 ^ 32 → length (ip_text n) ≤ 15
-ip_size n h =
-    let a = decimal (n / 256 / 256 / 256) in
-    let b = decimal (n / 256 / 256 % 256) in
-    let c = decimal (n / 256 % 256) in
-    let d = decimal (n % 256) in
-    omega (
-      arith,
-      length-append a (46 ∷ (b ++ 46 ∷ (c ++ 46 ∷ d))),
-      length-append b (46 ∷ (c ++ 46 ∷ d)),
-      length-append c (46 ∷ d),
-      part_size (n / 256 / 256 / 256) (omega arith),
-      part_size (n / 256 / 256 % 256) (omega arith),
-      part_size (n / 256 % 256) (omega arith),
-      part_size (n % 256) (omega arith),
-    )
 
 addr_size : (addr : Addr) → IsPlace addr → length (addr_text addr) ≤ 21
 addr_size addr h = omega (arith, length-append (ip_text addr.ip) (58 ∷ decimal addr.port), ip_size addr.ip h.ip, port_size addr.port h.port)

@@ -2,6 +2,7 @@
 use Rattle.std.proofs.Common.{◌≡◌, ℕ, ◌≤◌, ◌<◌, ◌^◌, ◌/◌, ◌%◌, Bool, true, false, cond, List, [], ◌∷◌, ◌++◌, length, refl, ap, ◌∙◌, arith, length-append, Option, Some, None, Ok, decimal}
 use Rattle.std.specs.Prelude.{bytes_eq, codes}
 use Rattle.std.proofs.lemmas.Slice.Eq.{bytes_eq-Decides}
+use Rattle.std.proofs.lemmas.Fmt.{length-decimal-le}
 use Rattle.ballot_law.specs.declared.addresses.Addr.{Addr}
 use Rattle.ballot_law.specs.declared.addresses.RunId.{RunId}
 use Rattle.ballot_law.specs.declared.cards.TheConstants.{MAX_EPOCH}
@@ -47,8 +48,12 @@ ask_again addr epoch c is_addr most is_candidate =
     ∙ ap (λ (o : Option ℕ). wanted BadEpoch o >>= λ e. wanted BadRunId (candidate (candidate_text c)) >>= λ k. Ok (IsMasterDownByAddr addr e k)) read_epoch
     ∙ ap (λ (o : Option (Option RunId)). wanted BadRunId o >>= λ k. Ok (IsMasterDownByAddr addr epoch k)) (candidate_again c is_candidate)
 
-ip_short : (n : ℕ) → n < 2 ^ 32 → length (ip_text n) ≤ 100
-ip_short n small =
+part_size : (n : ℕ) → n < 256 → length (decimal n) ≤ 3
+part_size n h = length-decimal-le 3 n (omega arith) (omega arith) (omega arith)
+
+-- an address without its port
+pub ip_size : (n : ℕ) → n < 2 ^ 32 → length (ip_text n) ≤ 15
+ip_size n h =
     let a = decimal (n / 256 / 256 / 256) in
     let b = decimal (n / 256 / 256 % 256) in
     let c = decimal (n / 256 % 256) in
@@ -58,11 +63,14 @@ ip_short n small =
       length-append a (46 ∷ (b ++ 46 ∷ (c ++ 46 ∷ d))),
       length-append b (46 ∷ (c ++ 46 ∷ d)),
       length-append c (46 ∷ d),
-      decimal_short (n / 256 / 256 / 256) (omega arith),
-      decimal_short (n / 256 / 256 % 256) (omega arith),
-      decimal_short (n / 256 % 256) (omega arith),
-      decimal_short (n % 256) (omega arith),
+      part_size (n / 256 / 256 / 256) (omega arith),
+      part_size (n / 256 / 256 % 256) (omega arith),
+      part_size (n / 256 % 256) (omega arith),
+      part_size (n % 256) (omega arith),
     )
+
+ip_word : (n : ℕ) → n < 2 ^ 32 → length (ip_text n) ≤ 100
+ip_word n small = let le = ip_size n small in omega arith
 
 decimal_word : (n : ℕ) → n < 2 ^ 64 → length (decimal n) ≤ 100
 decimal_word n small = let le = decimal_short n small in omega arith
@@ -75,7 +83,7 @@ pub ask_is_frame : (addr : Addr) (epoch : ℕ) (c : Option RunId) → IsAddr add
 ask_is_frame addr epoch c is_addr most is_candidate =
     let port : addr.port ≤ 65535 = is_addr.port_high in
     short_array (codes "SENTINEL" ∷ codes "IS-MASTER-DOWN-BY-ADDR" ∷ ip_text addr.ip ∷ decimal addr.port ∷ decimal epoch ∷ candidate_text c ∷ [])
-    (omega arith, (omega arith, (ip_short addr.ip is_addr.ip, (decimal_word addr.port (omega arith), (decimal_word epoch (omega arith), (candidate_short c is_candidate, tt))))))
+    (omega arith, (omega arith, (ip_word addr.ip is_addr.ip, (decimal_word addr.port (omega arith), (decimal_word epoch (omega arith), (candidate_short c is_candidate, tt))))))
     (omega arith)
 
 pub ask_bytes_again : (addr : Addr) (epoch : ℕ) (c : Option RunId) (rest : List ℕ) → IsAddr addr → epoch ≤ MAX_EPOCH → IsCandidate c

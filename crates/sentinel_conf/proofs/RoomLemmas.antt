@@ -1,10 +1,10 @@
 -- Texts that are added to a text with bounded room.
-use Rattle.std.proofs.Common.{◌≡◌, ℕ, zero, suc, min, Bool, true, if◌then◌else◌, ◌⊎◌, inl, inr, ◌+◌, ◌-◌, ◌≤◌, ◌<◌, List, [], ◌∷◌, ◌++◌, length, take, drop, get_or, refl, ap, sym, ◌∙◌, arith, append_assoc, append-nil}
+use Rattle.std.proofs.Common.{◌≡◌, ℕ, suc, min, Bool, true, if◌then◌else◌, ◌+◌, ◌-◌, ◌≤◌, List, [], ◌∷◌, ◌++◌, length, take, drop, get_or, refl, ap, sym, ◌∙◌, arith, append_assoc, append-nil}
 use Rattle.std.proofs.lemmas.List.{take_all}
-use Rattle.std.proofs.Math.Seq.{take-append-add}
-use Rattle.std.proofs.lemmas.Bool.{cases_lt}
 use Rattle.std.specs.Prelude.{map, filter}
 use Rattle.std.specs.List.{flat_map, zip}
+use Rattle.bounded_list.specs.BoundedLists.{bounded as bounded_to}
+use Rattle.bounded_list.proofs.Bounded.{bounded_more, added_fits}
 use Rattle.conf_lines.specs.declared.lines.StateLine.{StateLine}
 use Rattle.conf_lines.specs.Lines.{spelled}
 use Rattle.sentinel_conf.specs.Rewritten.{text_of}
@@ -12,14 +12,9 @@ use Rattle.conf_lines.specs.Words.{ended}
 use Rattle.sentinel_conf.specs.Room.{ROOM, bounded}
 use Rattle.sentinel_conf.proofs.FileLemmas.{filter_yes}
 
-take_again : (n : ℕ) (xs ys : List ℕ) → take n (take n xs ++ ys) ≡ take n (xs ++ ys)
-take_again zero xs ys = refl
-take_again (suc n) [] ys = refl
-take_again (suc n) (x ∷ xs) ys = ap (λ t. x ∷ t) (take_again n xs ys)
-
 pub bounded-bounded : (xs ys : List ℕ) → bounded (bounded xs ++ ys) ≡ bounded (xs ++ ys)
-unfolding bounded
-bounded-bounded xs ys = take_again ROOM xs ys
+unfolding bounded bounded_to
+bounded-bounded xs ys = bounded_more ROOM xs ys
 
 pub bounded_all : (xs : List ℕ) → length xs ≤ ROOM → bounded xs ≡ xs
 unfolding bounded
@@ -28,24 +23,6 @@ bounded_all xs h = take_all ROOM xs h
 -- two texts, one after the other
 pub added_both : (old first second : List ℕ) → bounded (bounded (old ++ first) ++ second) ≡ bounded (old ++ (first ++ second))
 added_both old first second = bounded-bounded (old ++ first) second ∙ ap bounded (append_assoc old first second)
-
-take_min : (k : ℕ) (ys : List ℕ) → take (min (length ys) k) ys ≡ take k ys
-take_min k ys = by_order (cases_lt (length ys) k) where
-  by_order : (length ys < k) ⊎ (k ≤ length ys) → take (min (length ys) k) ys ≡ take k ys
-  by_order (inr h) = ap (λ n. take n ys) (let e : min (length ys) k ≡ k = omega arith in e)
-  by_order (inl h) =
-      ap (λ n. take n ys) (let e : min (length ys) k ≡ length ys = omega arith in e)
-      ∙ take_all (length ys) ys (omega arith)
-      ∙ sym (take_all k ys (omega arith))
-
--- what there is room for
-pub added_first : (xs ys : List ℕ) → length xs ≤ ROOM → xs ++ take (min (length ys) (ROOM - length xs)) ys ≡ bounded (xs ++ ys)
-unfolding bounded
-added_first xs ys h =
-    let whole : length xs + (ROOM - length xs) ≡ ROOM = omega arith in
-    ap (λ t. xs ++ t) (take_min (ROOM - length xs) ys)
-    ∙ sym (take-append-add xs ys (ROOM - length xs))
-    ∙ ap (λ n. take n (xs ++ ys)) whole
 
 module _ (old first second : List ℕ) where
   pub two_adds : (mid new : List ℕ) → mid ≡ bounded (old ++ first) → new ≡ bounded (mid ++ second) → new ≡ bounded (old ++ (first ++ second))
@@ -67,8 +44,8 @@ node_more name ip port rest =
 
 pub added_when : (xs ys fits : List ℕ) (k : ℕ) (ok : Bool) (new : List ℕ) → length xs ≤ ROOM → k ≡ min (length ys) (ROOM - length xs) → fits ≡ take k ys
     → ok ≡ true → new ≡ (if ok then xs ++ fits else xs) → new ≡ bounded (xs ++ ys)
-added_when xs ys fits k ok new h e f g n =
-    n ∙ ap (λ t. if t then xs ++ fits else xs) g ∙ ap (λ t. xs ++ t) (f ∙ ap (λ m. take m ys) e) ∙ added_first xs ys h
+unfolding bounded bounded_to
+added_when xs ys fits k ok new h e f g n = added_fits ROOM xs ys fits new k ok h e f g n
 
 -- what is added, up to what there is room for
 pub bounded-again : (xs : List ℕ) → bounded (bounded xs) ≡ bounded xs

@@ -302,17 +302,18 @@ third false b c h = cc
 pub start_within : (f : Failover) (k : Known) → may_start f k ≡ true → k.current < MAX_EPOCH
 start_within f k h = ltb-true k.current MAX_EPOCH (third k.odown (is_long_ago f.last_start (2 * k.timeout) k.now) (nat_lt k.current MAX_EPOCH) h)
 
+-- a failover that is idle, with its state written out
+pub as_idle : (f : Failover) → f.state ≡ Idle → f ≡ record f { state = Idle }
+as_idle f idle = ap (λ (state : State). let x : Failover = record f { state = state } in x) idle
+
 start_sound : (plan : Plan) (m now : ℕ) (core : Core) → IsSound plan core → (failover_of core m).state ≡ Idle → IsSound plan (after_start m (start_turn plan core m now) core)
-start_sound plan m now core s idle = subst (λ (f : Failover). IsSound plan (after_start m (turned f k) core)) (sym same) from_idle
+start_sound plan m now core s idle = subst (λ (f : Failover). IsSound plan (after_start m (turned f k) core)) (sym (as_idle (failover_of core m) idle)) from_idle
   where
     k : Known
     k = known_of plan core m now (master_of core m).odown
 
     f : Failover
     f = record (failover_of core m) { state = Idle }
-
-    same : failover_of core m ≡ record (failover_of core m) { state = Idle }
-    same = ap (λ (state : State). let x : Failover = record (failover_of core m) { state = state } in x) idle
 
     long : m < master_count plan → length (quieted f).replicas ≡ length (nodes_of plan m)
     long lt = length-map (failover_of core m).replicas unordered ∙ (s.each m lt).replicas

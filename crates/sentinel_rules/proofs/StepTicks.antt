@@ -35,7 +35,7 @@ use Rattle.ballot_law.specs.declared.cards.KeptMaster.{KeptMaster}
 use Rattle.sentinel_rules.proofs.Framing.{master_same, master_other, sound_alike, awaited_still}
 use Rattle.sentinel_rules.proofs.Turns.{Best, turn_by, turn_vote}
 use Rattle.sentinel_rules.proofs.Choices.{same_addr-same, best_awaited}
-use Rattle.sentinel_rules.proofs.SoundTicks.{keeps_if, row_keeps, busy_is, idle_is, start_within, start_keeps, peers_keeps, nodes_keeps, odown_keeps}
+use Rattle.sentinel_rules.proofs.SoundTicks.{keeps_if, row_keeps, busy_is, idle_is, as_idle, start_within, start_keeps, peers_keeps, nodes_keeps, odown_keeps}
 use Rattle.sentinel_rules.proofs.StepsTo.{StepsTo, steps_then, steps_more, kept_as, IsTwin, twin_then, twin_steps, twin_master, twin_state, same_steps, drop_steps, choose_steps, win_steps, open_steps, voted_core, cast_steps}
 use Rattle.sentinel_rules.proofs.StepNews.{stay_steps, steps_if, within_core, mark_twin, voted_is}
 
@@ -349,16 +349,13 @@ module _ (plan : Plan) (event : Event) (m now : ℕ) (core : Core) (p : IsSoundP
 -- A start
 
 start_steps : (plan : Plan) (event : Event) (m now : ℕ) (core : Core) → IsSound plan core → m < master_count plan → (failover_of core m).state ≡ Idle → StepsTo plan event 1 core (after_start m (start_turn plan core m now) core)
-start_steps plan event m now core s inside idle = subst (λ (x : Failover). StepsTo plan event 1 core (after_start m (turned x k) core)) (sym same) from_idle
+start_steps plan event m now core s inside idle = subst (λ (x : Failover). StepsTo plan event 1 core (after_start m (turned x k) core)) (sym (as_idle (failover_of core m) idle)) from_idle
   where
     k : Known
     k = known_of plan core m now (master_of core m).odown
 
     f : Failover
     f = record (failover_of core m) { state = Idle }
-
-    same : failover_of core m ≡ record (failover_of core m) { state = Idle }
-    same = ap (λ (state : State). let x : Failover = record (failover_of core m) { state = state } in x) idle
 
     lt : m < length core.masters
     lt = within_core plan core m s inside

@@ -9,11 +9,11 @@ use Rattle.ballot_law.proofs.WordLemmas.{some_if-some}
 abbrev pub hex_tail : ℕ → List ℕ → Option ℕ
 hex_tail n bs = some_if (list_all is_hex bs) (hex_on n bs)
 
-some_value : {X : Type 0} (t : Bool) (x y : X) → some_if t x ≡ Some y → x ≡ y
+pub some_value : {X : Type 0} (t : Bool) (x y : X) → some_if t x ≡ Some y → x ≡ y
 some_value true x y e = cc
 some_value false x y e = absurd cc
 
-none_test : {X : Type 0} (t : Bool) (x : X) → some_if t x ≡ None → t ≡ false
+pub none_test : {X : Type 0} (t : Bool) (x : X) → some_if t x ≡ None → t ≡ false
 none_test true x e = absurd cc
 none_test false x e = refl
 

@@ -8,6 +8,7 @@ use Rattle.std.proofs.lemmas.Str.Parse.{IsNumeralModel, IsDigitsTest, FoldsDigit
 use Rattle.ballot_law.specs.Words.{some_if, then_some, is_digit, number_on, number_within, canonical_within}
 use Rattle.ballot_law.specs.Orders.{same_bytes}
 use Rattle.ballot_law.proofs.WordLemmas.{some_if-some, same_bytes-refl, same_bytes-true}
+use Rattle.words.proofs.HexLemmas.{some_value, none_test}
 
 -- the number within the bounds that these digits make after the number so far
 abbrev pub tail_within : ℕ → ℕ → ℕ → List ℕ → Option ℕ
@@ -37,14 +38,6 @@ tail_other low high n c bs e = ap (λ t. then_some (some_if (t && list_all is_di
 
 pub tail_init : (low high : ℕ) (bs : List ℕ) → 0 < length bs → number_within low high bs ≡ tail_within low high 0 bs
 tail_init low high bs h = ap (λ t. then_some (some_if (t && list_all is_digit bs) (number_on 0 bs)) (λ n. some_if (leb low n && leb n high) n)) (lt-ltb 0 (length bs) h)
-
-some_value : {X : Type 0} (t : Bool) (x y : X) → some_if t x ≡ Some y → x ≡ y
-some_value true x y e = cc
-some_value false x y e = absurd cc
-
-none_test : {X : Type 0} (t : Bool) (x : X) → some_if t x ≡ None → t ≡ false
-none_test true x e = absurd cc
-none_test false x e = refl
 
 -- one digit more
 pub digit_more : (low high n c m : ℕ) (bs : List ℕ) → Some m ≡ some_if (is_digit c && ltb (n * 10 + (c - 48)) (2 ^ 64)) (n * 10 + (c - 48)) → tail_within low high n (c ∷ bs) ≡ tail_within low high m bs
