@@ -20,6 +20,11 @@ pub struct Group {
     nodes: Vec<Node>,
 }
 
+/// A number of nodes as a place behind them all.
+fn place_of(count: usize) -> u16 {
+    u16::try_from(count).unwrap_or(u16::MAX)
+}
+
 /// What a node says at INFO: that it is the master at this address, or a replica of it whose link is up.
 fn info_text(alloc: Global, node: Addr, master: Addr) -> io::Result<Text> {
     if node == master {
@@ -50,7 +55,7 @@ impl Group {
         }
         Ok(Group {
             masters,
-            sentinels: roster.sentinels().len() as u16,
+            sentinels: place_of(roster.sentinels().len()),
             nodes,
         })
     }
@@ -63,7 +68,7 @@ impl Group {
     /// Each node answers a PING.
     pub fn answer_pings(&self, bench: &mut Bench, now: u64) {
         let reply = PingReply::Pong;
-        for place in 0..self.nodes.len() as u16 {
+        for place in 0..place_of(self.nodes.len()) {
             let node = NodeName::StoreAt(place);
             let _ = bench.give(now, Event::Pinged { node, reply });
         }
