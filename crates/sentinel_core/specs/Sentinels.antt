@@ -1,21 +1,23 @@
 -- A Sentinel as its callers see it.
-use Rattle.std.specs.Prelude.{◌≡◌, ◌⊎◌, ℕ, Bool, true, false, ◌||◌, length}
+use Rattle.std.specs.Prelude.{◌≡◌, ◌<◌, ◌⊎◌, ℕ, Bool, true, false, ◌||◌, length, Option, IfSome}
 use Rattle.ballot_law.specs.declared.cards.Kept.{Kept}
 use Rattle.ballot_law.specs.declared.commands.Command.TheVariants.{FlushConfig}
 use Rattle.ballot_law.specs.declared.events.Event.{Event}
 use Rattle.ballot_law.specs.declared.events.Event.TheVariants.{Command as Commanded, Tick, Answered, Pinged, InfoRead, HelloRead, Become, Handed}
 use Rattle.sentinel_rules.specs.Plans.{Plan}
 use Rattle.sentinel_rules.specs.States.{Core}
+use Rattle.sentinel_rules.specs.Changes.{IsAhead}
 use Rattle.sentinel_rules.specs.Facts.{IsSoundPlan, IsSound}
 use Rattle.sentinel_outbox.specs.declared.phase.Phase.{Phase}
 use Rattle.sentinel_outbox.specs.declared.phase.Phase.TheVariants.{Ready, Pending, Stored, Halted, Stopped}
 
--- what doesn't change, what is taken, what is stored, and how far the last input has come
+-- what doesn't change, what is taken, what is stored, how far the last input has come, and the master whose configuration it changed
 pub record Whole : Type 0 where
   pub plan : Plan
   pub core : Core
   pub stored : Kept
   pub phase : Phase
+  pub change : Option ℕ
 
 -- an input was taken and isn't released yet
 abbrev pub is_busy : Phase → Bool
@@ -59,3 +61,5 @@ pub record IsWhole (whole : Whole) : Type 0 where
   pub core : IsSound whole.plan whole.core
   pub stored : length whole.stored.masters ≡ length whole.core.kept.masters
   pub settled : IsSettled whole.phase whole.core whole.stored
+  pub ahead : IsAhead whole.core
+  pub changed : IfSome whole.change (λ m. m < length whole.core.kept.masters)

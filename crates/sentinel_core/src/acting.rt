@@ -6,6 +6,7 @@ ghost use Rattle.ballot_law.specs.Clocks.{clock};
 ghost use Rattle.sentinel_outbox.specs.Outboxes.{Fits, room_of_sentinel};
 ghost use Rattle.sentinel_core.specs.Sentinels.{is_command};
 ghost use Rattle.sentinel_rules.specs.Answers.{commanded};
+ghost use Rattle.sentinel_rules.specs.Changes.{ChangesOne, IsAhead};
 ghost use Rattle.sentinel_rules.specs.Facts.{IsSoundPlan, IsSound, IsWithinEvent};
 ghost use Rattle.sentinel_rules.specs.Named.{IsNamed};
 ghost use Rattle.sentinel_rules.specs.Parts.{output_of, send, hello_of_master};
@@ -16,7 +17,9 @@ ghost use Rattle.sentinel_state.specs.Room.{bounded};
 use ballot_law::{Body, Command, Event, Hello, Input, Message, NodeName, Note, Output};
 use sentinel_answers::{answer_by_text, answer_plainly};
 use sentinel_outbox::Outbox;
-use sentinel_rules::{Frame, law_hellos_name_masters, law_inputs_keep_sound};
+use sentinel_rules::{
+    Frame, law_hellos_name_masters, law_inputs_change_one_card, law_inputs_keep_sound,
+};
 use sentinel_state::{FrameList, Plan, State};
 
 /// A message of this Sentinel.
@@ -247,8 +250,11 @@ pub(crate) fn act(
     ensures shown { outbox.new.shown ≡ outbox.old.shown }
     ensures room { length outbox.new.held ≤ outbox.new.shown_room }
     ensures sound_after { IsSound plan.now state.new }
+    ensures ahead { IsAhead state.old → IsAhead state.new }
+    ensures one { ChangesOne state.old.kept state.new.kept }
 {
     law_inputs_keep_sound();
+    law_inputs_change_one_card();
     state.forget_win();
     act_on(plan, state, frames, input, outbox);
 }

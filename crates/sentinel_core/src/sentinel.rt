@@ -1,8 +1,9 @@
 //! One Sentinel: it takes an input, stores what the input changed, and then sends what rests on it.
 
-ghost use Rattle.std.specs.Prelude.{◌≡◌, ◌≢◌, ◌↔◌, ◌≤◌, ◌<◌, ◌⊎◌, ◌+◌, ◌-◌, ◌^◌, ◌++◌, [], ◌||◌, true, false, length, OnOk, OnErr, IsOk, IfOk, IfErr, IfSome, IfNone, IsTrue, IsFalse, IsErrOf, Some, None, vec_capacity};
+ghost use Rattle.std.specs.Prelude.{◌≡◌, ◌≢◌, ◌↔◌, ◌≤◌, ◌<◌, ◌⊎◌, ◌+◌, ◌-◌, ◌^◌, ◌++◌, [], ◌||◌, ℕ, true, false, length, OnOk, OnErr, IsOk, is_ok, IfOk, IfErr, IfSome, IfNone, IsTrue, IsFalse, IsErrOf, Some, None, vec_capacity};
 ghost use Rattle.ballot_law.specs.Ballots.{Parts, card_of};
 ghost use Rattle.sentinel_conf.specs.Rewritten.{rewritten};
+ghost use Rattle.sentinel_rules.specs.Changes.{ChangesOne};
 ghost use Rattle.sentinel_rules.specs.Facts.{IsWithinEvent};
 ghost use Rattle.sentinel_rules.specs.Plans.{group_size, master_count, me, roster_of};
 ghost use Rattle.sentinel_rules.specs.Parts.{output_of};
@@ -19,7 +20,8 @@ use ballot_law::{Card, Command, Event, Input, Kept, KeptMaster, KeptMasters, Ros
 use sentinel_conf::{Conf, ConfStore, ConfText, rewrite_into};
 use sentinel_outbox::{Outbox, Phase, Room};
 use sentinel_rules::{
-    law_ignored_inputs_change_nothing, law_inputs_are_steps, law_opening_is_sound,
+    law_ignored_inputs_change_nothing, law_inputs_are_steps, law_inputs_change_one_card,
+    law_opening_is_sound,
 };
 use sentinel_state::{FrameList, Plan, State};
 use std::alloc::Global;
@@ -44,6 +46,7 @@ pub struct Sentinel {
     state: State,
     stored: Kept,
     phase: Phase,
+    change: Option<u16>,
     frames: FrameList,
     file: ConfText,
     alloc: Global,
@@ -59,6 +62,7 @@ impl Model for Sentinel {
       core = sentinel.state;
       stored = sentinel.stored;
       phase = sentinel.phase;
+      change = sentinel.change;
     } };
 
     ghost invariant = { λ sentinel. IsWhole (record {
@@ -66,6 +70,7 @@ impl Model for Sentinel {
       core = sentinel.state;
       stored = sentinel.stored;
       phase = sentinel.phase;
+      change = sentinel.change;
     }) };
 }
 
@@ -131,6 +136,32 @@ fn is_same(one: &Kept, other: &Kept) -> bool
     are_same(one.masters.as_slice(), other.masters.as_slice())
 }
 
+/// Whether two configurations are the same.
+fn is_same_card(one: &Card, other: &Card) -> bool
+    ensures same { IsTrue result → one.now ≡ other.now }
+    ensures other { IsFalse result → one.now ≢ other.now }
+{
+    *one == *other
+}
+
+/// The master whose configuration is another one. At most one has changed.
+fn changed_card(count: u16, new: &Kept, old: &Kept) -> Option<u16>
+    requires new { length new.now.masters ≡ count }
+    requires old { length old.now.masters ≡ count }
+    requires one { ChangesOne old.now new.now }
+    ensures within { IfSome result (λ m. m < count) }
+    ensures changed { IfSome result (λ m. card_of new.now m ≢ card_of old.now m) }
+    ensures others { (m : ℕ) → result ≢ Some m → card_of new.now m ≡ card_of old.now m }
+{
+    let (masters, before) = (new.masters.as_slice(), old.masters.as_slice());
+    for m in 0..count {
+        if !is_same_card(&masters[m as usize].card, &before[m as usize].card) {
+            return Some(m);
+        }
+    }
+    None
+}
+
 impl Sentinel {
     /// Opens a Sentinel with what its file says, at a reading of its clock in milliseconds: what the file holds is kept, the epochs of the
     /// last votes among it, and nothing else. `NoMemory` drops the conf.
@@ -142,6 +173,7 @@ impl Sentinel {
         ensures phase { IfOk result (λ sentinel. sentinel.phase ≡ Phase.Ready) }
     {
         law_opening_is_sound();
+        law_inputs_change_one_card();
         let Ok(file) = ConfText::room_for(alloc, &conf) else {
             return Err(OpenFault::NoMemory);
         };
@@ -158,6 +190,7 @@ impl Sentinel {
             state,
             stored,
             phase: Phase::Ready,
+            change: None,
             frames,
             file,
             alloc,
@@ -231,6 +264,14 @@ impl Sentinel {
         Some((win.master, win.epoch))
     }
 
+    /// The master whose configuration the last input changed, told until the next input is taken; an input changes that of one master at
+    /// most.
+    pub fn card_change(&self) -> Option<u16>
+        ensures { result ≡ self.now.change }
+    {
+        self.change
+    }
+
     /// Why no input can be taken now; of several faults the first.
     fn check_taking(&self, outbox: &Outbox) -> Result<(), TakeFault>
         ensures busy { IsErrOf result TakeFault.Busy ↔ (is_busy self.now.phase ≡ true) }
@@ -285,6 +326,10 @@ impl Sentinel {
             ≡ Phase.Pending (took.changed || is_flush input.entry.now.event)) }
         ensures plan { OnOk result (self.new.plan ≡ self.old.plan) }
         ensures stored { OnOk result (self.new.stored ≡ self.old.stored) }
+        ensures card { OnOk result (IfSome self.new.change (λ m. (m < length self.new.core.kept.masters)
+            × (card_of self.new.core.kept m ≢ card_of self.old.core.kept m))) }
+        ensures other_cards { OnOk result ((m : ℕ) → self.new.change ≢ Some m
+            → card_of self.new.core.kept m ≡ card_of self.old.core.kept m) }
         ensures steps { OnOk result ((parts : Parts) → IsPartsOf self.old.core parts
             → IsTake self.old.plan self.old.core parts input.entry.now.event self.new.core outbox.new.held) }
         ensures ignored { OnOk result (is_noticed self.old.plan input.entry.now.event ≡ false
@@ -295,6 +340,7 @@ impl Sentinel {
         law_ignored_inputs_change_nothing();
         act(&self.plan, &mut self.state, &mut self.frames, input, outbox);
         let changed = !is_same(self.state.kept(), &self.stored);
+        self.change = changed_card(self.plan.master_count(), self.state.kept(), &self.stored);
         self.phase = Phase::Pending {
             must_store: changed || is_flush(&input.event),
         };
@@ -323,6 +369,9 @@ impl Sentinel {
             → S.failure_count store.new ≡ S.failure_count store.old + 1 }
         ensures either { IsErrOf result StoreFault.Refused → (S.held store.new ≡ S.held store.old)
             ⊎ IfSome (S.held store.new) (λ text. text ≡ rewritten self.old.plan.conf self.old.core.kept) }
+        ensures known { self.old.phase ≡ Phase.Pending true
+            → IfSome (S.outcome store.old (rewritten self.old.plan.conf self.old.core.kept))
+            (λ known. (is_ok result ≡ known.is_stored) × (S.held store.new ≡ Some known.text)) }
     {
         let Phase::Pending { must_store } = self.phase else {
             return Err(StoreFault::Nothing);
