@@ -10,8 +10,7 @@ use Rattle.ballot_law.specs.declared.messages.NodeName.{NodeName}
 use Rattle.ballot_law.specs.declared.messages.NodeName.TheVariants.{SentinelAt}
 use Rattle.ballot_law.specs.Hellos.{hello_text}
 use Rattle.ballot_law.specs.PingReplies.{reply_of}
-use Rattle.node_texts.specs.Infos.{IsInfo, info_text}
-use Rattle.sentinel_rules.specs.Limits.{IsWithinBody}
+use Rattle.node_texts.specs.Infos.{info_text}
 
 -- at a Sentinel: an ask, a client's question and a PING are commands, an answer to PING is what it counts as, an INFO and a
 -- hello are their bytes; a Sentinel takes no other body
@@ -32,8 +31,3 @@ event_at _ message = Some (Handed message)
 
 abbrev pub event_of : Message → Option Event
 event_of message = event_at message.target message
-
--- what is delivered: all numbers in it are within the limits, and an INFO has a text
-abbrev pub IsDeliverable : Body → Type 0
-IsDeliverable (InfoText info) = IsInfo info
-IsDeliverable body = IsWithinBody body

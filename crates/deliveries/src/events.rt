@@ -3,9 +3,11 @@
 ghost use Rattle.std.specs.Prelude.{◌≡◌, ◌↔◌, IfOk, IfSome, IsSome};
 ghost use Rattle.ballot_law.specs.Hellos.{IsHello, hello_text};
 ghost use Rattle.ballot_law.specs.Messages.{Delivers, IsFor};
-ghost use Rattle.deliveries.specs.Deliveries.{heard, event_of, IsDeliverable};
+ghost use Rattle.deliveries.specs.Deliveries.{heard, event_of};
+ghost use Rattle.message_texts.specs.MessageTexts.{IsWritable};
 ghost use Rattle.node_texts.specs.Infos.{IsInfo, info_text};
 ghost use Rattle.sentinel_rules.specs.Facts.{IsWithinEvent};
+ghost use Rattle.sentinel_rules.specs.Limits.{IsWithinBody};
 
 use crate::copies::copy_of;
 use ballot_law::{Body, Command, Event, Hello, Info, Message, NoMemory, NodeName, PingReply, Text};
@@ -35,7 +37,7 @@ fn text_of_hello(alloc: Global, hello: &Hello) -> Result<Text, NoMemory>
 
 /// What a body becomes at a Sentinel; none where it isn't for Sentinels.
 fn heard(alloc: Global, sender: NodeName, body: &Body) -> Result<Option<Event>, NoMemory>
-    requires { IsDeliverable body.now }
+    requires { IsWritable body.now }
     ensures { IfOk result (λ event. event ≡ heard sender body.now) }
 {
     let event = match body {
@@ -97,9 +99,10 @@ fn heard(alloc: Global, sender: NodeName, body: &Body) -> Result<Option<Event>, 
 /// heard, the answer to a PING counts as `PingReply::of` says, and an INFO and a hello come as their bytes. A data node and
 /// a client are handed a copy of the message. `NoMemory` leaves nothing.
 ///
-/// The caller sees to it that the numbers of the message are within their limits and that an INFO in it has a text.
+/// The caller sees to it that the message can be written, and that the epoch of an ask in it is at most `MAX_EPOCH`.
 pub fn event_of(alloc: Global, message: &Message) -> Result<Option<Event>, NoMemory>
-    requires { IsDeliverable message.now.body }
+    requires within { IsWithinBody message.now.body }
+    requires writable { IsWritable message.now.body }
     ensures event { IfOk result (λ event. event ≡ event_of message.now) }
     ensures applies { IfOk result (λ event. IsSome event ↔ IsFor message.now.target message.now.body) }
     ensures delivers { IfOk result (λ event. IfSome event (Delivers message.now)) }
