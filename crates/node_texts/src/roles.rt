@@ -4,7 +4,7 @@ ghost use Rattle.std.specs.Prelude.{◌≡◌, ℕ, ◌≤◌, List, ◌++◌, l
 ghost use Rattle.ballot_law.specs.Words.{ip_text};
 ghost use Rattle.resp2_frames.specs.Frame.{view, spelling, IsFrame};
 ghost use Rattle.resp2_frames.specs.Reading.{frame_at};
-ghost use Rattle.resp2_frames.specs.Writing.{Adds};
+ghost use Rattle.resp2_frames.specs.Writing.{Begins};
 ghost use Rattle.node_texts.specs.declared.info_fields.TheConstants.{COUNT_MAX};
 ghost use Rattle.node_texts.specs.Roles.{kind_of, offset_of, host_of, port_of, link_of, replicas_of, master_role, replica_role, role_length, role_behind, role_of, role_of_list, IsRole, role_frame};
 
@@ -160,7 +160,8 @@ pub fn read_role(value: &Value) -> Result<Role, TextFault>
 /// Adds the answer of a master, with no replica in its list.
 fn push_master(text: &mut OutText, offset: u64) -> Result<(), NoMemory>
     requires { offset ≤ COUNT_MAX }
-    ensures { Adds result text.old text.new (spelling (role_frame (Role.Master offset))) }
+    ensures ok { OnOk result (text.new ≡ text.old ++ spelling (role_frame (Role.Master offset))) }
+    ensures err { OnErr result (Begins text.old text.new) }
 {
     push_size(text, b'*', role_length(DataRole::Master))?;
     push_bulk(text, b"master")?;
@@ -171,8 +172,9 @@ fn push_master(text: &mut OutText, offset: u64) -> Result<(), NoMemory>
 /// Adds the answer of a replica, with the link state `connected`.
 fn push_replica(text: &mut OutText, addr: Addr, offset: u64) -> Result<(), NoMemory>
     requires { offset ≤ COUNT_MAX }
-    ensures written { Adds result text.old text.new
-        (spelling (role_frame (Role.Replica addr offset))) }
+    ensures ok { OnOk result
+        (text.new ≡ text.old ++ spelling (role_frame (Role.Replica addr offset))) }
+    ensures err { OnErr result (Begins text.old text.new) }
     ensures host { length (ip_text addr.ip) ≤ 15 }
 {
     let host = ip_text(addr.ip);
@@ -187,7 +189,8 @@ fn push_replica(text: &mut OutText, addr: Addr, offset: u64) -> Result<(), NoMem
 /// Adds the answer of a role.
 fn push_role(text: &mut OutText, role: &Role) -> Result<(), NoMemory>
     requires { IsRole role.now }
-    ensures written { Adds result text.old text.new (spelling (role_frame role.now)) }
+    ensures ok { OnOk result (text.new ≡ text.old ++ spelling (role_frame role.now)) }
+    ensures err { OnErr result (Begins text.old text.new) }
     ensures whole { IsFrame (role_frame role.now) }
 {
     match role {

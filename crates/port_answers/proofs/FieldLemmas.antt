@@ -1,11 +1,10 @@
 -- Fields that are added one behind the other.
-use Rattle.std.proofs.Common.{◌≡◌, ℕ, ◌+◌, List, [], ◌∷◌, ◌++◌, take, drop, refl, ap, sym, ◌∙◌, length, length-append, arith, append_assoc, append-nil}
+use Rattle.std.proofs.Common.{◌≡◌, ℕ, List, [], ◌∷◌, ◌++◌, take, drop, refl, ap, sym, ◌∙◌, append_assoc, append-nil}
 use Rattle.std.proofs.lemmas.List.{take-append-drop}
-use Rattle.std.specs.Prelude.{decimal}
-use Rattle.resp2_frames.specs.Frame.{bulk, spelling, line_end}
+use Rattle.resp2_frames.specs.Frame.{bulk, spelling}
 use Rattle.port_answers.specs.Room.{ANSWER_MAX, bounded}
 use Rattle.port_answers.specs.Answers.{fields_text, header}
-use Rattle.bounded_list.proofs.Bounded.{added_both, two_adds}
+use Rattle.bounded_list.proofs.Bounded.{added_both}
 
 fields_text-append : (xs ys : List (List ℕ × List ℕ)) → fields_text (xs ++ ys) ≡ fields_text xs ++ fields_text ys
 fields_text-append [] ys = refl
@@ -42,17 +41,6 @@ next fields k n old mid new e f =
 pub headed : (count : ℕ) (fields : List (List ℕ × List ℕ)) (old mid new : List ℕ) → mid ≡ bounded (old ++ header count) → new ≡ bounded (mid ++ fields_text fields)
     → new ≡ bounded (old ++ (header count ++ fields_text fields))
 headed count fields old mid new e f = f ∙ ap (λ t. bounded (t ++ fields_text fields)) e ∙ added_both ANSWER_MAX old (header count) (fields_text fields)
-
--- a bulk string of two texts with a colon between them
-pub bulk_of : (old sized first second third ip port : List ℕ) (size : ℕ) → size ≡ length ip + 1 + length port → sized ≡ bounded (old ++ 36 ∷ (decimal size ++ line_end))
-    → first ≡ bounded (sized ++ ip) → second ≡ bounded (first ++ 58 ∷ []) → third ≡ bounded (second ++ (port ++ line_end)) → third ≡ bounded (old ++ spelling (bulk (ip ++ 58 ∷ port)))
-bulk_of old sized first second third ip port size s e f g h =
-    let long : size ≡ length (ip ++ 58 ∷ port) = omega (arith, length-append ip (58 ∷ port)) in
-    let tail = two_adds ANSWER_MAX first second third (58 ∷ []) (port ++ line_end) g h in
-    let rest = two_adds ANSWER_MAX sized first third ip (58 ∷ (port ++ line_end)) f tail in
-    two_adds ANSWER_MAX old sized third (36 ∷ (decimal size ++ line_end)) (ip ++ 58 ∷ (port ++ line_end)) e rest
-    ∙ ap (λ t. bounded (old ++ 36 ∷ ((decimal size ++ line_end) ++ t))) (sym (append_assoc ip (58 ∷ port) line_end))
-    ∙ ap (λ n. bounded (old ++ 36 ∷ ((decimal n ++ line_end) ++ ((ip ++ 58 ∷ port) ++ line_end)))) long
 
 -- a line of two texts and a number between them
 pub line_of : (old new before number behind end : List ℕ) → new ≡ bounded (old ++ (before ++ (number ++ (behind ++ end)))) → new ≡ bounded (old ++ (before ++ ((number ++ behind) ++ end)))

@@ -2,3 +2,4 @@ pub mod FieldLemmas
 pub mod RowLemmas
 pub mod Sizes
 pub mod Fitting
+pub mod Filling

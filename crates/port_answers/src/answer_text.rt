@@ -1,10 +1,13 @@
 //! The text of answers, in room that was made beforehand.
 
-ghost use Rattle.std.specs.Prelude.{◌≡◌, ◌≤◌, ◌++◌, [], IfOk, vec_capacity};
+ghost use Rattle.std.specs.Prelude.{◌≡◌, ◌≤◌, ◌∷◌, ◌++◌, [], IfOk, length, decimal, vec_capacity};
+ghost use Rattle.resp2_frames.specs.Frame as frames;
+ghost use Rattle.resp2_frames.specs.Frame.{spelling, line_end};
 ghost use Rattle.port_answers.specs.Room.{ANSWER_MAX, bounded};
 
-use ballot_law::Text;
+use ballot_law::{NoMemory, Text};
 use bounded_list::BoundedList;
+use resp2_frames::{ByteSink, push_bulk, push_kind, push_line, push_size};
 use std::alloc::{AllocError, Global};
 use std::marker::Model;
 
@@ -39,6 +42,7 @@ impl AnswerText {
     pub fn as_slice(&self) -> &[u8]
         ensures value { result.now ≡ self.now }
         ensures whole { bounded self.now ≡ self.now }
+        ensures few { length self.now ≤ ANSWER_MAX }
     {
         self.bytes.as_slice()
     }
@@ -66,5 +70,50 @@ impl AnswerText {
         ensures { self.new ≡ bounded (self.old ++ piece.now) }
     {
         self.bytes.extend_from_slice(piece);
+    }
+
+    /// Adds these bytes and CR LF.
+    pub(crate) fn add_line(&mut self, line: &[u8])
+        ensures { self.new ≡ bounded (self.old ++ (line.now ++ line_end)) }
+    {
+        let _ = push_line(self, line);
+    }
+
+    /// Adds the byte of a kind, these bytes, and CR LF.
+    pub(crate) fn add_kind(&mut self, kind: u8, line: &[u8])
+        ensures { self.new ≡ bounded (self.old ++ kind ∷ (line.now ++ line_end)) }
+    {
+        let _ = push_kind(self, kind, line);
+    }
+
+    /// Adds the byte of a kind, a number, and CR LF.
+    pub(crate) fn add_size(&mut self, kind: u8, size: usize)
+        ensures { self.new ≡ bounded (self.old ++ kind ∷ (decimal size ++ line_end)) }
+    {
+        let _ = push_size(self, kind, size);
+    }
+
+    /// Adds a bulk string.
+    pub(crate) fn add_bulk(&mut self, bytes: &[u8])
+        ensures { self.new ≡ bounded (self.old ++ spelling (frames.bulk bytes.now)) }
+    {
+        let _ = push_bulk(self, bytes);
+    }
+}
+
+impl ByteSink for AnswerText {
+    ghost bytes = { λ text. text };
+
+    ghost within = { λ text. bounded text ≡ text };
+
+    ghost full = { λ text. length text ≡ ANSWER_MAX };
+
+    fn push(&mut self, piece: &[u8]) -> Result<(), NoMemory> {
+        let room = ANSWER_MAX - self.as_slice().len();
+        self.add(piece);
+        if piece.len() > room {
+            return Err(NoMemory);
+        }
+        Ok(())
     }
 }

@@ -6,9 +6,9 @@
 #![tactic(auto)]
 
 mod answer_text;
+mod fields;
 mod laws;
 mod line_answers;
-mod parts;
 mod row_answers;
 mod rows;
 

@@ -42,14 +42,14 @@ impl AnswerText {
     pub fn add_no_such_master(&mut self)
         ensures { self.new ≡ bounded (self.old ++ spelling no_such_master) }
     {
-        self.add(b"-ERR No such master with that name\r\n");
+        self.add_kind(b'-', b"ERR No such master with that name");
     }
 
     /// Adds the answer to a command that was done. What has no room is cut.
     pub fn add_ok(&mut self)
         ensures { self.new ≡ bounded (self.old ++ spelling ok_line) }
     {
-        self.add(b"+OK\r\n");
+        self.add_kind(b'+', b"OK");
     }
 
     /// Adds the answer that so many Sentinels can be reached, which is enough for a failover. What has no room is cut.
@@ -79,18 +79,16 @@ impl AnswerText {
     }
 
     /// Adds the answer to a value that is no command of the port. What has no room is cut.
-    #[tactic(auto, using(bounded_list::proofs::Bounded::added_both))]
     pub fn add_command_fault(&mut self, fault: CommandFault)
         ensures { self.new ≡ bounded (self.old ++ spelling (command_fault fault)) }
     {
-        self.add(b"-");
-        self.add_line(fault_text(fault));
+        self.add_kind(b'-', fault_text(fault));
     }
 
     /// Adds the answer to bytes that are no RESP2. What has no room is cut.
     pub fn add_protocol_error(&mut self)
         ensures { self.new ≡ bounded (self.old ++ spelling protocol_error) }
     {
-        self.add(b"-ERR Protocol error\r\n");
+        self.add_kind(b'-', b"ERR Protocol error");
     }
 }

@@ -56,7 +56,7 @@ impl AnswerText {
     pub fn add_count(&mut self, n: u64)
         ensures { self.new ≡ bounded (self.old ++ header n) }
     {
-        self.add_size(b'*', n);
+        self.add_size(b'*', n as usize);
     }
 
     /// Adds the answer that shows a master: the fields that Redis Sentinel's SENTINEL MASTER also has, each name

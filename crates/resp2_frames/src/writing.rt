@@ -10,34 +10,37 @@ use crate::value::Value;
 use ballot_law::NoMemory;
 
 #[cycle(writing)]
-fn add_value(out: &mut OutText, value: &Value) -> Result<(), NoMemory>
-    ensures { Adds result out.old out.new (spelling (view value.now)) }
+fn push_value<S: ByteSink>(sink: &mut S, value: &Value) -> Result<(), NoMemory>
+    ensures { Adds result (S.bytes sink.old) (S.bytes sink.new) (spelling (view value.now))
+        (S.full sink.new) }
 {
     match value {
-        Value::Simple(text) => push_kind(out, b'+', text.as_slice()),
-        Value::Fault(text) => push_kind(out, b'-', text.as_slice()),
-        Value::Int(number) => push_int(out, *number),
-        Value::Bulk(bytes) => push_bulk(out, bytes.as_slice()),
-        Value::NullBulk => out.push(b"$-1\r\n"),
-        Value::Items(items) => add_items(out, items),
-        Value::NullItems => out.push(b"*-1\r\n"),
+        Value::Simple(text) => push_kind(sink, b'+', text.as_slice()),
+        Value::Fault(text) => push_kind(sink, b'-', text.as_slice()),
+        Value::Int(number) => push_int(sink, *number),
+        Value::Bulk(bytes) => push_bulk(sink, bytes.as_slice()),
+        Value::NullBulk => sink.push(b"$-1\r\n"),
+        Value::Items(items) => push_items(sink, items),
+        Value::NullItems => sink.push(b"*-1\r\n"),
     }
 }
 
 #[cycle(writing)]
-fn add_items(out: &mut OutText, items: &Vec<Value>) -> Result<(), NoMemory>
-    ensures { Adds result out.old out.new (spelling (frames.items (frames_view items.now.items))) }
+fn push_items<S: ByteSink>(sink: &mut S, items: &Vec<Value>) -> Result<(), NoMemory>
+    ensures { Adds result (S.bytes sink.old) (S.bytes sink.new)
+        (spelling (frames.items (frames_view items.now.items))) (S.full sink.new) }
 {
-    push_size(out, b'*', items.as_slice().len())?;
-    add_values(out, items)
+    push_size(sink, b'*', items.as_slice().len())?;
+    push_values(sink, items)
 }
 
 #[cycle(writing)]
-fn add_values(out: &mut OutText, items: &Vec<Value>) -> Result<(), NoMemory>
-    ensures { Adds result out.old out.new (spellings (frames_view items.now.items)) }
+fn push_values<S: ByteSink>(sink: &mut S, items: &Vec<Value>) -> Result<(), NoMemory>
+    ensures { Adds result (S.bytes sink.old) (S.bytes sink.new)
+        (spellings (frames_view items.now.items)) (S.full sink.new) }
 {
     for item in items {
-        add_value(out, item)?;
+        push_value(sink, item)?;
     }
     Ok(())
 }
@@ -52,7 +55,7 @@ pub fn write_value(value: &Value, text: &mut OutText) -> Result<(), NoMemory>
     ensures err { OnErr result (text.new ≡ text.old) }
 {
     let len = text.len();
-    match add_value(text, value) {
+    match push_value(text, value) {
         Ok(()) => Ok(()),
         Err(_) => {
             text.truncate(len);

@@ -1,24 +1,48 @@
-use Rattle.std.proofs.Common.{◌<◌, ◌∷◌, ◌++◌, List, ℕ, length, map, take, ap, sym, ◌∙◌, append_assoc, decimal, arith}
+use Rattle.std.proofs.Common.{◌+◌, ◌∷◌, ◌++◌, List, ℕ, length, drop, take, ap, sym, refl, ◌∙◌, append_assoc, decimal, arith}
 use Rattle.resp2_frames.specs.declared.value.Value.{Value}
-use Rattle.resp2_frames.specs.Frame.{view, frames_of, spelling, spellings, items, line_end}
-use Rattle.resp2_frames.proofs.Adding.{adds_both}
-use Rattle.resp2_frames.proofs.Written.{spellings_next, items_spelled}
+use Rattle.resp2_frames.specs.Frame.{view, frames_view, spelling, items, line_end}
+use Rattle.resp2_frames.proofs.Adding.{adds_both, adds_part}
+use Rattle.resp2_frames.proofs.Written.{spelled, spelled_next, spelled_around, items_spelled}
 use Rattle.resp2_frames.proofs.writing.+writing.Goals as goal
 
-pub add_items-returns : goal.add_items-returns
-add_items-returns t c =
+pub push_items-returns : goal.push_items-returns
+push_items-returns g t c =
+    let bytes = g.S.ByteSink.bytes in
     let vs = c.args.items.now.items in
     let n = length c.as_slice.result.now in
-    adds_both c.add_values.result c.args.out.now c.push_size.new.sink c.add_values.new.out (42 ∷ (decimal n ++ line_end)) (spellings (frames_of (map view vs))) (spelling (items (frames_of (map view vs))))
-    c.in_ok-push_size.ensures c.add_values.ensures (items_spelled vs n (ap (λ (xs : List Value). length xs) c.as_slice.ensures.value))
+    adds_both c.push_values.result (bytes c.args.sink.now) (bytes c.push_size.new.sink) (bytes c.push_values.new.sink)
+    (42 ∷ (decimal n ++ line_end)) (spelled vs) (spelling (items (frames_view vs))) _
+    c.in_ok-push_size.ensures.added c.push_values.ensures (items_spelled vs n (ap (λ (xs : List Value). length xs) c.as_slice.ensures.value))
 
-pub add_values-loop-item-preserved : goal.add_values-loop-item-preserved
-add_values-loop-item-preserved t c =
+pub push_items-returns-in_err-push_size : goal.push_items-returns-in_err-push_size
+push_items-returns-in_err-push_size g t c =
+    let bytes = g.S.ByteSink.bytes in
+    let vs = c.args.items.now.items in
+    let n = length c.as_slice.result.now in
+    adds_part c.from_residual.result (bytes c.args.sink.now) (bytes c.push_size.new.sink)
+    (42 ∷ (decimal n ++ line_end)) (spelled vs) (spelling (items (frames_view vs))) _
+    c.from_residual.ensures.0 c.in_err-push_size.ensures.added (items_spelled vs n (ap (λ (xs : List Value). length xs) c.as_slice.ensures.value))
+
+pub push_values-loop-item-preserved : goal.push_values-loop-item-preserved
+push_values-loop-item-preserved g t c =
     let xs = c.deref-item-items.result.now in
     let i = c.loop-item.item-index in
     let v = c.item-item.result in
-    let lt : i < length xs = omega arith in
-    let so_far = spellings (frames_of (map view (take i xs))) in
-    let old_items = c.args.out.now in
-    c.in_ok-add_value.ensures ∙ ap (λ (t : List ℕ). t ++ spelling (view v)) c.loop-item.invariant ∙ append_assoc old_items so_far (spelling (view v))
-    ∙ ap (λ (t : List ℕ). old_items ++ t) (ap (λ (w : Value). so_far ++ spelling (view w)) c.item-item.is ∙ sym (spellings_next xs i v lt))
+    let before = g.S.ByteSink.bytes c.args.sink.now in
+    c.in_ok-push_value.ensures
+    ∙ ap (λ (t : List ℕ). t ++ spelling (view v)) c.loop-item.invariant
+    ∙ append_assoc before (spelled (take i xs)) (spelling (view v))
+    ∙ ap (λ (t : List ℕ). before ++ t) (sym (spelled_next xs i v (omega arith) c.item-item.is))
+
+pub push_values-returns-in_err-push_value : goal.push_values-returns-in_err-push_value
+push_values-returns-in_err-push_value g t c =
+    let bytes = g.S.ByteSink.bytes in
+    let xs = c.deref-item-items.result.now in
+    let i = c.loop-item.item-index in
+    let v = c.item-item.result in
+    let next = spelling (view v) in
+    let behind = spelled (drop (i + 1) xs) in
+    adds_both c.from_residual.result (bytes c.args.sink.now) (bytes c.loop-item.sink) (bytes c.push_value.new.sink)
+    (spelled (take i xs)) (next ++ behind) (spelled c.args.items.now.items) _ c.loop-item.invariant
+    (adds_part c.from_residual.result (bytes c.loop-item.sink) (bytes c.push_value.new.sink) next behind (next ++ behind) _ c.from_residual.ensures.0 c.in_err-push_value.ensures refl)
+    (spelled_around xs i v (omega arith) c.item-item.is ∙ ap spelled c.deref-item-items.ensures.value)

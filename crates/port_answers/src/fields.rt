@@ -1,46 +1,36 @@
-//! The parts that answers are made of.
+//! The fields that rows are made of.
 
 ghost use Rattle.std.specs.Prelude.{◌≡◌, [], ◌∷◌, ◌++◌, decimal};
 ghost use Rattle.ballot_law.specs.Words.{ip_text, id_text};
 ghost use Rattle.resp2_frames.specs.Frame as frames;
-ghost use Rattle.resp2_frames.specs.Frame.{spelling, line_end};
+ghost use Rattle.resp2_frames.specs.Frame.{spelling};
 ghost use Rattle.port_answers.specs.Room.{bounded};
 ghost use Rattle.port_answers.specs.Answers.{addr_text, addr_fields, fields_text};
 
 use crate::answer_text::AnswerText;
+use arrayvec::ArrayVec;
 use ballot_law::{Addr, RunId};
 use itoa::Buffer;
 use words::{ip_text, run_id_text};
 
+/// How many bytes an address has at most, as `255.255.255.255:65535`.
+const ADDR_TEXT_MAX: usize = 21;
+
+/// An address as `ip:port`.
+fn addr_text(addr: Addr) -> ArrayVec<u8, ADDR_TEXT_MAX>
+    ensures { result.items ≡ addr_text addr }
+{
+    let mut buffer = Buffer::new();
+    let mut text = ArrayVec::new();
+    text.try_extend_from_slice(ip_text(addr.ip).as_slice())
+        .unwrap();
+    text.push(b':');
+    text.try_extend_from_slice(buffer.format(addr.port).as_bytes())
+        .unwrap();
+    text
+}
+
 impl AnswerText {
-    /// Adds bytes and CR LF.
-    #[tactic(auto, using(bounded_list::proofs::Bounded::added_both))]
-    pub(crate) fn add_line(&mut self, line: &[u8])
-        ensures { self.new ≡ bounded (self.old ++ (line.now ++ line_end)) }
-    {
-        self.add(line);
-        self.add(b"\r\n");
-    }
-
-    /// Adds the byte of a kind, a number, and CR LF.
-    #[tactic(auto, using(bounded_list::proofs::Bounded::added_both))]
-    pub(crate) fn add_size(&mut self, kind: u8, size: u64)
-        ensures { self.new ≡ bounded (self.old ++ kind ∷ (decimal size ++ line_end)) }
-    {
-        let mut buffer = Buffer::new();
-        self.add(&[kind]);
-        self.add_line(buffer.format(size).as_bytes());
-    }
-
-    /// Adds a bulk string.
-    #[tactic(auto, using(bounded_list::proofs::Bounded::added_both))]
-    pub(crate) fn add_bulk(&mut self, bytes: &[u8])
-        ensures { self.new ≡ bounded (self.old ++ spelling (frames.bulk bytes.now)) }
-    {
-        self.add_size(b'$', bytes.len() as u64);
-        self.add_line(bytes);
-    }
-
     /// Adds a field's name and its value.
     #[tactic(auto, using(crate::proofs::FieldLemmas::one_field))]
     pub(crate) fn add_field(&mut self, name: &[u8], value: &[u8])
@@ -74,16 +64,9 @@ impl AnswerText {
     }
 
     /// Adds a bulk string of an address, as `ip:port`.
-    #[tactic(auto, using(bounded_list::proofs::Bounded::added_both))]
     pub(crate) fn add_addr_text(&mut self, addr: Addr)
         ensures { self.new ≡ bounded (self.old ++ spelling (frames.bulk (addr_text addr))) }
     {
-        let ip = ip_text(addr.ip);
-        let mut buffer = Buffer::new();
-        let port = buffer.format(addr.port).as_bytes();
-        self.add_size(b'$', (ip.len() + 1 + port.len()) as u64);
-        self.add(ip.as_slice());
-        self.add(b":");
-        self.add_line(port);
+        self.add_bulk(addr_text(addr).as_slice());
     }
 }

@@ -1,0 +1,28 @@
+-- What a text with room holds once something was added to it as to any sink.
+use Rattle.std.proofs.Common.{◌≡◌, ℕ, ◌+◌, ◌≤◌, ◌<◌, List, ◌++◌, length, take, ap, sym, ◌∙◌, arith, length-append, Result, Ok, Err}
+use Rattle.std.proofs.lemmas.List.{take-append-le, take_all, take-take, length-take-le}
+use Rattle.resp2_frames.specs.Writing.{Begins, Adds}
+use Rattle.bounded_list.specs.BoundedLists as lists
+use Rattle.bounded_list.proofs.Bounded.{bounded_all}
+use Rattle.port_answers.specs.Room.{ANSWER_MAX, bounded}
+
+-- what has room was added, and what has none was cut
+pub filled : {X E : Type 0} (answer : Result X E) (before after bytes : List ℕ) → Adds answer before after bytes (length after ≡ ANSWER_MAX) → bounded after ≡ after
+    → after ≡ bounded (before ++ bytes)
+unfolding lists.bounded
+filled (Ok x) before after bytes h within = sym within ∙ ap bounded h
+filled (Err e) before after bytes h within = sym h.1 ∙ ap (λ (n : ℕ). take n (before ++ bytes)) h.2
+
+-- a piece that has room
+pub pushed_whole : (before after piece : List ℕ) → length before + length piece ≤ ANSWER_MAX → after ≡ bounded (before ++ piece) → after ≡ before ++ piece
+pushed_whole before after piece short e = e ∙ bounded_all ANSWER_MAX (before ++ piece) (omega (arith, length-append before piece))
+
+-- a piece that has none
+pub pushed_part : (before after piece : List ℕ) → length before ≤ ANSWER_MAX → ANSWER_MAX < length before + length piece → after ≡ bounded (before ++ piece)
+    → Begins before after × Begins after (before ++ piece) × (length after ≡ ANSWER_MAX)
+unfolding lists.bounded
+pushed_part before after piece short long e =
+    let size : length after ≡ ANSWER_MAX = ap length e ∙ length-take-le ANSWER_MAX (before ++ piece) (omega (arith, length-append before piece)) in
+    let front : Begins before after =
+    ap (take (length before)) e ∙ take-take (length before) ANSWER_MAX (before ++ piece) short ∙ take-append-le (length before) before piece (omega arith) ∙ take_all (length before) before (omega arith) in
+    (front, ap (λ (n : ℕ). take n (before ++ piece)) size ∙ sym e, size)
