@@ -93,41 +93,23 @@ replaced_filed : (t : Group) (picks : List Pick) (w : World) (i : ℕ) (node : S
 replaced_filed t picks w i node fresh ok place casts_by picks_by new =
     replaced t picks (picks ++ fresh) w i node (w.votes ++ node.parts.casts) ok place (Within-grown (history w picks) node.parts.casts fresh) (λ j m apart. Grows-others i j m (history w picks) node.parts.casts fresh apart casts_by picks_by) new
 
+-- Messages, elections and what was said, with more behind them
+
+with_lists : (t : Group) (picks : List Pick) (w : World) (messages : List Message) (elected : List Elected) (said : List Said) → Holds t picks w → All (MessageOk t (history w picks)) messages → All (ElectedOk t (history w picks)) elected → All (SaidOk t (history w picks)) said → Holds t picks (record w { messages = messages; elected = elected; said = said })
+with_lists t picks w messages elected said ok sent led told =
+    record { count = ok.count; nodes = ok.nodes; stores = ok.stores; clients = ok.clients; messages = sent; elected = led; said = told }
+
 more_elected : (t : Group) (picks : List Pick) (w : World) (new : List Elected) → Holds t picks w → All (ElectedOk t (history w picks)) new → Holds t picks (record w { elected = w.elected ++ new })
 more_elected t picks w new ok more =
-    record {
-      count = ok.count;
-      nodes = ok.nodes;
-      stores = ok.stores;
-      clients = ok.clients;
-      messages = ok.messages;
-      elected = All-append (ElectedOk t (history w picks)) w.elected new ok.elected more;
-      said = ok.said;
-    }
+    with_lists t picks w w.messages (w.elected ++ new) w.said ok ok.messages (All-append (ElectedOk t (history w picks)) w.elected new ok.elected more) ok.said
 
 more_said : (t : Group) (picks : List Pick) (w : World) (new : List Said) → Holds t picks w → All (SaidOk t (history w picks)) new → Holds t picks (record w { said = w.said ++ new })
 more_said t picks w new ok more =
-    record {
-      count = ok.count;
-      nodes = ok.nodes;
-      stores = ok.stores;
-      clients = ok.clients;
-      messages = ok.messages;
-      elected = ok.elected;
-      said = All-append (SaidOk t (history w picks)) w.said new ok.said more;
-    }
+    with_lists t picks w w.messages w.elected (w.said ++ new) ok ok.messages ok.elected (All-append (SaidOk t (history w picks)) w.said new ok.said more)
 
 more_messages : (t : Group) (picks : List Pick) (w : World) (new : List Message) → Holds t picks w → All (MessageOk t (history w picks)) new → Holds t picks (record w { messages = w.messages ++ new })
 more_messages t picks w new ok more =
-    record {
-      count = ok.count;
-      nodes = ok.nodes;
-      stores = ok.stores;
-      clients = ok.clients;
-      messages = All-append (MessageOk t (history w picks)) w.messages new ok.messages more;
-      elected = ok.elected;
-      said = ok.said;
-    }
+    with_lists t picks w (w.messages ++ new) w.elected w.said ok (All-append (MessageOk t (history w picks)) w.messages new ok.messages more) ok.elected ok.said
 
 -- Files
 

@@ -3,6 +3,7 @@ use Rattle.std.specs.Prelude.{◌≡◌, ℕ, ◌+◌, ◌<◌, Bool, false, ◌
 use Rattle.ballot_law.specs.Counts.{count_below}
 use Rattle.ballot_law.specs.Clocks.{age}
 use Rattle.ballot_law.specs.declared.hearings.DownReport.{DownReport}
+use Rattle.ballot_law.specs.declared.periods.TheConstants.{REPORT_MS}
 
 pub data ReportCall : Type 0 where
   Reported : (place : ℕ) → (report : DownReport) → ReportCall
@@ -17,7 +18,7 @@ last_report (Cleared ∷ earlier) place = None
 -- it said down, and at most 5,000 ms ago
 abbrev pub says_down : (now : ℕ) → Option DownReport → Bool
 says_down now None = false
-says_down now (Some report) = report.down && nat_le (age report.at now) 5000
+says_down now (Some report) = report.down && nat_le (age report.at now) REPORT_MS
 
 -- how many of n places say down
 abbrev pub down_count : (now : ℕ) → (reports : ℕ → Option DownReport) → (n : ℕ) → ℕ

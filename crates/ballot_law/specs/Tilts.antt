@@ -1,10 +1,11 @@
 -- Whether a Sentinel's clock is to be trusted, by the readings at its turns. The latest reading stands first, the opening's last.
 use Rattle.std.specs.Prelude.{◌≡◌, ℕ, ◌+◌, Bool, false, ◌||◌, nat_lt, Option, Some, None, List, [], ◌∷◌, if◌then◌else◌}
 use Rattle.std.specs.List.{list_all}
+use Rattle.ballot_law.specs.declared.periods.TheConstants.{STEP_MS, TILT_MS}
 
 -- the reading is below that of the turn before, or more than 2,000 ms above it
 abbrev pub is_jump : (before now : ℕ) → Bool
-is_jump before now = nat_lt now before || nat_lt (before + 2000) now
+is_jump before now = nat_lt now before || nat_lt (before + STEP_MS) now
 
 -- the reading of the last jump
 abbrev pub last_jump : List ℕ → Option ℕ
@@ -21,7 +22,7 @@ after_jump (now ∷ before ∷ earlier) = if is_jump before now then [] else now
 -- no later reading is 30,000 ms or more above that of the jump
 abbrev pub lasts : Option ℕ → (later : List ℕ) → Bool
 lasts None later = false
-lasts (Some jump) later = list_all (λ reading. nat_lt reading (jump + 30000)) later
+lasts (Some jump) later = list_all (λ reading. nat_lt reading (jump + TILT_MS)) later
 
 -- the clock has jumped, and the last jump still lasts
 abbrev pub in_tilt : List ℕ → Bool
@@ -47,7 +48,7 @@ pub record StandsForReadings (turned : Turned) (readings : List ℕ) : Type 0 wh
 -- a turn that is no jump: TILT goes on for less than 30,000 ms
 abbrev pub lasting_at : (now : ℕ) → Option ℕ → Option ℕ
 lasting_at now None = None
-lasting_at now (Some jump) = if nat_lt now (jump + 30000) then Some jump else None
+lasting_at now (Some jump) = if nat_lt now (jump + TILT_MS) then Some jump else None
 
 abbrev pub entered_at : (before : ℕ) → Option ℕ → (now : ℕ) → Option ℕ
 entered_at before entered now = if is_jump before now then Some now else lasting_at now entered

@@ -1,5 +1,6 @@
 -- What a Sentinel's calls on the watch of one node tell of that node. The latest call stands first.
 use Rattle.std.specs.Prelude.{◌≡◌, ℕ, ◌+◌, min, Bool, nat_lt, Option, Some, None, option_map, unwrap_or, List, [], ◌∷◌, if◌then◌else◌}
+use Rattle.ballot_law.specs.declared.periods.TheConstants.{REPLICA_MS}
 use Rattle.ballot_law.specs.declared.replies.PingReply.{PingReply}
 use Rattle.ballot_law.specs.declared.replies.DataRole.{DataRole}
 use Rattle.ballot_law.specs.declared.replies.DataRole.TheVariants.{Master, Replica}
@@ -29,10 +30,6 @@ replica_since (HeardReply at reply ∷ earlier) = replica_since earlier
 replica_since (ReportedRole at Master ∷ earlier) = None
 replica_since (ReportedRole at Replica ∷ earlier) = Some (unwrap_or (replica_since earlier) at)
 replica_since (ChangedCard at ∷ earlier) = option_map (λ _. at) (replica_since earlier)
-
--- how much longer a master may report itself a replica than be silent, in milliseconds
-abbrev pub REPLICA_MS : ℕ
-REPLICA_MS = 20000
 
 -- the end of a time that began at a moment, where more than the time has passed
 abbrev pub passed_at : (began bound now : ℕ) → Option ℕ

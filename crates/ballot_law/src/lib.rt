@@ -18,6 +18,7 @@ mod messages;
 mod names;
 mod ordering;
 mod padding;
+mod periods;
 mod records;
 mod replies;
 mod rosters;
@@ -36,9 +37,10 @@ pub use laws::{
     law_refusals_happen, law_runs_join,
 };
 pub use memory::NoMemory;
-pub use messages::{Body, Message, NodeName, Note, Output};
+pub use messages::{Body, Message, NodeName, Note, OUTPUTS_MAX, Output};
 pub use names::{NAME_MAX, Name};
 pub use ordering::{Placed, ordered};
+pub use periods::{REPLICA_MS, REPORT_MS, STEP_MS, TILT_MS};
 pub use records::{Elected, Said, Win};
 pub use replies::{DataRole, Hello, Info, PingReply, Role};
 pub use rosters::{Member, Roster, RosterFault, Watched};

@@ -81,6 +81,10 @@ pub struct Note {
     pub card: Card,
 }
 
+/// The greatest number of outputs that one input of a Sentinel gives: a tick sends at most 63 PINGs and 63 questions to Sentinels,
+/// three messages and one order to each of 256 nodes, and one promotion.
+pub const OUTPUTS_MAX: usize = 1_536;
+
 /// What one input of a node gives: messages, and notes, which are sent to no node.
 #[derive(Debug, Drop)]
 pub enum Output {

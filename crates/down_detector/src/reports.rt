@@ -4,12 +4,9 @@ ghost use Rattle.std.specs.Prelude.{◌≡◌, ℕ, ◌+◌, ◌<◌, ◌^◌, n
 ghost use Rattle.ballot_law.specs.Clocks.{clock};
 ghost use Rattle.ballot_law.specs.Reports.{ReportCall, Reported, Cleared, last_report, down_count, is_odown_by, kept_at, StandsForReports, with_report, without_reports};
 
-use ballot_law::{DownReport, NoMemory, clock_of};
+use ballot_law::{DownReport, NoMemory, REPORT_MS, clock_of};
 use std::alloc::Global;
 use std::marker::Model;
-
-/// How old a report may be that counts, in milliseconds.
-const REPORT_MS: u64 = 5_000;
 
 /// The last report of each Sentinel about one master, by the Sentinel's place in the roster.
 #[derive(Debug, Drop)]

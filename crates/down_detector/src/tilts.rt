@@ -4,14 +4,8 @@ ghost use Rattle.std.specs.Prelude.{◌≡◌, ℕ, ◌∷◌, List, [], is_some
 ghost use Rattle.ballot_law.specs.Clocks.{clock};
 ghost use Rattle.ballot_law.specs.Tilts.{in_tilt, StandsForReadings, entered_at, opened_clock, turned_at};
 
-use ballot_law::clock_of;
+use ballot_law::{STEP_MS, TILT_MS, clock_of};
 use std::marker::Model;
-
-/// How far the clock may go ahead between two turns, in milliseconds.
-const STEP_MS: u64 = 2_000;
-
-/// How long TILT lasts after a jump, in milliseconds.
-const TILT_MS: u64 = 30_000;
 
 /// A Sentinel's watch of its own clock: the last reading, and that of the last jump while TILT holds.
 #[derive(Clone, Copy, Debug, PartialEq, Eq)]

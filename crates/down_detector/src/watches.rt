@@ -4,11 +4,8 @@ ghost use Rattle.std.specs.Prelude.{◌≡◌, ℕ, ◌+◌, ◌∷◌, List, []
 ghost use Rattle.ballot_law.specs.Clocks.{clock};
 ghost use Rattle.ballot_law.specs.Watches.{WatchCall, HeardReply, ReportedRole, ChangedCard, passed_at, down_since, StandsForCalls, opened_at, after_reply, after_role, after_change, down_since_of};
 
-use ballot_law::{DataRole, PingReply, clock_of};
+use ballot_law::{DataRole, PingReply, REPLICA_MS, clock_of};
 use std::marker::Model;
-
-/// How much longer a master may report itself a replica than be silent, in milliseconds.
-const REPLICA_MS: u64 = 20_000;
 
 /// What a Sentinel keeps of one node: since when it has been silent, and since when it has reported itself a replica
 /// without a break.

@@ -5,11 +5,12 @@ use Rattle.ballot_law.specs.Clocks.{clock, age}
 use Rattle.ballot_law.specs.Orders.{id_before}
 use Rattle.replica_choice.specs.declared.candidates.Candidate.{Candidate}
 use Rattle.replica_choice.specs.declared.candidates.Limits.{Limits}
+use Rattle.replica_choice.specs.declared.candidates.TheConstants.{FRESH_MS}
 
--- heard of, at most 5,000 ms ago
+-- heard of, and not too long ago
 abbrev pub is_fresh : (now : ℕ) → Option ℕ → Bool
 is_fresh now None = false
-is_fresh now (Some moment) = nat_le (age (clock moment) (clock now)) 5000
+is_fresh now (Some moment) = nat_le (age (clock moment) (clock now)) FRESH_MS
 
 -- the link has not been down for longer than ten times the down-after time beyond the master's own down time
 abbrev pub is_linked : Limits → (link_down_s : ℕ) → Bool

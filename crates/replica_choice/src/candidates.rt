@@ -1,4 +1,4 @@
-//! What a choice goes by.
+//! What a choice looks at.
 
 ghost use Rattle.std.specs.Prelude.{◌≡◌, nat_le, ◌*◌, ◌+◌};
 ghost use Rattle.replica_choice.specs.Choices.{is_fresh, is_linked, is_eligible, has_smaller_id, is_better};
@@ -6,7 +6,7 @@ ghost use Rattle.replica_choice.specs.Choices.{is_fresh, is_linked, is_eligible,
 use ballot_law::{RunId, clock_of};
 
 /// How long ago a candidate may have been heard of, in milliseconds.
-const FRESH_MS: u64 = 5_000;
+pub const FRESH_MS: u64 = 5_000;
 
 /// What is known of a replica. Moments are readings of the Sentinel's clock in milliseconds; a reading above 2^62 counts
 /// as 2^62.

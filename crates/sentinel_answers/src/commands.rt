@@ -4,10 +4,10 @@ ghost use Rattle.std.specs.Prelude.{◌≡◌, ◌≤◌, ◌<◌, ◌↔◌, �
 ghost use Rattle.ballot_law.specs.declared.messages.Body.TheVariants.{PingText, PortReply};
 ghost use Rattle.ballot_law.specs.Clocks.{clock};
 ghost use Rattle.resp2_frames.specs.Frame.{spelling};
-ghost use Rattle.port_answers.specs.Answers.{master_frame, masters_frame, replicas_frame, sentinels_frame, no_such_master, ok_line, id_frame};
-ghost use Rattle.sentinel_rules.specs.Answers.{master_with_card, asked_of, master_row, replica_rows, sentinel_rows, all_masters, quorum_frame, reply, named, about, address_of, commanded};
+ghost use Rattle.port_answers.specs.Answers.{masters_frame, no_such_master, ok_line, id_frame};
+ghost use Rattle.sentinel_rules.specs.Answers.{master_with_card, asked_of, master_row, all_masters, reply, named, about, address_of, commanded};
 ghost use Rattle.sentinel_rules.specs.Plans.{roster_of, me, master_count};
-ghost use Rattle.sentinel_answers.specs.Plain.{is_plain};
+ghost use Rattle.sentinel_answers.specs.Plain.{is_plain, answer_about};
 
 use crate::rows::{
     add_masters, add_quorum, add_replicas, add_sentinels, master_row, shown_card, shown_masters,
@@ -16,6 +16,19 @@ use ballot_law::{Addr, Body, Command, Name, RunId, ShortText, Shown, ShownList};
 use port_answers::AnswerText;
 use sentinel_plan::Plan;
 use sentinel_state::State;
+
+/// What a command asks about one master.
+#[derive(Clone, Copy)]
+pub(crate) enum Asked {
+    /// `SENTINEL MASTER`.
+    Whole,
+    /// `SENTINEL REPLICAS`, `SENTINEL SLAVES`.
+    Replicas,
+    /// `SENTINEL SENTINELS`.
+    Sentinels,
+    /// `SENTINEL CKQUORUM`.
+    Quorum,
+}
 
 /// The answer to PING.
 fn pong() -> Body
@@ -96,11 +109,13 @@ pub fn answer_by_text(
     let text = AnswerText::from_vec(text);
     match *command {
         Command::Masters => answer_masters(plan, state, now, text, shown),
-        Command::Master(name) => answer_master(plan, state, now, name, text, shown),
-        Command::Replicas(name) => answer_replicas(plan, state, now, name, text, shown),
-        Command::Sentinels(name) => answer_sentinels(plan, state, now, name, text, shown),
+        Command::Master(name) => answer_about(plan, state, now, name, Asked::Whole, text, shown),
+        Command::Replicas(name) =>
+            answer_about(plan, state, now, name, Asked::Replicas, text, shown),
+        Command::Sentinels(name) =>
+            answer_about(plan, state, now, name, Asked::Sentinels, text, shown),
         Command::MyId => answer_id(plan, text, shown),
-        Command::CkQuorum(name) => answer_quorum(plan, state, now, name, text, shown),
+        Command::CkQuorum(name) => answer_about(plan, state, now, name, Asked::Quorum, text, shown),
         Command::FlushConfig => answer_done(text, shown),
         Command::Ping | Command::IsMasterDownByAddr { .. } | Command::GetMasterAddrByName(_) =>
             unreachable!(),
@@ -169,88 +184,46 @@ fn answer_masters(plan: &Plan, state: &State, now: u64, text: AnswerText, shown:
     reply(text, shown_masters(plan, state, shown))
 }
 
+/// The answer to what is asked about the master with this name.
 #[tactic(auto, using(crate::proofs::AnswerRows::master_whole))]
-fn answer_master(
+fn answer_about(
     plan: &Plan,
     state: &State,
     now: u64,
     name: Option<Name>,
+    asked: Asked,
     text: AnswerText,
     shown: Vec<Shown>,
 ) -> Body
     requires text { text ≡ [] }
     requires room { 16 ≤ vec_capacity shown }
     requires list { shown.items ≡ [] }
-    ensures { result ≡ about state.now (named plan.now name) (λ m. reply state.now (m ∷ []) (master_frame (master_row plan.now state.now (clock now) m))) }
+    ensures { result ≡ about state.now (named plan.now name) (answer_about plan.now state.now (clock now) asked) }
 {
     let Some(m) = plan.named(name) else {
         return no_such_master(text, shown);
     };
     let mut text = text;
     let mut shown = shown;
-    text.add_master(&master_row(plan, state, now, m));
-    shown.push_reserved(shown_card(state, m));
-    reply(text, shown)
-}
-
-fn answer_replicas(
-    plan: &Plan,
-    state: &State,
-    now: u64,
-    name: Option<Name>,
-    text: AnswerText,
-    shown: Vec<Shown>,
-) -> Body
-    requires text { text ≡ [] }
-    requires list { shown.items ≡ [] }
-    ensures { result ≡ about state.now (named plan.now name) (λ m. reply state.now [] (replicas_frame (replica_rows plan.now state.now (clock now) m))) }
-{
-    let Some(m) = plan.named(name) else {
-        return no_such_master(text, shown);
-    };
-    let mut text = text;
-    add_replicas(plan, state, now, m, &mut text);
-    reply(text, shown)
-}
-
-fn answer_sentinels(
-    plan: &Plan,
-    state: &State,
-    now: u64,
-    name: Option<Name>,
-    text: AnswerText,
-    shown: Vec<Shown>,
-) -> Body
-    requires text { text ≡ [] }
-    requires list { shown.items ≡ [] }
-    ensures { result ≡ about state.now (named plan.now name) (λ m. reply state.now [] (sentinels_frame (sentinel_rows plan.now state.now (clock now)))) }
-{
-    if plan.named(name).is_none() {
-        return no_such_master(text, shown);
+    match asked {
+        Asked::Whole => {
+            text.add_master(&master_row(plan, state, now, m));
+            shown.push_reserved(shown_card(state, m));
+            reply(text, shown)
+        }
+        Asked::Replicas => {
+            add_replicas(plan, state, now, m, &mut text);
+            reply(text, shown)
+        }
+        Asked::Sentinels => {
+            add_sentinels(plan, state, now, &mut text);
+            reply(text, shown)
+        }
+        Asked::Quorum => {
+            add_quorum(plan, state, now, m, &mut text);
+            reply(text, shown)
+        }
     }
-    let mut text = text;
-    add_sentinels(plan, state, now, &mut text);
-    reply(text, shown)
-}
-
-fn answer_quorum(
-    plan: &Plan,
-    state: &State,
-    now: u64,
-    name: Option<Name>,
-    text: AnswerText,
-    shown: Vec<Shown>,
-) -> Body
-    requires text { text ≡ [] }
-    requires list { shown.items ≡ [] }
-    ensures { result ≡ about state.now (named plan.now name) (λ m. reply state.now [] (quorum_frame plan.now state.now (clock now) m)) }
-{
-    let Some(m) = plan.named(name) else {
-        return no_such_master(text, shown);
-    };
-    let mut text = text;
-    add_quorum(plan, state, now, m, &mut text);
-    reply(text, shown)
 }
 
 /// The own run id.

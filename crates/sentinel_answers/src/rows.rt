@@ -15,12 +15,10 @@ ghost use Rattle.sentinel_rules.specs.Plans.{roster_of, master_count, nodes_of, 
 use ballot_law::{Addr, Member, RunId, Shown};
 use port_answers::{AnswerText, MasterRow, ReplicaRow, SentinelRow};
 use sentinel_plan::Plan;
+use sentinel_rules::ASSUMED_INFO;
 use sentinel_state::State;
 
-/// The priority of a replica that sent no INFO.
-const UNKNOWN_PRIORITY: u64 = 100;
-
-/// How many of the places below a number remain but for one.
+/// The number of places, the one left out not counted.
 #[tactic(auto, using(crate::proofs::AnswerRows::but_within, crate::proofs::AnswerRows::but_without))]
 fn count_but(one: usize, count: usize) -> usize
     ensures { result ≡ length (places_but one 0 count) }
@@ -71,15 +69,12 @@ fn replica_row(plan: &Plan, state: &State, now: u64, m: u16, card_at: usize, k: 
     ensures value { result ≡ replica_row plan.now state.now (clock now) m k }
     ensures fits { IsReplicaRow result }
 {
-    let (priority, offset) = match state.info(m, k) {
-        Some(info) => (info.priority, info.offset),
-        None => (UNKNOWN_PRIORITY, 0),
-    };
+    let info = state.info(m, k).unwrap_or(ASSUMED_INFO);
     ReplicaRow {
         addr: plan.addr_at(m, k),
         down: state.is_node_down(plan, m, now, card_at, k),
-        priority,
-        offset,
+        priority: info.priority,
+        offset: info.offset,
     }
 }
 

@@ -4,7 +4,9 @@ use Rattle.ballot_law.specs.declared.messages.NodeName.{NodeName}
 use Rattle.ballot_law.specs.declared.messages.NodeName.TheVariants.{SentinelAt}
 use Rattle.ballot_law.specs.declared.messages.Output.{Output}
 use Rattle.ballot_law.specs.declared.messages.Output.TheVariants.{Send, Tell}
+use Rattle.ballot_law.specs.declared.messages.TheConstants.{OUTPUTS_MAX}
 use Rattle.sentinel_outbox.specs.declared.room.Room.{Room}
+use Rattle.sentinel_outbox.specs.declared.room.TheConstants.{ANSWER_MAX, SHOWN_MAX}
 
 -- the room for one answer of the port that isn't in use: bytes of its text, configurations that it shows
 pub record SpareRoom : Type 0 where
@@ -42,7 +44,7 @@ pub record KeepsRoom (earlier later : Outputs) : Type 0 where
 
 -- enough room for the outputs of any one input of a Sentinel
 abbrev pub room_of_sentinel : Room
-room_of_sentinel = record { outputs = 1536; text = 65536; shown = 16 }
+room_of_sentinel = record { outputs = OUTPUTS_MAX; text = ANSWER_MAX; shown = SHOWN_MAX }
 
 -- a data node, a client or a port
 abbrev pub IsOtherNode : NodeName → Type 0

@@ -1,9 +1,9 @@
 //! How much room the outputs of one input take.
 
 ghost use Rattle.std.specs.Prelude.{◌≡◌};
+ghost use Rattle.sentinel_outbox.specs.Outboxes.{room_of_sentinel};
 
-/// How many outputs one input of a Sentinel gives at most.
-pub(crate) const OUTPUTS_MAX: u32 = 1_536;
+use ballot_law::OUTPUTS_MAX;
 
 /// How many bytes one answer of a Sentinel's port has at most.
 pub(crate) const ANSWER_MAX: u32 = 65_536;
@@ -36,10 +36,10 @@ impl Room {
 
     /// Enough room for the outputs of any one input of a Sentinel.
     pub fn of_sentinel() -> Room
-        ensures { result ≡ record { outputs = OUTPUTS_MAX; text = ANSWER_MAX; shown = SHOWN_MAX } }
+        ensures { result ≡ room_of_sentinel }
     {
         Room {
-            outputs: OUTPUTS_MAX,
+            outputs: OUTPUTS_MAX as u32,
             text: ANSWER_MAX,
             shown: SHOWN_MAX,
         }

@@ -19,6 +19,7 @@ use Rattle.failover_states.specs.Known.{Known}
 use Rattle.failover_states.specs.Replicas.{unordered}
 use Rattle.failover_states.specs.Table.{Turn, turned, table, quieted, may_start, started, is_long_ago}
 use Rattle.sentinel_rules.specs.declared.frames.Frame.{Frame}
+use Rattle.sentinel_rules.specs.declared.frames.TheConstants.{FRAMES_MAX}
 use Rattle.sentinel_rules.specs.declared.frames.Frame.TheVariants.{PingTo, InfoTo, HelloTo, FollowTo, AskTo}
 use Rattle.sentinel_rules.specs.Plans.{Plan, me, group_size, master_count, nodes_of, node_name}
 use Rattle.sentinel_rules.specs.States.{Core, MasterState, NodeState, master_of, failover_of, is_idle, is_failing_over, is_tilted, is_master_down, is_odown_at, with_master, with_failover, with_current}
@@ -377,10 +378,10 @@ master_keeps plan m now core p lt s =
     (keeps_then plan 64 768 (peers_part plan m now core) (nodes_part plan m now) (peers_keeps plan m now core p s) (λ t. nodes_keeps plan m now (peers_part plan m now core).core p lt t))
     (λ t. judging_keeps plan m now (then_part (peers_part plan m now core) (nodes_part plan m now)).core p lt t)
 
-pub tick_keeps : (plan : Plan) (m random now : ℕ) (core : Core) → IsSoundPlan plan → IsSound plan core → KeepsSound plan 1536 (tick plan m random now core)
+pub tick_keeps : (plan : Plan) (m random now : ℕ) (core : Core) → IsSoundPlan plan → IsSound plan core → KeepsSound plan FRAMES_MAX (tick plan m random now core)
 tick_keeps plan m random now core p s =
-    keeps_if plan 1536 (nat_lt m (master_count plan)) (with_reading now random core) (master_part plan m now) (read now)
-    (λ h. keeps_more plan 1153 1536 (master_part plan m now (with_reading now random core)) (omega arith) (master_keeps plan m now (with_reading now random core) p (ltb-true m (master_count plan) h) (read now)))
+    keeps_if plan FRAMES_MAX (nat_lt m (master_count plan)) (with_reading now random core) (master_part plan m now) (read now)
+    (λ h. keeps_more plan 1153 FRAMES_MAX (master_part plan m now (with_reading now random core)) (omega arith) (master_keeps plan m now (with_reading now random core) p (ltb-true m (master_count plan) h) (read now)))
   where
     read : (now : ℕ) → IsSound plan (with_reading now random core)
     read now = sound_alike plan core (with_reading now random core) refl refl refl s

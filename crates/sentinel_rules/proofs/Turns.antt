@@ -10,7 +10,7 @@ use Rattle.failover_states.specs.declared.states.State.TheVariants.{Idle, WaitSt
 use Rattle.failover_states.specs.declared.states.Row.{Row}
 use Rattle.failover_states.specs.declared.replicas.Replica.{Replica}
 use Rattle.failover_states.specs.Calls.{epoch_of}
-use Rattle.failover_states.specs.Failovers.{Failover, ended}
+use Rattle.failover_states.specs.Failovers.{Failover, entering, ended}
 use Rattle.failover_states.specs.Known.{Known}
 use Rattle.failover_states.specs.Replicas.{by_place, told, unordered, expired, forgotten, sent_now, is_due, is_next}
 use Rattle.failover_states.specs.Table.{TableRow, Turn, table, first_that_fits, turn_in, quieted, expiring, vote_of, chosen, can_be_told, busy_count}
@@ -69,6 +69,26 @@ chosen_sound : (plan : Plan) (kept : Kept) (m epoch : ℕ) (best : Option (ℕ �
 chosen_sound plan kept m epoch None f k s le b = s
 chosen_sound plan kept m epoch (Some best) f k s le b = record { replicas = s.replicas; epoch = le; choice = b }
 
+-- how a turn in a state begins: the orders of the turn before are over
+abbrev pub begun : State → Failover → Known → Failover
+begun state f k = expiring state k.now (quieted (record f { state = state }))
+
+length-begun : (state : State) (f : Failover) (k : Known) (n : ℕ) → length f.replicas ≡ n → length (begun state f k).replicas ≡ n
+length-begun Idle f k n r = length-map f.replicas unordered ∙ r
+length-begun (WaitStart epoch) f k n r = length-map f.replicas unordered ∙ r
+length-begun (SelectReplica epoch) f k n r = length-map f.replicas unordered ∙ r
+length-begun (SendPromotion epoch choice) f k n r = length-map f.replicas unordered ∙ r
+length-begun (WaitPromotion epoch choice former) f k n r = length-map f.replicas unordered ∙ r
+length-begun (ReconfReplicas epoch choice former) f k n r = length-map (map unordered f.replicas) (expired k.now) ∙ (length-map f.replicas unordered ∙ r)
+length-begun (UpdateConfig epoch choice) f k n r = length-map f.replicas unordered ∙ r
+
+-- where each row of the state leaves a sound one, the turn does
+rows_sound : (plan : Plan) (kept : Kept) (m : ℕ) (state : State) (g : Failover) (k : Known)
+    → IsSoundFailover plan kept m g
+    → Fits (λ row f. IsSoundFailover plan kept m f) (table state g k)
+    → IsSoundFailover plan kept m (turn_in state g k).failover
+rows_sound plan kept m state g k same fits = turn_by (λ row f. IsSoundFailover plan kept m f) g (vote_of state k) (table state g k) same fits
+
 -- where a failover runs
 pub turn_sound : (plan : Plan) (kept : Kept) (m : ℕ) (state : State) (f : Failover) (k : Known)
     → length f.replicas ≡ length (nodes_of plan m)
@@ -76,79 +96,51 @@ pub turn_sound : (plan : Plan) (kept : Kept) (m : ℕ) (state : State) (f : Fail
     → IfSome (awaited state) (IsAwaited plan kept m)
     → Best plan kept m k.best
     → (state ≡ Idle → ⊥)
-    → IsSoundFailover plan kept m (turn_in state (expiring state k.now (quieted (record f { state = state }))) k).failover
-turn_sound plan kept m Idle f k r le c b busy = absurd (busy refl)
-turn_sound plan kept m (WaitStart epoch) f k r le c b busy =
-    let g : Failover = quieted (record f { state = WaitStart epoch }) in
-    let n : length g.replicas ≡ length (nodes_of plan m) = length-map f.replicas unordered ∙ r in
-    turn_by
-    (λ row f2. IsSoundFailover plan kept m f2)
-    g
-    (vote_of (WaitStart epoch) k)
-    (table (WaitStart epoch) g k)
-    (record { replicas = n; epoch = le; choice = tt }) (
-      (λ fits. record { replicas = n; epoch = le; choice = tt }),
-      ((λ fits. ended_sound plan kept m g n), ((λ fits. record { replicas = n; epoch = le; choice = tt }), tt)),
-    )
-turn_sound plan kept m (SelectReplica epoch) f k r le c b busy =
-    let g : Failover = quieted (record f { state = SelectReplica epoch }) in
-    let n : length g.replicas ≡ length (nodes_of plan m) = length-map f.replicas unordered ∙ r in
-    let same : IsSoundFailover plan kept m g = record { replicas = n; epoch = le; choice = tt } in
-    turn_by
-    (λ row f2. IsSoundFailover plan kept m f2)
-    g
-    None
-    (table (SelectReplica epoch) g k)
-    same
-    ((λ fits. chosen_sound plan kept m epoch k.best g k same le b), ((λ fits. ended_sound plan kept m g n), tt))
-turn_sound plan kept m (SendPromotion epoch choice) f k r le c b busy =
-    let g : Failover = quieted (record f { state = SendPromotion epoch choice }) in
-    let n : length g.replicas ≡ length (nodes_of plan m) = length-map f.replicas unordered ∙ r in
-    let same : IsSoundFailover plan kept m g = record { replicas = n; epoch = le; choice = c } in
-    turn_by
-    (λ row f2. IsSoundFailover plan kept m f2)
-    g
-    None
-    (table (SendPromotion epoch choice) g k)
-    same
-    ((λ fits. ended_sound plan kept m g n), ((λ fits. same), ((λ fits. record { replicas = n; epoch = le; choice = c }), tt)))
-turn_sound plan kept m (WaitPromotion epoch choice former) f k r le c b busy =
-    let g : Failover = quieted (record f { state = WaitPromotion epoch choice former }) in
-    let n : length g.replicas ≡ length (nodes_of plan m) = length-map f.replicas unordered ∙ r in
-    let same : IsSoundFailover plan kept m g = record { replicas = n; epoch = le; choice = c } in
-    turn_by
-    (λ row f2. IsSoundFailover plan kept m f2)
-    g
-    None
-    (table (WaitPromotion epoch choice former) g k)
-    same
-    ((λ fits. ended_sound plan kept m g n), ((λ fits. same), tt))
-turn_sound plan kept m (ReconfReplicas epoch choice former) f k r le c b busy =
-    let g : Failover = expiring (ReconfReplicas epoch choice former) k.now (quieted (record f { state = ReconfReplicas epoch choice former })) in
-    let n : length g.replicas ≡ length (nodes_of plan m) = length-map (map unordered f.replicas) (expired k.now) ∙ (length-map f.replicas unordered ∙ r) in
-    let same : IsSoundFailover plan kept m g = record { replicas = n; epoch = le; choice = tt } in
-    turn_by
-    (λ row f2. IsSoundFailover plan kept m f2)
-    g
-    None
-    (table (ReconfReplicas epoch choice former) g k)
-    same (
-      (λ fits. record { replicas = length-told (is_due (can_be_told choice former k) g.replicas) k.now g.replicas ∙ n; epoch = le; choice = tt }),
-      (
-        (λ fits. record { replicas = n; epoch = le; choice = tt }),
-        (
-          (λ fits. record { replicas = length-told (is_next (can_be_told choice former k) (busy_count g.replicas) k.parallel_syncs g.replicas) k.now g.replicas ∙ n; epoch = le; choice = tt }),
-          tt,
-        ),
-      ),
-    )
-turn_sound plan kept m (UpdateConfig epoch choice) f k r le c b busy =
-    let g : Failover = quieted (record f { state = UpdateConfig epoch choice }) in
-    let n : length g.replicas ≡ length (nodes_of plan m) = length-map f.replicas unordered ∙ r in
-    turn_by
-    (λ row f2. IsSoundFailover plan kept m f2)
-    g
-    None
-    (table (UpdateConfig epoch choice) g k)
-    (record { replicas = n; epoch = le; choice = tt })
-    ((λ fits. ended_sound plan kept m g n), tt)
+    → IsSoundFailover plan kept m (turn_in state (begun state f k) k).failover
+turn_sound plan kept m state f k r le c b busy = sound state le c busy
+  where
+    size : ℕ
+    size = length (nodes_of plan m)
+
+    stays : (state : State) → IfSome (epoch_of state) (λ epoch. epoch ≤ kept.current) → IfSome (awaited state) (IsAwaited plan kept m) → IsSoundFailover plan kept m (record (begun state f k) { state = state })
+    stays state le c = record { replicas = length-begun state f k size r; epoch = le; choice = c }
+
+    enters : (state next : State) → IfSome (epoch_of next) (λ epoch. epoch ≤ kept.current) → IfSome (awaited next) (IsAwaited plan kept m) → IsSoundFailover plan kept m (entering next k.now (begun state f k))
+    enters state next le c = record { replicas = length-begun state f k size r; epoch = le; choice = c }
+
+    ends : (state : State) → IsSoundFailover plan kept m (ended (begun state f k))
+    ends state = ended_sound plan kept m (begun state f k) (length-begun state f k size r)
+
+    sound : (state : State) → IfSome (epoch_of state) (λ epoch. epoch ≤ kept.current) → IfSome (awaited state) (IsAwaited plan kept m) → (state ≡ Idle → ⊥) → IsSoundFailover plan kept m (turn_in state (begun state f k) k).failover
+    sound Idle le c busy = absurd (busy refl)
+    sound (WaitStart epoch) le c busy =
+        let here = WaitStart epoch in
+        let g = begun here f k in
+        let same = stays here le tt in
+        rows_sound plan kept m here g k same ((λ fits. enters here (SelectReplica epoch) le tt), ((λ fits. ends here), ((λ fits. same), tt)))
+    sound (SelectReplica epoch) le c busy =
+        let here = SelectReplica epoch in
+        let g = begun here f k in
+        let same = stays here le tt in
+        rows_sound plan kept m here g k same ((λ fits. chosen_sound plan kept m epoch k.best g k same le b), ((λ fits. ends here), tt))
+    sound (SendPromotion epoch choice) le c busy =
+        let here = SendPromotion epoch choice in
+        let same = stays here le c in
+        rows_sound plan kept m here (begun here f k) k same ((λ fits. ends here), ((λ fits. same), ((λ fits. enters here (WaitPromotion epoch choice k.card_place) le c), tt)))
+    sound (WaitPromotion epoch choice former) le c busy =
+        let here = WaitPromotion epoch choice former in
+        let same = stays here le c in
+        rows_sound plan kept m here (begun here f k) k same ((λ fits. ends here), ((λ fits. same), tt))
+    sound (ReconfReplicas epoch choice former) le c busy =
+        let here = ReconfReplicas epoch choice former in
+        let g = begun here f k in
+        let same = stays here le tt in
+        let told_all = length-told (is_due (can_be_told choice former k) g.replicas) k.now g.replicas in
+        let told_next = length-told (is_next (can_be_told choice former k) (busy_count g.replicas) k.parallel_syncs g.replicas) k.now g.replicas in
+        rows_sound plan kept m here g k same (
+          (λ fits. record { replicas = told_all ∙ same.replicas; epoch = le; choice = tt }),
+          ((λ fits. enters here (UpdateConfig epoch choice) le tt), ((λ fits. record { replicas = told_next ∙ same.replicas; epoch = le; choice = tt }), tt)),
+        )
+    sound (UpdateConfig epoch choice) le c busy =
+        let here = UpdateConfig epoch choice in
+        rows_sound plan kept m here (begun here f k) k (stays here le tt) ((λ fits. ends here), tt)

@@ -1,10 +1,9 @@
 //! What an input has a Sentinel put out, before it shows what is kept.
 
-use ballot_law::{Addr, NodeName, RunId};
+use ballot_law::{Addr, NodeName, OUTPUTS_MAX, RunId};
 
-/// The greatest number of frames that one input puts out: a tick puts out at most 63 PINGs and 63 questions to Sentinels, three frames and
-/// one order to each of 256 nodes, and one promotion.
-pub const FRAMES_MAX: usize = 1_536;
+/// The greatest number of frames that one input puts out: each is one output.
+pub const FRAMES_MAX: usize = OUTPUTS_MAX;
 
 /// What an input has a Sentinel put out. The epochs and the configurations that it shows are those that are kept at the end of the
 /// input, so they aren't written here. `master` is the number of a master in the roster.

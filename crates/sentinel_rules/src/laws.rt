@@ -1,4 +1,4 @@
-//! What the definitions of one Sentinel come to.
+//! Laws of the definitions.
 
 ghost use Rattle.sentinel_rules.specs.Changes.{InputsChangeOne, InputsRaiseCards, OpenedIsAhead};
 ghost use Rattle.sentinel_rules.specs.Ignored.{IgnoredChangesNothing};
@@ -12,7 +12,7 @@ pub fn law_opening_is_sound()
     ensures { OpenedIsSound }
 {}
 
-/// A sound core stays sound by each input, and no input puts out more than 1,536 frames.
+/// A sound core stays sound by each input, and no input puts out more than `FRAMES_MAX` frames.
 pub fn law_inputs_keep_sound()
     ensures { InputsKeepFew }
 {}

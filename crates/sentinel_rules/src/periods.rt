@@ -1,6 +1,6 @@
 //! How often a Sentinel sends what, and how long it bears what is wrong, in milliseconds.
 
-/// How often a PING is sent at least: more often where the master's `down-after-milliseconds` is below it.
+/// The greatest time between two PINGs; it is shorter where the master's `down-after-milliseconds` is below it.
 pub const PING_MS: u64 = 1_000;
 
 /// How often INFO is sent.
