@@ -2,7 +2,8 @@
 use Rattle.std.proofs.Common.{◌≡◌, ℕ, ◌≤◌, ◌≢◌, true, false, eqb, List, [], ◌∷◌, ◌++◌, refl, ap, ◌∙◌, arith, append_assoc}
 use Rattle.std.specs.List.{flat_map, AllByRecursion}
 use Rattle.std.proofs.lemmas.Bool.Decides.{nat_tests}
-use Rattle.conf_lines.specs.Words.{lines, with_front, is_blank, is_edge, after_edges, before_edges, joined_unless_empty, words_at, words_of, spaced}
+use Rattle.ballot_law.specs.Cuts.{lines, with_first}
+use Rattle.conf_lines.specs.Words.{is_blank, is_edge, after_edges, before_edges, joined_unless_empty, words_at, words_of, spaced}
 use Rattle.conf_lines.specs.Words.Mode.{Between, Plain, Quoted}
 use Rattle.conf_lines.specs.Words.{ended}
 use Rattle.ballot_law.proofs.WordLemmas.{ArePlain, IsWord}
@@ -19,31 +20,31 @@ edge_plain b h = grind (arith, nat_tests)
 quote_plain : (b : ℕ) → 45 ≤ b → eqb b 34 ≡ false
 quote_plain b h = grind (arith, nat_tests)
 
-step_plain : (b : ℕ) (bs : List ℕ) → 45 ≤ b → words_at (b ∷ bs) Plain ≡ with_front b (words_at bs Plain)
+step_plain : (b : ℕ) (bs : List ℕ) → 45 ≤ b → words_at (b ∷ bs) Plain ≡ with_first b (words_at bs Plain)
 step_plain b bs h =
-    ap (λ t. elim t as (λ _. List (List ℕ)) [ true ↦ [] ∷ words_at bs Between | false ↦ with_front b (words_at bs Plain) ]) (blank_plain b h)
+    ap (λ t. elim t as (λ _. List (List ℕ)) [ true ↦ [] ∷ words_at bs Between | false ↦ with_first b (words_at bs Plain) ]) (blank_plain b h)
 
-step_between : (b : ℕ) (bs : List ℕ) → 45 ≤ b → words_at (b ∷ bs) Between ≡ with_front b (words_at bs Plain)
+step_between : (b : ℕ) (bs : List ℕ) → 45 ≤ b → words_at (b ∷ bs) Between ≡ with_first b (words_at bs Plain)
 step_between b bs h =
-    let unquoted : List (List ℕ) = elim (eqb b 34) as (λ _. List (List ℕ)) [ true ↦ words_at bs Quoted | false ↦ with_front b (words_at bs Plain) ] in
+    let unquoted : List (List ℕ) = elim (eqb b 34) as (λ _. List (List ℕ)) [ true ↦ words_at bs Quoted | false ↦ with_first b (words_at bs Plain) ] in
     ap (λ t. elim t as (λ _. List (List ℕ)) [ true ↦ words_at bs Between | false ↦ unquoted ]) (blank_plain b h)
-    ∙ ap (λ t. elim t as (λ _. List (List ℕ)) [ true ↦ words_at bs Quoted | false ↦ with_front b (words_at bs Plain) ]) (quote_plain b h)
+    ∙ ap (λ t. elim t as (λ _. List (List ℕ)) [ true ↦ words_at bs Quoted | false ↦ with_first b (words_at bs Plain) ]) (quote_plain b h)
 
 plain_word : (w rest : List ℕ) → ArePlain w → words_at (w ++ 32 ∷ rest) Plain ≡ w ∷ words_at rest Between
 plain_word [] rest h = refl
-plain_word (b ∷ w) rest h = step_plain b (w ++ 32 ∷ rest) h.0 ∙ ap (with_front b) (plain_word w rest h.1)
+plain_word (b ∷ w) rest h = step_plain b (w ++ 32 ∷ rest) h.0 ∙ ap (with_first b) (plain_word w rest h.1)
 
 last_word : (w : List ℕ) → ArePlain w → words_at w Plain ≡ w ∷ []
 last_word [] h = refl
-last_word (b ∷ w) h = step_plain b w h.0 ∙ ap (with_front b) (last_word w h.1)
+last_word (b ∷ w) h = step_plain b w h.0 ∙ ap (with_first b) (last_word w h.1)
 
 words_at-spaced : (ws : List (List ℕ)) → AreWords ws → words_at (spaced ws) Between ≡ ws
 words_at-spaced [] h = refl
 words_at-spaced ([] ∷ ws) h = absurd h.0
-words_at-spaced ((b ∷ w) ∷ []) h = step_between b w h.0.0 ∙ ap (with_front b) (last_word w h.0.1)
+words_at-spaced ((b ∷ w) ∷ []) h = step_between b w h.0.0 ∙ ap (with_first b) (last_word w h.0.1)
 words_at-spaced ((b ∷ w) ∷ next ∷ more) h =
     step_between b (w ++ 32 ∷ spaced (next ∷ more)) h.0.0
-    ∙ ap (with_front b) (plain_word w (spaced (next ∷ more)) h.0.1)
+    ∙ ap (with_first b) (plain_word w (spaced (next ∷ more)) h.0.1)
     ∙ ap (λ t. (b ∷ w) ∷ t) (words_at-spaced (next ∷ more) h.1)
 
 -- the last byte is plain
@@ -96,8 +97,8 @@ not_lf b h = grind (arith, nat_tests)
 pub one_line : (text rest : List ℕ) → HasNoLf text → lines (text ++ 10 ∷ rest) ≡ text ∷ lines rest
 one_line [] rest h = refl
 one_line (b ∷ text) rest h =
-    ap (λ t. elim t as (λ _. List (List ℕ)) [ true ↦ [] ∷ lines (text ++ 10 ∷ rest) | false ↦ with_front b (lines (text ++ 10 ∷ rest)) ]) (not_lf b h.0)
-    ∙ ap (with_front b) (one_line text rest h.1)
+    ap (λ t. elim t as (λ _. List (List ℕ)) [ true ↦ [] ∷ lines (text ++ 10 ∷ rest) | false ↦ with_first b (lines (text ++ 10 ∷ rest)) ]) (not_lf b h.0)
+    ∙ ap (with_first b) (one_line text rest h.1)
 
 pub lines-ended : (texts : List (List ℕ)) → AllByRecursion HasNoLf texts → lines (flat_map ended texts) ≡ texts
 lines-ended [] h = refl

@@ -1,14 +1,6 @@
--- The lines of a file and the words of a line.
-use Rattle.std.specs.Prelude.{ℕ, ◌≡◌, ◌≤◌, ◌<◌, Bool, true, false, ◌||◌, ◌==◌, List, [], ◌∷◌, ◌++◌, length, slice_index}
-
-abbrev pub with_front : ℕ → List (List ℕ) → List (List ℕ)
-with_front b [] = (b ∷ []) ∷ []
-with_front b (text ∷ texts) = (b ∷ text) ∷ texts
-
--- the lines, each ended by LF, which the last may lack
-abbrev pub lines : List ℕ → List (List ℕ)
-lines [] = []
-lines (b ∷ bs) = elim (b == 10) [ true ↦ [] ∷ lines bs | false ↦ with_front b (lines bs) ]
+-- The words of a line.
+use Rattle.std.specs.Prelude.{ℕ, Bool, true, false, ◌||◌, ◌==◌, List, [], ◌∷◌, ◌++◌}
+use Rattle.ballot_law.specs.Cuts.{with_first}
 
 -- a line with its LF
 abbrev pub ended : List ℕ → List ℕ
@@ -52,10 +44,10 @@ words_at [] Quoted = [] ∷ []
 words_at (b ∷ bs) Between =
     elim (is_blank b) [
       | true ↦ words_at bs Between
-      | false ↦ elim (b == 34) [ true ↦ words_at bs Quoted | false ↦ with_front b (words_at bs Plain) ]
+      | false ↦ elim (b == 34) [ true ↦ words_at bs Quoted | false ↦ with_first b (words_at bs Plain) ]
     ]
-words_at (b ∷ bs) Plain = elim (is_blank b) [ true ↦ [] ∷ words_at bs Between | false ↦ with_front b (words_at bs Plain) ]
-words_at (b ∷ bs) Quoted = elim (b == 34) [ true ↦ [] ∷ words_at bs Between | false ↦ with_front b (words_at bs Quoted) ]
+words_at (b ∷ bs) Plain = elim (is_blank b) [ true ↦ [] ∷ words_at bs Between | false ↦ with_first b (words_at bs Plain) ]
+words_at (b ∷ bs) Quoted = elim (b == 34) [ true ↦ [] ∷ words_at bs Between | false ↦ with_first b (words_at bs Quoted) ]
 
 abbrev pub words_of : List ℕ → List (List ℕ)
 words_of text = words_at (trimmed text) Between
@@ -65,14 +57,5 @@ abbrev pub spaced : List (List ℕ) → List ℕ
 spaced [] = []
 spaced (word ∷ words) = elim words as (λ _. List ℕ) [ [] ↦ word | next ∷ more ↦ word ++ 32 ∷ spaced words ]
 
-abbrev pub is_lf : ℕ → Bool
-is_lf b = b == 10
-
 abbrev pub is_quote : ℕ → Bool
 is_quote b = b == 34
-
--- the first place whose byte passes the test, or the length where none does
-pub record IsEnd (test : ℕ → Bool) (text : List ℕ) (end : ℕ) : Type 0 where
-  pub within : end ≤ length text
-  pub before : (k : ℕ) → k < end → test (slice_index text k) ≡ false
-  pub here : end < length text → test (slice_index text end) ≡ true

@@ -1,18 +1,12 @@
-//! The lines of a file, and the words of a line.
+//! The words of a line.
 
 ghost use Rattle.std.specs.Prelude.{◌≡◌, ◌<◌, ◌≤◌, ◌+◌, ◌∷◌, [], length, take, drop, MatchOption, bytes_eq};
+ghost use Rattle.ballot_law.specs.Cuts.{IsEnd};
 ghost use Rattle.ballot_law.specs.Words.{lower};
-ghost use Rattle.conf_lines.specs.Words.{lines, is_blank, is_edge, is_lf, is_quote, IsEnd, after_edges, before_edges, trimmed, words_at};
+ghost use Rattle.conf_lines.specs.Words.{is_blank, is_edge, is_quote, after_edges, before_edges, trimmed, words_at};
 ghost use Rattle.conf_lines.specs.Words.Mode.{Between, Plain, Quoted};
 
 use memchr::{memchr, memchr2};
-
-/// Where the first LF stands, or the length where there is none.
-fn line_end(bytes: &[u8]) -> usize
-    ensures { IsEnd is_lf bytes.now result }
-{
-    memchr(b'\n', bytes).unwrap_or(bytes.len())
-}
 
 /// Where the first space or tab stands, or the length where there is none.
 fn blank_place(text: &[u8]) -> usize
@@ -40,16 +34,6 @@ fn split_around(text: &[u8], place: usize) -> (&[u8], &[u8])
         None => (before, tail),
         Some((_, behind)) => (before, behind),
     }
-}
-
-/// The first line without its LF, and what follows it.
-#[tactic(auto, using(crate::proofs::Cuts::lines_cut))]
-pub fn next_line(bytes: &[u8]) -> (&[u8], &[u8])
-    requires { 0 < length bytes.now }
-    ensures lines { lines bytes.now ≡ result.0.now ∷ lines result.1.now }
-    ensures shorter { length result.1.now < length bytes.now }
-{
-    split_around(bytes, line_end(bytes))
 }
 
 /// Whether the byte is left out at the ends of a line: a space, a tab or a CR.

@@ -1,6 +1,6 @@
 -- What is written as an answer to INFO is read again.
 use Rattle.std.proofs.Common.{◌≡◌, ℕ, ◌≤◌, ◌<◌, ◌^◌, Bool, true, false, ◌&&◌, eqb, ltb, leb, List, [], ◌∷◌, ◌++◌, length, map, refl, ap, ◌∙◌, arith, Option, Some, None, Ok}
-use Rattle.std.specs.Prelude.{codes, decimal, unwrap_or}
+use Rattle.std.specs.Prelude.{codes, decimal}
 use Rattle.std.specs.List.{list_all, AllByRecursion}
 use Rattle.std.specs.Str.{IsAscii}
 use Rattle.std.proofs.lemmas.Bool.{and_parts, leb-true, ltb-true}
@@ -15,14 +15,13 @@ use Rattle.ballot_law.specs.declared.replies.DataRole.TheVariants.{Master, Repli
 use Rattle.ballot_law.specs.declared.replies.Info.{Info}
 use Rattle.ballot_law.specs.Hellos.{IsAddr, IsRunId}
 use Rattle.ballot_law.specs.Cuts.{lines}
-use Rattle.ballot_law.specs.Results.{◌>>=◌, wanted}
 use Rattle.ballot_law.specs.Words.{then_some, number, with_first, ip_text, id_text}
 use Rattle.ballot_law.proofs.WordLemmas.{ArePlain, IsWord, spells_decimal, number_within-decimal, ip-ip_text, word_ip_text, word_decimal, port-decimal, run_id-id_text, word_id_text}
 use Rattle.node_texts.specs.declared.info_fields.TheConstants.{COUNT_MAX}
-use Rattle.node_texts.specs.declared.faults.TextFault.TheVariants.{BadField}
+use Rattle.node_texts.specs.declared.info_fields.Fields.{Fields}
 use Rattle.node_texts.specs.Faults.{unless_not}
 use Rattle.node_texts.specs.Lines.{without_return}
-use Rattle.node_texts.specs.Infos.{role_name, is_up, count, count_or_minus, judged, address_of, fields_of, info_of_fields, info_of, IsInfo, role_word, link_word, info_lines, ended, info_text}
+use Rattle.node_texts.specs.Infos.{role_name, is_up, count, count_or_minus, fields_of, info_of_fields, info_of, IsInfo, role_word, link_word, id_lines, master_lines, link_lines, replica_lines, info_lines, ended, info_text}
 use Rattle.node_texts.proofs.HelloAgain.{ascii_utf8}
 use Rattle.node_texts.proofs.CutLemmas.{line_goes_on}
 use Rattle.node_texts.proofs.LineLemmas.{return_dropped}
@@ -112,78 +111,60 @@ up_again false = refl
 
 -- ---- the whole, by which of the optional lines stand
 
-record Same (info : Info) : Type 0 where
-  pub lined : AreLines (info_lines info)
-  pub read : info_of_fields (fields_of (info_lines info)) ≡ Ok info
+joined : (ks ls : List (List ℕ)) → AreLines ks → AreLines ls → AreLines (ks ++ ls)
+joined [] ls h g = g
+joined (k ∷ ks) ls h g = (h.0, joined ks ls h.1 g)
 
-same_by : (id : Option RunId) (role : DataRole) (master : Option Addr) (up : Bool) (d p o : ℕ)
+id_lined : (id : Option RunId) → ((i : RunId) → id ≡ Some i → IsRunId i) → AreLines (id_lines id)
+id_lined None h = tt
+id_lined (Some i) h = (id_line i (h i refl), tt)
+
+master_lined : (master : Option Addr) → ((a : Addr) → master ≡ Some a → IsAddr a) → AreLines (master_lines master)
+master_lined None h = tt
+master_lined (Some a) h = (host_line a (h a refl), (port_line a (h a refl), tt))
+
+lined : (info : Info) → IsInfo info → AreLines (info_lines info)
+lined info h =
+    let down = number_line (codes "master_link_down_since_seconds:") info.link_down_s refl h.link_down_s in
+    let priority = number_line (codes "slave_priority:") info.priority refl h.priority in
+    let offset = number_line (codes "slave_repl_offset:") info.offset refl h.offset in
+    let behind = joined (link_lines info) (replica_lines info) (status_line info.link_up, (down, tt)) (priority, (offset, tt)) in
+    joined (id_lines info.id) ((codes "role:" ++ role_word info.role) ∷ (master_lines info.master ++ (link_lines info ++ replica_lines info)))
+    (id_lined info.id h.id) (role_line info.role, joined (master_lines info.master) (link_lines info ++ replica_lines info) (master_lined info.master h.master) behind)
+
+-- the fields of the lines that always stand, and of those that may
+abbrev given : (id : Option (Option RunId)) (role : Option DataRole) (host port : Option (Option ℕ)) (up : Option Bool) (down priority offset : Option ℕ) → Fields
+given id role host port up down priority offset = record {
+  own = record { id = id; role = Some role };
+  link = record { host = host; port = port; up = Some up; down_s = Some down };
+  replica = record { priority = Some priority; offset = Some offset };
+}
+
+read_by : (id : Option RunId) (role : DataRole) (master : Option Addr) (up : Bool) (d p o : ℕ)
     → ((i : RunId) → id ≡ Some i → IsRunId i) → ((a : Addr) → master ≡ Some a → IsAddr a) → d ≤ COUNT_MAX → p ≤ COUNT_MAX → o ≤ COUNT_MAX
-    → Same (record { id = id; role = role; master = master; link_up = up; link_down_s = d; priority = p; offset = o })
-same_by None role None up d p o hid hm hd hp ho =
-    let r = role_again role in
-    let u = up_again up in
-    let dd = minus_again d hd in
-    let pp = count_again p hp in
-    let oo = minus_again o ho in
-    record {
-      lined = (role_line role, (status_line up, (number_line (codes "master_link_down_since_seconds:") d refl hd, (number_line (codes "slave_priority:") p refl hp, (number_line (codes "slave_repl_offset:") o refl ho, tt)))));
-      read = λ t.
-          judged 2 (Some (r t)) >>= λ given. wanted (BadField 2) given >>= λ role. judged 5 (Some (u t)) >>= λ up. judged 6 (Some (dd t)) >>= λ d. judged 7 (Some (pp t)) >>= λ p. judged 8 (Some (oo t)) >>= λ o.
-          Ok (record { id = None; role = role; master = None; link_up = unwrap_or up false; link_down_s = unwrap_or d 0; priority = unwrap_or p 100; offset = unwrap_or o 0 });
-    }
-same_by None role (Some a) up d p o hid hm hd hp ho =
+    → (let info : Info = record { id = id; role = role; master = master; link_up = up; link_down_s = d; priority = p; offset = o } in info_of_fields (fields_of (info_lines info)) ≡ Ok info)
+read_by None role None up d p o hid hm hd hp ho =
+    λ t. info_of_fields (given None (role_again role t) None None (up_again up t) (minus_again d hd t) (count_again p hp t) (minus_again o ho t))
+read_by None role (Some a) up d p o hid hm hd hp ho =
     let av = hm a refl in
-    let h = ip-ip_text a.ip av.ip in
-    let q = port-decimal a.port av.port_low av.port_high in
-    let r = role_again role in
-    let u = up_again up in
-    let dd = minus_again d hd in
-    let pp = count_again p hp in
-    let oo = minus_again o ho in
-    record {
-      lined = (role_line role, (host_line a av, (port_line a av, (status_line up, (number_line (codes "master_link_down_since_seconds:") d refl hd, (number_line (codes "slave_priority:") p refl hp, (number_line (codes "slave_repl_offset:") o refl ho, tt)))))));
-      read = λ t.
-          judged 2 (Some (r t)) >>= λ given. wanted (BadField 2) given >>= λ role. judged 3 (Some (h t)) >>= λ host. judged 4 (Some (q t)) >>= λ port. judged 5 (Some (u t)) >>= λ up. judged 6 (Some (dd t)) >>= λ d. judged 7 (Some (pp t)) >>= λ p. judged 8 (Some (oo t)) >>= λ o.
-          Ok (record { id = None; role = role; master = address_of host port; link_up = unwrap_or up false; link_down_s = unwrap_or d 0; priority = unwrap_or p 100; offset = unwrap_or o 0 });
-    }
-same_by (Some i) role None up d p o hid hm hd hp ho =
+    let host = ip-ip_text a.ip av.ip in
+    let port = port-decimal a.port av.port_low av.port_high in
+    λ t. info_of_fields (given None (role_again role t) (Some (host t)) (Some (port t)) (up_again up t) (minus_again d hd t) (count_again p hp t) (minus_again o ho t))
+read_by (Some i) role None up d p o hid hm hd hp ho =
     let iv = hid i refl in
-    let ii = run_id-id_text i iv.hi iv.lo in
-    let r = role_again role in
-    let u = up_again up in
-    let dd = minus_again d hd in
-    let pp = count_again p hp in
-    let oo = minus_again o ho in
-    record {
-      lined = (id_line i iv, (role_line role, (status_line up, (number_line (codes "master_link_down_since_seconds:") d refl hd, (number_line (codes "slave_priority:") p refl hp, (number_line (codes "slave_repl_offset:") o refl ho, tt))))));
-      read = λ t.
-          judged 1 (Some (ii t)) >>= λ id. judged 2 (Some (r t)) >>= λ given. wanted (BadField 2) given >>= λ role. judged 5 (Some (u t)) >>= λ up. judged 6 (Some (dd t)) >>= λ d. judged 7 (Some (pp t)) >>= λ p. judged 8 (Some (oo t)) >>= λ o.
-          Ok (record { id = id; role = role; master = None; link_up = unwrap_or up false; link_down_s = unwrap_or d 0; priority = unwrap_or p 100; offset = unwrap_or o 0 });
-    }
-same_by (Some i) role (Some a) up d p o hid hm hd hp ho =
+    let own = run_id-id_text i iv.hi iv.lo in
+    λ t. info_of_fields (given (Some (own t)) (role_again role t) None None (up_again up t) (minus_again d hd t) (count_again p hp t) (minus_again o ho t))
+read_by (Some i) role (Some a) up d p o hid hm hd hp ho =
     let iv = hid i refl in
-    let ii = run_id-id_text i iv.hi iv.lo in
+    let own = run_id-id_text i iv.hi iv.lo in
     let av = hm a refl in
-    let h = ip-ip_text a.ip av.ip in
-    let q = port-decimal a.port av.port_low av.port_high in
-    let r = role_again role in
-    let u = up_again up in
-    let dd = minus_again d hd in
-    let pp = count_again p hp in
-    let oo = minus_again o ho in
-    record {
-      lined = (id_line i iv, (role_line role, (host_line a av, (port_line a av, (status_line up, (number_line (codes "master_link_down_since_seconds:") d refl hd, (number_line (codes "slave_priority:") p refl hp, (number_line (codes "slave_repl_offset:") o refl ho, tt))))))));
-      read = λ t.
-          judged 1 (Some (ii t)) >>= λ id. judged 2 (Some (r t)) >>= λ given. wanted (BadField 2) given >>= λ role. judged 3 (Some (h t)) >>= λ host. judged 4 (Some (q t)) >>= λ port. judged 5 (Some (u t)) >>= λ up. judged 6 (Some (dd t)) >>= λ d. judged 7 (Some (pp t)) >>= λ p. judged 8 (Some (oo t)) >>= λ o.
-          Ok (record { id = id; role = role; master = address_of host port; link_up = unwrap_or up false; link_down_s = unwrap_or d 0; priority = unwrap_or p 100; offset = unwrap_or o 0 });
-    }
-
-same : (info : Info) → IsInfo info → Same info
-same info h = same_by info.id info.role info.master info.link_up info.link_down_s info.priority info.offset h.id h.master h.link_down_s h.priority h.offset
+    let host = ip-ip_text a.ip av.ip in
+    let port = port-decimal a.port av.port_low av.port_high in
+    λ t. info_of_fields (given (Some (own t)) (role_again role t) (Some (host t)) (Some (port t)) (up_again up t) (minus_again d hd t) (count_again p hp t) (minus_again o ho t))
 
 pub info_again : (info : Info) → IsInfo info → info_of (info_text info) ≡ Ok info
 info_again info h =
-    let k = same info h in
-    ap (λ t. unless_not t (info_of_fields (fields_of (map without_return (lines (info_text info)))))) (ascii_utf8 (info_text info) (ascii-ended (info_lines info) k.lined))
-    ∙ ap (λ ls. info_of_fields (fields_of ls)) (lines-ended (info_lines info) k.lined)
-    ∙ k.read
+    let all = lined info h in
+    ap (λ t. unless_not t (info_of_fields (fields_of (map without_return (lines (info_text info)))))) (ascii_utf8 (info_text info) (ascii-ended (info_lines info) all))
+    ∙ ap (λ ls. info_of_fields (fields_of ls)) (lines-ended (info_lines info) all)
+    ∙ read_by info.id info.role info.master info.link_up info.link_down_s info.priority info.offset h.id h.master h.link_down_s h.priority h.offset

@@ -1,12 +1,7 @@
 -- Where a text is cut, and the end of a line.
-use Rattle.std.specs.Prelude.{◌≡◌, ℕ, true, false, ◌==◌, List, [], ◌∷◌, Option, Some, None}
+use Rattle.std.specs.Prelude.{ℕ, true, false, ◌==◌, List, [], ◌∷◌, Option, Some, None}
 use Rattle.std.specs.Borrow.{Bor}
-use Rattle.std.specs.List.{AllByRecursion}
 use Rattle.ballot_law.specs.Cuts.{cut_at}
-
--- no byte of this value stands in the text
-abbrev pub HasNo : ℕ → List ℕ → Type 0
-HasNo stop bytes = AllByRecursion (λ b. (b == stop) ≡ false) bytes
 
 -- the parts around the commas that aren't read yet
 abbrev pub parts_left : Option (Bor (List ℕ)) → List (List ℕ)

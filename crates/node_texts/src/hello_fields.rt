@@ -6,10 +6,9 @@ ghost use Rattle.node_texts.specs.Hellos.{epoch, sender_of, master_of};
 
 use crate::digits::is_decimal;
 use crate::faults::TextFault;
-use crate::lines::split_once;
 use ballot_law::{Addr, MAX_EPOCH, Name, RunId};
 use std::marker::Model;
-use words::{canonical_port_of, ip_of, number_of, run_id_of};
+use words::{canonical_port_of, ip_of, number_of, run_id_of, split_at_byte};
 
 /// An epoch's number; none where it is above `MAX_EPOCH`.
 type Epoch = Option<u64>;
@@ -54,14 +53,21 @@ impl<'a> Parts<'a> {
     }
 
     /// Reads the next part.
-    #[tactic(auto, using(crate::proofs::CutLemmas::first_part, crate::proofs::CutLemmas::last_part))]
     fn next(&mut self) -> Option<&'a [u8]>
         ensures { MatchOption result ((self.old ≡ []) × (self.new ≡ []))
             (λ part. self.old ≡ part.now ∷ self.new) }
     {
-        let (part, rest) = split_once(self.rest?, b',');
-        self.rest = rest;
-        Some(part)
+        let rest = self.rest?;
+        match split_at_byte(rest, b',') {
+            Some((part, behind)) => {
+                self.rest = Some(behind);
+                Some(part)
+            }
+            None => {
+                self.rest = None;
+                Some(rest)
+            }
+        }
     }
 }
 

@@ -49,7 +49,7 @@ pub nothing_waits : frame_at [] ≡ Err NeedsMore
 unfolding frame_at value_at
 nothing_waits = refl
 
-pub fed_so_far : {X : Type 0} (stream piece : List ℕ) (fs : List Frame) (held after : Held) (x : X) → SoFar stream fs held → Feeds held piece (Ok x) after → SoFar (stream ++ piece) fs after
+fed_so_far : {X : Type 0} (stream piece : List ℕ) (fs : List Frame) (held after : Held) (x : X) → SoFar stream fs held → Feeds held piece (Ok x) after → SoFar (stream ++ piece) fs after
 fed_so_far stream piece fs (reading bytes) after x s h =
     let same : bytes ≡ s.0 = let e = s.1 in cc in
     (s.0 ++ piece, h ∙ ap (λ (t : List ℕ). reading (t ++ piece)) same, parts_longer stream fs s.0 piece s.2)
@@ -58,8 +58,18 @@ fed_so_far stream piece fs (ended g) after x s h = absurd (let e = s.1 in cc)
 abbrev pub bytes_of : Vec ℕ → List ℕ
 bytes_of piece = piece.items
 
-pub bytes_next : (pieces : List (Vec ℕ)) (i : ℕ) (d : Vec ℕ) → i < length pieces → flat_map bytes_of (take (i + 1) pieces) ≡ flat_map bytes_of (take i pieces) ++ bytes_of (get_or pieces i d)
+bytes_next : (pieces : List (Vec ℕ)) (i : ℕ) (d : Vec ℕ) → i < length pieces → flat_map bytes_of (take (i + 1) pieces) ≡ flat_map bytes_of (take i pieces) ++ bytes_of (get_or pieces i d)
 bytes_next pieces i d lt = ap (flat_map bytes_of) (take_more pieces i d lt) ∙ sym (flat_map_more bytes_of [] (take i pieces) (get_or pieces i d))
+
+-- one piece more
+pub piece_fed : {X : Type 0} (pieces : List (Vec ℕ)) (i : ℕ) (piece : Vec ℕ) (bytes : List ℕ) (fs : List Frame) (held after : Held) (x : X) → i < length pieces
+    → piece ≡ get_or pieces i piece → bytes ≡ bytes_of piece → SoFar (flat_map bytes_of (take i pieces)) fs held → Feeds held bytes (Ok x) after
+    → SoFar (flat_map bytes_of (take (i + 1) pieces)) fs after
+piece_fed pieces i piece bytes fs held after x lt is read so_far fed =
+    let front : List ℕ = flat_map bytes_of (take i pieces) in
+    let whole : front ++ bytes ≡ flat_map bytes_of (take (i + 1) pieces) =
+    ap (λ (t : List ℕ). front ++ t) read ∙ ap (λ (p : Vec ℕ). front ++ bytes_of p) is ∙ sym (bytes_next pieces i piece lt) in
+    rw whole at (fed_so_far front bytes fs held after x so_far fed)
 
 pub fault_of_all : (pieces : List (Vec ℕ)) (i : ℕ) (fs : List Frame) (f : FrameFault) → Splits (flat_map bytes_of (take i pieces)) fs (ended f) → Splits (flat_map bytes_of pieces) fs (ended f)
 fault_of_all pieces i fs f s =

@@ -90,10 +90,10 @@ line_stops bytes u e =
 module _ (levels before : ℕ) (some : 0 < levels) where
   line_says : (kind : ℕ) (bytes : List ℕ) (u : Unread) → IsKind kind → LineStops u bytes → Says u levels before (kind ∷ bytes)
   line_says kind bytes NeedsMore k s =
-      inr (some, inl (record { kind = kind; line = s.line; end = s.end; is = ap (λ (t : List ℕ). kind ∷ t) s.is; is_kind = k; is_line = s.is_line; begins = s.says }))
+      inr (some, inl (record { kind = kind; line = s.line; end = s.end; is = ap (λ (t : List ℕ). kind ∷ t) s.is; is_kind = k; is_line = s.is_line }, s.says))
   line_says kind bytes (Faulty f) k s =
       subst (λ (g : FrameFault). Shows g levels before (kind ∷ bytes)) (sym s.says.0)
-      (some, inl (record { kind = kind; line = s.line; end = s.end; is = ap (λ (t : List ℕ). kind ∷ t) s.is; is_kind = k; is_line = s.is_line; behind = s.behind; breaks = s.says.1 }))
+      (some, inl (record { kind = kind; line = s.line; end = s.end; is = ap (λ (t : List ℕ). kind ∷ t) s.is; is_kind = k; is_line = s.is_line }, s.behind, s.says.1))
 
   text_stops : (kind : ℕ) (make : List ℕ → Frame) (bytes : List ℕ) (u : Unread) → IsKind kind → text_at make bytes ≡ Err u → Says u levels before (kind ∷ bytes)
   unfolding text_at
@@ -155,10 +155,10 @@ module _ (levels before : ℕ) (some : 0 < levels) where
   block_says : (digits block rest end : List ℕ) (u : Unread) → is_decimal digits ≡ true → with_bulk before digits ≤ 65536 → length block ≡ number_on 0 digits → rest ≡ block ++ end → EndSays u end
       → Says u levels before (36 ∷ (digits ++ (line_end ++ rest)))
   block_says digits block rest end NeedsMore form fits all is says =
-      inr (some, inr (record { digits = digits; block = block; end = end; is = ap (λ (t : List ℕ). 36 ∷ (digits ++ (line_end ++ t))) is; is_length = form; fits = fits; begins = inr (all, says) }))
+      inr (some, inr (record { digits = digits; block = block; end = end; is = ap (λ (t : List ℕ). 36 ∷ (digits ++ (line_end ++ t))) is; is_length = form; fits = fits }, inr (all, says)))
   block_says digits block rest end (Faulty f) form fits all is says =
       subst (λ (g : FrameFault). Shows g levels before (36 ∷ (digits ++ (line_end ++ rest)))) (sym says.0)
-      (some, inr (record { digits = digits; block = block; end = end; is = ap (λ (t : List ℕ). 36 ∷ (digits ++ (line_end ++ t))) is; is_length = form; fits = fits; all = all; breaks = says.1 }))
+      (some, inr (record { digits = digits; block = block; end = end; is = ap (λ (t : List ℕ). 36 ∷ (digits ++ (line_end ++ t))) is; is_length = form; fits = fits }, all, says.1))
 
   block_stops : (more n : ℕ) (digits rest : List ℕ) (u : Unread) → is_decimal digits ≡ true → min (number_on 0 digits) (2 ^ 64 - 1) ≡ n → before + 1 + length digits + 2 + length rest + more ≡ 65536
       → block_at more n rest ≡ Err u → Says u levels before (36 ∷ (digits ++ (line_end ++ rest)))
@@ -178,7 +178,7 @@ module _ (levels before : ℕ) (some : 0 < levels) where
                   let less = ltb-true (length rest) n w.0 in
                   let short : length rest < number_on 0 digits = omega arith in
                   subst at (err_is {A = Frame × List ℕ} NeedsMore u w.1)
-                  (inr (some, inr (record { digits = digits; block = rest; end = []; is = ap (λ (t : List ℕ). 36 ∷ (digits ++ (line_end ++ t))) (sym (append-nil rest)); is_length = form; fits = fits; begins = inl (short, refl) })))
+                  (inr (some, inr (record { digits = digits; block = rest; end = []; is = ap (λ (t : List ℕ). 36 ∷ (digits ++ (line_end ++ t))) (sym (append-nil rest)); is_length = form; fits = fits }, inl (short, refl))))
               | inr w ↦
                   let enough = ltb-false (length rest) n w.0 in
                   let all : length (take n rest) ≡ number_on 0 digits = omega (arith, length-take n rest) in

@@ -176,15 +176,15 @@ module _ (more levels before : ℕ) (bytes : List ℕ) (room : before + length b
   begins_waits : Begins levels before bytes → Fails NeedsMore bytes
   unfolding kind_at
   begins_waits (inl none) = subst (Fails NeedsMore) (sym none) (value_empty more levels)
-  begins_waits (inr (some, inl b)) =
+  begins_waits (inr (some, inl (b, begins))) =
       subst (Fails NeedsMore) (sym b.is)
-      (value_kind more levels b.kind (b.line ++ b.end) NeedsMore some (λ inner. kind_line more inner b.kind (b.line ++ b.end) NeedsMore b.is_kind (line_fails b.line b.end NeedsMore b.is_line (begins_behind b.end b.begins) (begins_end b.end b.begins))))
-  begins_waits (inr (some, inr b)) =
+      (value_kind more levels b.kind (b.line ++ b.end) NeedsMore some (λ inner. kind_line more inner b.kind (b.line ++ b.end) NeedsMore b.is_kind (line_fails b.line b.end NeedsMore b.is_line (begins_behind b.end begins) (begins_end b.end begins))))
+  begins_waits (inr (some, inr (b, begins))) =
       let rest = b.block ++ b.end in
       let room_left = space b.digits rest b.is in
       let fits : with_bulk before b.digits ≤ 65536 = b.fits in
       let value : kept b.digits ≡ number_on 0 b.digits = omega arith in
-      let stops : block_at more (kept b.digits) rest ≡ Err NeedsMore = elim b.begins [
+      let stops : block_at more (kept b.digits) rest ≡ Err NeedsMore = elim begins [
         | inl w ↦
             let short : length rest < kept b.digits = omega (arith, w.0, length-append b.block b.end, ap length w.1) in
             block_waits more (kept b.digits) rest (omega arith) short
@@ -203,15 +203,15 @@ module _ (more levels before : ℕ) (bytes : List ℕ) (room : before + length b
       ]))
   shows_fails BadNumber (line, later, some, is, is_line, never) =
       subst (Fails (Faulty BadNumber)) (sym is) (value_kind more levels 58 (line ++ (line_end ++ later)) (Faulty BadNumber) some (λ inner. integer_bad line later is_line never))
-  shows_fails MissingEnd (some, inl b) =
+  shows_fails MissingEnd (some, inl (b, behind, breaks)) =
       subst (Fails (Faulty MissingEnd)) (sym b.is)
-      (value_kind more levels b.kind (b.line ++ b.end) (Faulty MissingEnd) some (λ inner. kind_line more inner b.kind (b.line ++ b.end) (Faulty MissingEnd) b.is_kind (line_fails b.line b.end (Faulty MissingEnd) b.is_line b.behind (breaks_end b.end b.breaks))))
-  shows_fails MissingEnd (some, inr b) =
+      (value_kind more levels b.kind (b.line ++ b.end) (Faulty MissingEnd) some (λ inner. kind_line more inner b.kind (b.line ++ b.end) (Faulty MissingEnd) b.is_kind (line_fails b.line b.end (Faulty MissingEnd) b.is_line behind (breaks_end b.end breaks))))
+  shows_fails MissingEnd (some, inr (b, all, breaks)) =
       let rest = b.block ++ b.end in
       let room_left = space b.digits rest b.is in
       let fits : with_bulk before b.digits ≤ 65536 = b.fits in
       let value : kept b.digits ≡ number_on 0 b.digits = omega arith in
-      let stops : block_at more (kept b.digits) rest ≡ Err (Faulty MissingEnd) = block_ends more (kept b.digits) b.block b.end (Faulty MissingEnd) (value ∙ sym b.all) (omega arith) (breaks_end b.end b.breaks) in
+      let stops : block_at more (kept b.digits) rest ≡ Err (Faulty MissingEnd) = block_ends more (kept b.digits) b.block b.end (Faulty MissingEnd) (value ∙ sym all) (omega arith) (breaks_end b.end breaks) in
       subst (Fails (Faulty MissingEnd)) (sym b.is)
       (value_kind more levels 36 (b.digits ++ (line_end ++ rest)) (Faulty MissingEnd) some (λ inner. bulk_header more b.digits rest (Faulty MissingEnd) b.is_length stops))
   shows_fails TooLong (digits, later, some, is, form, over) =

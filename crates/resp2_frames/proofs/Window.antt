@@ -122,12 +122,17 @@ module _ (bytes window : List ℕ) where
       let more : 65536 - length bytes ≡ 65536 - length (take 65536 bytes) = omega (arith, length-take 65536 bytes) in
       ap (λ (k : ℕ). in_window bytes (value_at 1024 k 8 (take 65536 bytes))) more ∙ ap (λ (t : List ℕ). in_window bytes (value_at 1024 (65536 - length t) 8 t)) (sym w) ∙ ap (in_window bytes) e
 
-  pub frame_ok : (f : Frame) (rest : List ℕ) (size : ℕ) → window ≡ take 65536 bytes → value_at 1024 (65536 - length window) 8 window ≡ Ok (f, rest) → size ≡ length window - length rest → frame_at bytes ≡ Ok (f, drop size bytes)
-  frame_ok f rest size w e s =
-      let taken = value_takes 1024 (65536 - length window) 8 (omega arith) window (f, rest) (omega (arith, length-take 65536 bytes, ap length w)) e in
+  taken_of : (f : Frame) (rest : List ℕ) → window ≡ take 65536 bytes → value_at 1024 (65536 - length window) 8 window ≡ Ok (f, rest) → Taken 1024 8 window f rest
+  taken_of f rest w e = value_takes 1024 (65536 - length window) 8 (omega arith) window (f, rest) (omega (arith, length-take 65536 bytes, ap length w)) e
+
+  pub rest_within : (f : Frame) (rest : List ℕ) → window ≡ take 65536 bytes → value_at 1024 (65536 - length window) 8 window ≡ Ok (f, rest) → length rest ≤ length window
+  rest_within f rest w e = let taken = taken_of f rest w e in omega (arith, ap length taken.parts, length-append (spelling f) rest)
+
+  pub frame_ok : (f : Frame) (rest : List ℕ) → window ≡ take 65536 bytes → value_at 1024 (65536 - length window) 8 window ≡ Ok (f, rest) → frame_at bytes ≡ Ok (f, drop (length window - length rest) bytes)
+  frame_ok f rest w e =
+      let taken = taken_of f rest w e in
       let behind = cut bytes (spelling f) rest (sym w ∙ taken.parts) in
-      let size_is : size ≡ length (take 65536 bytes) - length rest = s ∙ ap (λ (t : List ℕ). length t - length rest) w in
-      frame_is (Ok (f, rest)) w e ∙ ap (λ (t : List ℕ). Ok (f, t)) (sym behind ∙ ap (λ (k : ℕ). drop k bytes) (sym size_is))
+      frame_is (Ok (f, rest)) w e ∙ ap (λ (t : List ℕ). Ok (f, t)) (sym behind ∙ ap (λ (t : List ℕ). drop (length t - length rest) bytes) (sym w))
 
   pub frame_faulty : (fault : FrameFault) → window ≡ take 65536 bytes → value_at 1024 (65536 - length window) 8 window ≡ Err (Faulty fault) → frame_at bytes ≡ Err (Faulty fault)
   frame_faulty fault w e = frame_is (Err (Faulty fault)) w e

@@ -60,51 +60,46 @@ BreaksEnd (b ∷ c ∷ bs) = (b ≢ 13) ⊎ ((b ≡ 13) × (c ≢ 10))
 abbrev pub with_bulk : ℕ → List ℕ → ℕ
 with_bulk before digits = before + 1 + length digits + 2 + number_on 0 digits + 2
 
--- ---- a value that has begun, and no fault shows
+-- ---- a value that begins here
 
-pub record BeginsLine (bytes : List ℕ) : Type 0 where
+-- the text of a line, and what stands behind it
+pub record LineAt (bytes : List ℕ) : Type 0 where
   pub kind : ℕ
   pub line : List ℕ
   pub end : List ℕ
   pub is : bytes ≡ kind ∷ (line ++ end)
   pub is_kind : IsKind kind
   pub is_line : IsLine line
-  pub begins : BeginsEnd end
 
-pub record BeginsBlock (before : ℕ) (bytes : List ℕ) : Type 0 where
+-- the length of a bulk string for which a frame has room, some bytes of it, and what stands behind them
+pub record BulkAt (before : ℕ) (bytes : List ℕ) : Type 0 where
   pub digits : List ℕ
   pub block : List ℕ
   pub end : List ℕ
   pub is : bytes ≡ 36 ∷ (digits ++ (line_end ++ (block ++ end)))
   pub is_length : is_decimal digits ≡ true
   pub fits : with_bulk before digits ≤ 65536
-  pub begins : ((length block < number_on 0 digits) × (end ≡ [])) ⊎ ((length block ≡ number_on 0 digits) × BeginsEnd end)
+
+-- ---- a value that has begun, and no fault shows
+
+abbrev pub BeginsLine : List ℕ → Type 0
+BeginsLine bytes = (at : LineAt bytes) × BeginsEnd at.end
+
+abbrev pub BeginsBulk : ℕ → List ℕ → Type 0
+BeginsBulk before bytes = (at : BulkAt before bytes)
+    × (((length at.block < number_on 0 at.digits) × (at.end ≡ [])) ⊎ ((length at.block ≡ number_on 0 at.digits) × BeginsEnd at.end))
 
 -- nothing of a value, a line, or the bytes of a bulk string
 abbrev pub Begins : ℕ → ℕ → List ℕ → Type 0
-Begins levels before bytes = (bytes ≡ []) ⊎ ((0 < levels) × (BeginsLine bytes ⊎ BeginsBlock before bytes))
+Begins levels before bytes = (bytes ≡ []) ⊎ ((0 < levels) × (BeginsLine bytes ⊎ BeginsBulk before bytes))
 
 -- ---- the faults
 
-pub record BreaksLine (bytes : List ℕ) : Type 0 where
-  pub kind : ℕ
-  pub line : List ℕ
-  pub end : List ℕ
-  pub is : bytes ≡ kind ∷ (line ++ end)
-  pub is_kind : IsKind kind
-  pub is_line : IsLine line
-  pub behind : IsBehindLine end
-  pub breaks : BreaksEnd end
+abbrev pub BreaksLine : List ℕ → Type 0
+BreaksLine bytes = (at : LineAt bytes) × IsBehindLine at.end × BreaksEnd at.end
 
-pub record BreaksBlock (before : ℕ) (bytes : List ℕ) : Type 0 where
-  pub digits : List ℕ
-  pub block : List ℕ
-  pub end : List ℕ
-  pub is : bytes ≡ 36 ∷ (digits ++ (line_end ++ (block ++ end)))
-  pub is_length : is_decimal digits ≡ true
-  pub fits : with_bulk before digits ≤ 65536
-  pub all : length block ≡ number_on 0 digits
-  pub breaks : BreaksEnd end
+abbrev pub BreaksBulk : ℕ → List ℕ → Type 0
+BreaksBulk before bytes = (at : BulkAt before bytes) × (length at.block ≡ number_on 0 at.digits) × BreaksEnd at.end
 
 -- The fault shows in a value that begins here, whatever follows: one row a fault.
 abbrev pub Shows : FrameFault → ℕ → ℕ → List ℕ → Type 0
@@ -114,7 +109,7 @@ Shows BadLength levels before bytes =
     × IsLine line × (is_decimal line ≡ false) × (line ≢ 45 ∷ 49 ∷ [])
 Shows BadNumber levels before bytes =
     (line : List ℕ) × (later : List ℕ) × (0 < levels) × (bytes ≡ 58 ∷ (line ++ (line_end ++ later))) × IsLine line × ((n : ℤ) → IsLong n → line ≢ signed_decimal n)
-Shows MissingEnd levels before bytes = (0 < levels) × (BreaksLine bytes ⊎ BreaksBlock before bytes)
+Shows MissingEnd levels before bytes = (0 < levels) × (BreaksLine bytes ⊎ BreaksBulk before bytes)
 Shows TooLong levels before bytes =
     (digits : List ℕ) × (later : List ℕ) × (0 < levels) × (bytes ≡ 36 ∷ (digits ++ (line_end ++ later))) × (is_decimal digits ≡ true) × (65536 < with_bulk before digits)
 Shows TooDeep levels before bytes = (b : ℕ) × (later : List ℕ) × (levels ≡ 0) × (bytes ≡ b ∷ later)

@@ -34,7 +34,7 @@ fn frame_of(alloc: Global, bytes: &[u8]) -> Result<(Value, usize), Stopped>
 {
     let window = window_of(bytes);
     match value_of(alloc, window, LONGEST - window.len(), DEEPEST) {
-        Ok((value, rest)) => Ok((value, window.len().saturating_sub(rest.len()))),
+        Ok((value, rest)) => Ok((value, window.len() - rest.len())),
         Err(Stopped::At(Unread::Faulty(fault))) => Err(Stopped::fault(fault)),
         Err(Stopped::At(Unread::NeedsMore)) => {
             if bytes.len() > LONGEST {

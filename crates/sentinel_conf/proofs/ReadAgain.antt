@@ -20,7 +20,7 @@ use Rattle.conf_lines.specs.declared.lines.StateLine.TheVariants.{MyId, CurrentE
 use Rattle.conf_lines.specs.declared.lines.Setting.{Setting}
 use Rattle.conf_lines.specs.declared.lines.Line.{Line}
 use Rattle.conf_lines.specs.declared.lines.Line.TheVariants as line
-use Rattle.conf_lines.specs.Words.{lines}
+use Rattle.ballot_law.specs.Cuts.{lines}
 use Rattle.ballot_law.specs.Words.{some_if}
 use Rattle.conf_lines.specs.Lines.{line_of, spelled, same_key}
 use Rattle.ballot_law.specs.declared.cards.TheConstants.{MAX_EPOCH}
@@ -29,7 +29,8 @@ use Rattle.conf_lines.specs.Values.{name_of, quorum_of, monitored_at, node_of, c
 use Rattle.ballot_law.specs.declared.cards.Kept.{Kept as KeptPlan}
 use Rattle.ballot_law.specs.Rosters.{no_addr}
 use Rattle.sentinel_conf.specs.Rewritten.{others, replicas, master_states, state_lines, rewritten, longest, IsKeptMaster, IsKeptPart}
-use Rattle.sentinel_conf.specs.Reading.{FILE_MAX, line_fault, unknown_fault, first_fault, ◌>>=◌, unless, guard, found, roster_checked, whole_conf, conf_of_lines, conf_of_bytes}
+use Rattle.ballot_law.specs.Results.{◌>>=◌}
+use Rattle.sentinel_conf.specs.Reading.{FILE_MAX, line_fault, unknown_fault, first_fault, unless, guard, found, roster_checked, whole_conf, conf_of_lines, conf_of_bytes}
 use Rattle.conf_lines.specs.Faults.{fault_at}
 use Rattle.conf_lines.specs.Lines.{state_name, spoken_of}
 use Rattle.conf_lines.proofs.SpacedWords.{HasNoLf, lines-ended}

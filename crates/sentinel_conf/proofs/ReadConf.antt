@@ -1,5 +1,5 @@
 -- What is read is a conf whose rewritten files are read again.
-use Rattle.std.proofs.Common.{◌≡◌, ℕ, suc, ◌^◌, ◌≤◌, ◌<◌, Bool, true, false, cond, not, ltb, List, [], ◌∷◌, ◌++◌, length, map, refl, ap, sym, ◌∙◌, subst, arith, ◌⊎◌, inl, inr, Option, Some, None, Result, Ok, Err}
+use Rattle.std.proofs.Common.{◌≡◌, ℕ, suc, ◌^◌, ◌≤◌, ◌<◌, Bool, true, false, cond, not, ltb, List, [], ◌∷◌, ◌++◌, length, map, refl, ap, sym, ◌∙◌, subst, arith, inl, inr, Option, Some, None, Result, Ok, Err}
 use Rattle.std.specs.Prelude.{unwrap_or, Contains}
 use Rattle.std.specs.List.{filter_map, cons_option, AllZip, AllByRecursion}
 use Rattle.std.specs.Str.{IsUtf8, is_utf8}
@@ -22,7 +22,7 @@ use Rattle.conf_lines.specs.declared.lines.Setting.{Setting}
 use Rattle.conf_lines.specs.declared.lines.Setting.TheVariants.{Port, AnnounceIp, AnnouncePort, DownAfter, ParallelSyncs, FailoverTimeout}
 use Rattle.conf_lines.specs.declared.lines.Line.{Line}
 use Rattle.conf_lines.specs.declared.lines.Line.TheVariants as line
-use Rattle.conf_lines.specs.Words.{lines}
+use Rattle.ballot_law.specs.Cuts.{lines}
 use Rattle.ballot_law.specs.Words.{some_if}
 use Rattle.conf_lines.specs.Lines.{line_of}
 use Rattle.ballot_law.specs.declared.cards.TheConstants.{MAX_EPOCH}
@@ -31,7 +31,8 @@ use Rattle.conf_lines.specs.Values.{name_of, quorum_of, monitored_at, node_of, c
 use Rattle.ballot_law.specs.declared.cards.Kept.{Kept as KeptPlan}
 use Rattle.ballot_law.specs.Rosters.{no_addr}
 use Rattle.sentinel_conf.specs.Rewritten.{rewritten, longest, IsKeptMaster, IsKeptPart}
-use Rattle.sentinel_conf.specs.Reading.{FILE_MAX, line_fault, unknown_fault, first_fault, ◌>>=◌, unless, guard, found, roster_checked, kept_lines_of, whole_conf, conf_of_lines, conf_of_bytes}
+use Rattle.ballot_law.specs.Results.{◌>>=◌}
+use Rattle.sentinel_conf.specs.Reading.{FILE_MAX, line_fault, unknown_fault, first_fault, unless, guard, found, roster_checked, kept_lines_of, whole_conf, conf_of_lines, conf_of_bytes}
 use Rattle.conf_lines.specs.Faults.{fault_at}
 use Rattle.conf_lines.proofs.SpacedWords.{HasNoLf}
 use Rattle.ballot_law.proofs.WordLemmas.{same_bytes-refl}

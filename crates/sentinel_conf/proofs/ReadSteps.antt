@@ -13,14 +13,15 @@ use Rattle.conf_lines.specs.declared.faults.ConfFault.{ConfFault}
 use Rattle.conf_lines.specs.declared.lines.StateLine.{StateLine}
 use Rattle.conf_lines.specs.declared.lines.Setting.{Setting}
 use Rattle.conf_lines.specs.declared.lines.Line.{Line}
-use Rattle.conf_lines.specs.Words.{lines}
+use Rattle.ballot_law.specs.Cuts.{lines}
 use Rattle.conf_lines.specs.Lines.{line_of}
 use Rattle.sentinel_conf.specs.Meaning.{ConfPlan, states, settings, first_given, is_kept, conf_of}
 use Rattle.conf_lines.specs.Values.{name_of, my_id_of}
 use Rattle.sentinel_conf.specs.Rewritten.{rewritten, longest}
 use Rattle.conf_lines.specs.Words.{ended}
 use Rattle.sentinel_conf.specs.Room.{ROOM, bounded}
-use Rattle.sentinel_conf.specs.Reading.{FILE_MAX, line_fault, unknown_fault, first_fault, ◌>>=◌, unless, guard, found, checked, roster_checked, sized, kept_lines_of, whole_conf, conf_of_lines, conf_of_bytes}
+use Rattle.ballot_law.specs.Results.{◌>>=◌}
+use Rattle.sentinel_conf.specs.Reading.{FILE_MAX, line_fault, unknown_fault, first_fault, unless, guard, found, checked, roster_checked, sized, kept_lines_of, whole_conf, conf_of_lines, conf_of_bytes}
 use Rattle.conf_lines.specs.Faults.{fault_at}
 use Rattle.conf_lines.proofs.SpacedWords.{HasNoLf, lines-ended}
 use Rattle.sentinel_conf.proofs.SetLemmas.{each_in, each_from}

@@ -11,7 +11,8 @@ use Rattle.ballot_law.specs.declared.addresses.Addr.{Addr}
 use Rattle.ballot_law.specs.declared.addresses.RunId.{RunId}
 use Rattle.conf_lines.specs.declared.lines.StateLine.{StateLine}
 use Rattle.conf_lines.specs.declared.lines.StateLine.TheVariants.{MyId, CurrentEpoch, Monitor, ConfigEpoch, LeaderEpoch, KnownReplica, KnownSentinel}
-use Rattle.conf_lines.specs.Words.{spaced, lines, with_front}
+use Rattle.ballot_law.specs.Cuts.{lines, with_first}
+use Rattle.conf_lines.specs.Words.{spaced}
 use Rattle.ballot_law.specs.Words.{is_digit, is_hex, is_name_byte, name, ip_text, id_text, hex}
 use Rattle.conf_lines.specs.Lines.{spelled, state_words}
 use Rattle.ballot_law.specs.declared.cards.TheConstants.{MAX_EPOCH}
@@ -105,7 +106,7 @@ no_lf_push : (pre : List ℕ) (b : ℕ) → HasNoLf pre → b ≢ 10 → HasNoLf
 no_lf_push [] b h n = (n, tt)
 no_lf_push (x ∷ pre) b h n = (h.0, no_lf_push pre b h.1 n)
 
-attached_front : (pre : List ℕ) (b : ℕ) (ts : List (List ℕ)) → attached (pre ++ b ∷ []) ts ≡ attached pre (with_front b ts)
+attached_front : (pre : List ℕ) (b : ℕ) (ts : List (List ℕ)) → attached (pre ++ b ∷ []) ts ≡ attached pre (with_first b ts)
 attached_front pre b [] = refl
 attached_front pre b (t ∷ ts) = ap (λ x. x ∷ ts) (append_assoc pre (b ∷ []) t)
 
@@ -126,10 +127,10 @@ back_text pre bs u =
     subst IsUtf8 (drop-append-add pre (10 ∷ bs) 1) t
 
 lines_at_lf : (b : ℕ) (bs : List ℕ) → eqb b 10 ≡ true → lines (b ∷ bs) ≡ [] ∷ lines bs
-lines_at_lf b bs e = ap (λ t. elim t as (λ _. List (List ℕ)) [ true ↦ [] ∷ lines bs | false ↦ with_front b (lines bs) ]) e
+lines_at_lf b bs e = ap (λ t. elim t as (λ _. List (List ℕ)) [ true ↦ [] ∷ lines bs | false ↦ with_first b (lines bs) ]) e
 
-lines_in_line : (b : ℕ) (bs : List ℕ) → eqb b 10 ≡ false → lines (b ∷ bs) ≡ with_front b (lines bs)
-lines_in_line b bs e = ap (λ t. elim t as (λ _. List (List ℕ)) [ true ↦ [] ∷ lines bs | false ↦ with_front b (lines bs) ]) e
+lines_in_line : (b : ℕ) (bs : List ℕ) → eqb b 10 ≡ false → lines (b ∷ bs) ≡ with_first b (lines bs)
+lines_in_line b bs e = ap (λ t. elim t as (λ _. List (List ℕ)) [ true ↦ [] ∷ lines bs | false ↦ with_first b (lines bs) ]) e
 
 nil_front : (ts : List (List ℕ)) → AllByRecursion IsTextLine (attached [] ts) → AllByRecursion IsTextLine ts
 nil_front [] h = tt

@@ -8,11 +8,13 @@ use Rattle.conf_lines.specs.declared.faults.ConfKind.{ConfKind}
 use Rattle.conf_lines.specs.declared.faults.ConfKind.TheVariants.{TooLong, NotUtf8, BadAddress, BadNumber, UnknownMaster, Twice, NoMyId, BadDirective}
 use Rattle.conf_lines.specs.declared.faults.ConfFault.{ConfFault}
 use Rattle.ballot_law.specs.Words.{hex}
-use Rattle.conf_lines.specs.Words.{lines, words_of}
+use Rattle.ballot_law.specs.Cuts.{lines}
+use Rattle.conf_lines.specs.Words.{words_of}
 use Rattle.sentinel_conf.specs.Meaning.{ConfPlan}
 use Rattle.ballot_law.specs.declared.cards.Kept.{Kept as KeptPlan}
 use Rattle.sentinel_conf.specs.Rewritten.{rewritten, IsKeptPart}
-use Rattle.sentinel_conf.specs.Reading.{FILE_MAX, guard, ◌>>=◌, conf_of_lines, conf_of_bytes}
+use Rattle.ballot_law.specs.Results.{◌>>=◌}
+use Rattle.sentinel_conf.specs.Reading.{FILE_MAX, guard, conf_of_lines, conf_of_bytes}
 use Rattle.conf_lines.specs.Faults.{fault_at}
 
 abbrev pub file : List ℕ

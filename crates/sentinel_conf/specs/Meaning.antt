@@ -6,19 +6,16 @@ use Rattle.ballot_law.specs.declared.addresses.RunId.{RunId}
 use Rattle.ballot_law.specs.declared.rosters.Member.{Member}
 use Rattle.ballot_law.specs.Ordered.{in_order}
 use Rattle.ballot_law.specs.Rosters.{Roster as RosterPlan, MasterPlan}
-use Rattle.ballot_law.specs.Orders.{same_bytes, same_id, addr_before, id_before, bytes_before}
+use Rattle.ballot_law.specs.Orders.{same_id, addr_before, id_before, bytes_before}
 use Rattle.ballot_law.specs.declared.cards.KeptMaster.{KeptMaster}
 use Rattle.ballot_law.specs.declared.cards.Kept.{Kept as KeptPlan}
 use Rattle.ballot_law.specs.Rosters.{no_addr}
 use Rattle.sentinel_conf.specs.declared.settings.Settings.{Settings}
 use Rattle.conf_lines.specs.declared.lines.StateLine.{StateLine}
-use Rattle.conf_lines.specs.declared.lines.StateLine.TheVariants.{MyId, CurrentEpoch, Monitor, ConfigEpoch, LeaderEpoch, KnownReplica, KnownSentinel}
 use Rattle.conf_lines.specs.declared.lines.Setting.{Setting}
-use Rattle.conf_lines.specs.declared.lines.Setting.TheVariants.{Port, AnnounceIp, AnnouncePort, DownAfter, ParallelSyncs, FailoverTimeout}
-use Rattle.conf_lines.specs.Values.{my_id_of, name_of, quorum_of, monitored_at, node_of, config_of, voted_of, epoch_of, known_of, port_of, announce_ip_of, announce_port_of, after_of, syncs_of, timeout_of}
+use Rattle.conf_lines.specs.Values.{name_of, quorum_of, monitored_at, node_of, config_of, voted_of, epoch_of, known_of, port_of, announce_ip_of, announce_port_of, after_of, syncs_of, timeout_of}
 use Rattle.conf_lines.specs.declared.lines.Line.{Line}
 use Rattle.conf_lines.specs.declared.lines.Line.TheVariants as line
-use Rattle.ballot_law.specs.Words.{some_if}
 
 pub record ConfPlan : Type 0 where
   pub kept_lines : List (List ℕ)

@@ -2,21 +2,19 @@
 use Rattle.std.specs.Prelude.{ℕ, ◌≡◌, ◌+◌, Bool, true, false, not, nat_lt, List, [], ◌∷◌, ◌++◌, map, filter, length, Option, Some, None, Result, Ok, Err}
 use Rattle.std.specs.List.{list_any, filter_map}
 use Rattle.std.specs.Str.{is_utf8}
+use Rattle.ballot_law.specs.Results.{◌>>=◌}
 use Rattle.ballot_law.specs.declared.addresses.RunId.{RunId}
 use Rattle.ballot_law.specs.RosterFaults.{fault_of}
 use Rattle.ballot_law.specs.declared.rosters.RosterFault.{RosterFault}
 use Rattle.ballot_law.specs.Orders.{same_bytes}
 use Rattle.conf_lines.specs.declared.faults.ConfKind.{ConfKind}
-use Rattle.conf_lines.specs.declared.faults.ConfKind.TheVariants.{TooLong, NotUtf8, UnknownMaster, Twice, NoMyId, Roster, NoMemory}
+use Rattle.conf_lines.specs.declared.faults.ConfKind.TheVariants.{TooLong, NotUtf8, UnknownMaster, Twice, NoMyId, Roster}
 use Rattle.conf_lines.specs.declared.faults.ConfFault.{ConfFault}
 use Rattle.conf_lines.specs.declared.lines.StateLine.{StateLine}
-use Rattle.conf_lines.specs.declared.lines.StateLine.TheVariants.{MyId, CurrentEpoch, Monitor, ConfigEpoch, LeaderEpoch, KnownReplica, KnownSentinel}
-use Rattle.conf_lines.specs.declared.lines.Setting.{Setting}
-use Rattle.conf_lines.specs.declared.lines.Setting.TheVariants.{DownAfter, ParallelSyncs, FailoverTimeout}
 use Rattle.conf_lines.specs.declared.lines.Line.{Line}
 use Rattle.conf_lines.specs.declared.lines.Line.TheVariants as line
-use Rattle.conf_lines.specs.Words.{lines}
-use Rattle.conf_lines.specs.Faults.{fault_at, no_memory}
+use Rattle.ballot_law.specs.Cuts.{lines}
+use Rattle.conf_lines.specs.Faults.{fault_at}
 use Rattle.ballot_law.specs.Words.{some_if}
 use Rattle.conf_lines.specs.Lines.{line_of, same_key, spoken_of}
 use Rattle.sentinel_conf.specs.Meaning.{ConfPlan, states, settings, is_kept, conf_of}
@@ -45,11 +43,6 @@ first_fault test number earlier (line ∷ lines) =
       | Some kind ↦ Some (fault_at number kind)
       | None ↦ first_fault test (number + 1) (earlier ++ states (line ∷ [])) lines
     ]
-
-infixl 10 ◌>>=◌
-abbrev pub ◌>>=◌ : {A B : Type 0} → Result A ConfFault → (A → Result B ConfFault) → Result B ConfFault
-(Ok x) >>= f = f x
-(Err fault) >>= f = Err fault
 
 abbrev pub unless : Option ConfFault → Result (Unit {0}) ConfFault
 unless None = Ok tt

@@ -1,5 +1,5 @@
 -- The rewritten file of a conf and a kept part.
-use Rattle.std.specs.Prelude.{ℕ, ◌≤◌, not, List, [], ◌∷◌, ◌++◌, map, filter, Contains}
+use Rattle.std.specs.Prelude.{ℕ, ◌≤◌, not, List, ◌∷◌, ◌++◌, map, filter, Contains}
 use Rattle.std.specs.List.{flat_map, zip, AllZip}
 use Rattle.ballot_law.specs.declared.addresses.Addr.{Addr}
 use Rattle.ballot_law.specs.declared.addresses.RunId.{RunId}

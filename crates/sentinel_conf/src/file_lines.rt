@@ -4,7 +4,7 @@ ghost use Rattle.std.specs.Prelude.{◌≡◌, ◌++◌, ◌∷◌, ◌⊎◌, �
 ghost use Rattle.std.specs.List.{filter_map, flat_map, list_any};
 ghost use Rattle.ballot_law.specs.Orders.{same_bytes};
 ghost use Rattle.conf_lines.specs.declared.faults.ConfFault.{ConfFault};
-ghost use Rattle.conf_lines.specs.Words.{lines};
+ghost use Rattle.ballot_law.specs.Cuts.{lines};
 ghost use Rattle.conf_lines.specs.Lines.{line_of, same_key};
 ghost use Rattle.sentinel_conf.specs.Meaning.{states, settings, is_kept};
 ghost use Rattle.conf_lines.specs.Values.{name_of};
@@ -14,8 +14,9 @@ ghost use Rattle.conf_lines.specs.Lines.{state_name, setting_name, spoken_of};
 ghost use Rattle.conf_lines.specs.Faults.{no_memory};
 
 use ballot_law::{Name, is_same_bytes};
-use conf_lines::{ConfFault, ConfKind, Line, Setting, StateLine, line_of, next_line};
+use conf_lines::{ConfFault, ConfKind, Line, Setting, StateLine, line_of};
 use std::alloc::{AllocError, Global};
+use words::split_line;
 
 /// What the lines of a file say, in order.
 #[derive(Drop)]
@@ -141,7 +142,7 @@ pub fn read_lines(alloc: Global, bytes: &[u8]) -> Result<FileLines, ConfFault>
     let mut number: u64 = 1;
     let mut rest = bytes;
     while !rest.is_empty() {
-        let (text, more) = next_line(rest);
+        let (text, more) = split_line(rest);
         let line = line_of(text);
         if let Some(kind) = line_fault(&file.states, &line) {
             return Err(ConfFault { line: number, kind });
@@ -163,7 +164,7 @@ pub fn check_names(bytes: &[u8], names: &[Name]) -> Result<(), ConfFault>
     let mut number: u64 = 1;
     let mut rest = bytes;
     while !rest.is_empty() {
-        let (text, more) = next_line(rest);
+        let (text, more) = split_line(rest);
         if let Some(kind) = unknown_fault(names, &line_of(text)) {
             return Err(ConfFault { line: number, kind });
         }

@@ -1,7 +1,7 @@
 //! What holds of every file and of its rewritten one.
 
 ghost use Rattle.std.specs.Prelude.{◌≡◌, ◌≤◌, ℕ, List, ◌++◌, map, length, Ok};
-ghost use Rattle.conf_lines.specs.Words.{lines};
+ghost use Rattle.ballot_law.specs.Cuts.{lines};
 ghost use Rattle.conf_lines.specs.Lines.{spelled};
 ghost use Rattle.sentinel_conf.specs.Meaning.{ConfPlan};
 ghost use Rattle.ballot_law.specs.declared.cards.Kept.{Kept as KeptPlan};

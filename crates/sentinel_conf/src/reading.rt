@@ -8,7 +8,7 @@ ghost use Rattle.ballot_law.specs.RosterFaults.{fault_of};
 ghost use Rattle.ballot_law.specs.Rosters.{no_member};
 ghost use Rattle.ballot_law.specs.declared.rosters.RosterFault.TheVariants.{NoMemory};
 ghost use Rattle.conf_lines.specs.declared.faults.ConfKind.TheVariants.{TooLong};
-ghost use Rattle.conf_lines.specs.Words.{lines};
+ghost use Rattle.ballot_law.specs.Cuts.{lines};
 ghost use Rattle.sentinel_conf.specs.Room.{bounded};
 ghost use Rattle.sentinel_conf.specs.Meaning.{names_of, plan_of, conf_of, kept_of};
 ghost use Rattle.conf_lines.specs.Values.{name_of};
@@ -47,7 +47,7 @@ pub struct Parts {
 impl Model for Parts {
     ghost use Rattle.std.specs.Prelude.{◌≡◌};
     ghost use Rattle.std.specs.List.{flat_map};
-    ghost use Rattle.conf_lines.specs.Words.{lines};
+    ghost use Rattle.ballot_law.specs.Cuts.{lines};
     ghost use Rattle.conf_lines.specs.Words.{ended};
     ghost use Rattle.sentinel_conf.specs.Meaning.{ConfPlan};
 

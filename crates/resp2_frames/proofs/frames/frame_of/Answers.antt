@@ -1,9 +1,12 @@
 use Rattle.resp2_frames.proofs.Steps.{fails_at}
-use Rattle.resp2_frames.proofs.Window.{frame_ok, frame_needs, frame_faulty, frame_too_long}
+use Rattle.resp2_frames.proofs.Window.{frame_ok, rest_within, frame_needs, frame_faulty, frame_too_long}
 use Rattle.resp2_frames.proofs.frames.frame_of.Goals as goal
 
 pub returns-in-Ok-clause-gives : goal.returns-in-Ok-clause-gives
-returns-in-Ok-clause-gives c = frame_ok c.args.bytes.now c.window_of-window.result.now _ c.in-Ok.rest.now _ c.window_of-window.ensures.value c.in-Ok.ensures c.saturating_sub.ensures
+returns-in-Ok-clause-gives c = frame_ok c.args.bytes.now c.window_of-window.result.now _ c.in-Ok.rest.now c.window_of-window.ensures.value c.in-Ok.ensures
+
+pub overflow_sub-result : goal.overflow_sub-result
+overflow_sub-result c = rest_within c.args.bytes.now c.window_of-window.result.now _ c.in-Ok.rest.now c.window_of-window.ensures.value c.in-Ok.ensures
 
 pub returns-in-Err-At-Faulty-clause-gives : goal.returns-in-Err-At-Faulty-clause-gives
 returns-in-Err-At-Faulty-clause-gives c =

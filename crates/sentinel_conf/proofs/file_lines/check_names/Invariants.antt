@@ -1,5 +1,5 @@
 use Rattle.std.proofs.Common.{◌≡◌, ◌+◌, ◌≤◌, [], map, length}
-use Rattle.conf_lines.specs.Words.{lines}
+use Rattle.ballot_law.specs.Cuts.{lines}
 use Rattle.conf_lines.specs.Lines.{line_of}
 use Rattle.sentinel_conf.specs.Reading.{first_fault, unknown_fault}
 use Rattle.sentinel_conf.proofs.file_lines.check_names.Given as goal

@@ -1,6 +1,6 @@
 use Rattle.std.proofs.Common.{◌≡◌, ◌+◌, ◌≤◌, ◌++◌, [], map, length}
 use Rattle.std.specs.List.{flat_map}
-use Rattle.conf_lines.specs.Words.{lines}
+use Rattle.ballot_law.specs.Cuts.{lines}
 use Rattle.conf_lines.specs.Lines.{line_of}
 use Rattle.sentinel_conf.specs.Meaning.{states, settings}
 use Rattle.conf_lines.specs.Words.{ended}

@@ -2,7 +2,7 @@ use Rattle.std.proofs.Common.{◌≡◌, ◌⊎◌, inl, inr, None, Some, Err, a
 use Rattle.std.specs.List.{filter_map}
 use Rattle.ballot_law.specs.RosterFaults.{fault_of}
 use Rattle.conf_lines.specs.declared.faults.ConfFault.{ConfFault}
-use Rattle.conf_lines.specs.Words.{lines}
+use Rattle.ballot_law.specs.Cuts.{lines}
 use Rattle.sentinel_conf.specs.Meaning.{ConfPlan, first_given, conf_of}
 use Rattle.conf_lines.specs.Values.{name_of, my_id_of}
 use Rattle.sentinel_conf.specs.Reading.{roster_checked, conf_of_lines, sized}

@@ -1,7 +1,7 @@
 use Rattle.std.proofs.Common.{◌≡◌, ◌++◌, ap, sym, subst, ◌∙◌}
 use Rattle.ballot_law.specs.declared.cards.Kept.{Kept as KeptPlan}
 use Rattle.sentinel_conf.specs.Meaning.{ConfPlan}
-use Rattle.conf_lines.specs.Words.{lines}
+use Rattle.ballot_law.specs.Cuts.{lines}
 use Rattle.sentinel_conf.specs.Rewritten.{text_of, state_lines, rewritten}
 use Rattle.sentinel_conf.specs.Room.{bounded}
 use Rattle.sentinel_conf.proofs.RoomLemmas.{kept_and_states}
