@@ -3,7 +3,6 @@ use Rattle.std.specs.Prelude.{ℕ, zero, suc, ◌+◌, ◌-◌, min, Bool, true,
 use Rattle.ballot_law.specs.declared.addresses.Addr.{Addr}
 use Rattle.ballot_law.specs.declared.addresses.RunId.{RunId}
 use Rattle.ballot_law.specs.declared.messages.NodeName.TheVariants.{SentinelAt}
-use Rattle.ballot_law.specs.declared.replies.DataRole.TheVariants.{Replica}
 use Rattle.ballot_law.specs.declared.replies.Info.{Info}
 use Rattle.ballot_law.specs.Clocks.{age}
 use Rattle.ballot_law.specs.OwnVotes.{asked}
