@@ -1,1 +1,2 @@
+pub mod Formers
 pub mod Sentinels

@@ -4,17 +4,21 @@ ghost use Rattle.std.specs.Prelude.{◌≡◌, ◌≤◌, ◌<◌, ◌++◌, [],
 ghost use Rattle.std.specs.List.{AllByRecursion};
 ghost use Rattle.ballot_law.specs.Clocks.{clock};
 ghost use Rattle.sentinel_outbox.specs.Outboxes.{Fits, room_of_sentinel};
+ghost use Rattle.sentinel_core.specs.Formers.{former_of, put_back};
 ghost use Rattle.sentinel_core.specs.Sentinels.{is_command};
 ghost use Rattle.sentinel_rules.specs.Answers.{commanded};
-ghost use Rattle.sentinel_rules.specs.Changes.{ChangesOne, IsAhead};
+ghost use Rattle.node_texts.specs.declared.faults.TextFault.{TextFault};
+ghost use Rattle.sentinel_rules.specs.Changes.{IsAhead, asked_about, concerned, listed_by, told_of};
 ghost use Rattle.sentinel_rules.specs.Facts.{IsSoundPlan, IsSound, IsWithinEvent};
 ghost use Rattle.sentinel_rules.specs.Named.{IsNamed};
 ghost use Rattle.sentinel_rules.specs.Parts.{output_of, send, hello_of_master};
-ghost use Rattle.sentinel_rules.specs.Plans.{master_count};
+ghost use Rattle.sentinel_rules.specs.Plans.{master_count, node_named};
 ghost use Rattle.sentinel_rules.specs.Takes.{next, next_at, part_of, answer_to};
 ghost use Rattle.sentinel_state.specs.Room.{bounded};
 
+use crate::former::Former;
 use ballot_law::{Body, Command, Event, Hello, Input, Message, NodeName, Note, Output};
+use node_texts::{TextFault, read_hello};
 use sentinel_answers::{answer_by_text, answer_plainly};
 use sentinel_outbox::Outbox;
 use sentinel_rules::{
@@ -102,15 +106,59 @@ fn answer(plan: &Plan, state: &mut State, now: u64, command: &Command, outbox: &
     answer_by_text(plan, state, now, command, text, shown)
 }
 
-/// Has the state take an event that is no command.
-fn hear(plan: &Plan, state: &mut State, frames: &mut FrameList, now: u64, event: &Event)
+/// The master whose entry a command may change: that of a question, which may be a request for a vote.
+fn asked_about(command: &Command, state: &State) -> Option<u16>
+    ensures { result ≡ asked_about command.now state.now.kept }
+{
+    match *command {
+        Command::IsMasterDownByAddr { addr, .. } => state.master_with_card(addr),
+        _ => None,
+    }
+}
+
+/// The master whose data node this is.
+fn listed_by(plan: &Plan, node: NodeName) -> Option<u16>
+    ensures { result ≡ listed_by (node_named plan.now node) }
+{
+    let at = plan.node_named(node)?;
+    Some(at.master)
+}
+
+/// The master that a hello names, as it was read.
+fn told_of(plan: &Plan, hello: &Result<Hello, TextFault>) -> Option<u16>
+    ensures { result ≡ told_of plan.now hello.now }
+{
+    match hello {
+        Ok(hello) => plan.master_named(&hello.master),
+        Err(_) => None,
+    }
+}
+
+/// Has the state take an event that is no command, and answers what it may overwrite of what is kept.
+fn hear(plan: &Plan, state: &mut State, frames: &mut FrameList, now: u64, event: &Event) -> Former
+    ensures former { result ≡ former_of state.old.kept (concerned plan.now event.now state.old.kept) }
     ensures state { state.new ≡ (part_of plan.now (clock now) event.now state.old).core }
     ensures frames { frames.new
         ≡ bounded (frames.old ++ (part_of plan.now (clock now) event.now state.old).frames) }
 {
     let _whole = frames.as_slice();
     match event {
-        Event::Tick { master, random } => state.tick(plan, *master, *random, now, frames),
+        Event::Tick { master, random } => {
+            let former = Former::of(state.kept(), Some(*master));
+            state.tick(plan, *master, *random, now, frames);
+            former
+        }
+        Event::InfoRead { node, text } => {
+            let former = Former::of(state.kept(), listed_by(plan, *node));
+            state.read_info(plan, *node, now, text.as_slice(), frames);
+            former
+        }
+        Event::HelloRead { text } => {
+            let hello = read_hello(text.as_slice());
+            let former = Former::of(state.kept(), told_of(plan, &hello));
+            state.take_hello(plan, now, hello, frames);
+            former
+        }
         Event::Answered {
             voter,
             master,
@@ -118,23 +166,23 @@ fn hear(plan: &Plan, state: &mut State, frames: &mut FrameList, now: u64, event:
             down,
             leader,
             epoch,
-        } => state.hear_answer(plan, *voter, *master, now, *addr, *down, *leader, *epoch),
-        Event::Pinged { node, reply } => state.hear_pong(plan, *node, now, *reply),
-        Event::InfoRead { node, text } => state.read_info(
-            plan,
-            *node,
-            now,
-            text.as_slice(),
-            frames,
-        ),
-        Event::HelloRead { text } => state.read_hello(plan, now, text.as_slice(), frames),
-        Event::Command { .. } => {}
-        Event::Become { .. } => {}
-        Event::Handed(_) => {}
+        } => {
+            let former = Former::of(state.kept(), None);
+            state.hear_answer(plan, *voter, *master, now, *addr, *down, *leader, *epoch);
+            former
+        }
+        Event::Pinged { node, reply } => {
+            let former = Former::of(state.kept(), None);
+            state.hear_pong(plan, *node, now, *reply);
+            former
+        }
+        Event::Command { command, .. } => Former::of(state.kept(), asked_about(command, state)),
+        Event::Become { .. } => Former::of(state.kept(), None),
+        Event::Handed(_) => Former::of(state.kept(), None),
     }
 }
 
-/// Holds the answer to a command.
+/// Holds the answer to a command, and answers what it may overwrite of what is kept.
 fn hold_answer(
     plan: &Plan,
     state: &mut State,
@@ -142,15 +190,18 @@ fn hold_answer(
     sender: NodeName,
     command: &Command,
     outbox: &mut Outbox,
-)
+) -> Former
     requires { Fits outbox.old room_of_sentinel }
+    ensures former { result ≡ former_of state.old.kept (asked_about command.now state.old.kept) }
     ensures state { state.new ≡ (answer_to plan.now sender (commanded plan.now (clock now) command.now state.old)).core }
     ensures held { outbox.new.held ≡ (answer_to plan.now sender (commanded plan.now (clock now) command.now state.old)).outputs }
     ensures shown { outbox.new.shown ≡ outbox.old.shown }
     ensures room { length outbox.new.held ≤ outbox.new.shown_room }
 {
+    let former = Former::of(state.kept(), asked_about(command, state));
     let body = answer(plan, state, now, command, outbox);
     outbox.hold_output(send(plan, sender, body));
+    former
 }
 
 /// Holds what each frame shows now.
@@ -185,17 +236,18 @@ fn is_command(event: &Event) -> bool
     }
 }
 
-/// What an event does that is no command.
+/// What an event does that is no command, and what it may overwrite of what is kept.
 fn act_on_news(
     plan: &Plan,
     state: &mut State,
     frames: &mut FrameList,
     input: &Input,
     outbox: &mut Outbox,
-)
+) -> Former
     requires kind { is_command input.now.event ≡ false }
     requires few { length (part_of plan.now (clock input.now.now) input.now.event state.old).frames ≤ 1536 }
     requires fits { Fits outbox.old room_of_sentinel }
+    ensures former { result ≡ former_of state.old.kept (concerned plan.now input.entry.now.event state.old.kept) }
     ensures state { state.new ≡ (next_at plan.now (clock input.entry.now.now) input.entry.now.event state.old).core }
     ensures held { outbox.new.held
         ≡ (next_at plan.now (clock input.entry.now.now) input.entry.now.event state.old).outputs }
@@ -204,43 +256,44 @@ fn act_on_news(
 {
     law_hellos_name_masters();
     frames.clear();
-    hear(plan, state, frames, input.now, &input.event);
+    let former = hear(plan, state, frames, input.now, &input.event);
     hold_frames(plan, state, frames.as_slice(), outbox);
+    former
 }
 
-/// What an event does that may be a command.
+/// What an event does that may be a command, and what it may overwrite of what is kept.
 fn act_on(
     plan: &Plan,
     state: &mut State,
     frames: &mut FrameList,
     input: &Input,
     outbox: &mut Outbox,
-)
+) -> Former
     requires few { length (part_of plan.now (clock input.now.now) input.now.event state.old).frames ≤ 1536 }
     requires fits { Fits outbox.old room_of_sentinel }
+    ensures former { result ≡ former_of state.old.kept (concerned plan.now input.entry.now.event state.old.kept) }
     ensures state { state.new ≡ (next_at plan.now (clock input.entry.now.now) input.entry.now.event state.old).core }
     ensures held { outbox.new.held
         ≡ (next_at plan.now (clock input.entry.now.now) input.entry.now.event state.old).outputs }
     ensures shown { outbox.new.shown ≡ outbox.old.shown }
     ensures room { length outbox.new.held ≤ outbox.new.shown_room }
 {
-    if !is_command(&input.event) {
-        act_on_news(plan, state, frames, input, outbox);
-        return;
-    }
-    if let Event::Command { sender, command } = &input.event {
-        hold_answer(plan, state, input.now, *sender, command, outbox);
+    match &input.event {
+        Event::Command { sender, command } => {
+            hold_answer(plan, state, input.now, *sender, command, outbox)
+        }
+        _ => act_on_news(plan, state, frames, input, outbox),
     }
 }
 
-/// What an input does: the state after it, and its outputs, held in the outbox.
+/// What an input does: the state after it, and its outputs, held in the outbox. It answers what the input overwrote of what is kept.
 pub(crate) fn act(
     plan: &Plan,
     state: &mut State,
     frames: &mut FrameList,
     input: &Input,
     outbox: &mut Outbox,
-)
+) -> Former
     requires plan { IsSoundPlan plan.now }
     requires sound { IsSound plan.now state.old }
     requires within { IsWithinEvent input.now.event }
@@ -251,10 +304,10 @@ pub(crate) fn act(
     ensures room { length outbox.new.held ≤ outbox.new.shown_room }
     ensures sound_after { IsSound plan.now state.new }
     ensures ahead { IsAhead state.old → IsAhead state.new }
-    ensures one { ChangesOne state.old.kept state.new.kept }
+    ensures former { put_back state.new.kept result ≡ state.old.kept }
 {
     law_inputs_keep_sound();
     law_inputs_change_one_card();
     state.forget_win();
-    act_on(plan, state, frames, input, outbox);
+    act_on(plan, state, frames, input, outbox)
 }

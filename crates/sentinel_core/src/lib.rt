@@ -18,6 +18,7 @@
 
 mod acting;
 mod faults;
+mod former;
 mod sentinel;
 mod serving;
 

@@ -3,7 +3,6 @@
 ghost use Rattle.std.specs.Prelude.{◌≡◌, ◌≢◌, ◌↔◌, ◌≤◌, ◌<◌, ◌⊎◌, ◌+◌, ◌-◌, ◌^◌, ◌++◌, [], ◌||◌, ℕ, true, false, length, OnOk, OnErr, IsOk, is_ok, IfOk, IfErr, IfSome, IfNone, IsTrue, IsFalse, IsErrOf, Some, None, vec_capacity};
 ghost use Rattle.ballot_law.specs.Ballots.{Parts, card_of};
 ghost use Rattle.sentinel_conf.specs.Rewritten.{rewritten};
-ghost use Rattle.sentinel_rules.specs.Changes.{ChangesOne};
 ghost use Rattle.sentinel_rules.specs.Facts.{IsWithinEvent};
 ghost use Rattle.sentinel_rules.specs.Plans.{group_size, master_count, me, roster_of};
 ghost use Rattle.sentinel_rules.specs.Parts.{output_of};
@@ -16,7 +15,8 @@ ghost use Rattle.sentinel_core.specs.Sentinels.{IsWhole, is_busy, is_pending, is
 
 use crate::acting::act;
 use crate::faults::{OpenFault, ReleaseFault, StoreFault, TakeFault};
-use ballot_law::{Card, Command, Event, Input, Kept, KeptMaster, KeptMasters, Roster};
+use crate::former::Former;
+use ballot_law::{Card, Command, Event, Input, Roster};
 use sentinel_conf::{Conf, ConfStore, ConfText, rewrite_into};
 use sentinel_outbox::{Outbox, Phase, Room};
 use sentinel_rules::{
@@ -26,7 +26,6 @@ use sentinel_rules::{
 use sentinel_state::{FrameList, Plan, State};
 use std::alloc::Global;
 use std::marker::Model;
-use std::mem;
 
 /// What an input did.
 #[derive(Clone, Copy, Debug, PartialEq, Eq)]
@@ -44,7 +43,7 @@ pub struct Took {
 pub struct Sentinel {
     plan: Plan,
     state: State,
-    stored: Kept,
+    former: Former,
     phase: Phase,
     change: Option<u16>,
     frames: FrameList,
@@ -53,6 +52,7 @@ pub struct Sentinel {
 }
 
 impl Model for Sentinel {
+    ghost use Rattle.sentinel_core.specs.Formers.{put_back};
     ghost use Rattle.sentinel_core.specs.Sentinels.{Whole, IsWhole};
 
     ghost Value = { Whole };
@@ -60,7 +60,7 @@ impl Model for Sentinel {
     ghost view = { λ sentinel. record {
       plan = sentinel.plan;
       core = sentinel.state;
-      stored = sentinel.stored;
+      stored = put_back sentinel.state.kept sentinel.former;
       phase = sentinel.phase;
       change = sentinel.change;
     } };
@@ -68,35 +68,10 @@ impl Model for Sentinel {
     ghost invariant = { λ sentinel. IsWhole (record {
       plan = sentinel.plan;
       core = sentinel.state;
-      stored = sentinel.stored;
+      stored = put_back sentinel.state.kept sentinel.former;
       phase = sentinel.phase;
       change = sentinel.change;
     }) };
-}
-
-/// A copy of what a file holds; the only error is want of memory.
-fn copy_kept(alloc: Global, kept: &Kept) -> Result<Kept, OpenFault>
-    ensures { IfOk result (λ copy. copy ≡ kept.now) }
-{
-    match Vec::from_slice(alloc, kept.masters.as_slice()) {
-        Ok(masters) => Ok(Kept {
-            current: kept.current,
-            masters: KeptMasters::from_vec(masters),
-        }),
-        Err(_) => Err(OpenFault::NoMemory),
-    }
-}
-
-/// Puts one into the room of the other, for as many masters. No memory is taken.
-fn copy_into(alloc: Global, kept: &Kept, copy: &mut Kept)
-    requires { length copy.old.masters ≡ length kept.now.masters }
-    ensures { copy.new ≡ kept.now }
-{
-    let none = KeptMasters::from_vec(Vec::new(alloc));
-    let mut masters = mem::replace(&mut copy.masters, none).into_vec();
-    masters.copy_from_slice(kept.masters.as_slice());
-    copy.masters = KeptMasters::from_vec(masters);
-    copy.current = kept.current;
 }
 
 /// Whether the event is FLUSHCONFIG, which has the file written though nothing changed.
@@ -107,59 +82,6 @@ fn is_flush(event: &Event) -> bool
         Event::Command { command, .. } => *command == Command::FlushConfig,
         _ => false,
     }
-}
-
-/// Whether two lists of masters are the same.
-fn are_same(some: &[KeptMaster], others: &[KeptMaster]) -> bool
-    ensures same { IsTrue result → some.now ≡ others.now }
-    ensures other { IsFalse result → some.now ≢ others.now }
-{
-    if some.len() != others.len() {
-        return false;
-    }
-    for place in 0..some.len() {
-        if some[place] != others[place] {
-            return false;
-        }
-    }
-    true
-}
-
-/// Whether two files hold the same.
-fn is_same(one: &Kept, other: &Kept) -> bool
-    ensures same { IsTrue result → one.now ≡ other.now }
-    ensures other { IsFalse result → one.now ≢ other.now }
-{
-    if one.current != other.current {
-        return false;
-    }
-    are_same(one.masters.as_slice(), other.masters.as_slice())
-}
-
-/// Whether two configurations are the same.
-fn is_same_card(one: &Card, other: &Card) -> bool
-    ensures same { IsTrue result → one.now ≡ other.now }
-    ensures other { IsFalse result → one.now ≢ other.now }
-{
-    *one == *other
-}
-
-/// The master whose configuration is another one. At most one has changed.
-fn changed_card(count: u16, new: &Kept, old: &Kept) -> Option<u16>
-    requires new { length new.now.masters ≡ count }
-    requires old { length old.now.masters ≡ count }
-    requires one { ChangesOne old.now new.now }
-    ensures within { IfSome result (λ m. m < count) }
-    ensures changed { IfSome result (λ m. card_of new.now m ≢ card_of old.now m) }
-    ensures others { (m : ℕ) → result ≢ Some m → card_of new.now m ≡ card_of old.now m }
-{
-    let (masters, before) = (new.masters.as_slice(), old.masters.as_slice());
-    for m in 0..count {
-        if !is_same_card(&masters[m as usize].card, &before[m as usize].card) {
-            return Some(m);
-        }
-    }
-    None
 }
 
 impl Sentinel {
@@ -177,7 +99,6 @@ impl Sentinel {
         let Ok(file) = ConfText::room_for(alloc, &conf) else {
             return Err(OpenFault::NoMemory);
         };
-        let stored = copy_kept(alloc, conf.kept())?;
         let plan = Plan::new(conf);
         let Ok(state) = State::open(alloc, &plan, now) else {
             return Err(OpenFault::NoMemory);
@@ -185,10 +106,11 @@ impl Sentinel {
         let Ok(frames) = FrameList::with_room(alloc) else {
             return Err(OpenFault::NoMemory);
         };
+        let former = Former::of(state.kept(), None);
         Ok(Sentinel {
             plan,
             state,
-            stored,
+            former,
             phase: Phase::Ready,
             change: None,
             frames,
@@ -251,8 +173,7 @@ impl Sentinel {
         ensures some { IfSome result (λ card. (m < length self.now.stored.masters) × (card ≡ card_of self.now.stored m)) }
         ensures none { IfNone result (length self.now.stored.masters ≤ m) }
     {
-        let master = self.stored.masters.as_slice().get(m as usize)?;
-        Some(master.card)
+        self.former.card(self.state.kept(), m)
     }
 
     /// The master and the epoch of the election that the last input brought this Sentinel.
@@ -338,9 +259,9 @@ impl Sentinel {
         self.check_taking(outbox)?;
         law_inputs_are_steps();
         law_ignored_inputs_change_nothing();
-        act(&self.plan, &mut self.state, &mut self.frames, input, outbox);
-        let changed = !is_same(self.state.kept(), &self.stored);
-        self.change = changed_card(self.plan.master_count(), self.state.kept(), &self.stored);
+        self.former = act(&self.plan, &mut self.state, &mut self.frames, input, outbox);
+        let changed = self.former.is_changed(self.state.kept());
+        self.change = self.former.changed_card(self.state.kept());
         self.phase = Phase::Pending {
             must_store: changed || is_flush(&input.event),
         };
@@ -383,7 +304,7 @@ impl Sentinel {
                 return Err(StoreFault::Refused);
             }
         }
-        copy_into(self.alloc, self.state.kept(), &mut self.stored);
+        self.former = Former::of(self.state.kept(), None);
         self.phase = Phase::Stored;
         Ok(())
     }

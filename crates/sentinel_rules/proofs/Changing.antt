@@ -1,9 +1,10 @@
--- An input changes at most the current epoch and the entry of one master.
-use Rattle.std.proofs.Common.{◌≡◌, ◌≢◌, ℕ, zero, suc, ◌+◌, Bool, true, false, Option, Some, None, refl, ◌∙◌}
+-- An input changes at most the current epoch and the entry of the master that its event concerns.
+use Rattle.std.proofs.Common.{◌≡◌, ◌≢◌, ℕ, zero, suc, ◌+◌, Bool, true, false, Option, Some, None, refl, sym, ap, ◌∙◌}
 use Rattle.std.specs.Prelude.{Result, Ok, Err, is_some, nat_lt, not, ◌&&◌, ◌==◌, if◌then◌else◌}
 use Rattle.ballot_law.specs.declared.addresses.Addr.{Addr}
 use Rattle.ballot_law.specs.declared.addresses.RunId.{RunId}
 use Rattle.ballot_law.specs.declared.cards.Card.{Card}
+use Rattle.ballot_law.specs.declared.cards.Kept.{Kept}
 use Rattle.ballot_law.specs.declared.commands.Command.{Command}
 use Rattle.ballot_law.specs.declared.commands.Command.TheVariants.{Ping, IsMasterDownByAddr, GetMasterAddrByName, Masters, Master, Replicas, Sentinels, MyId, CkQuorum, FlushConfig}
 use Rattle.ballot_law.specs.declared.events.Event.{Event}
@@ -35,8 +36,8 @@ use Rattle.sentinel_rules.specs.Votes.{book_of, with_book, marked, mark_for, req
 use Rattle.sentinel_rules.specs.Ticks.{peers_part, nodes_part, odown_part, ask_part, ask_candidate, ask_frames, is_ask_due, with_vote, with_win, turn_of, campaign_epoch, row_part, after_start, start_turn, starts_now, start_part, failover_part, judging_part, master_part, with_reading, tick}
 use Rattle.sentinel_rules.specs.News.{at_same_address, at_new_address, card_taken, is_heeded, is_newer, raised_to, adopted, hello_of_known, hello_heeded, hello_read, reported, vote_heard, answer_of, answered, pinged_at, pinged, info_kept, is_master_role, promotion, has_followed, reconfiguration, correction, is_reconfiguring, judged, info_at_node, info_of_node, info_read}
 use Rattle.sentinel_rules.specs.Answers.{asked_of, master_with_card, commanded}
-use Rattle.sentinel_rules.specs.Takes.{next_at, cleared}
-use Rattle.sentinel_rules.specs.Changes.{ChangesOne, InputsChangeOne}
+use Rattle.sentinel_rules.specs.Takes.{next, next_at, cleared}
+use Rattle.sentinel_rules.specs.Changes.{ChangesAt, ChangesOne, InputsChangeAt, InputsChangeOne, asked_about, concerned, listed_by, told_of}
 use Rattle.sentinel_rules.proofs.KeptParts.{other_entry}
 
 -- the other masters' entries stay
@@ -174,64 +175,67 @@ known_touches plan m now hello core =
     chained m core first (hello_of_known plan m now hello core).core (λ k apart. refl)
     (if_part m first (is_newer plan first m hello.card) (adopted m now hello.card) (adopted_touches m now hello.card first))
 
--- of one master, whichever
-abbrev One : Core → Core → Type 0
-One core core2 = ChangesOne core.kept core2.kept
+-- of the master that is concerned, if one is
+abbrev At : Option ℕ → Core → Core → Type 0
+At master core core2 = ChangesAt master core.kept core2.kept
 
-same : (core : Core) → One core core
-same core = (0, λ k apart. refl)
+same : (master : Option ℕ) (core : Core) → At master core core
+same master core k apart = refl
 
-one_by_test : (core : Core) (test : Bool) (a b : Core) → One core a → One core b → One core (if test then a else b)
-one_by_test core true a b f g = f
-one_by_test core false a b f g = g
+at_master : (m : ℕ) (core core2 : Core) → Touches m core core2 → At (Some m) core core2
+at_master m core core2 f k apart = f k (λ e. apart (ap Some (sym e)))
 
-one_if_part : (core : Core) (test : Bool) (part : Core → Part) → One core (part core).core → One core (part_if test core part).core
-one_if_part core true part f = f
-one_if_part core false part f = same core
+at_by_test : (master : Option ℕ) (core : Core) (test : Bool) (a b : Core) → At master core a → At master core b → At master core (if test then a else b)
+at_by_test master core true a b f g = f
+at_by_test master core false a b f g = g
 
-heeded_one : (plan : Plan) (now : ℕ) (m : Option ℕ) (hello : Hello) (core : Core) → One core (hello_heeded plan now m hello core).core
-heeded_one plan now None hello core = same core
-heeded_one plan now (Some m) hello core = (m, known_touches plan m now hello core)
+at_if_part : (master : Option ℕ) (core : Core) (test : Bool) (part : Core → Part) → At master core (part core).core → At master core (part_if test core part).core
+at_if_part master core true part f = f
+at_if_part master core false part f = same master core
 
-hello_one : (plan : Plan) (now : ℕ) (read : Result Hello TextFault) (core : Core) → One core (hello_read plan now read core).core
-hello_one plan now (Err fault) core = same core
-hello_one plan now (Ok hello) core =
-    one_if_part core (is_heeded plan hello) (hello_heeded plan now (master_named (roster_of plan) hello.master) hello)
-    (heeded_one plan now (master_named (roster_of plan) hello.master) hello core)
+heeded_at : (plan : Plan) (now : ℕ) (m : Option ℕ) (hello : Hello) (core : Core) → At m core (hello_heeded plan now m hello core).core
+heeded_at plan now None hello core = same None core
+heeded_at plan now (Some m) hello core = at_master m core (hello_of_known plan m now hello core).core (known_touches plan m now hello core)
 
-heard_one : (voter m epoch : ℕ) (leader : Option RunId) (core first : Core) → One core first → One core (vote_heard voter m epoch leader first)
-heard_one voter m epoch None core first f = f
-heard_one voter m epoch (Some leader) core first f = f
+hello_at : (plan : Plan) (now : ℕ) (read : Result Hello TextFault) (core : Core) → At (told_of plan read) core (hello_read plan now read core).core
+hello_at plan now (Err fault) core = same None core
+hello_at plan now (Ok hello) core =
+    let m = master_named (roster_of plan) hello.master in
+    at_if_part m core (is_heeded plan hello) (hello_heeded plan now m hello) (heeded_at plan now m hello core)
 
-reported_one : (voter m now : ℕ) (addr : Addr) (down : Bool) (core : Core) → One core (reported voter m now addr down core)
-reported_one voter m now addr down core = known (same_addr addr (card_of core.kept m).addr)
+heard_at : (voter m epoch : ℕ) (leader : Option RunId) (core first : Core) → At None core first → At None core (vote_heard voter m epoch leader first)
+heard_at voter m epoch None core first f = f
+heard_at voter m epoch (Some leader) core first f = f
+
+reported_at : (voter m now : ℕ) (addr : Addr) (down : Bool) (core : Core) → At None core (reported voter m now addr down core)
+reported_at voter m now addr down core = known (same_addr addr (card_of core.kept m).addr)
   where
-    known : (b : Bool) → One core (if b then with_master core m (record (master_of core m) { reports = Rattle.ballot_law.specs.Reports.with_report voter (record { down = down; at = now }) (master_of core m).reports }) else core)
-    known true = (0, λ k apart. refl)
-    known false = same core
+    known : (b : Bool) → At None core (if b then with_master core m (record (master_of core m) { reports = Rattle.ballot_law.specs.Reports.with_report voter (record { down = down; at = now }) (master_of core m).reports }) else core)
+    known true = λ k apart. refl
+    known false = same None core
 
-answer_one : (plan : Plan) (voter : NodeName) (m now : ℕ) (addr : Addr) (down : Bool) (leader : Option RunId) (epoch : ℕ) (core : Core) → One core (answered plan voter m now addr down leader epoch core)
-answer_one plan (SentinelAt voter) m now addr down leader epoch core =
-    one_by_test core (nat_lt voter (group_size plan) && not (voter == plan.place) && nat_lt m (master_count plan))
+answer_at : (plan : Plan) (voter : NodeName) (m now : ℕ) (addr : Addr) (down : Bool) (leader : Option RunId) (epoch : ℕ) (core : Core) → At None core (answered plan voter m now addr down leader epoch core)
+answer_at plan (SentinelAt voter) m now addr down leader epoch core =
+    at_by_test None core (nat_lt voter (group_size plan) && not (voter == plan.place) && nat_lt m (master_count plan))
     (vote_heard voter m epoch leader (reported voter m now addr down core)) core
-    (heard_one voter m epoch leader core (reported voter m now addr down core) (reported_one voter m now addr down core)) (same core)
-answer_one plan (StoreAt number) m now addr down leader epoch core = same core
-answer_one plan (ClientAt number) m now addr down leader epoch core = same core
-answer_one plan (PortAt number) m now addr down leader epoch core = same core
+    (heard_at voter m epoch leader core (reported voter m now addr down core) (reported_at voter m now addr down core)) (same None core)
+answer_at plan (StoreAt number) m now addr down leader epoch core = same None core
+answer_at plan (ClientAt number) m now addr down leader epoch core = same None core
+answer_at plan (PortAt number) m now addr down leader epoch core = same None core
 
-pinged_at_one : (now : ℕ) (reply : PingReply) (at : Option NodePlace) (core : Core) → One core (pinged_at now reply at core)
-pinged_at_one now reply None core = same core
-pinged_at_one now reply (Some at) core = (0, λ k apart. refl)
+node_at : (now : ℕ) (reply : PingReply) (at : Option NodePlace) (core : Core) → At None core (pinged_at now reply at core)
+node_at now reply None core = same None core
+node_at now reply (Some at) core = λ k apart. refl
 
-ping_one : (plan : Plan) (node : NodeName) (now : ℕ) (reply : PingReply) (core : Core) → One core (pinged plan node now reply core)
-ping_one plan (SentinelAt place) now reply core = known (nat_lt place (group_size plan) && not (place == plan.place))
+ping_at : (plan : Plan) (node : NodeName) (now : ℕ) (reply : PingReply) (core : Core) → At None core (pinged plan node now reply core)
+ping_at plan (SentinelAt place) now reply core = known (nat_lt place (group_size plan) && not (place == plan.place))
   where
-    known : (b : Bool) → One core (if b then record core { peers = Rattle.std.specs.Prelude.slice_set core.peers place (Rattle.sentinel_rules.specs.News.peer_pinged now reply (Rattle.sentinel_rules.specs.States.peer_of core place)) } else core)
-    known true = (0, λ k apart. refl)
-    known false = same core
-ping_one plan (StoreAt number) now reply core = pinged_at_one now reply (node_named plan (StoreAt number)) core
-ping_one plan (ClientAt number) now reply core = same core
-ping_one plan (PortAt number) now reply core = same core
+    known : (b : Bool) → At None core (if b then record core { peers = Rattle.std.specs.Prelude.slice_set core.peers place (Rattle.sentinel_rules.specs.News.peer_pinged now reply (Rattle.sentinel_rules.specs.States.peer_of core place)) } else core)
+    known true = λ k apart. refl
+    known false = same None core
+ping_at plan (StoreAt number) now reply core = node_at now reply (node_named plan (StoreAt number)) core
+ping_at plan (ClientAt number) now reply core = same None core
+ping_at plan (PortAt number) now reply core = same None core
 
 promotion_touches : (plan : Plan) (m k now : ℕ) (info : Info) (state : State) (core : Core) → Touches m core (promotion m k now info state core).core
 promotion_touches plan m k now info (WaitPromotion epoch choice former) core =
@@ -256,49 +260,61 @@ judged_touches plan m k now info core =
     (reconfiguration_touches m k info core) (promotion_touches plan m k now info (failover_of core m).state core))
     (if_part m core (not (k == card_place plan core m)) (correction plan m k now info) (λ j apart. refl))
 
-info_one : (plan : Plan) (now : ℕ) (at : Option NodePlace) (info : Info) (core : Core) → One core (info_of_node plan now at info core).core
-info_one plan now None info core = same core
-info_one plan now (Some at) info core =
-    let first : Core = info_kept at.master at.place now info core in (
-      at.master,
-      chained at.master core first (info_at_node plan at.master at.place now info core).core (λ k apart. refl)
-          (if_part at.master first (not (is_tilted first)) (judged plan at.master at.place now info) (judged_touches plan at.master at.place now info first)),
-    )
+info_at : (plan : Plan) (now : ℕ) (at : Option NodePlace) (info : Info) (core : Core) → At (listed_by at) core (info_of_node plan now at info core).core
+info_at plan now None info core = same None core
+info_at plan now (Some at) info core =
+    let first : Core = info_kept at.master at.place now info core in
+    at_master at.master core (info_at_node plan at.master at.place now info core).core
+    (chained at.master core first (info_at_node plan at.master at.place now info core).core (λ k apart. refl)
+    (if_part at.master first (not (is_tilted first)) (judged plan at.master at.place now info) (judged_touches plan at.master at.place now info first)))
 
-read_one : (plan : Plan) (node : NodeName) (now : ℕ) (read : Result Info TextFault) (core : Core) → One core (info_read plan node now read core).core
-read_one plan node now (Err fault) core = same core
-read_one plan node now (Ok info) core = info_one plan now (node_named plan node) info core
+read_at : (plan : Plan) (node : NodeName) (now : ℕ) (read : Result Info TextFault) (core : Core) → At (listed_by (node_named plan node)) core (info_read plan node now read core).core
+read_at plan node now (Err fault) core = same (listed_by (node_named plan node)) core
+read_at plan node now (Ok info) core = info_at plan now (node_named plan node) info core
 
 -- Commands
 
-asked_one : (plan : Plan) (now : ℕ) (addr : Addr) (epoch : ℕ) (candidate : Option RunId) (m : Option ℕ) (core : Core) → One core (asked_of plan now addr epoch candidate m core).core
-asked_one plan now addr epoch candidate None core = same core
-asked_one plan now addr epoch None (Some m) core = same core
-asked_one plan now addr epoch (Some candidate) (Some m) core = (m, requested_touches plan m now epoch candidate core)
+asked_at_most : (plan : Plan) (now : ℕ) (addr : Addr) (epoch : ℕ) (candidate : Option RunId) (m : Option ℕ) (core : Core) → At m core (asked_of plan now addr epoch candidate m core).core
+asked_at_most plan now addr epoch candidate None core = same None core
+asked_at_most plan now addr epoch None (Some m) core = same (Some m) core
+asked_at_most plan now addr epoch (Some candidate) (Some m) core =
+    at_master m core (requested plan m now epoch candidate core) (requested_touches plan m now epoch candidate core)
 
-commanded_one : (plan : Plan) (now : ℕ) (command : Command) (core : Core) → One core (commanded plan now command core).core
-commanded_one plan now (IsMasterDownByAddr addr epoch candidate) core = asked_one plan now addr epoch candidate (master_with_card core.kept.masters addr) core
-commanded_one plan now Ping core = same core
-commanded_one plan now (GetMasterAddrByName name) core = same core
-commanded_one plan now Masters core = same core
-commanded_one plan now (Master name) core = same core
-commanded_one plan now (Replicas name) core = same core
-commanded_one plan now (Sentinels name) core = same core
-commanded_one plan now MyId core = same core
-commanded_one plan now (CkQuorum name) core = same core
-commanded_one plan now FlushConfig core = same core
+commanded_at : (plan : Plan) (now : ℕ) (command : Command) (core : Core) → At (asked_about command core.kept) core (commanded plan now command core).core
+commanded_at plan now (IsMasterDownByAddr addr epoch candidate) core = asked_at_most plan now addr epoch candidate (master_with_card core.kept.masters addr) core
+commanded_at plan now Ping core = same None core
+commanded_at plan now (GetMasterAddrByName name) core = same None core
+commanded_at plan now Masters core = same None core
+commanded_at plan now (Master name) core = same None core
+commanded_at plan now (Replicas name) core = same None core
+commanded_at plan now (Sentinels name) core = same None core
+commanded_at plan now MyId core = same None core
+commanded_at plan now (CkQuorum name) core = same None core
+commanded_at plan now FlushConfig core = same None core
 
 -- One input
 
-input_one : (plan : Plan) (now : ℕ) (event : Event) (core : Core) → One core (next_at plan now event core).core
-input_one plan now (Tick m random) core = (m, tick_touches plan m random now core)
-input_one plan now (Commanded sender command) core = commanded_one plan now command core
-input_one plan now (AnswerCame voter m addr down leader epoch) core = answer_one plan voter m now addr down leader epoch core
-input_one plan now (Pinged node reply) core = ping_one plan node now reply core
-input_one plan now (InfoRead node text) core = read_one plan node now (info_of text) core
-input_one plan now (HelloRead text) core = hello_one plan now (hello_of text) core
-input_one plan now (Become priority offset link_down) core = same core
-input_one plan now (Handed message) core = same core
+input_at : (plan : Plan) (now : ℕ) (event : Event) (core : Core) → At (concerned plan event core.kept) core (next_at plan now event core).core
+input_at plan now (Tick m random) core = at_master m core (tick plan m random now core).core (tick_touches plan m random now core)
+input_at plan now (Commanded sender command) core = commanded_at plan now command core
+input_at plan now (AnswerCame voter m addr down leader epoch) core = answer_at plan voter m now addr down leader epoch core
+input_at plan now (Pinged node reply) core = ping_at plan node now reply core
+input_at plan now (InfoRead node text) core = read_at plan node now (info_of text) core
+input_at plan now (HelloRead text) core = hello_at plan now (hello_of text) core
+input_at plan now (Become priority offset link_down) core = same None core
+input_at plan now (Handed message) core = same None core
+
+pub inputs_change_at : InputsChangeAt
+inputs_change_at plan core now event = input_at plan (clock now) event (cleared core)
+
+-- so that of one master alone
+one_of : (master : Option ℕ) (kept kept2 : Kept) → ChangesAt master kept kept2 → ChangesOne kept kept2
+one_of None kept kept2 f = (0, λ k apart. f k (λ e. let no : ⊥ = cc in no))
+one_of (Some m) kept kept2 f = (m, λ k apart. f k (λ e. apart (some_inj e)))
+  where
+    some_inj : {k : ℕ} → Some m ≡ Some k → k ≡ m
+    some_inj e = cc
 
 pub inputs_change_one : InputsChangeOne
-inputs_change_one plan core now event = input_one plan (clock now) event (cleared core)
+inputs_change_one plan core now event =
+    one_of (concerned plan event core.kept) core.kept (next plan core now event).core.kept (inputs_change_at plan core now event)

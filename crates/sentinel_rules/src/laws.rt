@@ -1,6 +1,6 @@
 //! Laws of the definitions.
 
-ghost use Rattle.sentinel_rules.specs.Changes.{InputsChangeOne, InputsRaiseCards, OpenedIsAhead};
+ghost use Rattle.sentinel_rules.specs.Changes.{InputsChangeAt, InputsChangeOne, InputsRaiseCards, OpenedIsAhead};
 ghost use Rattle.sentinel_rules.specs.Ignored.{IgnoredChangesNothing};
 ghost use Rattle.sentinel_rules.specs.Limits.{MessagesComeWithin, OutputsAreWithin};
 ghost use Rattle.sentinel_rules.specs.Named.{HellosNameMasters};
@@ -43,9 +43,11 @@ pub fn law_ignored_inputs_change_nothing()
     ensures { IgnoredChangesNothing }
 {}
 
-/// Of what is kept an input changes at most the current epoch and the entry of one master. A configuration that it changes is of a greater
-/// epoch: a failover is of an epoch above that of the configuration, until its choice is the configuration. None runs at the start.
+/// Of what is kept an input changes at most the current epoch and the entry of one master: that of the tick, of the question, of the node
+/// whose INFO it is, or that the hello names. A configuration that it changes is of a greater epoch: a failover is of an epoch above that of
+/// the configuration, until its choice is the configuration. None runs at the start.
 pub fn law_inputs_change_one_card()
+    ensures at { InputsChangeAt }
     ensures one { InputsChangeOne }
     ensures greater { InputsRaiseCards }
     ensures opened { OpenedIsAhead }

@@ -6,7 +6,6 @@ ghost use Rattle.ballot_law.specs.Clocks.{clock};
 ghost use Rattle.ballot_law.specs.Orders.{same_addr, same_id};
 ghost use Rattle.ballot_law.specs.Rosters.{master_named};
 ghost use Rattle.failover_states.specs.Failovers.{ended};
-ghost use Rattle.node_texts.specs.Hellos.{hello_of};
 ghost use Rattle.sentinel_rules.specs.News.{is_heeded, is_newer, raised_to, adopted, hello_of_known, hello_heeded, hello_read};
 ghost use Rattle.sentinel_rules.specs.Plans.{roster_of, nodes_of};
 ghost use Rattle.sentinel_rules.specs.States.{failover_of, with_failover};
@@ -15,7 +14,7 @@ ghost use Rattle.sentinel_state.specs.Room.{bounded};
 use crate::frame_list::FrameList;
 use crate::state::State;
 use ballot_law::{Addr, Card, Hello, RunId};
-use node_texts::{TextFault, read_hello};
+use node_texts::TextFault;
 use sentinel_plan::Plan;
 
 impl State {
@@ -83,9 +82,10 @@ impl State {
         }
     }
 
-    /// Takes a hello as it was read; one that can't be read, or that isn't from another Sentinel of the roster, changes nothing.
+    /// Takes a hello that a data node passed on, as it was read. One that can't be read, that isn't from another Sentinel of the roster, or
+    /// that names no master of it changes nothing.
     #[tactic(auto, using(crate::proofs::RoomLemmas::bounded_none))]
-    fn take_hello(
+    pub fn take_hello(
         &mut self,
         plan: &Plan,
         now: u64,
@@ -102,15 +102,5 @@ impl State {
         {
             self.heed_hello(plan, now, &hello, frames);
         }
-    }
-
-    /// Takes the text of a hello that a data node passed on. One that can't be read, that isn't from another Sentinel of the roster, or
-    /// that names no master of it changes nothing.
-    pub fn read_hello(&mut self, plan: &Plan, now: u64, text: &[u8], frames: &mut FrameList)
-        ensures state { self.new ≡ (hello_read plan.now (clock now) (hello_of text.now) self.old).core }
-        ensures frames { frames.new
-            ≡ bounded (frames.old ++ (hello_read plan.now (clock now) (hello_of text.now) self.old).frames) }
-    {
-        self.take_hello(plan, now, read_hello(text), frames);
     }
 }
