@@ -1,0 +1,270 @@
+-- An entry of a history by steps of the model of the whole group.
+use Rattle.std.proofs.Common.{◌≡◌, ◌≢◌, ◌↔◌, ◌⊎◌, ℕ, ◌+◌, ◌-◌, ◌<◌, Bool, true, false, cond, List, [], ◌∷◌, ◌++◌, length, length-set, get_or-set_same, Some, Option, refl, sym, ap, ◌∙◌, subst, inl, inr, ⊎_elim, arith, true≢false}
+use Rattle.std.specs.Prelude.{not, ◌||◌, slice_index_or, slice_get}
+use Rattle.std.proofs.lemmas.List.{length-append}
+use Rattle.ballot_law.specs.declared.cards.Kept.{Kept}
+use Rattle.ballot_law.specs.declared.commands.Command.TheVariants.{Ping, IsMasterDownByAddr, GetMasterAddrByName, Masters, Master, Replicas, Sentinels, MyId, CkQuorum, FlushConfig}
+use Rattle.ballot_law.specs.declared.events.Event.{Event}
+use Rattle.ballot_law.specs.declared.events.Event.TheVariants.{Tick, Command as Commanded, Answered, Pinged, InfoRead, HelloRead, Become, Handed}
+use Rattle.ballot_law.specs.declared.events.Input.{Input}
+use Rattle.ballot_law.specs.declared.messages.Message.{Message}
+use Rattle.ballot_law.specs.declared.messages.NodeName.{NodeName}
+use Rattle.ballot_law.specs.declared.messages.NodeName.TheVariants.{SentinelAt}
+use Rattle.ballot_law.specs.declared.steps.KeptText.{KeptText}
+use Rattle.ballot_law.specs.declared.steps.KeptText.TheVariants.{Old, New}
+use Rattle.ballot_law.specs.declared.steps.Step.{Step}
+use Rattle.ballot_law.specs.declared.steps.Step.TheVariants.{Take, Deliver}
+use Rattle.ballot_law.specs.Ballots.{card_of}
+use Rattle.ballot_law.specs.Messages.{sent, Delivers, IsFor}
+use Rattle.ballot_law.specs.Rosters.{Roster}
+use Rattle.ballot_law.specs.Worlds.{World as Group, Sentinel, State, Ready, Pending, Stored as IsStored, Halted as IsHalted, Stopped, no_sentinel, sentinel_at, with_sentinel, IsFlush, IsFree, Choice, IsChoice, taken, stored_now, released, ended, ended_new, filed, after_store, after_refused, after_release, stores_of, card_after, after_answer, IsAt, OrNothing, Takes, Run, Steps}
+use Rattle.sentinel_rules.specs.Plans.{Plan, roster_of}
+use Rattle.sentinel_rules.specs.Steps.{IsPartsOf, IsTake}
+use Rattle.sentinel_rules.proofs.InputSteps.{inputs_are_steps}
+use Rattle.sentinel_core.specs.Sentinels.{is_flush}
+use Rattle.sentinel_cell.specs.declared.entry.Entry.{Entry}
+use Rattle.sentinel_cell.specs.declared.entry.Outcome.{Outcome}
+use Rattle.sentinel_cell.specs.declared.entry.Outcome.TheVariants.{Stored, Refused, Halted}
+use Rattle.sentinel_cell.specs.Histories.{World, IsGood, IsOutcome, IsStep, after_outcome, replay, next_of, must_store, same_kept}
+use Rattle.sentinel_cell.specs.EntrySteps.{IsAsLeft, Brings, IsDone, EntryIsSteps, AnswerShowsStored}
+use Rattle.sentinel_cell.proofs.Cards.{good_replay, same_plan}
+use Rattle.sentinel_cell.proofs.Acts.{last_step, first_steps}
+use Rattle.sentinel_cell.proofs.Keeping.{kept_true, kept_same}
+
+-- what has to be stored
+
+flush_true : (event : Event) → is_flush event ≡ true → IsFlush event
+flush_true (Commanded sender FlushConfig) e = tt
+flush_true (Commanded sender Ping) e = absurd (true≢false (sym e))
+flush_true (Commanded sender (IsMasterDownByAddr a n c)) e = absurd (true≢false (sym e))
+flush_true (Commanded sender (GetMasterAddrByName n)) e = absurd (true≢false (sym e))
+flush_true (Commanded sender Masters) e = absurd (true≢false (sym e))
+flush_true (Commanded sender (Master n)) e = absurd (true≢false (sym e))
+flush_true (Commanded sender (Replicas n)) e = absurd (true≢false (sym e))
+flush_true (Commanded sender (Sentinels n)) e = absurd (true≢false (sym e))
+flush_true (Commanded sender MyId) e = absurd (true≢false (sym e))
+flush_true (Commanded sender (CkQuorum n)) e = absurd (true≢false (sym e))
+flush_true (Tick m random) e = absurd (true≢false (sym e))
+flush_true (Answered v m a d l n) e = absurd (true≢false (sym e))
+flush_true (Pinged n r) e = absurd (true≢false (sym e))
+flush_true (InfoRead n t) e = absurd (true≢false (sym e))
+flush_true (HelloRead t) e = absurd (true≢false (sym e))
+flush_true (Become p o l) e = absurd (true≢false (sym e))
+flush_true (Handed m) e = absurd (true≢false (sym e))
+
+flush_is : (event : Event) → IsFlush event → is_flush event ≡ true
+flush_is (Commanded sender FlushConfig) h = refl
+flush_is (Commanded sender Ping) h = absurd h
+flush_is (Commanded sender (IsMasterDownByAddr a n c)) h = absurd h
+flush_is (Commanded sender (GetMasterAddrByName n)) h = absurd h
+flush_is (Commanded sender Masters) h = absurd h
+flush_is (Commanded sender (Master n)) h = absurd h
+flush_is (Commanded sender (Replicas n)) h = absurd h
+flush_is (Commanded sender (Sentinels n)) h = absurd h
+flush_is (Commanded sender MyId) h = absurd h
+flush_is (Commanded sender (CkQuorum n)) h = absurd h
+flush_is (Tick m random) h = absurd h
+flush_is (Answered v m a d l n) h = absurd h
+flush_is (Pinged n r) h = absurd h
+flush_is (InfoRead n t) h = absurd h
+flush_is (HelloRead t) h = absurd h
+flush_is (Become p o l) h = absurd h
+flush_is (Handed m) h = absurd h
+
+either_true : (a b : Bool) → (a || b) ≡ true → (a ≡ true) ⊎ (b ≡ true)
+either_true true b e = inl refl
+either_true false b e = inr e
+
+or_first : (a b : Bool) → a ≡ true → (a || b) ≡ true
+or_first true b e = refl
+or_first false b e = absurd (true≢false (sym e))
+
+or_second : (a b : Bool) → b ≡ true → (a || b) ≡ true
+or_second true b e = refl
+or_second false b e = e
+
+differ : (a b : Kept) (s : Bool) → same_kept a b ≡ s → not s ≡ true → a ≢ b
+differ a b true e h = absurd (true≢false (sym h))
+differ a b false e h = λ same. true≢false (sym (kept_same a b same) ∙ e)
+
+not_same : (a b : Kept) (s : Bool) → same_kept a b ≡ s → a ≢ b → not s ≡ true
+not_same a b true e apart = absurd (apart (kept_true a b e))
+not_same a b false e apart = refl
+
+stores_something : (v : World) (input : Input) (kept was : Kept) → kept ≡ (next_of v input).core.kept → was ≡ v.core.kept → (must_store v input ≡ true) ↔ (IsFlush input.event ⊎ (kept ≢ was))
+stores_something v input kept was k w =
+    let new : Kept = (next_of v input).core.kept in
+    let old : Kept = v.core.kept in (
+      λ e. ⊎_elim
+          (λ (n : not (same_kept new old) ≡ true). inr (λ same. differ new old (same_kept new old) refl n (sym k ∙ (same ∙ w))))
+          (λ (f : is_flush input.event ≡ true). inl (flush_true input.event f))
+          (either_true (not (same_kept new old)) (is_flush input.event) e),
+      λ h. ⊎_elim
+          (λ (f : IsFlush input.event). or_second (not (same_kept new old)) (is_flush input.event) (flush_is input.event f))
+          (λ (apart : kept ≢ was). or_first (not (same_kept new old)) (is_flush input.event) (not_same new old (same_kept new old) refl (λ same. apart (k ∙ (same ∙ sym w)))))
+          h,
+    )
+
+-- one Sentinel of a group
+
+at_self : (group : Group) (i : ℕ) (node : Sentinel) → i < length group.sentinels → sentinel_at (with_sentinel group i node) i ≡ node
+at_self group i node lt = get_or-set_same group.sentinels i node no_sentinel lt
+
+still_inside : (group : Group) (i : ℕ) (node : Sentinel) → i < length group.sentinels → i < length (with_sentinel group i node).sentinels
+still_inside group i node lt = subst (λ (n : ℕ). i < n) (sym (length-set group.sentinels i node)) lt
+
+-- the first step is a take of the input
+taken_by : (roster : Roster) (i : ℕ) (input : Input) (group last : Group) (first : Step) → i < length group.sentinels → (sentinel_at group i).state ≡ Ready → Brings i input group first
+    → Takes roster (SentinelAt i) input.event group last → Steps roster first group last
+taken_by roster i input group last first inside ready brings takes = ⊎_elim
+    (λ (free : (first ≡ Take (SentinelAt i) input) × IsFree input.event). subst (λ (s : Step). Steps roster s group last) (sym free.0) (inl (((inside, ready), free.1), takes)))
+    (λ (came : (k : ℕ) × (message : Message) × (first ≡ Deliver k input.now) × (slice_get group.messages k ≡ Some message) × (message.target ≡ SentinelAt i) × IsFor message.target message.body × Delivers message input.event).
+    subst (λ (s : Step). Steps roster s group last) (sym came.2)
+    (subst (λ (m : Option Message). Rattle.ballot_law.specs.Worlds.IsDelivered roster m group last) (sym came.3)
+    (inl (
+      (subst (λ (name : NodeName). IsAt group name Ready) (sym came.4) (inside, ready), came.5),
+      (input.event, came.6, subst (λ (name : NodeName). Takes roster name input.event group last) (sym came.4) takes),
+    ))))
+    brings
+
+module _ (v : World) (e : Entry) (group : Group) (first : Step) (good : IsGood v) (is : IsAsLeft v.plan.place v group) (brings : Brings v.plan.place e.input group first) where
+  abbrev place : ℕ
+  place = v.plan.place
+
+  abbrev node : Sentinel
+  node = sentinel_at group place
+
+  abbrev name : NodeName
+  name = SentinelAt place
+
+  abbrev Takes' : Type 0
+  Takes' = IsTake v.plan v.core node.parts e.input.event (next_of v e.input).core (next_of v e.input).outputs
+
+  abbrev choice_of : Takes' → Bool → Choice
+  choice_of t must = record { ballots = t.ballots; parts = t.moved_to; must_store = must; held = (next_of v e.input).outputs }
+
+  chosen : (t : Takes') (must : Bool) → must_store v e.input ≡ must → IsChoice (roster_of v.plan) place e.input.event node (choice_of t must)
+  chosen t must is_must =
+      let both = stores_something v e.input t.moved_to.kept node.parts.kept t.parts_after.kept is.parts.kept in
+      record { moved = t.moved; must_store = subst (λ (b : Bool). (b ≡ true) ↔ (IsFlush e.input.event ⊎ (t.moved_to.kept ≢ node.parts.kept))) is_must both; held = t.right }
+
+  begins : (t : Takes') (must : Bool) → must_store v e.input ≡ must → v.halted ≡ false → Steps (roster_of v.plan) first group (with_sentinel group place (taken node (choice_of t must)))
+  begins t must is_must running =
+      taken_by (roster_of v.plan) place e.input group (with_sentinel group place (taken node (choice_of t must))) first is.inside (is.state ∙ ap (λ (b : Bool). cond b IsHalted Ready) running) brings
+      (choice_of t must, chosen t must is_must, refl)
+
+  pub stored_steps : (left : KeptText) → IsOutcome v e.input e.outputs e.failures Stored → IsDone (roster_of v.plan) place group first left v (record e { outcome = Stored }) Stored
+  stored_steps left h =
+      let t : Takes' = inputs_are_steps v.plan v.core node.parts e.input.now e.input.event good.plan good.core is.parts h.3 in
+      let must : Bool = must_store v e.input in
+      let n1 : Sentinel = taken node (choice_of t must) in
+      let g1 : Group = with_sentinel group place n1 in
+      let at1 : sentinel_at g1 place ≡ n1 = at_self group place n1 is.inside in
+      let in1 = still_inside group place n1 is.inside in
+      let n2 : Sentinel = stored_now n1 in
+      let g2 : Group = after_store g1 place n1 in
+      let at2 : sentinel_at g2 place ≡ n2 = at_self g1 place n2 in1 in
+      let in2 = still_inside g1 place n2 in1 in
+      let n3 : Sentinel = released n2 in
+      let g3 : Group = after_release (roster_of v.plan) g2 place n2 in
+      let at3 : sentinel_at g3 place ≡ n3 = at_self g2 place n3 in2 in
+      let in3 = still_inside g2 place n3 in2 in (
+        g3,
+        (
+          g1,
+          begins t must refl h.0,
+          (
+            g2,
+            inl ((in1, ap (λ (n : Sentinel). n.state) at1), ap (after_store g1 place) (sym at1)),
+            (g3, inl ((in2, ap (λ (n : Sentinel). n.state) at2), ap (after_release (roster_of v.plan) g2 place) (sym at2)), refl),
+          ),
+        ),
+        record {
+          inside = in3;
+          state = ap (λ (n : Sentinel). n.state) at3 ∙ ap (λ (b : Bool). cond b IsHalted Ready) (sym h.0);
+          file = λ _. ap (λ (n : Sentinel). n.file) at3 ∙ t.parts_after.kept;
+          parts = subst (λ (n : Sentinel). IsPartsOf (next_of v e.input).core n.parts) (sym at3) t.parts_after;
+          cards = (node.stored, ap (λ (n : Sentinel). n.stored) at3 ∙ ap (λ (k : Kept). node.stored ++ k ∷ []) t.parts_after.kept);
+        },
+        ap (λ (xs : _). group.messages ++ sent xs) (sym h.1),
+      )
+
+  refused_as : (t : Takes') (n2 : Sentinel) (last : Group) → place < length last.sentinels → sentinel_at last place ≡ n2 → n2.state ≡ IsHalted → n2.parts ≡ t.moved_to → n2.stored ≡ node.stored
+      → IsAsLeft place (after_outcome v e.input e.failures Refused) last
+  refused_as t n2 last inside at halted parts stored =
+      record {
+        inside = inside;
+        state = ap (λ (n : Sentinel). n.state) at ∙ halted;
+        file = λ (f : true ≡ false). absurd (true≢false f);
+        parts = subst (IsPartsOf (next_of v e.input).core) (sym (ap (λ (n : Sentinel). n.parts) at ∙ parts)) t.parts_after;
+        cards = (is.cards.0, ap (λ (n : Sentinel). n.stored) at ∙ (stored ∙ is.cards.1));
+      }
+
+  pub refused_steps : (left : KeptText) → IsOutcome v e.input e.outputs e.failures Refused → IsDone (roster_of v.plan) place group first left v (record e { outcome = Refused }) Refused
+  refused_steps Old h =
+      let t : Takes' = inputs_are_steps v.plan v.core node.parts e.input.now e.input.event good.plan good.core is.parts h.3 in
+      let n1 : Sentinel = taken node (choice_of t true) in
+      let g1 : Group = with_sentinel group place n1 in
+      let at1 : sentinel_at g1 place ≡ n1 = at_self group place n1 is.inside in
+      let in1 = still_inside group place n1 is.inside in
+      let n2 : Sentinel = ended n1 IsHalted in
+      let g2 : Group = with_sentinel g1 place n2 in (
+        g2,
+        (g1, begins t true h.4 h.0, (g2, inl ((in1, ap (λ (n : Sentinel). n.state) at1), ap (λ (n : Sentinel). after_refused g1 place n n.must_store Old) (sym at1)), refl)),
+        refused_as t n2 g2 (still_inside g1 place n2 in1) (at_self g1 place n2 in1) refl refl refl,
+      )
+  refused_steps New h =
+      let t : Takes' = inputs_are_steps v.plan v.core node.parts e.input.now e.input.event good.plan good.core is.parts h.3 in
+      let n1 : Sentinel = taken node (choice_of t true) in
+      let g1 : Group = with_sentinel group place n1 in
+      let at1 : sentinel_at g1 place ≡ n1 = at_self group place n1 is.inside in
+      let in1 = still_inside group place n1 is.inside in
+      let n2 : Sentinel = ended_new n1 IsHalted in
+      let g2 : Group = filed g1 place n2 in (
+        g2,
+        (g1, begins t true h.4 h.0, (g2, inl ((in1, ap (λ (n : Sentinel). n.state) at1), ap (λ (n : Sentinel). after_refused g1 place n n.must_store New) (sym at1)), refl)),
+        refused_as t n2 g2 (still_inside g1 place n2 in1) (at_self g1 place n2 in1) refl refl refl,
+      )
+
+  done : (left : KeptText) (o : Outcome) → IsOutcome v e.input e.outputs e.failures o → IsDone (roster_of v.plan) place group first left v (record e { outcome = o }) o
+  done left Stored h = stored_steps left h
+  done left Refused h = refused_steps left h
+  done left Halted h = record { inside = is.inside; state = is.state; file = is.file; parts = is.parts; cards = is.cards }
+
+pub entry_is_steps : EntryIsSteps
+entry_is_steps start history e group first left legal is brings =
+    let v : World = replay start history in
+    let plan : v.plan ≡ start.plan = same_plan start history in
+    let good : IsGood v = good_replay start history legal.0 (first_steps start history (e ∷ []) legal.1) in
+    let step : IsStep v e = last_step start history e legal.1 in
+    let P : Plan → Type 0 = λ p. IsAsLeft p.place v group → Brings p.place e.input group first → IsDone (roster_of p) p.place group first left v e e.outcome in
+    let at : P v.plan = λ x y. done v e group first good x y left e.outcome step in
+    subst P plan at is brings
+
+last_of : (xs : List Kept) (x d : Kept) → slice_index_or (xs ++ x ∷ []) (length (xs ++ x ∷ []) - 1) d ≡ x
+last_of xs x d =
+    let long : length (xs ++ x ∷ []) ≡ length xs + 1 = length-append xs (x ∷ []) in
+    let at : length (xs ++ x ∷ []) - 1 ≡ length xs = omega arith in
+    subst (λ (k : ℕ). slice_index_or (xs ++ x ∷ []) k d ≡ x) (sym at) (seam xs)
+  where
+    seam : (ys : List Kept) → slice_index_or (ys ++ x ∷ []) (length ys) d ≡ x
+    seam [] = refl
+    seam (y ∷ ys) = seam ys
+
+not_stopped : (b : Bool) (s : State) → s ≡ cond b IsHalted Ready → s ≢ Stopped
+not_stopped true s e f = let no : IsHalted ≡ Stopped = sym e ∙ f in cc
+not_stopped false s e f = let no : Ready ≡ Stopped = sym e ∙ f in cc
+
+pub answer_shows_stored : AnswerShowsStored
+answer_shows_stored start history group m is lt =
+    let v : World = replay start history in
+    let i : ℕ = start.plan.place in
+    let node : Sentinel = sentinel_at group i in
+    let none : Kept = record { current = 0; masters = [] } in
+    let card : card_after node m (stores_of node) ≡ card_of v.stored m =
+    ap (λ (xs : List Kept). card_of (slice_index_or xs (length xs - 1) none) m) is.cards.1 ∙ ap (λ (k : Kept). card_of k m) (last_of is.cards.0 v.stored none) in
+    let long : length node.stored ≡ length is.cards.0 + 1 = ap (λ (xs : List Kept). length xs) is.cards.1 ∙ length-append is.cards.0 (v.stored ∷ []) in
+    inl (
+      (is.inside, lt, not_stopped v.halted node.state is.state, omega arith),
+      ap (λ c. let g : Group = record group { said = group.said ++ (record { sentinel = i; master = m; card = c }) ∷ [] } in g) (sym card),
+    )

@@ -1,0 +1,208 @@
+-- What one turn leaves of a Sentinel and its store.
+use Rattle.std.proofs.Common.{◌≡◌, ◌≢◌, ◌↔◌, ◌⊎◌, ℕ, ◌+◌, ◌-◌, ◌^◌, ◌<◌, Bool, true, false, cond, List, [], ◌∷◌, ◌++◌, drop, length, Option, Some, None, refl, sym, ap, ◌∙◌, subst, inl, inr, ⊎_elim, arith, true≢false, eq-eqb}
+use Rattle.std.specs.Prelude.{IfSome, IsOk, OnOk, is_err, Result, Ok, Err, not, ◌&&◌, ◌||◌, ◌==◌}
+use Rattle.std.proofs.Math.Seq.{drop-append_seam, drop-length}
+use Rattle.std.proofs.lemmas.Bool.{eqb-true}
+use Rattle.ballot_law.specs.declared.addresses.Addr.{Addr}
+use Rattle.ballot_law.specs.declared.cards.Kept.{Kept}
+use Rattle.ballot_law.specs.declared.cards.KeptMaster.{KeptMaster}
+use Rattle.ballot_law.specs.declared.events.Input.{Input}
+use Rattle.ballot_law.specs.declared.messages.Output.{Output}
+use Rattle.ballot_law.specs.Orders.{same_addr}
+use Rattle.sentinel_conf.specs.Rewritten.{rewritten, IsKeptPart}
+use Rattle.sentinel_rules.specs.Plans.{Plan}
+use Rattle.sentinel_rules.specs.States.{Core}
+use Rattle.sentinel_rules.specs.Facts.{IsWithinEvent}
+use Rattle.sentinel_rules.specs.Takes.{Next, next}
+use Rattle.sentinel_rules.proofs.Choices.{same_addr-equal}
+use Rattle.sentinel_core.specs.declared.faults.StoreFault.{StoreFault}
+use Rattle.sentinel_core.specs.declared.faults.StoreFault.TheVariants.{Nothing, Refused as WasRefused}
+use Rattle.sentinel_outbox.specs.declared.phase.Phase.TheVariants.{Ready, Halted}
+use Rattle.sentinel_core.specs.Sentinels.{Whole, is_flush}
+use Rattle.sentinel_cell.specs.declared.entry.Entry.{Entry}
+use Rattle.sentinel_cell.specs.declared.entry.Outcome.TheVariants.{Stored, Refused}
+use Rattle.sentinel_cell.specs.declared.keeper.Keeper.{Keeper}
+use Rattle.sentinel_cell.specs.Histories.{World, IsStep, IsLeft, IsText, after, entry_of, next_of, must_store, text_of, same_entry, same_entries, same_kept}
+
+-- Whether two kept parts are the same
+
+both : (a b : Bool) → (a && b) ≡ true → (a ≡ true) × (b ≡ true)
+both true b e = (refl, e)
+both false b e = absurd (true≢false (sym e))
+
+same_number : (a b : ℕ) → (a == b) ≡ true → a ≡ b
+same_number a b e = eqb-true a b e
+
+entry_true : (a b : KeptMaster) → same_entry a b ≡ true → a ≡ b
+entry_true a b e =
+    let one = both (a.card.epoch == b.card.epoch) (same_addr a.card.addr b.card.addr && (a.voted == b.voted)) e in
+    let two = both (same_addr a.card.addr b.card.addr) (a.voted == b.voted) one.1 in
+    let epoch : a.card.epoch ≡ b.card.epoch = same_number a.card.epoch b.card.epoch one.0 in
+    let addr : a.card.addr ≡ b.card.addr = same_addr-equal a.card.addr b.card.addr two.0 in
+    let voted : a.voted ≡ b.voted = same_number a.voted b.voted two.1 in
+    λ i. record { card = record { epoch = epoch i; addr = addr i }; voted = voted i }
+
+entries_true : (xs ys : List KeptMaster) → same_entries xs ys ≡ true → xs ≡ ys
+entries_true [] [] e = refl
+entries_true [] (y ∷ ys) e = absurd (true≢false (sym e))
+entries_true (x ∷ xs) [] e = absurd (true≢false (sym e))
+entries_true (x ∷ xs) (y ∷ ys) e =
+    let one = both (same_entry x y) (same_entries xs ys) e in
+    let first : x ≡ y = entry_true x y one.0 in
+    let rest : xs ≡ ys = entries_true xs ys one.1 in
+    λ i. first i ∷ rest i
+
+pub kept_true : (a b : Kept) → same_kept a b ≡ true → a ≡ b
+kept_true a b e =
+    let one = both (a.current == b.current) (same_entries a.masters b.masters) e in
+    let current : a.current ≡ b.current = same_number a.current b.current one.0 in
+    let masters : a.masters ≡ b.masters = entries_true a.masters b.masters one.1 in
+    λ i. record { current = current i; masters = masters i }
+
+all_true : (a b : Bool) → a ≡ true → b ≡ true → (a && b) ≡ true
+all_true true b p q = q
+all_true false b p q = absurd (true≢false (sym p))
+
+addr_same : (a : Addr) → same_addr a a ≡ true
+addr_same a = all_true (a.ip == a.ip) (a.port == a.port) (eq-eqb a.ip a.ip refl) (eq-eqb a.port a.port refl)
+
+entries_same : (xs : List KeptMaster) → same_entries xs xs ≡ true
+entries_same [] = refl
+entries_same (x ∷ xs) =
+    all_true (same_entry x x) (same_entries xs xs)
+    (all_true (x.card.epoch == x.card.epoch) (same_addr x.card.addr x.card.addr && (x.voted == x.voted)) (eq-eqb x.card.epoch x.card.epoch refl)
+    (all_true (same_addr x.card.addr x.card.addr) (x.voted == x.voted) (addr_same x.card.addr) (eq-eqb x.voted x.voted refl)))
+    (entries_same xs)
+
+pub kept_same : (a b : Kept) → a ≡ b → same_kept a b ≡ true
+kept_same a b e = subst (λ (x : Kept). same_kept a x ≡ true) e (all_true (a.current == a.current) (same_entries a.masters a.masters) (eq-eqb a.current a.current refl) (entries_same a.masters))
+
+must_case : (changed same : Bool) (a b : Kept) → same_kept a b ≡ same → (changed ≡ true ↔ (a ≢ b)) → changed ≡ not same
+must_case true true a b e h = absurd (h.0 refl (kept_true a b e))
+must_case false true a b e h = refl
+must_case changed false a b e h = h.1 (λ same. true≢false (sym (kept_same a b same) ∙ e))
+
+module _ {S : Type 0} (text : S → Option (List ℕ)) (failures : S → ℕ) (w : World) (i : Input) (k : Keeper S) (left : IsLeft text failures w k) where
+  abbrev gives : Next
+  gives = next k.sentinel.plan k.sentinel.core i.now i.event
+
+  same_next : gives ≡ next_of w i
+  same_next = λ j. next (left.plan j) (left.core j) i.now i.event
+
+  -- whether there was something to store
+  pub musts : (changed : Bool) (core : Core) → core ≡ gives.core → (changed ≡ true ↔ (core.kept ≢ k.sentinel.core.kept)) → (changed || is_flush i.event) ≡ must_store w i
+  musts changed core e h =
+      let kept : core.kept ≡ (next_of w i).core.kept = ap (λ (c : Core). c.kept) (e ∙ ap (λ (n : Next). n.core) same_next) in
+      let was : k.sentinel.core.kept ≡ w.core.kept = ap (λ (c : Core). c.kept) left.core in
+      ap (λ (b : Bool). b || is_flush i.event) (must_case changed (same_kept core.kept k.sentinel.core.kept) core.kept k.sentinel.core.kept refl h ∙ (λ j. not (same_kept (kept j) (was j))))
+
+  -- a text that was written, or the one before
+  written : (w2 : World) (must : Bool) (new : List ℕ) (before now : Option (List ℕ)) → w2.text ≡ cond must (Some new) w.text → w2.halted ≡ w.halted → w2.refused ≡ w.refused
+      → (must ≡ false → now ≡ before) → (must ≡ true → IfSome now (λ bytes. bytes ≡ new)) → IfSome before (IsText text failures w) → IfSome now (IsText text failures w2)
+  written w2 must new before None a b c same changed h = tt
+  written w2 true new before (Some bytes) a b c same changed h = inl (a ∙ ap (λ (x : List ℕ). Some x) (sym (changed refl)))
+  written w2 false new before (Some bytes) a b c same changed h =
+      let was : IsText text failures w bytes = subst (λ (t : Option (List ℕ)). IfSome t (IsText text failures w)) (sym (same refl)) h in
+      ⊎_elim (λ (e : w.text ≡ Some bytes). inl (a ∙ e)) (λ (e : (w.halted ≡ true) × (w.refused ≡ Some bytes)). inr (b ∙ e.0, c ∙ e.1)) was
+
+  pub stored_turn : (number : ℕ) (k2 : Keeper S) (taken : Whole) (changed : Bool) (shown outputs shown2 : List Output) → w.halted ≡ false → IsWithinEvent i.event
+      → taken.plan ≡ k.sentinel.plan → taken.core ≡ gives.core → (changed ≡ true ↔ (taken.core.kept ≢ k.sentinel.core.kept)) → IsKeptPart taken.plan.conf taken.core.kept
+      → outputs ≡ gives.outputs → shown2 ≡ shown ++ outputs → k2.sentinel ≡ record taken { stored = taken.core.kept; phase = Ready }
+      → ((changed || is_flush i.event) ≡ false → text k2.store ≡ text k.store)
+      → ((changed || is_flush i.event) ≡ true → IfSome (text k2.store) (λ bytes. bytes ≡ rewritten taken.plan.conf taken.core.kept))
+      → failures k2.store ≡ failures k.store
+      → let e = entry_of number i Stored (length shown) shown2 (failures k2.store) in IsStep w e × IsLeft text failures (after w e) k2
+  stored_turn number k2 taken changed shown outputs shown2 running within plan core differs part out more new same wrote count =
+      let e : Entry = entry_of number i Stored (length shown) shown2 (failures k2.store) in
+      let to_core : taken.core ≡ (next_of w i).core = core ∙ ap (λ (n : Next). n.core) same_next in
+      let to_plan : taken.plan ≡ w.plan = plan ∙ left.plan in
+      let must : (changed || is_flush i.event) ≡ must_store w i = musts changed taken.core core differs in
+      let text_same : rewritten taken.plan.conf taken.core.kept ≡ text_of w i = (λ j. rewritten (to_plan j).conf (to_core j).kept) in (
+        (
+          running,
+          (ap (drop (length shown)) more ∙ drop-append_seam shown outputs) ∙ (out ∙ ap (λ (n : Next). n.outputs) same_next),
+          (let a : failures k2.store ≡ failures k.store = count in let b : failures k.store ≡ w.failures = left.failures_are in omega arith),
+          within,
+        ),
+        record {
+          plan = ap (λ (x : Whole). x.plan) new ∙ to_plan;
+          core = ap (λ (x : Whole). x.core) new ∙ to_core;
+          stored = ap (λ (x : Whole). x.stored) new ∙ ap (λ (c : Core). c.kept) to_core;
+          phase = ap (λ (x : Whole). x.phase) new ∙ ap (λ (b : Bool). cond b Halted Ready) (sym running);
+          failures_are = refl;
+          text_is = written (after w e) (must_store w i) (text_of w i) (text k.store) (text k2.store) refl refl refl
+              (λ f. same (must ∙ f)) (λ t. subst (λ (x : List ℕ). IfSome (text k2.store) (λ bytes. bytes ≡ x)) text_same (wrote (must ∙ t))) left.text_is;
+          kept = subst (λ (x : Plan × Core). IsKeptPart x.0.conf x.1.kept) (λ j. (to_plan j, to_core j)) part;
+          room = λ h. subst (λ (n : ℕ). n < 2 ^ 64 - 1) (sym count) (left.room h);
+        },
+      )
+
+  refused_text : (w2 : World) (new : List ℕ) (before now : Option (List ℕ)) → w.halted ≡ false → w2.text ≡ w.text → w2.halted ≡ true → w2.refused ≡ Some new
+      → (now ≡ before) ⊎ IfSome now (λ bytes. bytes ≡ new) → IfSome before (IsText text failures w) → IfSome now (IsText text failures w2)
+  refused_text w2 new before None running a b c either h = tt
+  refused_text w2 new before (Some bytes) running a b c either h = ⊎_elim
+      (λ (same : Some bytes ≡ before). let was : IsText text failures w bytes = subst (λ (t : Option (List ℕ)). IfSome t (IsText text failures w)) (sym same) h in
+      ⊎_elim (λ (e : w.text ≡ Some bytes). inl (a ∙ e)) (λ (e : (w.halted ≡ true) × (w.refused ≡ Some bytes)). absurd (true≢false (sym e.0 ∙ running))) was)
+      (λ (e : bytes ≡ new). inr (b, c ∙ ap (λ (x : List ℕ). Some x) (sym e)))
+      either
+
+  pub refused_turn : (number : ℕ) (k2 : Keeper S) (taken : Whole) (changed : Bool) (shown shown2 : List Output) → w.halted ≡ false → IsWithinEvent i.event
+      → taken.plan ≡ k.sentinel.plan → taken.core ≡ gives.core → taken.stored ≡ k.sentinel.stored → (changed ≡ true ↔ (taken.core.kept ≢ k.sentinel.core.kept))
+      → shown2 ≡ shown → k2.sentinel ≡ record taken { phase = Halted } → (changed || is_flush i.event) ≡ true
+      → (text k2.store ≡ text k.store) ⊎ IfSome (text k2.store) (λ bytes. bytes ≡ rewritten taken.plan.conf taken.core.kept)
+      → failures k2.store ≡ failures k.store + 1
+      → let e = entry_of number i Refused (length shown) shown2 (failures k2.store) in IsStep w e × IsLeft text failures (after w e) k2
+  refused_turn number k2 taken changed shown shown2 running within plan core stored differs out new pending either count =
+      let e : Entry = entry_of number i Refused (length shown) shown2 (failures k2.store) in
+      let to_core : taken.core ≡ (next_of w i).core = core ∙ ap (λ (n : Next). n.core) same_next in
+      let to_plan : taken.plan ≡ w.plan = plan ∙ left.plan in
+      let must : (changed || is_flush i.event) ≡ must_store w i = musts changed taken.core core differs in
+      let text_same : rewritten taken.plan.conf taken.core.kept ≡ text_of w i = (λ j. rewritten (to_plan j).conf (to_core j).kept) in (
+        (
+          running,
+          ap (drop (length shown)) out ∙ drop-length shown,
+          (let a : failures k2.store ≡ failures k.store + 1 = count in let b : failures k.store ≡ w.failures = left.failures_are in omega arith),
+          within,
+          sym must ∙ pending,
+        ),
+        record {
+          plan = ap (λ (x : Whole). x.plan) new ∙ to_plan;
+          core = ap (λ (x : Whole). x.core) new ∙ to_core;
+          stored = ap (λ (x : Whole). x.stored) new ∙ (stored ∙ left.stored);
+          phase = ap (λ (x : Whole). x.phase) new;
+          failures_are = refl;
+          text_is = refused_text (after w e) (text_of w i) (text k.store) (text k2.store) running refl refl refl
+              (subst (λ (x : List ℕ). (text k2.store ≡ text k.store) ⊎ IfSome (text k2.store) (λ bytes. bytes ≡ x)) text_same either) left.text_is;
+          kept = left.kept;
+          room = λ (h : true ≡ false). absurd (true≢false h);
+        },
+      )
+
+  -- a Sentinel that takes an input isn't halted
+  pub runs : (k.sentinel.phase ≡ Halted → ⊥) → w.halted ≡ false
+  runs not_halted = known w.halted left.phase
+    where
+      known : (b : Bool) → k.sentinel.phase ≡ cond b Halted Ready → b ≡ false
+      known true e = absurd (not_halted e)
+      known false e = refl
+
+-- how a take or a store ended
+pub ran : {X E : Type 0} (r : Result X E) (x : X) → r ≡ Ok x → {f : E} → r ≡ Err f → ⊥
+ran r x a {f} b = let e : Ok x ≡ Err f = sym a ∙ b in cc
+
+pub pends : {P X : Type 0} (r : Result X StoreFault) (must : Bool) → r ≡ Err WasRefused → (must ≡ false → P × IsOk r) → must ≡ true
+pends {P} {X} r true e f = refl
+pends {P} {X} r false e f = absurd (not_ok r e (f refl).1)
+  where
+    not_ok : (r : Result X StoreFault) → r ≡ Err WasRefused → IsOk r → ⊥
+    not_ok (Ok x) e h = cc
+    not_ok (Err y) e h = true≢false (sym h)
+
+pub on_ok : {X E P : Type 0} (answer : Result X E) → is_err answer ≡ false → OnOk answer P → P
+on_ok (Ok x) e p = p
+on_ok (Err fault) e p = absurd (let no : ⊥ = cc in no)
+
+pub refused_of : {X : Type 0} (answer : Result X StoreFault) → is_err answer ≡ true → ¬ (answer ≡ Err Nothing) → answer ≡ Err WasRefused
+refused_of (Ok x) e n = absurd (let no : ⊥ = cc in no)
+refused_of (Err Nothing) e n = absurd (n refl)
+refused_of (Err WasRefused) e n = refl

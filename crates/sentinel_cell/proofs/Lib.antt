@@ -1,0 +1,11 @@
+pub mod Cards
+pub mod Fronts
+pub mod Totals
+pub mod Steps
+pub mod Calls
+pub mod Acts
+pub mod Opening
+pub mod Closing
+pub mod Keeping
+pub mod EntrySteps
+pub mod Places
