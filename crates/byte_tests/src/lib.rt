@@ -1,5 +1,5 @@
 //! Tests of the crates that read and write bytes, by their public calls: words and numbers, frames, commands, files, hellos, INFO, ROLE,
-//! the answers of a port. The values that they expect come from public standards and from what Redis writes.
+//! the answers of a port, scenarios. The values that they expect come from public standards and from what Redis writes.
 #![tactic(auto)]
 
 #[cfg(test)]
@@ -20,6 +20,8 @@ mod hellos;
 mod infos;
 #[cfg(test)]
 mod roles;
+#[cfg(test)]
+mod scenario_lines;
 #[cfg(test)]
 mod server_infos;
 #[cfg(test)]

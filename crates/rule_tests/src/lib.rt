@@ -5,6 +5,8 @@
 #[cfg(test)]
 mod best_replica;
 #[cfg(test)]
+mod client_searches;
+#[cfg(test)]
 mod down_states;
 #[cfg(test)]
 mod failover_turns;

@@ -1,0 +1,16 @@
+//! Nodes of a group behind one interface, so that Sentinels, data nodes and clients stand in boxes side by side.
+//!
+//! `Node` is what a world asks of a node: it takes an input, stores, releases, stops and starts, and tells what it is. In the model of
+//! the whole group a node stands for images of one Sentinel or of another node, and each call moves each of these as the model moves a
+//! node. The definitions read from below: `Images` (what a node is to the model, and what each call makes of it), `Sendable` (what may
+//! be sent and taken), `Moves` (what each call ensures).
+#![tactic(auto)]
+
+mod calls;
+mod node;
+
+pub use calls::HowStored;
+pub use node::Node;
+pub use sentinel_core::{
+    NoMemory, OpenFault, Outbox, ReleaseFault, Room, StoreFault, TakeFault, Took,
+};

@@ -1,0 +1,3 @@
+mod Bulks
+mod Following
+mod Texts
