@@ -7,11 +7,17 @@ ghost use Rattle.resp2_frames.specs.Writing.{Adds};
 use ballot_law::NoMemory;
 use resp2_frames::{ByteSink, OutText};
 
-/// The byte as it is shown: a control byte is a space.
+/// The byte as it is shown: one that isn't a printable one of ASCII is a space.
 fn shown(byte: u8) -> u8
     ensures { result ≡ shown byte }
 {
-    if byte < 32 { b' ' } else { byte }
+    if byte < 32 {
+        b' '
+    } else if byte < 127 {
+        byte
+    } else {
+        b' '
+    }
 }
 
 /// Adds these bytes as they are shown.
@@ -24,8 +30,8 @@ fn add_shown(text: &mut OutText, bytes: &[u8]) -> Result<(), NoMemory>
     Ok(())
 }
 
-/// Adds a comment line: a number sign, a space, the words with each control byte as a space, and the line's end. `NoMemory` leaves the
-/// text unchanged.
+/// Adds a comment line: a number sign, a space, the words with a space for each byte that isn't a printable one of ASCII, and the line's
+/// end. So it is one line, whatever the words are. `NoMemory` leaves the text unchanged.
 pub fn add_comment(text: &mut OutText, words: &[u8]) -> Result<(), NoMemory>
     ensures ok { OnOk result (text.new ≡ text.old ++ comment words.now) }
     ensures err { OnErr result (text.new ≡ text.old) }

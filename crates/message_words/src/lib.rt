@@ -1,7 +1,7 @@
 //! Messages as words that people read: what a message is on the wire, without the marks of the protocol.
 //!
-//! The words of a command are its own; those of a reply are its texts and numbers in order, with `(nil)` for null. They stand in one
-//! line: each byte that would end a line, or move the cursor, is shown as a space.
+//! The words of a command are its own; those of a reply are its texts and numbers in order, with `(nil)` for null. A comment of a
+//! scenario is one line of printable ASCII, whatever its words are.
 #![tactic(auto)]
 
 mod comments;
