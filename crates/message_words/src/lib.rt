@@ -5,8 +5,10 @@
 #![tactic(auto)]
 
 mod comments;
+mod message_lines;
 mod wording;
 
 pub use ballot_law::{Message, NoMemory};
 pub use comments::add_comment;
+pub use message_lines::add_message;
 pub use wording::words_of;
