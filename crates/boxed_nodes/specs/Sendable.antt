@@ -1,31 +1,22 @@
 -- What a node may send, and what it may be given to take.
-use Rattle.std.specs.Prelude.{◌<◌, ◌^◌, IfSome, List}
+use Rattle.std.specs.Prelude.{◌<◌, ◌^◌, List}
 use Rattle.std.specs.List.{AllByRecursion}
 use Rattle.ballot_law.specs.declared.events.Event.{Event}
 use Rattle.ballot_law.specs.declared.events.Event.TheVariants.{Become, Handed}
-use Rattle.ballot_law.specs.declared.messages.Body.{Body}
-use Rattle.ballot_law.specs.declared.messages.Body.TheVariants.{ReplicaOf}
 use Rattle.ballot_law.specs.declared.messages.Message.{Message}
 use Rattle.ballot_law.specs.declared.messages.NodeName.{NodeName}
 use Rattle.ballot_law.specs.declared.messages.NodeName.TheVariants.{SentinelAt}
 use Rattle.ballot_law.specs.declared.messages.Output.{Output}
 use Rattle.ballot_law.specs.declared.messages.Output.TheVariants.{Send, Tell}
-use Rattle.ballot_law.specs.Hellos.{IsAddr}
 use Rattle.message_texts.specs.MessageTexts.{IsWritable}
 use Rattle.sentinel_outbox.specs.Outboxes.{IsOfOther}
 use Rattle.sentinel_rules.specs.Facts.{IsWithinEvent}
 use Rattle.sentinel_rules.specs.Limits.{IsWithinBody}
 
--- an order names an address that a node can have
-abbrev pub IsOrder : Body → Type 0
-IsOrder (ReplicaOf addr) = IfSome addr IsAddr
-IsOrder body = Unit {0}
-
 -- its numbers are within the limits, and it has a spelling
 pub record IsSendable (message : Message) : Type 0 where
   pub within : IsWithinBody message.body
   pub writable : IsWritable message.body
-  pub order : IsOrder message.body
 
 abbrev pub IsSendableOutput : Output → Type 0
 IsSendableOutput (Send message) = IsSendable message
