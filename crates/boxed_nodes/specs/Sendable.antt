@@ -1,39 +1,41 @@
 -- What a node may send, and what it may be given to take.
-use Rattle.std.specs.Prelude.{◌<◌, ◌^◌, IfSome, List}
+use Rattle.std.specs.Prelude.{◌<◌, ◌≤◌, ◌^◌, List, length}
 use Rattle.std.specs.List.{AllByRecursion}
 use Rattle.ballot_law.specs.declared.events.Event.{Event}
 use Rattle.ballot_law.specs.declared.events.Event.TheVariants.{Become, Handed}
 use Rattle.ballot_law.specs.declared.messages.Body.{Body}
-use Rattle.ballot_law.specs.declared.messages.Body.TheVariants.{ReplicaOf}
+use Rattle.ballot_law.specs.declared.messages.Body.TheVariants.{PortReply}
 use Rattle.ballot_law.specs.declared.messages.Message.{Message}
 use Rattle.ballot_law.specs.declared.messages.NodeName.{NodeName}
 use Rattle.ballot_law.specs.declared.messages.NodeName.TheVariants.{SentinelAt}
 use Rattle.ballot_law.specs.declared.messages.Output.{Output}
 use Rattle.ballot_law.specs.declared.messages.Output.TheVariants.{Send, Tell}
-use Rattle.ballot_law.specs.Hellos.{IsAddr}
 use Rattle.message_texts.specs.MessageTexts.{IsWritable}
 use Rattle.sentinel_outbox.specs.Outboxes.{IsOfOther}
 use Rattle.sentinel_rules.specs.Facts.{IsWithinEvent}
 use Rattle.sentinel_rules.specs.Limits.{IsWithinBody}
 
--- an order names an address that a node can have
-abbrev pub IsOrder : Body → Type 0
-IsOrder (ReplicaOf addr) = IfSome addr IsAddr
-IsOrder body = Unit {0}
-
 -- its numbers are within the limits, and it has a spelling
 pub record IsSendable (message : Message) : Type 0 where
   pub within : IsWithinBody message.body
   pub writable : IsWritable message.body
-  pub order : IsOrder message.body
 
 abbrev pub IsSendableOutput : Output → Type 0
 IsSendableOutput (Send message) = IsSendable message
 IsSendableOutput (Tell note) = Unit {0}
 
--- what a node holds that isn't a Sentinel is messages of such nodes
+-- an answer of the port shows the configurations of 16 masters at most
+abbrev pub IsFewIn : Body → Type 0
+IsFewIn (PortReply shown text) = length shown ≤ 16
+IsFewIn body = Unit {0}
+
+abbrev pub IsFewShown : Output → Type 0
+IsFewShown (Send message) = IsFewIn message.body
+IsFewShown (Tell note) = Unit {0}
+
+-- what a Sentinel holds shows few configurations; what another node holds is messages of such nodes
 abbrev pub IsHeldBy : NodeName → List Output → Type 0
-IsHeldBy (SentinelAt i) held = Unit {0}
+IsHeldBy (SentinelAt i) held = AllByRecursion IsFewShown held
 IsHeldBy name held = AllByRecursion IsOfOther held
 
 -- what may be taken: an epoch of a command is within the limit, and so are the numbers of a change; what is handed over was sent

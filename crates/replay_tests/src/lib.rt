@@ -1,0 +1,9 @@
+//! Tests of what a replay stands on: what a message becomes at its target, and how a trace shows it.
+#![tactic(auto)]
+
+#[cfg(test)]
+mod comments;
+#[cfg(test)]
+mod deliveries_to_nodes;
+#[cfg(test)]
+mod message_lines;

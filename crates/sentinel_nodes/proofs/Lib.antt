@@ -1,0 +1,5 @@
+mod Few
+mod Fresh
+mod Same
+mod Sending
+mod SentinelMoves

@@ -1,0 +1,536 @@
+-- Each call of a Sentinel in memory moves the Sentinel of the model for which it stands.
+use Rattle.std.proofs.Common.{inl, inr, ◌≡◌, ◌≢◌, ◌↔◌, ◌⊎◌, ℕ, ◌≤◌, ◌<◌, ◌||◌, Bool, true, false, Option, Some, None, List, [], ◌∷◌, ◌++◌, length, nat_lt, refl, sym, ◌∙◌, ap, subst, arith, Result, Ok, Err, is_ok, OnOk, IsOk, IfOk, IsErrOf, IsTrue, IsFalse}
+use Rattle.std.specs.Prelude.{All, IfSome}
+use Rattle.std.proofs.lemmas.Bool.{le-ltb}
+use Rattle.ballot_law.specs.declared.cards.Kept.{Kept}
+use Rattle.ballot_law.specs.declared.events.Event.{Event}
+use Rattle.ballot_law.specs.declared.events.Event.TheVariants.{Tick, Command as Commanded, Answered, Pinged, InfoRead, HelloRead, Become, Handed}
+use Rattle.ballot_law.specs.declared.commands.Command.TheVariants as command
+use Rattle.ballot_law.specs.declared.messages.NodeName.TheVariants.{SentinelAt}
+use Rattle.ballot_law.specs.declared.messages.Output.{Output}
+use Rattle.ballot_law.specs.declared.steps.KeptText.{KeptText}
+use Rattle.ballot_law.specs.declared.steps.KeptText.TheVariants.{Old, New}
+use Rattle.ballot_law.specs.Rosters.{Roster, id_of, size, HasDistinctIds}
+use Rattle.ballot_law.specs.Ballots.{Parts, Moved, restored}
+use Rattle.ballot_law.specs.Worlds.{Sentinel, State, Ready, Pending, Stored, Halted, Stopped, IsFlush, Choice, IsChoice, IsRightOutput, taken, stored_now, ended, ended_new, started}
+use Rattle.sentinel_conf.specs.Meaning.{ConfPlan}
+use Rattle.sentinel_conf.specs.Reading.{conf_of_bytes}
+use Rattle.sentinel_conf.specs.Rewritten.{rewritten, IsKeptPart}
+use Rattle.sentinel_rules.specs.Plans.{Plan, roster_of}
+use Rattle.sentinel_rules.specs.States.{Core, opened}
+use Rattle.sentinel_rules.specs.Steps.{IsPartsOf, IsTake, OpenedIsSound}
+use Rattle.sentinel_rules.specs.Facts.{IsSound, IsSoundPlan}
+use Rattle.sentinel_rules.specs.Takes.{next}
+use Rattle.sentinel_core.specs.Sentinels.{Whole, IsWhole, is_flush, is_pending}
+use Rattle.sentinel_outbox.specs.declared.phase.Phase.{Phase}
+use Rattle.sentinel_outbox.specs.declared.phase.Phase.TheVariants as phase
+use Rattle.sentinel_core.specs.declared.faults.StoreFault.{StoreFault}
+use Rattle.sentinel_core.specs.declared.faults.StoreFault.TheVariants as store_fault
+use Rattle.boxed_nodes.specs.declared.calls.HowStored.{HowStored}
+use Rattle.boxed_nodes.specs.declared.calls.HowStored.TheVariants as how
+use Rattle.conf_store.specs.Stores.{Outcome}
+use Rattle.sentinel_nodes.specs.Files.{File, outcome_of, outcome_with, refusal_of}
+use Rattle.boxed_nodes.specs.Images.{Image, OfSentinel, OfOther, TakenTo, state_of, after_store, store_answer, stopped_image, stopped_sentinel, started_image, refused_sentinel, refusal}
+use Rattle.boxed_nodes.specs.Moves.{Taken, Takes, Stores, Stops, Starts, IsNamed, IsFresh}
+use Rattle.sentinel_core.specs.declared.sentinel.Took.{Took}
+use Rattle.sentinel_core.specs.declared.faults.TakeFault.{TakeFault}
+use Rattle.sentinel_nodes.specs.Kinds.{IsSentinelImage, IsImageOf, IsPendingAs, state_in, is_running}
+use Rattle.sentinel_nodes.proofs.Fresh.{well_formed}
+
+-- A take
+
+-- FLUSHCONFIG to the model, and to the Sentinel
+flush_told : (event : Event) → IsFlush event → is_flush event ≡ true
+flush_told (Commanded sender command.FlushConfig) f = refl
+flush_told (Tick _ _) f = elim f [ ]
+flush_told (Commanded sender command.Ping) f = elim f [ ]
+flush_told (Commanded sender (command.IsMasterDownByAddr _ _ _)) f = elim f [ ]
+flush_told (Commanded sender (command.GetMasterAddrByName _)) f = elim f [ ]
+flush_told (Commanded sender command.Masters) f = elim f [ ]
+flush_told (Commanded sender (command.Master _)) f = elim f [ ]
+flush_told (Commanded sender (command.Replicas _)) f = elim f [ ]
+flush_told (Commanded sender (command.Sentinels _)) f = elim f [ ]
+flush_told (Commanded sender command.MyId) f = elim f [ ]
+flush_told (Commanded sender (command.CkQuorum _)) f = elim f [ ]
+flush_told (Answered _ _ _ _ _ _) f = elim f [ ]
+flush_told (Pinged _ _) f = elim f [ ]
+flush_told (InfoRead _ _) f = elim f [ ]
+flush_told (HelloRead _) f = elim f [ ]
+flush_told (Become _ _ _) f = elim f [ ]
+flush_told (Handed _) f = elim f [ ]
+
+flush_is : (event : Event) → is_flush event ≡ true → IsFlush event
+flush_is (Commanded sender command.FlushConfig) e = tt
+flush_is (Commanded sender command.Ping) e = cc
+flush_is (Commanded sender (command.IsMasterDownByAddr addr epoch candidate)) e = cc
+flush_is (Commanded sender (command.GetMasterAddrByName name)) e = cc
+flush_is (Commanded sender command.Masters) e = cc
+flush_is (Commanded sender (command.Master name)) e = cc
+flush_is (Commanded sender (command.Replicas name)) e = cc
+flush_is (Commanded sender (command.Sentinels name)) e = cc
+flush_is (Commanded sender command.MyId) e = cc
+flush_is (Commanded sender (command.CkQuorum name)) e = cc
+flush_is (Tick m random) e = cc
+flush_is (Answered voter m addr down leader epoch) e = cc
+flush_is (Pinged node reply) e = cc
+flush_is (InfoRead node text) e = cc
+flush_is (HelloRead text) e = cc
+flush_is (Become priority offset link_down) e = cc
+flush_is (Handed message) e = cc
+
+or_cases : (a b : Bool) → a || b ≡ true → (a ≡ true) ⊎ (b ≡ true)
+or_cases true b e = inl refl
+or_cases false b e = inr e
+
+or_left : (a b : Bool) → a ≡ true → a || b ≡ true
+or_left true b e = refl
+or_left false b e = cc
+
+or_right : (a b : Bool) → b ≡ true → a || b ≡ true
+or_right true b e = refl
+or_right false b e = e
+
+or_false : (a b : Bool) → a || b ≡ false → a ≡ false
+or_false true b e = cc
+or_false false b e = refl
+
+-- what the model stores, and what the Sentinel does
+must_store_is : (event : Event) (changed : Bool) (old new old_kept new_kept : Kept) → (IsTrue changed ↔ (new ≢ old)) → old_kept ≡ old → new_kept ≡ new → (changed || is_flush event ≡ true) ↔ (IsFlush event ⊎ (new_kept ≢ old_kept))
+must_store_is event changed old new old_kept new_kept told e f = (
+  λ h. (elim (or_cases changed (is_flush event) h) as (λ _. IsFlush event ⊎ (new_kept ≢ old_kept)) [
+    | inl t ↦ inr (λ same. told.0 t (sym f ∙ same ∙ e))
+    | inr t ↦ inl (flush_is event t)
+  ]),
+  λ h. (elim h as (λ _. changed || is_flush event ≡ true) [
+    | inl t ↦ or_right changed (is_flush event) (flush_told event t)
+    | inr t ↦ or_left changed (is_flush event) (told.1 (λ same. t (f ∙ same ∙ sym e)))
+  ]),
+)
+
+pub record TookAs (before after : Whole) (now : ℕ) (event : Event) (changed : Bool) (outputs : List Output) : Type 0 where
+  pub ready : before.phase ≡ phase.Ready
+  pub whole : IsWhole after
+  pub core : after.core ≡ (next before.plan before.core now event).core
+  pub outputs_are : outputs ≡ (next before.plan before.core now event).outputs
+  pub changed_is : IsTrue changed ↔ (after.core.kept ≢ before.core.kept)
+  pub unchanged : IsFalse changed → after.core.kept ≡ before.core.kept
+  pub phase_is : after.phase ≡ phase.Pending (changed || is_flush event)
+  pub plan : after.plan ≡ before.plan
+  pub stored : after.stored ≡ before.stored
+  pub steps : (parts : Parts) → IsPartsOf before.core parts → IsTake before.plan before.core parts event after.core outputs
+
+pending_as : (whole : Whole) (s : Sentinel) (p : Phase) (b : Bool) → p ≡ phase.Pending b → s.must_store ≡ b → (b ≡ false → whole.core.kept ≡ whole.stored) → IsPendingAs p whole s
+pending_as whole s p b e told same = subst (λ q. IsPendingAs q whole s) (sym e) (told, same)
+
+taken_sentinel : (before after : Whole) (text : List ℕ) (now : ℕ) (event : Event) (changed : Bool) (outputs : List Output) → TookAs before after now event changed outputs →
+    (roster : Roster) (s : Sentinel) → IsSentinelImage before text roster s → Taken roster (SentinelAt before.plan.place) event (OfSentinel s) outputs (IsImageOf after text roster)
+taken_sentinel before after text now event changed outputs took roster s h =
+    let t = took.steps s.parts h.parts_of in
+    let same : before.core.kept ≡ before.stored = subst (λ p. Rattle.sentinel_core.specs.Sentinels.IsSettled p before.core before.stored) took.ready h.whole_ok.settled in
+    let running : is_running before.phase ≡ true = ap is_running took.ready in
+    let choice : Choice = record { ballots = t.ballots; parts = t.moved_to; must_store = changed || is_flush event; held = outputs } in
+    record {
+      ready = h.state_is ∙ ap state_in took.ready;
+      after = OfSentinel (taken s choice);
+      moved = (
+        choice,
+        record {
+          moved = subst (λ r. Moved r before.plan.place event t.ballots (record s.parts { casts = []; wins = [] }) t.moved_to) h.has_roster t.moved;
+          must_store = must_store_is event changed before.core.kept after.core.kept s.parts.kept t.moved_to.kept took.changed_is h.parts_of.kept t.parts_after.kept;
+          held = subst (λ r. All (IsRightOutput r before.plan.place t.moved_to) outputs) h.has_roster t.right;
+        },
+        refl,
+        refl,
+      );
+      shows = record {
+        whole_ok = took.whole;
+        has_roster = ap roster_of took.plan ∙ h.has_roster;
+        state_is = ap state_in (sym took.phase_is);
+        read = subst (λ p. conf_of_bytes text ≡ Ok (record p.conf { kept = s.file })) (sym took.plan) h.read;
+        file_is = λ _. h.file_is running ∙ sym took.stored;
+        before = h.before;
+        stored_is = λ _. h.stored_is (λ e. (let f : phase.Ready ≡ phase.Stopped = sym took.ready ∙ e in cc)) ∙ ap (λ k. h.before ++ k ∷ []) (sym took.stored);
+        parts_of = t.parts_after;
+        pending = pending_as after (taken s choice) after.phase (changed || is_flush event) took.phase_is refl
+            (λ none. took.unchanged (or_false changed (is_flush event) none) ∙ same ∙ sym took.stored);
+      };
+    }
+
+pub taken_image : (before after : Whole) (text : List ℕ) (now : ℕ) (event : Event) (changed : Bool) (outputs : List Output) → TookAs before after now event changed outputs →
+    (roster : Roster) (image : Image) → IsImageOf before text roster image → Taken roster (SentinelAt before.plan.place) event image outputs (IsImageOf after text roster)
+taken_image before after text now event changed outputs took roster (OfSentinel s) h = taken_sentinel before after text now event changed outputs took roster s h
+taken_image before after text now event changed outputs took roster (OfOther o) h = elim h [ ]
+
+-- A file
+
+-- the rewritten file is read as the conf with what was stored
+abbrev pub AgainOf : Type 0
+AgainOf = (bytes : List ℕ) (conf : ConfPlan) (kept : Kept) → conf_of_bytes bytes ≡ Ok conf → IsKeptPart conf kept → conf_of_bytes (rewritten conf kept) ≡ Ok (record conf { kept = kept })
+
+abbrev pub SizeOf : Type 0
+SizeOf = (bytes : List ℕ) (conf : ConfPlan) (kept : Kept) → conf_of_bytes bytes ≡ Ok conf → IsKeptPart conf kept → length (rewritten conf kept) ≤ 65536
+
+kept_part : (conf : ConfPlan) (file kept : Kept) → IsKeptPart conf kept → IsKeptPart (record conf { kept = file }) kept
+kept_part conf file kept part = record { current = part.current; masters = part.masters }
+
+read_again : AgainOf → (text : List ℕ) (conf : ConfPlan) (file kept : Kept) → conf_of_bytes text ≡ Ok (record conf { kept = file }) → IsKeptPart conf kept → conf_of_bytes (rewritten conf kept) ≡ Ok (record conf { kept = kept })
+read_again again text conf file kept read part = again text (record conf { kept = file }) kept read (kept_part conf file kept part)
+
+fits_file : SizeOf → (text : List ℕ) (conf : ConfPlan) (file kept : Kept) → conf_of_bytes text ≡ Ok (record conf { kept = file }) → IsKeptPart conf kept → length (rewritten conf kept) ≤ 65536
+fits_file size text conf file kept read part = size text (record conf { kept = file }) kept read (kept_part conf file kept part)
+
+-- A store
+
+-- what the Sentinel says of the store
+pub record StoredAs (before after : Whole) (file file2 : File) (result : Result (Unit {0}) StoreFault) : Type 0 where
+  pub whole : IsWhole after
+  pub nothing : IsErrOf result store_fault.Nothing ↔ (is_pending before.phase ≡ false)
+  pub nothing_left : IsErrOf result store_fault.Nothing → (after ≡ before) × (file2 ≡ file)
+  pub stored : OnOk result (after ≡ record before { stored = before.core.kept; phase = phase.Stored })
+  pub untouched : before.phase ≡ phase.Pending false → OnOk result (file2 ≡ file) × IsOk result
+  pub halted : IsErrOf result store_fault.Refused → after ≡ record before { phase = phase.Halted }
+  pub known : before.phase ≡ phase.Pending true → (is_ok result ≡ (outcome_of file (rewritten before.plan.conf before.core.kept)).is_stored) × (Some file2.text ≡ Some (outcome_of file (rewritten before.plan.conf before.core.kept)).text)
+
+no_over : (n : ℕ) → n ≤ 65536 → nat_lt 65536 n ≡ false
+no_over n h = le-ltb 65536 n h
+
+-- where there is room, the file answers by its refusal
+answers : (file : File) (text : List ℕ) → length text ≤ 65536 → outcome_of file text ≡ outcome_with file.refusal file.text text
+answers file text h = ap (λ b. Rattle.std.proofs.Common.cond b (record { is_stored = false; text = file.text }) (outcome_with file.refusal file.text text)) (no_over (length text) h)
+
+-- a store that ends well
+stored_image_of : AgainOf → (before after : Whole) (text text2 : List ℕ) (roster : Roster) (s : Sentinel) → IsSentinelImage before text roster s → is_pending before.phase ≡ true → IsWhole after → after ≡ record before { stored = before.core.kept; phase = phase.Stored } →
+    conf_of_bytes text2 ≡ Ok (record before.plan.conf { kept = before.core.kept }) → IsImageOf after text2 roster (OfSentinel (stored_now s))
+stored_image_of again before after text text2 roster s h p whole e read =
+    record {
+      whole_ok = whole;
+      has_roster = ap (λ (w : Whole). roster_of w.plan) e ∙ h.has_roster;
+      state_is = sym (ap (λ (w : Whole). state_in w.phase) e);
+      read = subst (λ (w : Whole). conf_of_bytes text2 ≡ Ok (record w.plan.conf { kept = s.parts.kept })) (sym e) (subst (λ k. conf_of_bytes text2 ≡ Ok (record before.plan.conf { kept = k })) (sym h.parts_of.kept) read);
+      file_is = λ _. h.parts_of.kept ∙ sym (ap (λ (w : Whole). w.stored) e);
+      before = s.stored;
+      stored_is = λ _. ap (λ k. s.stored ++ k ∷ []) (h.parts_of.kept ∙ sym (ap (λ (w : Whole). w.stored) e));
+      parts_of = subst (λ (w : Whole). IsPartsOf w.core s.parts) (sym e) h.parts_of;
+      pending = subst (λ (w : Whole). IsPendingAs w.phase w (stored_now s)) (sym e) tt;
+    }
+
+-- a store that is refused
+halted_image_of : (before after : Whole) (text text2 : List ℕ) (roster : Roster) (s : Sentinel) (s2 : Sentinel) → IsSentinelImage before text roster s → before.phase ≡ phase.Pending true → IsWhole after → after ≡ record before { phase = phase.Halted } →
+    s2.state ≡ Halted → s2.stored ≡ s.stored → s2.parts ≡ s.parts → conf_of_bytes text2 ≡ Ok (record before.plan.conf { kept = s2.file }) → IsImageOf after text2 roster (OfSentinel s2)
+halted_image_of before after text text2 roster s s2 h p whole e state stored parts read =
+    record {
+      whole_ok = whole;
+      has_roster = ap (λ (w : Whole). roster_of w.plan) e ∙ h.has_roster;
+      state_is = state ∙ sym (ap (λ (w : Whole). state_in w.phase) e);
+      read = subst (λ (w : Whole). conf_of_bytes text2 ≡ Ok (record w.plan.conf { kept = s2.file })) (sym e) read;
+      file_is = λ r. (let f : false ≡ true = sym (ap (λ (w : Whole). is_running w.phase) e) ∙ r in cc);
+      before = h.before;
+      stored_is = λ _. stored ∙ h.stored_is (λ x. (let f : phase.Pending true ≡ phase.Stopped = sym p ∙ x in cc)) ∙ ap (λ k. h.before ++ k ∷ []) (sym (ap (λ (w : Whole). w.stored) e));
+      parts_of = subst (λ (w : Whole). IsPartsOf w.core s2.parts) (sym e) (subst (IsPartsOf before.core) (sym parts) h.parts_of);
+      pending = subst (λ (w : Whole). IsPendingAs w.phase w s2) (sym e) tt;
+    }
+
+on_ok_in : {T E : Type 0} {P : Type 0} (r : Result T E) → OnOk r P → is_ok r ≡ true → P
+on_ok_in (Ok x) p e = p
+on_ok_in (Err x) p e = cc
+
+is_ok_told : {T E : Type 0} (r : Result T E) → IsOk r → is_ok r ≡ true
+is_ok_told (Ok x) h = refl
+is_ok_told (Err x) h = cc
+
+ok_unit : {E : Type 0} (r : Result (Unit {0}) E) → is_ok r ≡ true → r ≡ Ok tt
+ok_unit (Ok tt) e = refl
+ok_unit (Err x) e = cc
+
+-- a refusal of a pending Sentinel is `Refused`
+refused_is : (r : Result (Unit {0}) StoreFault) (b : Bool) → (IsErrOf r store_fault.Nothing ↔ (b ≡ false)) → b ≡ true → is_ok r ≡ false → r ≡ Err store_fault.Refused
+refused_is (Ok x) b n e f = cc
+refused_is (Err store_fault.Nothing) b n e f = absurd (let g : true ≡ false = sym e ∙ n.0 refl in cc)
+refused_is (Err store_fault.Refused) b n e f = refl
+
+same_text : {x y : List ℕ} → Some x ≡ Some y → x ≡ y
+same_text {x} {y} e = cc
+
+abbrev pub StoreEnds : HowStored → Sentinel → (after : Whole) (text2 : List ℕ) (roster : Roster) (result : Result (Unit {0}) StoreFault) → Type 0
+StoreEnds h s after text2 roster result = (result ≡ store_answer h (OfSentinel s)) × IsImageOf after text2 roster (after_store h (OfSentinel s))
+
+-- with nothing to store, the store ends well however it is to end
+store_free : AgainOf → (w : HowStored) (before after : Whole) (file file2 : File) (result : Result (Unit {0}) StoreFault) → StoredAs before after file file2 result → before.phase ≡ phase.Pending false →
+    (roster : Roster) (s : Sentinel) → IsSentinelImage before file.text roster s → s.must_store ≡ false → before.core.kept ≡ before.stored → (result ≡ Ok tt) × IsImageOf after file2.text roster (OfSentinel (stored_now s))
+store_free again w before after file file2 result st p roster s h none same =
+    let ok : is_ok result ≡ true = is_ok_told result (st.untouched p).1 in
+    let file_same : file2 ≡ file = on_ok_in result (st.untouched p).0 ok in
+    let file_is : s.file ≡ before.core.kept = h.file_is (ap is_running p) ∙ sym same in (
+      ok_unit result ok,
+      stored_image_of again before after file.text file2.text roster s h (ap is_pending p) st.whole (on_ok_in result st.stored ok)
+          (ap (λ (f : File). conf_of_bytes f.text) file_same ∙ subst (λ k. conf_of_bytes file.text ≡ Ok (record before.plan.conf { kept = k })) file_is h.read),
+    )
+
+store_free_ends : (w : HowStored) (s : Sentinel) (after : Whole) (text2 : List ℕ) (roster : Roster) (result : Result (Unit {0}) StoreFault) → (b : Bool) → b ≡ false → s.must_store ≡ b → (result ≡ Ok tt) × IsImageOf after text2 roster (OfSentinel (stored_now s)) → StoreEnds w s after text2 roster result
+store_free_ends how.Done s after text2 roster result b e m ends = ends
+store_free_ends how.RefusedOld s after text2 roster result b e m ends =
+    subst (λ x. (result ≡ refusal x) × IsImageOf after text2 roster (OfSentinel (refused_sentinel s x Old))) (sym (m ∙ e)) ends
+store_free_ends how.RefusedNew s after text2 roster result b e m ends =
+    subst (λ x. (result ≡ refusal x) × IsImageOf after text2 roster (OfSentinel (refused_sentinel s x New))) (sym (m ∙ e)) ends
+
+store_due : AgainOf → SizeOf → (w : HowStored) (before after : Whole) (file file2 : File) (result : Result (Unit {0}) StoreFault) → file.refusal ≡ refusal_of w → StoredAs before after file file2 result → before.phase ≡ phase.Pending true →
+    (roster : Roster) (s : Sentinel) → IsSentinelImage before file.text roster s → s.must_store ≡ true → StoreEnds w s after file2.text roster result
+store_due again size how.Done before after file file2 result asked st p roster s h due =
+    let new = rewritten before.plan.conf before.core.kept in
+    let a : outcome_of file new ≡ record { is_stored = true; text = new } = answers file new (fits_file size file.text before.plan.conf s.file before.core.kept h.read h.whole_ok.core.kept) ∙ ap (λ r. outcome_with r file.text new) asked in
+    let ok : is_ok result ≡ true = (st.known p).0 ∙ ap (λ (x : Outcome). x.is_stored) a in
+    let text : file2.text ≡ new = same_text ((st.known p).1 ∙ ap (λ (x : Outcome). Some x.text) a) in (
+      ok_unit result ok,
+      stored_image_of again before after file.text file2.text roster s h (ap is_pending p) st.whole (on_ok_in result st.stored ok)
+          (ap conf_of_bytes text ∙ read_again again file.text before.plan.conf s.file before.core.kept h.read h.whole_ok.core.kept),
+    )
+store_due again size how.RefusedOld before after file file2 result asked st p roster s h due =
+    let new = rewritten before.plan.conf before.core.kept in
+    let a : outcome_of file new ≡ record { is_stored = false; text = file.text } = answers file new (fits_file size file.text before.plan.conf s.file before.core.kept h.read h.whole_ok.core.kept) ∙ ap (λ r. outcome_with r file.text new) asked in
+    let r : result ≡ Err store_fault.Refused = refused_is result (is_pending before.phase) st.nothing (ap is_pending p) ((st.known p).0 ∙ ap (λ (x : Outcome). x.is_stored) a) in
+    let text : file2.text ≡ file.text = same_text ((st.known p).1 ∙ ap (λ (x : Outcome). Some x.text) a) in
+    subst (λ x. (result ≡ refusal x) × IsImageOf after file2.text roster (OfSentinel (refused_sentinel s x Old))) (sym due) (
+      r,
+      halted_image_of before after file.text file2.text roster s (ended s Halted) h p st.whole (st.halted r) refl refl refl (ap conf_of_bytes text ∙ h.read),
+    )
+store_due again size how.RefusedNew before after file file2 result asked st p roster s h due =
+    let new = rewritten before.plan.conf before.core.kept in
+    let a : outcome_of file new ≡ record { is_stored = false; text = new } = answers file new (fits_file size file.text before.plan.conf s.file before.core.kept h.read h.whole_ok.core.kept) ∙ ap (λ r. outcome_with r file.text new) asked in
+    let r : result ≡ Err store_fault.Refused = refused_is result (is_pending before.phase) st.nothing (ap is_pending p) ((st.known p).0 ∙ ap (λ (x : Outcome). x.is_stored) a) in
+    let text : file2.text ≡ new = same_text ((st.known p).1 ∙ ap (λ (x : Outcome). Some x.text) a) in
+    subst (λ x. (result ≡ refusal x) × IsImageOf after file2.text roster (OfSentinel (refused_sentinel s x New))) (sym due) (
+      r,
+      halted_image_of before after file.text file2.text roster s (ended_new s Halted) h p st.whole (st.halted r) refl refl refl
+          (ap conf_of_bytes text ∙ subst (λ k. conf_of_bytes new ≡ Ok (record before.plan.conf { kept = k })) (sym h.parts_of.kept) (read_again again file.text before.plan.conf s.file before.core.kept h.read h.whole_ok.core.kept)),
+    )
+
+store_pending : AgainOf → SizeOf → (w : HowStored) (before after : Whole) (file file2 : File) (result : Result (Unit {0}) StoreFault) → file.refusal ≡ refusal_of w → StoredAs before after file file2 result →
+    (roster : Roster) (s : Sentinel) → IsSentinelImage before file.text roster s → (b : Bool) → before.phase ≡ phase.Pending b → StoreEnds w s after file2.text roster result
+store_pending again size w before after file file2 result asked st roster s h b p =
+    let due = subst (λ q. IsPendingAs q before s) p h.pending in
+    elim b as (λ x. b ≡ x → StoreEnds w s after file2.text roster result) [
+      | true ↦ λ e. store_due again size w before after file file2 result asked st (p ∙ ap phase.Pending e) roster s h (due.0 ∙ e)
+      | false ↦ λ e. store_free_ends w s after file2.text roster result false refl (due.0 ∙ e) (store_free again w before after file file2 result st (p ∙ ap phase.Pending e) roster s h (due.0 ∙ e) (due.1 e))
+    ] refl
+
+-- a phase that the model calls pending
+pending_phase : (p : Phase) → Pending ≡ state_in p → (b : Bool) × (p ≡ phase.Pending b)
+pending_phase phase.Ready e = cc
+pending_phase (phase.Pending b) e = (b, refl)
+pending_phase phase.Stored e = cc
+pending_phase phase.Halted e = cc
+pending_phase phase.Stopped e = cc
+
+not_pending : (p : Phase) → Pending ≢ state_in p → is_pending p ≡ false
+not_pending phase.Ready e = refl
+not_pending (phase.Pending b) e = absurd (e refl)
+not_pending phase.Stored e = refl
+not_pending phase.Halted e = refl
+not_pending phase.Stopped e = refl
+
+pub store_moves : AgainOf → SizeOf → (w : HowStored) (before after : Whole) (file file2 : File) (result : Result (Unit {0}) StoreFault) → file.refusal ≡ refusal_of w → StoredAs before after file file2 result →
+    (roster : Roster) (image : Image) → IsImageOf before file.text roster image → state_of image ≡ Pending → (result ≡ store_answer w image) × IsImageOf after file2.text roster (after_store w image)
+store_moves again size w before after file file2 result asked st roster (OfSentinel s) h pending =
+    let p = pending_phase before.phase (sym pending ∙ h.state_is) in
+    store_pending again size w before after file file2 result asked st roster s h p.0 p.1
+store_moves again size w before after file file2 result asked st roster (OfOther o) h pending = elim h [ ]
+
+err_of : (r : Result (Unit {0}) StoreFault) (f : StoreFault) → IsErrOf r f → r ≡ Err f
+err_of r f h = h
+
+pub store_nothing : (before after : Whole) (file file2 : File) (result : Result (Unit {0}) StoreFault) → StoredAs before after file file2 result →
+    (roster : Roster) (image : Image) → IsImageOf before file.text roster image → state_of image ≢ Pending → (result ≡ Err store_fault.Nothing) × IsImageOf after file2.text roster image
+store_nothing before after file file2 result st roster (OfSentinel s) h other =
+    let none = st.nothing.1 (not_pending before.phase (λ e. other (h.state_is ∙ sym e))) in
+    let same = st.nothing_left none in (
+      err_of result store_fault.Nothing none,
+      subst (λ f. IsImageOf after f roster (OfSentinel s)) (sym (ap (λ (f : File). f.text) same.1)) (subst (λ w. IsImageOf w file.text roster (OfSentinel s)) (sym same.0) h),
+    )
+store_nothing before after file file2 result st roster (OfOther o) h other = elim h [ ]
+
+-- A stop
+
+stopped_as : (before after : Whole) (text text2 : List ℕ) (roster : Roster) (s s2 : Sentinel) → IsSentinelImage before text roster s → IsWhole after → after.plan ≡ before.plan → after.core ≡ before.core → after.phase ≡ phase.Stopped →
+    s2.state ≡ Stopped → s2.parts ≡ s.parts → conf_of_bytes text2 ≡ Ok (record before.plan.conf { kept = s2.file }) → IsSentinelImage after text2 roster s2
+stopped_as before after text text2 roster s s2 h whole plan core p state parts read =
+    record {
+      whole_ok = whole;
+      has_roster = ap roster_of plan ∙ h.has_roster;
+      state_is = state ∙ sym (ap state_in p);
+      read = subst (λ (q : Plan). conf_of_bytes text2 ≡ Ok (record q.conf { kept = s2.file })) (sym plan) read;
+      file_is = λ r. (let f : false ≡ true = sym (ap is_running p) ∙ r in cc);
+      before = [];
+      stored_is = λ r. absurd (r p);
+      parts_of = subst (λ c. IsPartsOf c s2.parts) (sym core) (subst (IsPartsOf before.core) (sym parts) h.parts_of);
+      pending = subst (λ q. IsPendingAs q after s2) (sym p) tt;
+    }
+
+-- with the old text
+stop_old_at : (s : Sentinel) (state : State) → stopped_sentinel s state Old ≡ ended s Stopped
+stop_old_at s Ready = refl
+stop_old_at s Pending = refl
+stop_old_at s Stored = refl
+stop_old_at s Halted = refl
+stop_old_at s Stopped = refl
+
+pub stop_old : (before after : Whole) (text : List ℕ) (roster : Roster) (image : Image) → after ≡ record before { phase = phase.Stopped } → IsWhole after → IsImageOf before text roster image → IsImageOf after text roster (stopped_image Old image)
+stop_old before after text roster (OfSentinel s) e whole h =
+    subst (λ x. IsSentinelImage after text roster x) (sym (stop_old_at s s.state))
+    (stopped_as before after text text roster s (ended s Stopped) h whole (ap (λ (w : Whole). w.plan) e) (ap (λ (w : Whole). w.core) e) (ap (λ (w : Whole). w.phase) e) refl refl h.read)
+stop_old before after text roster (OfOther o) e whole h = elim h [ ]
+
+-- with the new text, where there is one
+stop_new_at : (s : Sentinel) (state : State) → state ≢ Pending → stopped_sentinel s state New ≡ ended s Stopped
+stop_new_at s Ready e = refl
+stop_new_at s Pending e = absurd (e refl)
+stop_new_at s Stored e = refl
+stop_new_at s Halted e = refl
+stop_new_at s Stopped e = refl
+
+is_pending_state : (state : State) → (state ≡ Pending) ⊎ (state ≢ Pending)
+is_pending_state Ready = inr (λ e. cc)
+is_pending_state Pending = inl refl
+is_pending_state Stored = inr (λ e. cc)
+is_pending_state Halted = inr (λ e. cc)
+is_pending_state Stopped = inr (λ e. cc)
+
+-- the Sentinel was stored before it was stopped
+pub record StoppedNew (before middle after : Whole) (file file2 : File) (result : Result (Unit {0}) StoreFault) : Type 0 where
+  pub asked : file.refusal ≡ None
+  pub stored : StoredAs before middle file file2 result
+  pub stopped : after ≡ record middle { phase = phase.Stopped }
+  pub whole : IsWhole after
+
+stop_new_sentinel : AgainOf → SizeOf → (before middle after : Whole) (file file2 : File) (result : Result (Unit {0}) StoreFault) (roster : Roster) (s : Sentinel) → StoppedNew before middle after file file2 result → IsSentinelImage before file.text roster s →
+    ((s.state ≡ Pending) ⊎ (s.state ≢ Pending)) → IsSentinelImage after file2.text roster (stopped_sentinel s s.state New)
+stop_new_sentinel again size before middle after file file2 result roster s n h (inl pending) =
+    let m = (store_moves again size how.Done before middle file file2 result n.asked n.stored roster (OfSentinel s) h pending).1 in
+    let e = n.stopped in
+    subst (λ state. IsSentinelImage after file2.text roster (stopped_sentinel s state New)) (sym pending)
+    (stopped_as middle after file2.text file2.text roster (stored_now s) (ended_new s Stopped) m n.whole (ap (λ (w : Whole). w.plan) e) (ap (λ (w : Whole). w.core) e) (ap (λ (w : Whole). w.phase) e) refl refl m.read)
+stop_new_sentinel again size before middle after file file2 result roster s n h (inr other) =
+    let m = (store_nothing before middle file file2 result n.stored roster (OfSentinel s) h other).1 in
+    let e = n.stopped in
+    subst (IsSentinelImage after file2.text roster) (sym (stop_new_at s s.state other))
+    (stopped_as middle after file2.text file2.text roster s (ended s Stopped) m n.whole (ap (λ (w : Whole). w.plan) e) (ap (λ (w : Whole). w.core) e) (ap (λ (w : Whole). w.phase) e) refl refl m.read)
+
+pub stop_new : AgainOf → SizeOf → (before middle after : Whole) (file file2 : File) (result : Result (Unit {0}) StoreFault) (roster : Roster) (image : Image) → StoppedNew before middle after file file2 result → IsImageOf before file.text roster image →
+    IsImageOf after file2.text roster (stopped_image New image)
+stop_new again size before middle after file file2 result roster (OfSentinel s) n h = stop_new_sentinel again size before middle after file file2 result roster s n h (is_pending_state s.state)
+stop_new again size before middle after file file2 result roster (OfOther o) n h = elim h [ ]
+
+-- A start
+
+pub record StartedAs (after : Whole) (text : List ℕ) (conf : ConfPlan) (now : ℕ) : Type 0 where
+  pub read : conf_of_bytes text ≡ Ok conf
+  pub plan : after.plan.conf ≡ conf
+  pub core : after.core ≡ opened after.plan now
+  pub stored : after.stored ≡ conf.kept
+  pub phase_is : after.phase ≡ phase.Ready
+  pub whole : IsWhole after
+
+ok_same : {T E : Type 0} {x y : T} → (let r : Result T E = Ok x in r) ≡ Ok y → x ≡ y
+ok_same {T} {E} {x} {y} e = cc
+
+kept_eta : (c : ConfPlan) (k : Kept) → c.kept ≡ k → c ≡ record c { kept = k }
+kept_eta c k e = ap (λ x. record c { kept = x }) e
+
+pub started_moves : OpenedIsSound → (before after : Whole) (text : List ℕ) (conf : ConfPlan) (now : ℕ) → StartedAs after text conf now →
+    (roster : Roster) (image : Image) → IsImageOf before text roster image → state_of image ≡ Stopped → IsImageOf after text roster (started_image roster image)
+started_moves open_ok before after text conf now st roster (OfSentinel s) h stopped =
+    let same : conf ≡ record before.plan.conf { kept = s.file } = ok_same (sym st.read ∙ h.read) in
+    let kept : conf.kept ≡ s.file = ap (λ (c : ConfPlan). c.kept) same in
+    let has : roster_of after.plan ≡ roster = ap (λ (c : ConfPlan). c.roster) (st.plan ∙ same) ∙ h.has_roster in
+    record {
+      whole_ok = st.whole;
+      has_roster = has;
+      state_is = sym (ap state_in st.phase_is);
+      read = st.read ∙ ap Ok (sym st.plan ∙ kept_eta after.plan.conf s.file (ap (λ (c : ConfPlan). c.kept) st.plan ∙ kept));
+      file_is = λ _. sym kept ∙ sym st.stored;
+      before = [];
+      stored_is = λ _. ap (λ k. k ∷ []) (sym kept ∙ sym st.stored);
+      parts_of = subst (λ c. IsPartsOf c (restored roster s.file)) (sym st.core)
+          (subst (λ r. IsPartsOf (opened after.plan now) (restored r s.file)) has (subst (λ k. IsPartsOf (opened after.plan now) (restored (roster_of after.plan) k)) (ap (λ (c : ConfPlan). c.kept) st.plan ∙ kept) (open_ok after.plan now st.whole.plan).1));
+      pending = subst (λ q. IsPendingAs q after (started roster s.file)) (sym st.phase_is) tt;
+    }
+started_moves open_ok before after text conf now st roster (OfOther o) h stopped = elim h [ ]
+
+-- the place is that of the run id
+pub started_name : (before after : Whole) (text : List ℕ) (conf : ConfPlan) (now : ℕ) → StartedAs after text conf now → (roster : Roster) (image : Image) → IsImageOf before text roster image → SentinelAt after.plan.place ≡ SentinelAt before.plan.place
+started_name before after text conf now st roster (OfSentinel s) h =
+    let same : after.plan.conf ≡ record before.plan.conf { kept = s.file } = st.plan ∙ ok_same (sym st.read ∙ h.read) in
+    let r : roster_of after.plan ≡ roster_of before.plan = ap (λ (c : ConfPlan). c.roster) same in
+    let a = st.whole.plan in let b = h.whole_ok.plan in
+    ap SentinelAt (a.conf.ids after.plan.place before.plan.place a.place (subst (λ x. before.plan.place < size x) (sym r) b.place)
+    (a.own ∙ ap (λ (c : ConfPlan). c.id) same ∙ sym b.own ∙ ap (λ x. id_of x before.plan.place) (sym r)))
+started_name before after text conf now st roster (OfOther o) h = elim h [ ]
+
+-- In the words of the contracts
+
+pub takes_of : (result : Result Took TakeFault) (before after : Whole) (text : List ℕ) (now : ℕ) (event : Event) (held : List Output) → IsWhole after →
+    OnOk result (before.phase ≡ phase.Ready) →
+    OnOk result (after.core ≡ (next before.plan before.core now event).core) →
+    OnOk result (held ≡ (next before.plan before.core now event).outputs) →
+    IfOk result (λ took. IsTrue took.changed ↔ (after.core.kept ≢ before.core.kept)) →
+    IfOk result (λ took. IsFalse took.changed → after.core.kept ≡ before.core.kept) →
+    IfOk result (λ took. after.phase ≡ phase.Pending (took.changed || is_flush event)) →
+    OnOk result (after.plan ≡ before.plan) →
+    OnOk result (after.stored ≡ before.stored) →
+    OnOk result ((parts : Parts) → IsPartsOf before.core parts → IsTake before.plan before.core parts event after.core held) →
+    OnOk result (Takes (SentinelAt before.plan.place) event held (IsImageOf before text) (IsImageOf after text))
+takes_of (Ok took) before after text now event held whole ready core outputs changed unchanged p plan stored steps =
+    record {
+      each = taken_image before after text now event took.changed held
+          (record { ready = ready; whole = whole; core = core; outputs_are = outputs; changed_is = changed; unchanged = unchanged; phase_is = p; plan = plan; stored = stored; steps = steps });
+    }
+takes_of (Err fault) before after text now event held whole ready core outputs changed unchanged p plan stored steps = tt
+
+pub stores_of : AgainOf → SizeOf → (w : HowStored) (before after : Whole) (first file file2 : File) (result : Result (Unit {0}) StoreFault) → file ≡ record first { refusal = refusal_of w } → StoredAs before after file file2 result →
+    Stores w result (IsImageOf before first.text) (IsImageOf after file2.text)
+stores_of again size w before after first file file2 result e st =
+    let text : file.text ≡ first.text = ap (λ (f : File). f.text) e in
+    record {
+      pending = λ roster image h p. store_moves again size w before after file file2 result (ap (λ (f : File). f.refusal) e) st roster image (subst (λ t. IsImageOf before t roster image) (sym text) h) p;
+      nothing = λ roster image h p. store_nothing before after file file2 result st roster image (subst (λ t. IsImageOf before t roster image) (sym text) h) p;
+    }
+
+pub stops_old : (before after : Whole) (text : List ℕ) → after ≡ record before { phase = phase.Stopped } → IsWhole after → Stops Old (IsImageOf before text) (IsImageOf after text)
+stops_old before after text e whole = record { each = λ roster image h. stop_old before after text roster image e whole h }
+
+pub stops_new : AgainOf → SizeOf → (before middle after : Whole) (first file file2 : File) (result : Result (Unit {0}) StoreFault) → file ≡ record first { refusal = None } → StoredAs before middle file file2 result → after ≡ record middle { phase = phase.Stopped } → IsWhole after →
+    Stops New (IsImageOf before first.text) (IsImageOf after file2.text)
+stops_new again size before middle after first file file2 result e st stopped whole =
+    let text : file.text ≡ first.text = ap (λ (f : File). f.text) e in
+    record {
+      each = λ roster image h. stop_new again size before middle after file file2 result roster image (record { asked = ap (λ (f : File). f.refusal) e; stored = st; stopped = stopped; whole = whole }) (subst (λ t. IsImageOf before t roster image) (sym text) h);
+    }
+
+pub starts_of : OpenedIsSound → (before after : Whole) (text text2 : List ℕ) (conf : ConfPlan) (now : ℕ) → StartedAs after text conf now → text2 ≡ text → Starts (IsImageOf before text) (IsImageOf after text2)
+starts_of sound before after text text2 conf now st e =
+    record { each = λ roster image h p. subst (λ t. IsImageOf after t roster (started_image roster image)) (sym e) (started_moves sound before after text conf now st roster image h p) }
+
+pub named_of : (before after : Whole) (text : List ℕ) (conf : ConfPlan) (now : ℕ) → StartedAs after text conf now → IsNamed (IsImageOf before text) (SentinelAt before.plan.place) (SentinelAt after.plan.place)
+named_of before after text conf now st = record { each = started_name before after text conf now st }
+
+-- A new one
+
+pub fresh_of : OpenedIsSound → (node : Whole) (text text2 : List ℕ) (conf : ConfPlan) (now : ℕ) → StartedAs node text conf now → text2 ≡ text → IsFresh (λ roster. roster_of node.plan ≡ roster) (IsImageOf node text2)
+fresh_of open_ok node text text2 conf now st e =
+    record {
+      each = λ roster has. (
+        OfSentinel (started roster conf.kept),
+        (refl, subst (λ r. Rattle.ballot_law.specs.Law.IsWellFormed r conf.kept) (ap (λ (c : ConfPlan). c.roster) (sym st.plan) ∙ has) (subst (λ (c : ConfPlan). Rattle.ballot_law.specs.Law.IsWellFormed c.roster c.kept) st.plan (well_formed node.plan.conf node.plan.conf.kept st.whole.plan.conf.kept))),
+        record {
+          whole_ok = st.whole;
+          has_roster = has;
+          state_is = sym (ap state_in st.phase_is);
+          read = ap conf_of_bytes e ∙ st.read ∙ ap Ok (sym st.plan ∙ kept_eta node.plan.conf conf.kept (ap (λ (c : ConfPlan). c.kept) st.plan));
+          file_is = λ _. sym st.stored;
+          before = [];
+          stored_is = λ _. ap (λ k. k ∷ []) (sym st.stored);
+          parts_of = subst (λ c. IsPartsOf c (restored roster conf.kept)) (sym st.core)
+              (subst (λ r. IsPartsOf (opened node.plan now) (restored r conf.kept)) has (subst (λ k. IsPartsOf (opened node.plan now) (restored (roster_of node.plan) k)) (ap (λ (c : ConfPlan). c.kept) st.plan) (open_ok node.plan now st.whole.plan).1));
+          pending = subst (λ q. IsPendingAs q node (started roster conf.kept)) (sym st.phase_is) tt;
+        },
+      );
+    }

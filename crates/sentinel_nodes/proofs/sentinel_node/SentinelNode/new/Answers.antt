@@ -1,0 +1,9 @@
+use Rattle.sentinel_nodes.proofs.SentinelMoves.{fresh_of}
+use Rattle.sentinel_nodes.proofs.sentinel_node.SentinelNode.new.Goals as goal
+
+pub returns-clause-fresh : goal.returns-clause-fresh
+returns-clause-fresh c =
+    let e = c.in-Ok-open.ensures in
+    fresh_of c.law_opening_is_sound.ensures c.in-Ok-open.sentinel c.args.bytes.now c.in-Ok.file.text c.in_ok-conf.conf c.args.now
+    (record { read = c.in_ok-conf.ensures; plan = e.plan; core = e.core; stored = e.stored; phase_is = e.phase; whole = c.is_whole.ensures })
+    c.in-Ok.ensures.text
