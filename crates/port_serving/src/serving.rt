@@ -4,17 +4,16 @@ ghost use Rattle.std.specs.Prelude.{◌≡◌, ◌≤◌, ◌<◌, ◌+◌, ◌-
 ghost use Rattle.std.specs.Io.KnownBytes.{Consumes, Appends, IsAtEnd};
 ghost use Rattle.ballot_law.specs.declared.cards.Kept.{Kept};
 ghost use Rattle.port_answers.specs.Answers.{command_fault};
-ghost use Rattle.resp2.specs.Commands.{IsWithin};
 ghost use Rattle.resp2_frames.specs.Frame.{view, spelling};
 ghost use Rattle.resp2_frames.specs.Stream.{held_size, reading};
 ghost use Rattle.sentinel_rules.specs.Plans.{Plan};
 ghost use Rattle.sentinel_rules.specs.States.{Core};
-ghost use Rattle.port_serving.specs.Serving.{Holds, EndsWith, IsAnswered, IsIdle, IsFaulted, Breaks, IsRefusal, Steps, Drains, Takes, of_frame, phase_of, phase_after, replied, replied_to};
+ghost use Rattle.port_serving.specs.Serving.{Holds, EndsWith, IsAnswered, IsIdle, IsFaulted, Breaks, IsRefusal, Steps, Drains, Takes, of_frame, phase_of, phase_after, replied};
 
 use crate::fault::ServeFault;
 use crate::port_sentinel::PortSentinel;
 use crate::streams::write_whole;
-use ballot_law::{Command, Event, Input, NodeName, Output};
+use ballot_law::{Event, Input, NodeName, Output};
 use message_texts::message_text;
 use port_answers::AnswerText;
 use resp2::{CommandFault, FrameFault, Frames, OutText, Value, command_of};
@@ -95,61 +94,6 @@ impl Connection {
         }
     }
 
-    /// Adds the answer to a command, once what it rests on is stored.
-    fn answer_command<N: PortSentinel, S: ConfStore>(
-        &mut self,
-        sentinel: &mut N,
-        command: Command,
-        store: &mut S,
-    ) -> Result<(), ServeFault>
-        requires ready { N.phase sentinel.old ≡ Phase.Ready }
-        requires within { IsWithin command }
-        requires failures { S.failure_count store.old < 2 ^ 64 - 1 }
-        ensures clock { self.new.clock ≡ self.old.clock }
-        ensures frames { self.new.frames ≡ self.old.frames }
-        ensures answers { self.new.answers ≡ self.old.answers }
-        ensures plan { N.plan sentinel.new ≡ N.plan sentinel.old }
-        ensures core { OnErr result ((N.core sentinel.new ≡ N.core sentinel.old)
-            ⊎ (N.core sentinel.new
-            ≡ (replied_to (N.plan sentinel.old) self.old.clock (N.core sentinel.old) (Ok command)).core)) }
-        ensures answered { OnOk result ((N.core sentinel.new
-            ≡ (replied_to (N.plan sentinel.old) self.old.clock (N.core sentinel.old) (Ok command)).core)
-            × (self.new.text ≡ self.old.text
-            ++ (replied_to (N.plan sentinel.old) self.old.clock (N.core sentinel.old) (Ok command)).bytes)) }
-        ensures text { OnErr result (self.new.text ≡ self.old.text) }
-        ensures phase { N.phase sentinel.new ≡ phase_after result }
-        ensures fault { IfErr result (λ fault. (fault ≡ ServeFault.Halted) ⊎ (fault ≡ ServeFault.NoMemory)) }
-        ensures as_many { OnOk result (S.failure_count store.new ≡ S.failure_count store.old) }
-        ensures halted { IsErrOf result ServeFault.Halted →
-            S.failure_count store.old < S.failure_count store.new }
-        ensures stored { OnOk result ((first : Kept) (before : Option (List ℕ)) →
-            Holds (N.plan sentinel.old).conf first before (N.core sentinel.old).kept (S.held store.old) →
-            Holds (N.plan sentinel.old).conf first before (N.core sentinel.new).kept (S.held store.new)) }
-        ensures refused { OnErr result ((first : Kept) (before : Option (List ℕ)) →
-            Holds (N.plan sentinel.old).conf first before (N.core sentinel.old).kept (S.held store.old) →
-            Holds (N.plan sentinel.old).conf first before (N.core sentinel.old).kept (S.held store.new)
-            ⊎ Holds (N.plan sentinel.old).conf first before (N.core sentinel.new).kept (S.held store.new)) }
-    {
-        self.outbox.drop_held();
-        self.outbox.clear();
-        if self.outbox.reserve(&Room::of_sentinel()).is_err() {
-            return Err(ServeFault::NoMemory);
-        }
-        let sender = NodeName::PortAt(0);
-        let input = Input {
-            now: self.clock,
-            event: Event::Command { sender, command },
-        };
-        sentinel.carry_out(&input, &mut self.outbox, store)?;
-        let Some(Output::Send(message)) = self.outbox.outputs().first() else {
-            unreachable!()
-        };
-        match message_text(self.alloc, message, &mut self.text) {
-            Ok(()) => Ok(()),
-            Err(_) => Err(ServeFault::NoMemory),
-        }
-    }
-
     /// Answers one value at the end of the text, once what the answer rests on is stored.
     fn answer<N: PortSentinel, S: ConfStore>(
         &mut self,
@@ -185,9 +129,30 @@ impl Connection {
             Holds (N.plan sentinel.old).conf first before (N.core sentinel.old).kept (S.held store.new)
             ⊎ Holds (N.plan sentinel.old).conf first before (N.core sentinel.new).kept (S.held store.new)) }
     {
-        match command_of(value) {
-            Ok(command) => self.answer_command(sentinel, command, store)?,
-            Err(fault) => add_fault(self.alloc, fault, &mut self.text)?,
+        let command = match command_of(value) {
+            Ok(command) => command,
+            Err(fault) => {
+                add_fault(self.alloc, fault, &mut self.text)?;
+                self.answers += 1;
+                return Ok(());
+            }
+        };
+        self.outbox.drop_held();
+        self.outbox.clear();
+        if self.outbox.reserve(&Room::of_sentinel()).is_err() {
+            return Err(ServeFault::NoMemory);
+        }
+        let sender = NodeName::PortAt(0);
+        let input = Input {
+            now: self.clock,
+            event: Event::Command { sender, command },
+        };
+        sentinel.carry_out(&input, &mut self.outbox, store)?;
+        let Some(Output::Send(message)) = self.outbox.outputs().first() else {
+            unreachable!()
+        };
+        if message_text(self.alloc, message, &mut self.text).is_err() {
+            return Err(ServeFault::NoMemory);
         }
         self.answers += 1;
         Ok(())

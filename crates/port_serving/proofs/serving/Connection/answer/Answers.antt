@@ -1,9 +1,13 @@
+use Rattle.std.proofs.Common.{◌∙◌, inr}
+use Rattle.port_serving.proofs.Answering.{shown_writable}
 use Rattle.port_serving.proofs.serving.Connection.answer.Goals as goal
-use Rattle.port_serving.proofs.serving.Connection.answer.Goals.{in-Ok+in_ok-answer_command-in-Ok, in-Err+in_ok-add_fault-in-Err}
 
-pub returns-clause-stored : goal.returns-clause-stored
-returns-clause-stored g c =
-    elim c.match-command_of.branch [
-      | in-Ok+in_ok-answer_command-in-Ok w ↦ λ first before h. rw (w.sentinel-is, w.store-is) (w.in_ok-answer_command-in-Ok.ensures.stored first before h)
-      | in-Err+in_ok-add_fault-in-Err w ↦ λ first before h. rw (w.sentinel-is, w.store-is) h
-    ]
+pub message_text-requires : goal.message_text-requires
+message_text-requires g c =
+    shown_writable (g.N.PortSentinel.plan c.args.sentinel.now) _ (g.N.PortSentinel.core c.args.sentinel.now) _ c.args.self.now.clock c.in-Ok.command _ _ _ c.in-Some-Send.message
+    c.in_ok-carry_out.ensures.kept c.in_ok-carry_out.ensures.plan c.in_ok-carry_out.ensures.core
+    (c.reserve.ensures.shown ∙ c.clear.ensures.shown) (c.outputs.ensures ∙ c.in_ok-carry_out.ensures.shown)
+    c.in-Some-Send.field-0-is c.in-Some-Send.ensures.value
+
+pub returns-then-is_err-2-clause-refused : goal.returns-then-is_err-2-clause-refused
+returns-then-is_err-2-clause-refused g c = λ first before h. inr (c.in_ok-carry_out.ensures.stored first before h)
