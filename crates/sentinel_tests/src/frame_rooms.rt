@@ -1,8 +1,8 @@
 //! The room for what one input has a Sentinel put out: 1,536 frames.
 
 use ballot_law::NodeName;
+use sentinel_nodes::FrameList;
 use sentinel_rules::Frame;
-use sentinel_state::FrameList;
 use std::test::Fail;
 
 #[test]
