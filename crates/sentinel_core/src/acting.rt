@@ -14,14 +14,14 @@ ghost use Rattle.sentinel_rules.specs.Named.{IsNamed};
 ghost use Rattle.sentinel_rules.specs.Parts.{output_of, send, hello_of_master};
 ghost use Rattle.sentinel_rules.specs.Plans.{master_count, node_named};
 ghost use Rattle.sentinel_rules.specs.Takes.{next, next_at, part_of, answer_to};
-ghost use Rattle.sentinel_nodes.specs.Room.{bounded};
+ghost use Rattle.watched_nodes.specs.Room.{bounded};
 
 use crate::former::Former;
 use ballot_law::{Body, Command, Event, Hello, Input, Message, NodeName, Note, Output};
 use node_texts::{TextFault, read_hello, read_info};
 use sentinel_answers::{answer_by_text, answer_plainly};
 use sentinel_news::{hear_answer, hear_pong, take_hello, take_info};
-use sentinel_nodes::FrameList;
+use watched_nodes::FrameList;
 use sentinel_outbox::Outbox;
 use sentinel_plan::Plan;
 use sentinel_rules::{

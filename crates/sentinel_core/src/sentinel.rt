@@ -18,7 +18,7 @@ use crate::faults::{OpenFault, ReleaseFault, StoreFault, TakeFault};
 use crate::former::Former;
 use ballot_law::{Card, Command, Event, Input, Roster};
 use sentinel_conf::{Conf, ConfStore, ConfText, rewrite_into};
-use sentinel_nodes::FrameList;
+use watched_nodes::FrameList;
 use sentinel_outbox::{Outbox, Phase, Room};
 use sentinel_plan::Plan;
 use sentinel_rules::{

@@ -2,17 +2,17 @@
 
 ghost use Rattle.std.specs.Prelude.{◌≡◌, ◌++◌};
 ghost use Rattle.ballot_law.specs.Clocks.{clock};
-ghost use Rattle.sentinel_nodes.specs.Room.{bounded};
+ghost use Rattle.watched_nodes.specs.Room.{bounded};
 ghost use Rattle.sentinel_rules.specs.News.{card_taken};
 
 use ballot_law::Card;
-use sentinel_nodes::FrameList;
+use watched_nodes::FrameList;
 use sentinel_rules::Frame;
 use sentinel_state::State;
 
 /// Takes a configuration of a master: its nodes are sent hellos at the next tick, and where the address is a new one, what was said
 /// of the old one is forgotten and a note tells of the change.
-#[tactic(auto, using(sentinel_nodes::proofs::RoomLemmas::bounded_none))]
+#[tactic(auto, using(watched_nodes::proofs::RoomLemmas::bounded_none))]
 pub(crate) fn take_card(state: &mut State, m: u16, now: u64, card: Card, frames: &mut FrameList)
     ensures state { state.new ≡ (card_taken m (clock now) card state.old).core }
     ensures frames { frames.new

@@ -5,12 +5,12 @@ ghost use Rattle.ballot_law.specs.Clocks.{clock};
 ghost use Rattle.ballot_law.specs.Rosters.{master_named};
 ghost use Rattle.sentinel_rules.specs.News.{is_newer, raised_to, adopted, hello_of_known, hello_heeded, hello_read};
 ghost use Rattle.sentinel_rules.specs.Plans.{roster_of};
-ghost use Rattle.sentinel_nodes.specs.Room.{bounded};
+ghost use Rattle.watched_nodes.specs.Room.{bounded};
 
 use crate::cards::take_card;
 use ballot_law::{Card, Hello};
 use node_texts::TextFault;
-use sentinel_nodes::FrameList;
+use watched_nodes::FrameList;
 use sentinel_plan::Plan;
 use sentinel_state::State;
 
@@ -42,7 +42,7 @@ fn adopt(state: &mut State, m: u16, now: u64, card: Card, frames: &mut FrameList
 
 /// Takes the hello of another Sentinel of the roster: a greater current epoch raises the own one, and a newer configuration is
 /// adopted.
-#[tactic(auto, using(sentinel_nodes::proofs::RoomLemmas::bounded_none))]
+#[tactic(auto, using(watched_nodes::proofs::RoomLemmas::bounded_none))]
 fn hear_hello(
     state: &mut State,
     plan: &Plan,
@@ -63,7 +63,7 @@ fn hear_hello(
 }
 
 /// Takes the hello of another Sentinel of the roster; one that names no master of it changes nothing.
-#[tactic(auto, using(sentinel_nodes::proofs::RoomLemmas::bounded_none))]
+#[tactic(auto, using(watched_nodes::proofs::RoomLemmas::bounded_none))]
 fn heed_hello(state: &mut State, plan: &Plan, now: u64, hello: &Hello, frames: &mut FrameList)
     ensures state { state.new ≡ (hello_heeded plan.now (clock now)
         (master_named (roster_of plan.now) hello.now.master) hello.now state.old).core }
@@ -78,7 +78,7 @@ fn heed_hello(state: &mut State, plan: &Plan, now: u64, hello: &Hello, frames: &
 
 /// Takes a hello that a data node passed on, as it was read. One that can't be read, that isn't from another Sentinel of the roster, or
 /// that names no master of it changes nothing.
-#[tactic(auto, using(sentinel_nodes::proofs::RoomLemmas::bounded_none))]
+#[tactic(auto, using(watched_nodes::proofs::RoomLemmas::bounded_none))]
 pub fn take_hello(
     state: &mut State,
     plan: &Plan,

@@ -4,13 +4,13 @@ ghost use Rattle.std.specs.Prelude.{◌≡◌, ◌≤◌, ◌++◌, []};
 ghost use Rattle.ballot_law.specs.Clocks.{clock};
 ghost use Rattle.sentinel_rules.specs.News.{promotion, follows, follows_another, has_followed, reconfiguration, is_master_role, is_reconfiguring, wrong_since, is_overdue, says_master, can_be_followed, anew, correction, judged, info_kept, info_at_node, info_read};
 ghost use Rattle.sentinel_rules.specs.States.{failover_of};
-ghost use Rattle.sentinel_nodes.specs.Room.{bounded};
+ghost use Rattle.watched_nodes.specs.Room.{bounded};
 
 use crate::cards::take_card;
 use ballot_law::{Addr, Card, DataRole, Info, NodeName, clock_of};
 use failover_states::State as Stage;
 use node_texts::TextFault;
-use sentinel_nodes::FrameList;
+use watched_nodes::FrameList;
 use sentinel_plan::Plan;
 use sentinel_rules::{Frame, WRONG_ROLE_MS};
 use sentinel_state::State;
@@ -105,7 +105,7 @@ fn keep_info(state: &mut State, m: u16, k: u16, now: u64, info: &Info)
 
 /// Takes the INFO of a node while a failover runs that may await a promotion: where the chosen replica says that it is a master, the
 /// campaign's epoch and the replica's address are the master's configuration.
-#[tactic(auto, using(sentinel_nodes::proofs::RoomLemmas::bounded_none))]
+#[tactic(auto, using(watched_nodes::proofs::RoomLemmas::bounded_none))]
 fn hear_promotion(state: &mut State, m: u16, k: u16, now: u64, info: &Info, frames: &mut FrameList)
     ensures state { state.new ≡ (promotion m k (clock now) info.now (failover_of state.old m).state state.old).core }
     ensures frames { frames.new ≡ bounded (frames.old
@@ -177,7 +177,7 @@ fn correct(
 }
 
 /// Takes the INFO of a node as news for the failover, or where none runs as a sign of whether the node is wrong.
-#[tactic(auto, using(sentinel_nodes::proofs::RoomLemmas::bounded_none))]
+#[tactic(auto, using(watched_nodes::proofs::RoomLemmas::bounded_none))]
 fn judge(
     state: &mut State,
     plan: &Plan,
@@ -205,7 +205,7 @@ fn judge(
 }
 
 /// Takes the INFO of a node of the roster: it is kept, and judged unless in TILT.
-#[tactic(auto, using(sentinel_nodes::proofs::RoomLemmas::bounded_none))]
+#[tactic(auto, using(watched_nodes::proofs::RoomLemmas::bounded_none))]
 fn hear_info(
     state: &mut State,
     plan: &Plan,
@@ -228,7 +228,7 @@ fn hear_info(
 }
 
 /// Takes the INFO of a data node, as it was read. One that can't be read, or that isn't of a data node of the roster, changes nothing.
-#[tactic(auto, using(sentinel_nodes::proofs::RoomLemmas::bounded_none))]
+#[tactic(auto, using(watched_nodes::proofs::RoomLemmas::bounded_none))]
 pub fn take_info(
     state: &mut State,
     plan: &Plan,

@@ -7,7 +7,7 @@ ghost use Rattle.sentinel_rules.specs.States.{master_of, with_master};
 
 use crate::masters::Master;
 use crate::state::State;
-use sentinel_nodes::{greet_soon, move_all};
+use watched_nodes::{greet_soon, move_all};
 
 impl Master {
     /// The configuration changed, the address stayed.

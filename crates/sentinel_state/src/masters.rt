@@ -7,7 +7,7 @@ ghost use Rattle.sentinel_rules.specs.States.{new_master};
 use ballot_law::{NoMemory, RunId};
 use down_detector::DownReports;
 use failover_states::Failover;
-use sentinel_nodes::Node;
+use watched_nodes::Node;
 use std::alloc::Global;
 use std::marker::Model;
 use vote_book::Heard;

@@ -2,7 +2,7 @@
 
 ghost use Rattle.std.specs.Prelude.{◌≡◌, ◌++◌, Some};
 ghost use Rattle.ballot_law.specs.Clocks.{clock};
-ghost use Rattle.sentinel_nodes.specs.Room.{bounded};
+ghost use Rattle.watched_nodes.specs.Room.{bounded};
 ghost use Rattle.sentinel_rules.specs.Parts.{changed_from, frames_from};
 ghost use Rattle.sentinel_rules.specs.States.{master_of, with_master};
 ghost use Rattle.sentinel_rules.specs.Ticks.{node_after, node_frames, nodes_part, peers_part, sending_of};
@@ -10,7 +10,7 @@ ghost use Rattle.sentinel_rules.specs.Ticks.{node_after, node_frames, nodes_part
 use crate::masters::Master;
 use crate::state::State;
 use ballot_law::clock_of;
-use sentinel_nodes::{FrameList, Sending, ping_period, send_each_node, send_each_peer};
+use watched_nodes::{FrameList, Sending, ping_period, send_each_node, send_each_peer};
 use sentinel_plan::Plan;
 
 impl Master {

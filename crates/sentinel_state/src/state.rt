@@ -12,7 +12,7 @@ use crate::masters::Master;
 use ballot_law::{Addr, Card, Info, Kept, KeptMaster, KeptMasters, NoMemory, Win};
 use down_detector::{Tilt, is_odown};
 use failover_states::State as Stage;
-use sentinel_nodes::{Node, Peer};
+use watched_nodes::{Node, Peer};
 use sentinel_plan::Plan;
 use std::alloc::{AllocError, Global};
 use std::marker::Model;

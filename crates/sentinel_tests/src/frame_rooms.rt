@@ -1,7 +1,7 @@
 //! The room for what one input has a Sentinel put out: 1,536 frames.
 
 use ballot_law::NodeName;
-use sentinel_nodes::FrameList;
+use watched_nodes::FrameList;
 use sentinel_rules::Frame;
 use std::test::Fail;
 

@@ -6,7 +6,7 @@ ghost use Rattle.sentinel_answers.specs.Plain.{is_plain};
 use ballot_law::{Addr, Body, Command, RunId, Shown, Win};
 use sentinel_answers::{answer_by_text, answer_plainly};
 use sentinel_conf::read;
-use sentinel_nodes::FrameList;
+use watched_nodes::FrameList;
 use sentinel_plan::Plan;
 use sentinel_rules::Frame;
 use sentinel_state::State;

@@ -10,8 +10,8 @@ use Rattle.sentinel_rules.specs.Parts.{Part, quiet, then_part, part_if, frames_f
 use Rattle.sentinel_rules.specs.Plans.{Plan}
 use Rattle.sentinel_rules.specs.States.{Core}
 use Rattle.sentinel_rules.specs.Ticks.{promote_frames, order_frames}
-use Rattle.sentinel_nodes.specs.Room.{bounded}
-use Rattle.sentinel_nodes.proofs.RoomLemmas.{then_more}
+use Rattle.watched_nodes.specs.Room.{bounded}
+use Rattle.watched_nodes.proofs.RoomLemmas.{then_more}
 
 pub then_core : (first : Part) (next : Core → Part) (mid after : Core) → mid ≡ first.core → after ≡ (next mid).core → after ≡ (then_part first next).core
 then_core first next mid after e f = f ∙ ap (λ (c : Core). (next c).core) e

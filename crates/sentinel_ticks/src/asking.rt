@@ -2,13 +2,13 @@
 
 ghost use Rattle.std.specs.Prelude.{◌≡◌, ◌≤◌, ◌++◌, length};
 ghost use Rattle.ballot_law.specs.Clocks.{clock};
-ghost use Rattle.sentinel_nodes.specs.Room.{bounded};
+ghost use Rattle.watched_nodes.specs.Room.{bounded};
 ghost use Rattle.sentinel_rules.specs.Parts.{frames_from};
 ghost use Rattle.sentinel_rules.specs.States.{master_of};
 ghost use Rattle.sentinel_rules.specs.Ticks.{is_ask_due, ask_candidate, ask_frames, ask_part};
 
 use ballot_law::{RunId, clock_of};
-use sentinel_nodes::{FrameList, Peer};
+use watched_nodes::{FrameList, Peer};
 use sentinel_plan::Plan;
 use sentinel_rules::{ASK_MS, Frame};
 use sentinel_state::State;

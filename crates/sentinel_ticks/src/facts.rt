@@ -10,7 +10,7 @@ ghost use Rattle.sentinel_ticks.specs.Rows.{looks_at_votes, looks_at_best, looks
 use ballot_law::{Addr, RunId, clock_of};
 use failover_states::State as Stage;
 use replica_choice::{Candidate, Limits, choose};
-use sentinel_nodes::Node;
+use watched_nodes::Node;
 use sentinel_plan::Plan;
 use sentinel_state::State;
 use std::marker::Model;

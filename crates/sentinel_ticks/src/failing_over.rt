@@ -10,13 +10,13 @@ ghost use Rattle.sentinel_rules.specs.Parts.{frames_from};
 ghost use Rattle.sentinel_rules.specs.Plans.{master_count};
 ghost use Rattle.sentinel_rules.specs.States.{master_of, failover_of, with_failover};
 ghost use Rattle.sentinel_rules.specs.Ticks.{known_of, turn_of, with_win, promote_frames, order_frames, row_part, start_part, starts_now};
-ghost use Rattle.sentinel_nodes.specs.Room.{bounded};
+ghost use Rattle.watched_nodes.specs.Room.{bounded};
 ghost use Rattle.sentinel_ticks.specs.Rows.{is_promotion, looked_at};
 
 use crate::facts::{best_for, card_place_for, count_for, down_for_rows, pick_for};
 use ballot_law::Win;
 use failover_states::{Act, Facts, Row, State as Stage};
-use sentinel_nodes::FrameList;
+use watched_nodes::FrameList;
 use sentinel_plan::Plan;
 use sentinel_rules::Frame;
 use sentinel_state::State;

@@ -6,17 +6,17 @@ ghost use Rattle.sentinel_rules.specs.Parts.{part_if};
 ghost use Rattle.sentinel_rules.specs.Plans.{master_count};
 ghost use Rattle.sentinel_rules.specs.States.{is_failing_over};
 ghost use Rattle.sentinel_rules.specs.Ticks.{row_part, odown_part, failover_part, judging_part, master_part, tick};
-ghost use Rattle.sentinel_nodes.specs.Room.{bounded};
+ghost use Rattle.watched_nodes.specs.Room.{bounded};
 
 use crate::asking::ask_others;
 use crate::failing_over::{start_failover, take_row};
-use sentinel_nodes::FrameList;
+use watched_nodes::FrameList;
 use sentinel_plan::Plan;
 use sentinel_state::State;
 
 /// A tick of a master, with a random number: the clock takes a turn, what is due is sent, and unless the clock is in TILT the
 /// master is judged. A tick of a master that isn't in the roster is a turn of the clock alone.
-#[tactic(auto, using(sentinel_nodes::proofs::RoomLemmas::bounded_none))]
+#[tactic(auto, using(watched_nodes::proofs::RoomLemmas::bounded_none))]
 pub fn tick(state: &mut State, plan: &Plan, m: u16, random: u64, now: u64, frames: &mut FrameList)
     ensures state { state.new ≡ (tick plan.now m random (clock now) state.old).core }
     ensures frames { frames.new ≡ bounded (frames.old ++ (tick plan.now m random (clock now) state.old).frames) }
@@ -39,7 +39,7 @@ fn tick_master(state: &mut State, plan: &Plan, m: u16, now: u64, frames: &mut Fr
 }
 
 /// Unless the clock is in TILT: whether the master is down, then its failover.
-#[tactic(auto, using(sentinel_nodes::proofs::RoomLemmas::bounded_none))]
+#[tactic(auto, using(watched_nodes::proofs::RoomLemmas::bounded_none))]
 fn judge_master(state: &mut State, plan: &Plan, m: u16, now: u64, frames: &mut FrameList)
     requires { m < master_count plan.now }
     ensures state { state.new ≡ (judging_part plan.now m (clock now) state.old).core }
@@ -74,7 +74,7 @@ fn fail_over(state: &mut State, plan: &Plan, m: u16, now: u64, frames: &mut Fram
 }
 
 /// A row where a failover runs.
-#[tactic(auto, using(sentinel_nodes::proofs::RoomLemmas::bounded_none))]
+#[tactic(auto, using(watched_nodes::proofs::RoomLemmas::bounded_none))]
 fn advance_failover(state: &mut State, plan: &Plan, m: u16, now: u64, frames: &mut FrameList)
     requires { m < master_count plan.now }
     ensures state { state.new ≡ (part_if (is_failing_over state.old m) state.old (row_part plan.now m (clock now))).core }

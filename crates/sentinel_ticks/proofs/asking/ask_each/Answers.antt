@@ -1,8 +1,8 @@
 use Rattle.std.proofs.Common.{◌≡◌, ◌<◌, ◌++◌, length, arith, get_or, rules}
 use Rattle.sentinel_rules.specs.States.{no_peer}
 use Rattle.sentinel_rules.specs.Ticks.{ask_frames}
-use Rattle.sentinel_nodes.specs.Room.{bounded}
-use Rattle.sentinel_nodes.proofs.PlaceLoops.{frames_more, whole_more}
+use Rattle.watched_nodes.specs.Room.{bounded}
+use Rattle.watched_nodes.proofs.PlaceLoops.{frames_more, whole_more}
 use Rattle.sentinel_ticks.proofs.asking.ask_each.Goals as goal
 
 pub loop-place-preserved : goal.loop-place-preserved

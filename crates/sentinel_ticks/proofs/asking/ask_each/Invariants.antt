@@ -1,7 +1,7 @@
 use Rattle.std.proofs.Common.{◌≡◌, ◌++◌, drop}
 use Rattle.sentinel_rules.specs.Parts.{frames_from}
 use Rattle.sentinel_rules.specs.Ticks.{ask_frames}
-use Rattle.sentinel_nodes.specs.Room.{bounded}
+use Rattle.watched_nodes.specs.Room.{bounded}
 use Rattle.sentinel_ticks.proofs.asking.ask_each.Given as goal
 
 abbrev pub invariant-loop-place : goal.invariant-loop-place

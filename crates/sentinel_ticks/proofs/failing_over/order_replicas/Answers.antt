@@ -2,7 +2,7 @@ use Rattle.std.proofs.Common.{◌<◌, length, arith}
 use Rattle.failover_states.specs.Replicas.{untouched}
 use Rattle.sentinel_rules.specs.States.{failover_of}
 use Rattle.sentinel_rules.specs.Ticks.{order_frames}
-use Rattle.sentinel_nodes.proofs.PlaceLoops.{frames_more, whole_more}
+use Rattle.watched_nodes.proofs.PlaceLoops.{frames_more, whole_more}
 use Rattle.sentinel_ticks.proofs.failing_over.order_replicas.Goals as goal
 
 pub loop-k-preserved : goal.loop-k-preserved

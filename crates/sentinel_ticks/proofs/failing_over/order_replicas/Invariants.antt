@@ -2,7 +2,7 @@ use Rattle.std.proofs.Common.{◌≡◌, ◌++◌, drop}
 use Rattle.sentinel_rules.specs.Parts.{frames_from}
 use Rattle.sentinel_rules.specs.States.{failover_of}
 use Rattle.sentinel_rules.specs.Ticks.{order_frames}
-use Rattle.sentinel_nodes.specs.Room.{bounded}
+use Rattle.watched_nodes.specs.Room.{bounded}
 use Rattle.sentinel_ticks.proofs.failing_over.order_replicas.Given as goal
 
 abbrev pub invariant-loop-k : goal.invariant-loop-k

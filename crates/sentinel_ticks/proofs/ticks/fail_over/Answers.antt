@@ -4,7 +4,7 @@ use Rattle.ballot_law.specs.Clocks.{clock}
 use Rattle.sentinel_rules.specs.Parts.{Part, then_part, part_if}
 use Rattle.sentinel_rules.specs.States.{Core, is_failing_over}
 use Rattle.sentinel_rules.specs.Ticks.{start_part, start_turn, after_start, starts_now, row_part, ask_part}
-use Rattle.sentinel_nodes.specs.Room.{bounded}
+use Rattle.watched_nodes.specs.Room.{bounded}
 use Rattle.sentinel_ticks.proofs.PartSteps.{then_core, then_frames, quiet_frames, quiet_part}
 use Rattle.sentinel_ticks.proofs.ticks.fail_over.Goals as goal
 

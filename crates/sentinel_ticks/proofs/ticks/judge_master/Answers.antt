@@ -3,7 +3,7 @@ use Rattle.ballot_law.specs.Clocks.{clock}
 use Rattle.sentinel_rules.specs.Parts.{Part, then_part}
 use Rattle.sentinel_rules.specs.States.{Core, is_tilted}
 use Rattle.sentinel_rules.specs.Ticks.{odown_part, failover_part}
-use Rattle.sentinel_nodes.specs.Room.{bounded}
+use Rattle.watched_nodes.specs.Room.{bounded}
 use Rattle.sentinel_ticks.proofs.PartSteps.{then_core, quiet_frames, part_unless}
 use Rattle.sentinel_ticks.proofs.ticks.judge_master.Goals as goal
 

@@ -4,7 +4,7 @@ use Rattle.sentinel_rules.specs.Parts.{Part}
 use Rattle.sentinel_rules.specs.Plans.{master_count}
 use Rattle.sentinel_rules.specs.States.{Core}
 use Rattle.sentinel_rules.specs.Ticks.{master_part, with_reading}
-use Rattle.sentinel_nodes.specs.Room.{bounded}
+use Rattle.watched_nodes.specs.Room.{bounded}
 use Rattle.sentinel_ticks.proofs.PartSteps.{part_below}
 use Rattle.sentinel_ticks.proofs.ticks.tick.Goals as goal
 

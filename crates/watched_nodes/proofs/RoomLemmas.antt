@@ -3,7 +3,7 @@ use Rattle.std.proofs.Common.{◌≡◌, ℕ, zero, suc, ◌≤◌, ◌<◌, ◌
 use Rattle.std.proofs.lemmas.List.{take_all, take-append-le}
 use Rattle.sentinel_rules.specs.declared.frames.Frame.{Frame}
 use Rattle.sentinel_rules.specs.declared.frames.TheConstants.{FRAMES_MAX}
-use Rattle.sentinel_nodes.specs.Room.{bounded}
+use Rattle.watched_nodes.specs.Room.{bounded}
 
 take_again : (n : ℕ) (xs ys : List Frame) → take n (take n xs ++ ys) ≡ take n (xs ++ ys)
 take_again zero xs ys = refl

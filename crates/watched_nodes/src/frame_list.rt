@@ -2,7 +2,7 @@
 
 ghost use Rattle.std.specs.Prelude.{◌≡◌, ◌++◌, ◌∷◌, [], IfOk};
 ghost use Rattle.sentinel_rules.specs.Parts.{frame_if};
-ghost use Rattle.sentinel_nodes.specs.Room.{bounded};
+ghost use Rattle.watched_nodes.specs.Room.{bounded};
 
 use sentinel_rules::{FRAMES_MAX, Frame};
 use std::alloc::{AllocError, Global};

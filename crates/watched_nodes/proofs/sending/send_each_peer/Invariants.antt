@@ -1,8 +1,8 @@
 use Rattle.std.proofs.Common.{◌≡◌, ◌++◌, take, drop}
 use Rattle.sentinel_rules.specs.Parts.{changed_from, frames_from}
 use Rattle.sentinel_rules.specs.Ticks.{peer_after, peer_frames}
-use Rattle.sentinel_nodes.specs.Room.{bounded}
-use Rattle.sentinel_nodes.proofs.sending.send_each_peer.Given as goal
+use Rattle.watched_nodes.specs.Room.{bounded}
+use Rattle.watched_nodes.proofs.sending.send_each_peer.Given as goal
 
 abbrev pub invariant-loop-place : goal.invariant-loop-place
 invariant-loop-place l =

@@ -3,8 +3,8 @@ use Rattle.std.proofs.Common.{◌≡◌, ℕ, ◌+◌, ◌<◌, List, [], ◌∷
 use Rattle.std.proofs.lemmas.List.{take_more_set, drop_more, drop-set-lt}
 use Rattle.sentinel_rules.specs.declared.frames.Frame.{Frame}
 use Rattle.sentinel_rules.specs.Parts.{changed_from, frames_from}
-use Rattle.sentinel_nodes.specs.Room.{bounded}
-use Rattle.sentinel_nodes.proofs.RoomLemmas.{bounded_both, bounded_again}
+use Rattle.watched_nodes.specs.Room.{bounded}
+use Rattle.watched_nodes.proofs.RoomLemmas.{bounded_both, bounded_again}
 
 -- one item more is changed
 pub changed_more : {X : Type 0} (change : ℕ → X → X) (xs all : List X) (i : ℕ) (d new : X) → i < length xs → new ≡ change i (get_or xs i d) → take i xs ++ changed_from change i (drop i xs) ≡ all → take (i + 1) (set xs i new) ++ changed_from change (i + 1) (drop (i + 1) (set xs i new)) ≡ all

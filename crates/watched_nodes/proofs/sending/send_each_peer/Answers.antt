@@ -1,7 +1,7 @@
 use Rattle.std.proofs.Common.{◌<◌, length, arith}
 use Rattle.sentinel_rules.specs.Ticks.{peer_after, peer_frames}
-use Rattle.sentinel_nodes.proofs.PlaceLoops.{changed_more, frames_more_set, whole_more}
-use Rattle.sentinel_nodes.proofs.sending.send_each_peer.Goals as goal
+use Rattle.watched_nodes.proofs.PlaceLoops.{changed_more, frames_more_set, whole_more}
+use Rattle.watched_nodes.proofs.sending.send_each_peer.Goals as goal
 
 pub loop-place-preserved : goal.loop-place-preserved
 loop-place-preserved c =

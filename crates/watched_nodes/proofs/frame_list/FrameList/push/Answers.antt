@@ -1,9 +1,9 @@
 use Rattle.std.proofs.Common.{◌≡◌, ◌<◌, ◌++◌, ◌∷◌, [], length, vec_len, vec_capacity, sym, subst, arith}
 use Rattle.std.specs.Prelude.{is_ok}
 use Rattle.sentinel_rules.specs.declared.frames.TheConstants.{FRAMES_MAX}
-use Rattle.sentinel_nodes.specs.Room.{bounded}
-use Rattle.sentinel_nodes.proofs.RoomLemmas.{bounded_pushed, bounded_full}
-use Rattle.sentinel_nodes.proofs.frame_list.FrameList.push.Goals as goal
+use Rattle.watched_nodes.specs.Room.{bounded}
+use Rattle.watched_nodes.proofs.RoomLemmas.{bounded_pushed, bounded_full}
+use Rattle.watched_nodes.proofs.frame_list.FrameList.push.Goals as goal
 
 pub returns-then-len-lt-FRAMES_MAX : goal.returns-then-len-lt-FRAMES_MAX
 returns-then-len-lt-FRAMES_MAX c =
