@@ -9,8 +9,8 @@ use Rattle.sentinel_rules.specs.Plans.{Plan}
 use Rattle.sentinel_rules.specs.States.{Core}
 use Rattle.sentinel_rules.specs.Parts.{output_of}
 use Rattle.sentinel_rules.specs.Takes.{Next, next_at, part_of, shown_after}
-use Rattle.sentinel_state.specs.Room.{bounded}
-use Rattle.sentinel_state.proofs.RoomLemmas.{bounded_all}
+use Rattle.watched_nodes.specs.Room.{bounded}
+use Rattle.watched_nodes.proofs.RoomLemmas.{bounded_all}
 use Rattle.sentinel_core.specs.Sentinels.{is_command}
 
 -- all frames had room

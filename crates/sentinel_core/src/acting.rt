@@ -14,17 +14,21 @@ ghost use Rattle.sentinel_rules.specs.Named.{IsNamed};
 ghost use Rattle.sentinel_rules.specs.Parts.{output_of, send, hello_of_master};
 ghost use Rattle.sentinel_rules.specs.Plans.{master_count, node_named};
 ghost use Rattle.sentinel_rules.specs.Takes.{next, next_at, part_of, answer_to};
-ghost use Rattle.sentinel_state.specs.Room.{bounded};
+ghost use Rattle.watched_nodes.specs.Room.{bounded};
 
 use crate::former::Former;
 use ballot_law::{Body, Command, Event, Hello, Input, Message, NodeName, Note, Output};
-use node_texts::{TextFault, read_hello};
+use node_texts::{TextFault, read_hello, read_info};
 use sentinel_answers::{answer_by_text, answer_plainly};
+use sentinel_news::{hear_answer, hear_pong, take_hello, take_info};
+use watched_nodes::FrameList;
 use sentinel_outbox::Outbox;
+use sentinel_plan::Plan;
 use sentinel_rules::{
     Frame, law_hellos_name_masters, law_inputs_change_one_card, law_inputs_keep_sound,
 };
-use sentinel_state::{FrameList, Plan, State};
+use sentinel_state::State;
+use sentinel_ticks::tick;
 
 /// A message of this Sentinel.
 fn send(plan: &Plan, target: NodeName, body: Body) -> Output
@@ -145,18 +149,18 @@ fn hear(plan: &Plan, state: &mut State, frames: &mut FrameList, now: u64, event:
     match event {
         Event::Tick { master, random } => {
             let former = Former::of(state.kept(), Some(*master));
-            state.tick(plan, *master, *random, now, frames);
+            tick(state, plan, *master, *random, now, frames);
             former
         }
         Event::InfoRead { node, text } => {
             let former = Former::of(state.kept(), listed_by(plan, *node));
-            state.read_info(plan, *node, now, text.as_slice(), frames);
+            take_info(state, plan, *node, now, read_info(text.as_slice()), frames);
             former
         }
         Event::HelloRead { text } => {
             let hello = read_hello(text.as_slice());
             let former = Former::of(state.kept(), told_of(plan, &hello));
-            state.take_hello(plan, now, hello, frames);
+            take_hello(state, plan, now, hello, frames);
             former
         }
         Event::Answered {
@@ -168,12 +172,14 @@ fn hear(plan: &Plan, state: &mut State, frames: &mut FrameList, now: u64, event:
             epoch,
         } => {
             let former = Former::of(state.kept(), None);
-            state.hear_answer(plan, *voter, *master, now, *addr, *down, *leader, *epoch);
+            hear_answer(
+                state, plan, *voter, *master, now, *addr, *down, *leader, *epoch,
+            );
             former
         }
         Event::Pinged { node, reply } => {
             let former = Former::of(state.kept(), None);
-            state.hear_pong(plan, *node, now, *reply);
+            hear_pong(state, plan, *node, now, *reply);
             former
         }
         Event::Command { command, .. } => Former::of(state.kept(), asked_about(command, state)),

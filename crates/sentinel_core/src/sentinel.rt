@@ -18,12 +18,14 @@ use crate::faults::{OpenFault, ReleaseFault, StoreFault, TakeFault};
 use crate::former::Former;
 use ballot_law::{Card, Command, Event, Input, Roster};
 use sentinel_conf::{Conf, ConfStore, ConfText, rewrite_into};
+use watched_nodes::FrameList;
 use sentinel_outbox::{Outbox, Phase, Room};
+use sentinel_plan::Plan;
 use sentinel_rules::{
     law_ignored_inputs_change_nothing, law_inputs_are_steps, law_inputs_change_one_card,
     law_opening_is_sound,
 };
-use sentinel_state::{FrameList, Plan, State};
+use sentinel_state::State;
 use std::alloc::Global;
 use std::marker::Model;
 

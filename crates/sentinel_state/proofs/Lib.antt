@@ -1,9 +1,2 @@
-pub mod AtPlaces
-pub mod Openings
-pub mod FewBest
 pub mod FewPlaces
-pub mod Looking
-pub mod PartSteps
-pub mod PlaceLoops
-pub mod RoomLemmas
 pub mod KeptLemmas

@@ -1,3 +1,1 @@
 pub mod Places
-pub mod Room
-pub mod Rows

@@ -4,10 +4,10 @@ ghost use Rattle.std.specs.Prelude.{◌≡◌, ◌≤◌, length, IfOk};
 ghost use Rattle.ballot_law.specs.Clocks.{clock};
 ghost use Rattle.sentinel_rules.specs.States.{new_master};
 
-use crate::nodes::Node;
 use ballot_law::{NoMemory, RunId};
 use down_detector::DownReports;
 use failover_states::Failover;
+use watched_nodes::Node;
 use std::alloc::Global;
 use std::marker::Model;
 use vote_book::Heard;

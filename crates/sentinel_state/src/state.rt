@@ -1,18 +1,18 @@
 //! What a Sentinel keeps while it runs.
 
-ghost use Rattle.std.specs.Prelude.{◌≡◌, ◌<◌, ◌≤◌, length, map, IfOk, IfSome, IfNone, slice_set};
+ghost use Rattle.std.specs.Prelude.{◌≡◌, ◌<◌, ◌≤◌, length, map, IfOk, IfSome, IfNone, Some, slice_set};
 ghost use Rattle.ballot_law.specs.Ballots.{card_of, kept_of, voted_of};
 ghost use Rattle.ballot_law.specs.Clocks.{clock};
-ghost use Rattle.sentinel_rules.specs.States.{opened, is_tilted, card_place, node_down_since, is_node_down, is_master_down, is_peer_down, is_odown_at, is_failing_over, is_idle, new_master, with_current, with_card, node_of, no_node, peer_of};
+ghost use Rattle.sentinel_rules.specs.States.{opened, is_tilted, card_place, node_down_since, is_node_down, is_master_down, is_peer_down, is_odown_at, is_failing_over, is_idle, new_master, with_current, with_card, with_node, node_of, no_node, peer_of};
 ghost use Rattle.sentinel_rules.specs.Answers.{master_with_card};
+ghost use Rattle.sentinel_rules.specs.Ticks.{with_reading};
 ghost use Rattle.sentinel_rules.specs.Plans.{roster_of, group_size, master_count};
 
 use crate::masters::Master;
-use crate::nodes::Node;
-use crate::peers::Peer;
 use ballot_law::{Addr, Card, Info, Kept, KeptMaster, KeptMasters, NoMemory, Win};
 use down_detector::{Tilt, is_odown};
 use failover_states::State as Stage;
+use watched_nodes::{Node, Peer};
 use sentinel_plan::Plan;
 use std::alloc::{AllocError, Global};
 use std::marker::Model;
@@ -197,7 +197,7 @@ impl State {
     }
 
     /// Since when the node at a place has been subjectively down; `card_at` is the place of the node that the configuration names.
-    pub(crate) fn node_down_since(
+    pub fn node_down_since(
         &self,
         plan: &Plan,
         m: u16,
@@ -253,28 +253,29 @@ impl State {
         }
     }
 
-    pub(crate) fn set_current(&mut self, epoch: u64)
+    /// The current epoch.
+    pub fn set_current(&mut self, epoch: u64)
         ensures { self.new ≡ with_current self.old epoch }
     {
         self.kept.current = epoch;
     }
 
     /// The card of a master; nothing where there is no such master.
-    pub(crate) fn set_card(&mut self, m: u16, card: Card)
+    pub fn set_card(&mut self, m: u16, card: Card)
         ensures { self.new ≡ with_card self.old m card }
     {
         self.set_kept(m, card, self.voted(m));
     }
 
     /// The epoch of the last vote for a master.
-    pub(crate) fn set_voted(&mut self, m: u16, voted: u64)
+    pub fn set_voted(&mut self, m: u16, voted: u64)
         ensures { self.new ≡ record self.old { kept = record self.old.kept { masters = slice_set self.old.kept.masters m (record (kept_of self.old.kept m) { voted = voted }) } } }
     {
         self.set_kept(m, self.card(m), voted);
     }
 
     /// What is kept of a data node; none where there is no such node.
-    pub(crate) fn kept_node(&self, m: u16, k: usize) -> Option<&Node>
+    pub fn kept_node(&self, m: u16, k: usize) -> Option<&Node>
         ensures some { IfSome result (λ node. node.now ≡ node_of self.now m k) }
         ensures none { IfNone result (node_of self.now m k ≡ no_node) }
     {
@@ -295,7 +296,7 @@ impl State {
     }
 
     /// A copy of what is kept of a data node; of what is kept of a new one at 0 where there is no such node.
-    pub(crate) fn node(&self, m: u16, k: usize) -> Node
+    pub fn node(&self, m: u16, k: usize) -> Node
         ensures { result ≡ node_of self.now m k }
     {
         match self.masters.get(m as usize) {
@@ -305,7 +306,7 @@ impl State {
     }
 
     /// What is kept of a Sentinel; what is kept of a new one at 0 where there is no such Sentinel.
-    pub(crate) fn peer(&self, place: usize) -> Peer
+    pub fn peer(&self, place: usize) -> Peer
         ensures { result ≡ peer_of self.now place }
     {
         match self.peers.get(place) {
@@ -321,6 +322,56 @@ impl State {
         match self.kept.masters.as_slice().get(m as usize) {
             Some(master) => master.voted,
             None => 0,
+        }
+    }
+
+    /// The clock takes a turn, and the tick's random number counts until the next one.
+    pub fn read_clock(&mut self, random: u64, now: u64)
+        ensures { self.new ≡ with_reading (clock now) random self.old }
+    {
+        self.clock.turn(now);
+        self.random = random;
+    }
+
+    /// The random number of the last tick.
+    pub fn random(&self) -> u64
+        ensures { result ≡ self.now.random }
+    {
+        self.random
+    }
+
+    /// The election that this input brings.
+    pub fn set_win(&mut self, win: Win)
+        ensures { self.new ≡ record self.old { won = Some win } }
+    {
+        self.won = Some(win);
+    }
+
+    /// What is kept of each Sentinel, by its place.
+    pub fn peers(&self) -> &[Peer]
+        ensures value { result.now ≡ self.now.peers }
+        ensures few { length result.now ≤ 64 }
+    {
+        self.peers.as_slice()
+    }
+
+    /// Keeps this of the Sentinel at a place; nothing where there is no such Sentinel.
+    pub fn set_peer(&mut self, place: usize, peer: Peer)
+        ensures { self.new ≡ record self.old { peers = slice_set self.old.peers place peer } }
+    {
+        if let Some(kept) = self.peers.get_mut(place) {
+            *kept = peer;
+        }
+    }
+
+    /// Keeps this of a data node; nothing where there is no such node.
+    pub fn set_node(&mut self, m: u16, k: usize, node: Node)
+        ensures { self.new ≡ with_node self.old m k node }
+    {
+        if let Some(master) = self.masters.get_mut(m as usize)
+            && let Some(kept) = master.nodes.get_mut(k)
+        {
+            *kept = node;
         }
     }
 

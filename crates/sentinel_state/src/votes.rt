@@ -1,9 +1,10 @@
-//! The own vote for a master, and what a vote does.
+//! The own vote for a master and what a vote does, and the votes heard.
 
 ghost use Rattle.std.specs.Prelude.{◌≡◌};
 ghost use Rattle.ballot_law.specs.Clocks.{clock};
 ghost use Rattle.sentinel_rules.specs.States.{master_of, with_master};
-ghost use Rattle.sentinel_rules.specs.Ticks.{with_vote};
+ghost use Rattle.sentinel_rules.specs.News.{vote_heard};
+ghost use Rattle.sentinel_rules.specs.Ticks.{with_vote, pick_of, count_of};
 ghost use Rattle.sentinel_rules.specs.Votes.{book_of, with_book, mark_for, requested};
 
 use crate::state::State;
@@ -28,14 +29,7 @@ impl State {
     }
 
     /// The vote that a turn of the failover gives in the campaign's epoch, where it gives one.
-    pub(crate) fn give_vote(
-        &mut self,
-        plan: &Plan,
-        m: u16,
-        now: u64,
-        epoch: u64,
-        vote: Option<RunId>,
-    )
+    pub fn give_vote(&mut self, plan: &Plan, m: u16, now: u64, epoch: u64, vote: Option<RunId>)
         ensures { self.new ≡ with_vote plan.now m (clock now) epoch vote self.old }
     {
         if let Some(candidate) = vote {
@@ -60,7 +54,7 @@ impl State {
     }
 
     /// The own vote for a master.
-    pub(crate) fn book(&self, m: u16) -> VoteBook
+    pub fn book(&self, m: u16) -> VoteBook
         ensures { result ≡ book_of self.now m }
     {
         VoteBook::with_leader(self.kept.current, self.voted(m), self.leader(m))
@@ -90,6 +84,39 @@ impl State {
     {
         if let Some(master) = self.masters.get_mut(m as usize) {
             master.leader = leader;
+        }
+    }
+
+    /// Takes the vote of the Sentinel at a place for a master.
+    pub fn hear_vote(&mut self, voter: u16, m: u16, epoch: u64, leader: Option<RunId>)
+        ensures { self.new ≡ vote_heard voter m epoch leader self.old }
+    {
+        if let Some(leader) = leader
+            && let Some(master) = self.masters.get_mut(m as usize)
+            && (voter as usize) < master.heard.voters()
+        {
+            master.heard.hear(voter, leader, epoch);
+        }
+    }
+
+    /// The candidate with most of the votes heard for a master at an epoch, the smaller run id on a tie; the own run id where none
+    /// was heard.
+    pub fn pick(&self, plan: &Plan, m: u16, epoch: u64) -> RunId
+        ensures { result ≡ pick_of plan.now self.now m epoch }
+    {
+        match self.masters.get(m as usize) {
+            Some(master) => master.heard.pick(epoch, plan.me()),
+            None => plan.me(),
+        }
+    }
+
+    /// How many of the votes heard for a master at an epoch are for this Sentinel.
+    pub fn count(&self, plan: &Plan, m: u16, epoch: u64) -> u32
+        ensures { result ≡ count_of plan.now self.now m epoch }
+    {
+        match self.masters.get(m as usize) {
+            Some(master) => master.heard.count(epoch, plan.me()),
+            None => 0,
         }
     }
 }

@@ -6,9 +6,11 @@ ghost use Rattle.sentinel_answers.specs.Plain.{is_plain};
 use ballot_law::{Addr, Body, Command, RunId, Shown, Win};
 use sentinel_answers::{answer_by_text, answer_plainly};
 use sentinel_conf::read;
+use watched_nodes::FrameList;
 use sentinel_plan::Plan;
 use sentinel_rules::Frame;
-use sentinel_state::{FrameList, State};
+use sentinel_state::State;
+use sentinel_ticks::tick;
 use std::alloc::Global;
 use std::marker::Model;
 use std::test::Fail;
@@ -69,8 +71,14 @@ impl LoneState {
     /// A tick of the master with this number, whose random number is 0.
     pub(crate) fn tick(&mut self, master: u16, now: u64) {
         self.frames.clear();
-        self.state
-            .tick(&self.plan, master, 0, now, &mut self.frames);
+        tick(
+            &mut self.state,
+            &self.plan,
+            master,
+            0,
+            now,
+            &mut self.frames,
+        );
     }
 
     /// Whether the last tick put out these frames and no others.

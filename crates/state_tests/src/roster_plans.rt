@@ -3,7 +3,7 @@
 use crate::lone_state::{LoneState, TWO_MASTERS, here};
 use ballot_law::NodeName;
 use sentinel_conf::read;
-use sentinel_state::{NodePlace, Plan};
+use sentinel_plan::{NodePlace, Plan};
 use std::alloc::Global;
 use std::test::Fail;
 

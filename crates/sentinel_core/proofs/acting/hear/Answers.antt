@@ -8,8 +8,8 @@ use Rattle.sentinel_rules.specs.Named.{IsNamed}
 use Rattle.sentinel_rules.specs.Parts.{output_of, send, hello_of_master}
 use Rattle.sentinel_rules.specs.Plans.{master_count}
 use Rattle.sentinel_rules.specs.Takes.{next, part_of, answer_to}
-use Rattle.sentinel_state.specs.Room.{bounded}
-use Rattle.sentinel_state.proofs.RoomLemmas.{bounded_none}
+use Rattle.watched_nodes.specs.Room.{bounded}
+use Rattle.watched_nodes.proofs.RoomLemmas.{bounded_none}
 use Rattle.sentinel_core.proofs.acting.hear.Goals as goal
 
 -- src/acting.rt:95:1

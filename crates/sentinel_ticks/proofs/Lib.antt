@@ -1,0 +1,5 @@
+pub mod AtPlaces
+pub mod FewBest
+pub mod Looking
+pub mod Openings
+pub mod PartSteps

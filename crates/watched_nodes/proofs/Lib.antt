@@ -1,0 +1,2 @@
+pub mod PlaceLoops
+pub mod RoomLemmas

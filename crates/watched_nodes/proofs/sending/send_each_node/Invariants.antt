@@ -1,0 +1,15 @@
+use Rattle.std.proofs.Common.{◌≡◌, ◌++◌, take, drop}
+use Rattle.sentinel_rules.specs.Parts.{changed_from, frames_from}
+use Rattle.sentinel_rules.specs.Ticks.{node_after, node_frames}
+use Rattle.watched_nodes.specs.Room.{bounded}
+use Rattle.watched_nodes.proofs.sending.send_each_node.Given as goal
+
+abbrev pub invariant-loop-k : goal.invariant-loop-k
+invariant-loop-k l =
+    let change = node_after l.sending in
+    let puts = node_frames l.plan l.m l.sending in
+    record {
+      nodes : take l.k l.nodes ++ changed_from change l.k (drop l.k l.nodes) ≡ changed_from change 0 l.initial.nodes;
+      frames : bounded (l.frames ++ frames_from puts l.k (drop l.k l.nodes)) ≡ bounded (l.initial.frames ++ frames_from puts 0 l.initial.nodes);
+      whole : bounded l.frames ≡ l.frames;
+    }

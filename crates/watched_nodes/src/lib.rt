@@ -1,0 +1,15 @@
+//! One node as a Sentinel keeps it: what it last said and was sent, what is due to be sent to it, and what its replies and its INFO change.
+//!
+//! `Node` is a data node, `Peer` another Sentinel, `FrameList` what an input has the Sentinel put out, in room that was made beforehand. Each
+//! call's contract is an equation with the definitions of `sentinel_rules`.
+#![tactic(auto)]
+
+mod frame_list;
+mod nodes;
+mod peers;
+mod sending;
+
+pub use frame_list::FrameList;
+pub use nodes::{Node, greet_soon, move_all};
+pub use peers::Peer;
+pub use sending::{Sending, ping_period, send_each_node, send_each_peer};

@@ -1,0 +1,161 @@
+//! What is kept of a data node.
+
+ghost use Rattle.std.specs.Prelude.{◌≡◌, map, unwrap_or};
+ghost use Rattle.ballot_law.specs.Clocks.{clock};
+ghost use Rattle.sentinel_rules.specs.declared.assumed.TheConstants.{ASSUMED_INFO};
+ghost use Rattle.sentinel_rules.specs.News.{hello_soon, moved, node_pinged, with_info};
+ghost use Rattle.sentinel_rules.specs.States.{new_node};
+
+use ballot_law::{Info, PingReply, clock_of};
+use down_detector::Watch;
+use replica_choice::Candidate;
+use sentinel_rules::ASSUMED_INFO;
+use std::marker::Model;
+
+/// What is kept of a data node. Moments are readings of the Sentinel's clock in milliseconds, at most 2^62.
+#[derive(Clone, Copy)]
+pub struct Node {
+    pub watch: Watch,
+    /// When its last valid reply to a PING came.
+    pub last_ping: Option<u64>,
+    /// What its last INFO said, and when it came.
+    pub info: Option<Info>,
+    pub info_at: Option<u64>,
+    /// When it was last sent a PING, an INFO and a hello.
+    pub ping_sent: Option<u64>,
+    pub info_sent: Option<u64>,
+    pub hello_sent: Option<u64>,
+    /// Since when it has said that it is a master though it isn't, or followed another master.
+    pub wrong_role: Option<u64>,
+    pub wrong_address: Option<u64>,
+}
+
+impl Model for Node {
+    ghost use Rattle.sentinel_rules.specs.States.{NodeState};
+
+    ghost Value = { NodeState };
+
+    ghost view = { λ node. record {
+      watch = node.watch;
+      last_ping = node.last_ping;
+      info = node.info;
+      info_at = node.info_at;
+      ping_sent = node.ping_sent;
+      info_sent = node.info_sent;
+      hello_sent = node.hello_sent;
+      wrong_role = node.wrong_role;
+      wrong_address = node.wrong_address;
+    } };
+
+    ghost inverse = { λ node. record {
+      watch = node.watch;
+      last_ping = node.last_ping;
+      info = node.info;
+      info_at = node.info_at;
+      ping_sent = node.ping_sent;
+      info_sent = node.info_sent;
+      hello_sent = node.hello_sent;
+      wrong_role = node.wrong_role;
+      wrong_address = node.wrong_address;
+    } };
+}
+
+impl Node {
+    /// A node of which nothing was heard yet.
+    pub fn new(now: u64) -> Node
+        ensures { result ≡ new_node (clock now) }
+    {
+        Node {
+            watch: Watch::new(now),
+            last_ping: None,
+            info: None,
+            info_at: None,
+            ping_sent: None,
+            info_sent: None,
+            hello_sent: None,
+            wrong_role: None,
+            wrong_address: None,
+        }
+    }
+
+    /// It replied to a PING.
+    pub fn hear_pong(&mut self, now: u64, reply: PingReply)
+        ensures { self.new ≡ node_pinged (clock now) reply self.old }
+    {
+        self.watch.heard(now, reply);
+        match reply {
+            PingReply::Pong | PingReply::Loading | PingReply::MasterDown => {
+                self.last_ping = Some(clock_of(now));
+            }
+            PingReply::Other => {}
+        }
+    }
+
+    /// Its INFO, the moment and the role are kept.
+    pub fn keep_info(&mut self, now: u64, info: &Info)
+        ensures { self.new ≡ with_info (clock now) info.now self.old }
+    {
+        self.info = Some(*info);
+        self.info_at = Some(clock_of(now));
+        self.watch.reported(now, info.role);
+    }
+
+    /// It is sent a hello at the next tick.
+    pub fn hello_soon(&mut self)
+        ensures { self.new ≡ hello_soon self.old }
+    {
+        self.hello_sent = None;
+    }
+
+    /// Its master is at a new address: it has nothing to be wrong about yet.
+    pub fn moved(&mut self, now: u64)
+        ensures { self.new ≡ moved (clock now) self.old }
+    {
+        self.watch.card_changed(now);
+        self.hello_sent = None;
+        self.wrong_role = None;
+        self.wrong_address = None;
+    }
+
+    /// What is known of it as a replica to choose.
+    pub fn candidate(&self, sdown: bool) -> Candidate
+        ensures { result ≡ record {
+          sdown = sdown;
+          priority = (unwrap_or self.now.info ASSUMED_INFO).priority;
+          link_down_s = (unwrap_or self.now.info ASSUMED_INFO).link_down_s;
+          last_ping = self.now.last_ping;
+          last_info = self.now.info_at;
+          offset = (unwrap_or self.now.info ASSUMED_INFO).offset;
+          id = (unwrap_or self.now.info ASSUMED_INFO).id;
+        } }
+    {
+        let info = self.info.unwrap_or(ASSUMED_INFO);
+        Candidate {
+            sdown,
+            priority: info.priority,
+            link_down_s: info.link_down_s,
+            last_ping: self.last_ping,
+            last_info: self.info_at,
+            offset: info.offset,
+            id: info.id,
+        }
+    }
+}
+
+/// Each node is sent a hello at the next tick.
+pub fn greet_soon(nodes: &mut [Node])
+    ensures { nodes.new ≡ map hello_soon nodes.old }
+{
+    for node in nodes.iter_mut() {
+        node.hello_soon();
+    }
+}
+
+/// The master of these nodes is at a new address.
+pub fn move_all(nodes: &mut [Node], now: u64)
+    ensures { nodes.new ≡ map (moved (clock now)) nodes.old }
+{
+    for node in nodes.iter_mut() {
+        node.moved(now);
+    }
+}

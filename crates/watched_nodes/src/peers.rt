@@ -1,0 +1,46 @@
+//! What is kept of a Sentinel of the roster.
+
+ghost use Rattle.std.specs.Prelude.{◌≡◌};
+ghost use Rattle.ballot_law.specs.Clocks.{clock};
+ghost use Rattle.sentinel_rules.specs.News.{peer_pinged};
+ghost use Rattle.sentinel_rules.specs.States.{new_peer};
+
+use ballot_law::PingReply;
+use down_detector::Watch;
+use std::marker::Model;
+
+/// What is kept of a Sentinel of the roster: its watch, and when it was last sent a PING.
+#[derive(Clone, Copy)]
+pub struct Peer {
+    pub watch: Watch,
+    pub ping_sent: Option<u64>,
+}
+
+impl Model for Peer {
+    ghost use Rattle.sentinel_rules.specs.States.{PeerState};
+
+    ghost Value = { PeerState };
+
+    ghost view = { λ peer. record { watch = peer.watch; ping_sent = peer.ping_sent } };
+
+    ghost inverse = { λ peer. record { watch = peer.watch; ping_sent = peer.ping_sent } };
+}
+
+impl Peer {
+    /// A Sentinel of which nothing was heard yet.
+    pub fn new(now: u64) -> Peer
+        ensures { result ≡ new_peer (clock now) }
+    {
+        Peer {
+            watch: Watch::new(now),
+            ping_sent: None,
+        }
+    }
+
+    /// It replied to a PING.
+    pub fn hear_pong(&mut self, now: u64, reply: PingReply)
+        ensures { self.new ≡ peer_pinged (clock now) reply self.old }
+    {
+        self.watch.heard(now, reply);
+    }
+}
