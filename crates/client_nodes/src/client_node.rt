@@ -1,0 +1,172 @@
+//! A client in a box.
+
+ghost use Rattle.std.specs.Prelude.{◌≡◌, ◌<◌, OnOk, IfOk, length};
+ghost use Rattle.ballot_law.specs.declared.messages.NodeName.TheVariants.{ClientAt};
+ghost use Rattle.sentinel_outbox.specs.Outboxes.{Fits};
+ghost use Rattle.boxed_nodes.specs.Moves.{IsFresh};
+ghost use Rattle.node_turns.specs.Turns.{shown_at};
+ghost use Rattle.client_nodes.specs.Searches.{said, sent_to, sentinel_asked};
+ghost use Rattle.client_nodes.specs.Clients.{fresh_client};
+
+use crate::group::Group;
+use crate::search::Search;
+use ballot_law::{Addr, Body, Card, Event, Input, KeptText, Message, NoMemory, NodeName, Roster};
+use boxed_nodes::{
+    HowStored, Node, OpenFault, Outbox, ReleaseFault, Room, StoreFault, TakeFault, Took,
+};
+use client_queries::Move;
+use node_turns::Turn;
+use sentinel_conf::Conf;
+use std::alloc::Global;
+use std::marker::Model;
+
+/// A client that searches for one master.
+///
+/// At a tick it sends the question of its next move: to a Sentinel of its list for the address of the master, or to the data node at that
+/// address for its role. Where a question has no answer yet, the tick counts as its failure, and where the client waits, as the end of
+/// that. It takes any answer that fits its move, from whichever node it comes; connecting succeeds at once. Anything else changes nothing. A
+/// stop keeps the search.
+#[derive(Drop)]
+pub struct ClientNode {
+    number: u16,
+    group: Group,
+    search: Search,
+    turn: Turn,
+}
+
+impl Model for ClientNode {
+    ghost use Rattle.client_nodes.specs.Clients.{ClientPlan};
+
+    ghost Value = { ClientPlan };
+
+    ghost view = { λ node. record {
+      number = node.number;
+      group = node.group;
+      search = node.search;
+      turn = node.turn;
+    } };
+}
+
+impl ClientNode {
+    /// The client with this number, which searches for the master with that number of the roster. Its list is the Sentinels in the roster's
+    /// order. `NoMemory` is the only error.
+    pub fn new(alloc: Global, conf: &Conf, number: u16, master: u16) -> Result<ClientNode, NoMemory>
+        requires { master < length conf.now.roster.masters }
+        ensures client { IfOk result (λ node. node ≡ fresh_client conf.now.roster number master) }
+        ensures fresh { IfOk result (λ node. IsFresh (λ roster. Unit {0}) (shown_at node.turn)) }
+    {
+        let group = Group::new(alloc, conf.roster(), master)?;
+        let search = Search::new(alloc, group.sentinels())?;
+        Ok(ClientNode {
+            number,
+            group,
+            search,
+            turn: Turn::Ready,
+        })
+    }
+
+    /// Sends this to a node, where there is one.
+    fn send(&self, target: Option<NodeName>, body: Body, outbox: &mut Outbox)
+        requires { Fits outbox.old (record { outputs = 1; text = 0; shown = 0 }) }
+        ensures held { outbox.new.held ≡ sent_to (ClientAt self.now.number) target body }
+        ensures shown { outbox.new.shown ≡ outbox.old.shown }
+    {
+        if let Some(target) = target {
+            let _held = outbox.hold(Message {
+                sender: NodeName::ClientAt(self.number),
+                target,
+                body,
+            });
+        }
+    }
+
+    /// The Sentinel at this address of the list.
+    fn sentinel_asked(&self, addr: Option<Addr>) -> Option<NodeName>
+        ensures { result ≡ sentinel_asked self.now.group addr }
+    {
+        self.group.sentinel_with(addr?)
+    }
+
+    /// Sends the question of the next move, where the event is a tick and no question is outstanding.
+    fn say(&self, event: &Event, outbox: &mut Outbox)
+        requires { Fits outbox.old (record { outputs = 1; text = 0; shown = 0 }) }
+        ensures held { outbox.new.held ≡ said self.now.group (ClientAt self.now.number) self.now.search event.now }
+        ensures shown { outbox.new.shown ≡ outbox.old.shown }
+    {
+        let Event::Tick { .. } = event else {
+            return;
+        };
+        if self.search.is_outstanding() {
+            return;
+        }
+        match self.search.next_move() {
+            Move::Ask(place) => {
+                let target = self.sentinel_asked(self.search.at(place));
+                self.send(target, Body::AddressAsk(self.group.master()), outbox);
+            }
+            Move::CheckRole(addr) => {
+                self.send(self.group.store_with(addr), Body::RoleAsk, outbox);
+            }
+            Move::Connect(_) => {}
+            Move::Wait => {}
+            Move::NoSentinel => {}
+            Move::Done(_) => {}
+        }
+    }
+}
+
+impl Node for ClientNode {
+    ghost name = { λ node. ClientAt node.number };
+
+    ghost is_known = { λ node roster. Unit {0} };
+
+    ghost room_needed = { λ node. record { outputs = 1; text = 0; shown = 0 } };
+
+    ghost shows = { λ node. shown_at node.turn };
+
+    fn kind(&self) -> NodeName {
+        NodeName::ClientAt(self.number)
+    }
+
+    fn room(&self) -> Room {
+        Room::messages(1)
+    }
+
+    fn knows(&self, _roster: &Roster) -> bool {
+        true
+    }
+
+    fn card(&self, _m: u16) -> Option<Card> {
+        None
+    }
+
+    fn won(&self) -> Option<(u16, u64)> {
+        None
+    }
+
+    #[tactic(auto, using(crate::proofs::Saying::all_of_client, crate::proofs::Saying::all_sendable))]
+    fn take(&mut self, input: &Input, outbox: &mut Outbox) -> Result<Took, TakeFault> {
+        let room = self.room();
+        self.turn.take(outbox, &room)?;
+        self.say(&input.event, outbox);
+        self.search.take(&input.event);
+        Ok(Took { changed: false })
+    }
+
+    fn store(&mut self, how: HowStored) -> Result<(), StoreFault> {
+        self.turn.store(how)
+    }
+
+    fn release(&mut self, outbox: &mut Outbox) -> Result<(), ReleaseFault> {
+        self.turn.release(outbox)
+    }
+
+    fn stop(&mut self, left: KeptText) {
+        self.turn.stop(left);
+    }
+
+    fn start(&mut self, _now: u64) -> Result<(), OpenFault> {
+        self.turn.start();
+        Ok(())
+    }
+}
