@@ -49,7 +49,7 @@ pub nothing_waits : frame_at [] ≡ Err NeedsMore
 unfolding frame_at value_at
 nothing_waits = refl
 
-fed_so_far : {X : Type 0} (stream piece : List ℕ) (fs : List Frame) (held after : Held) (x : X) → SoFar stream fs held → Feeds held piece (Ok x) after → SoFar (stream ++ piece) fs after
+pub fed_so_far : {X : Type 0} (stream piece : List ℕ) (fs : List Frame) (held after : Held) (x : X) → SoFar stream fs held → Feeds held piece (Ok x) after → SoFar (stream ++ piece) fs after
 fed_so_far stream piece fs (reading bytes) after x s h =
     let same : bytes ≡ s.0 = let e = s.1 in cc in
     (s.0 ++ piece, h ∙ ap (λ (t : List ℕ). reading (t ++ piece)) same, parts_longer stream fs s.0 piece s.2)

@@ -9,7 +9,7 @@ use Rattle.resp2_frames.specs.declared.fault.Stopped.{Stopped}
 use Rattle.resp2_frames.specs.declared.fault.Stopped.TheVariants.{At, Memory}
 use Rattle.resp2_frames.specs.Frame.{Frame, FrameList, simple, fault, int, bulk, null_bulk, items, null_items, no_frames, frame}
 
--- What a function returned, seen by view, is what reading gives, unless memory ran out.
+-- What a function returned, seen by view, is what reading gives, unless memory was refused.
 abbrev pub Fails : {Y : Type 0} → Stopped → Result Y Unread → Type 0
 Fails (At u) read = read ≡ Err u
 Fails Memory read = Unit {0}

@@ -16,14 +16,14 @@ abbrev pub held_of : Option FrameFault → List ℕ → Held
 held_of None bytes = reading bytes
 held_of (Some f) bytes = ended f
 
--- what `feed` answers: the piece is added, or memory is wanting and nothing changed; an ended reader answers its fault
+-- what `feed` answers: the piece is added, or memory was refused and nothing changed; an ended reader answers its fault
 abbrev pub Feeds : {X : Type 0} → Held → List ℕ → Result X FrameFault → Held → Type 0
 Feeds (reading bytes) piece (Ok x) after = after ≡ reading (bytes ++ piece)
 Feeds (reading bytes) piece (Err f) after = (f ≡ NoMemory) × (after ≡ reading bytes)
 Feeds (ended fault) piece answer after = (answer ≡ Err fault) × (after ≡ ended fault)
 
 -- what `next` answers, each value seen by view: the first value, that more bytes are needed, or the fault that shows, which ends the reader;
--- or memory is wanting and nothing changed
+-- or memory was refused and nothing changed
 abbrev pub Answers : {V : Type 0} → (V → Frame) → Held → Result (Option V) FrameFault → Held → Type 0
 Answers view (reading bytes) (Ok (Some v)) after = (rest : List ℕ) × (frame_at bytes ≡ Ok (view v, rest)) × (after ≡ reading rest)
 Answers view (reading bytes) (Ok None) after = (frame_at bytes ≡ Err NeedsMore) × (after ≡ reading bytes)
@@ -50,7 +50,7 @@ Splits stream fs held = (rest : List ℕ) × Parts stream fs rest × Ends rest h
 abbrev pub SoFar : List ℕ → List Frame → Held → Type 0
 SoFar stream fs held = (rest : List ℕ) × (held ≡ reading rest) × Parts stream fs rest
 
--- all whole values were taken, or a fault shows behind them, or memory ran out
+-- all whole values were taken, or a fault shows behind them, or memory was refused
 abbrev pub Drained : {X : Type 0} → List ℕ → Result X FrameFault → List Frame → Held → Type 0
 Drained stream (Ok x) fs held = (rest : List ℕ) × (held ≡ reading rest) × Parts stream fs rest × (frame_at rest ≡ Err NeedsMore)
 Drained stream (Err f) fs held = (f ≡ NoMemory) ⊎ Splits stream fs (ended f)

@@ -105,7 +105,7 @@ impl Frames {
         ensures found { IfOk result (λ given. IfSome given (λ value.
             (rest : List ℕ) × IsFrame (view value)
             × (self.old ≡ reading (spelling (view value) ++ rest)) × (self.new ≡ reading rest))) }
-        // Where a value stands at the front, that one is given, unless memory is wanting.
+        // Where a value stands at the front, that one is given, unless memory was refused.
         ensures only { (f : Frame) (rest : List ℕ) → IsFrame f
             → self.old ≡ reading (spelling f ++ rest)
             → MatchResult result

@@ -51,6 +51,6 @@ pub fn law_faults()
     ensures fault { (bytes : List ℕ) (fault : FrameFault)
         → (frame_at bytes ≡ Err (Faulty fault)) ↔ IsFaulted fault bytes }
     ensures waits { (bytes : List ℕ) → (frame_at bytes ≡ Err NeedsMore) ↔ MayGoOn bytes }
-    // Want of memory is no fault of the bytes.
+    // A refused allocation is no fault of the bytes.
     ensures memory { (bytes : List ℕ) → frame_at bytes ≡ Err (Faulty NoMemory) → ⊥ }
 {}

@@ -124,8 +124,8 @@ fn unknown_fault(names: &[Name], line: &Line) -> Option<ConfKind>
     }
 }
 
-/// What the lines of these bytes say, or the first fault of a line by itself or after the lines before it. Want of
-/// memory may stand in place of either.
+/// What the lines of these bytes say, or the first fault of a line by itself or after the lines before it. A
+/// refused allocation may stand in place of either.
 pub fn read_lines(alloc: Global, bytes: &[u8]) -> Result<FileLines, ConfFault>
     ensures fits { OnOk result
         (first_fault line_fault 1 [] (map line_of (lines bytes.now)) ≡ None) }

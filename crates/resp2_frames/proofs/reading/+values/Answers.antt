@@ -1,9 +1,10 @@
-use Rattle.std.proofs.Common.{◌≡◌, ◌++◌, ◌∷◌, [], map}
+use Rattle.std.proofs.Common.{rules, ◌≡◌, ◌++◌, ◌∷◌, [], map}
 use Rattle.std.proofs.lemmas.Result.{err_from_is_err_and}
 use Rattle.std.proofs.lemmas.List.{map_push}
 use Rattle.resp2_frames.specs.Frame.{view}
 use Rattle.resp2_frames.specs.Reading.{value_at, values_at}
 use Rattle.resp2_frames.proofs.Loop.{goes_on, ends, is_done}
+use Rattle.resp2_frames.specs.Reading.{value_at, kind_at, items_at}
 use Rattle.resp2_frames.proofs.reading.+values.Goals as goal
 
 pub values_of-returns-in_err-value : goal.values_of-returns-in_err-value
@@ -23,3 +24,11 @@ pub values_of-returns : goal.values_of-returns
 values_of-returns t c =
     let inner = value_at 1024 c.args.more c.args.depth in
     is_done inner (map view c.loop.values.items) c.args.count c.loop.counter c.loop.rest.now (values_at inner c.args.count c.args.bytes.now) c.loop-test.false c.loop.invariant
+
+pub value_of-returns-in_default-kind : goal.value_of-returns-in_default-kind
+unfolding value_at kind_at
+value_of-returns-in_default-kind t c = search rules
+
+pub items_of-returns-then-count-gt-MOST_ITEMS : goal.items_of-returns-then-count-gt-MOST_ITEMS
+unfolding items_at
+items_of-returns-then-count-gt-MOST_ITEMS t c = search rules
