@@ -110,10 +110,24 @@ pub fn answer_by_text(
     match *command {
         Command::Masters => answer_masters(plan, state, now, text, shown),
         Command::Master(name) => answer_about(plan, state, now, name, Asked::Whole, text, shown),
-        Command::Replicas(name) =>
-            answer_about(plan, state, now, name, Asked::Replicas, text, shown),
-        Command::Sentinels(name) =>
-            answer_about(plan, state, now, name, Asked::Sentinels, text, shown),
+        Command::Replicas(name) => answer_about(
+            plan,
+            state,
+            now,
+            name,
+            Asked::Replicas,
+            text,
+            shown,
+        ),
+        Command::Sentinels(name) => answer_about(
+            plan,
+            state,
+            now,
+            name,
+            Asked::Sentinels,
+            text,
+            shown,
+        ),
         Command::MyId => answer_id(plan, text, shown),
         Command::CkQuorum(name) => answer_about(plan, state, now, name, Asked::Quorum, text, shown),
         Command::FlushConfig => answer_done(text, shown),
