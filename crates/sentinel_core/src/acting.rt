@@ -226,22 +226,6 @@ fn hold_frames(plan: &Plan, state: &State, frames: &[Frame], outbox: &mut Outbox
     }
 }
 
-/// Whether the event is a command.
-fn is_command(event: &Event) -> bool
-    ensures { result ≡ is_command event.now }
-{
-    match event {
-        Event::Command { .. } => true,
-        Event::Tick { .. } => false,
-        Event::Answered { .. } => false,
-        Event::Pinged { .. } => false,
-        Event::InfoRead { .. } => false,
-        Event::HelloRead { .. } => false,
-        Event::Become { .. } => false,
-        Event::Handed(_) => false,
-    }
-}
-
 /// What an event does that is no command, and what it may overwrite of what is kept.
 fn act_on_news(
     plan: &Plan,
