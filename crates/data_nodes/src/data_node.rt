@@ -1,10 +1,10 @@
 //! A data node in a box.
 
-ghost use Rattle.std.specs.Prelude.{◌≡◌, IfSome, IfNone};
+ghost use Rattle.std.specs.Prelude.{◌≡◌, IfSome};
 ghost use Rattle.ballot_law.specs.declared.messages.NodeName.TheVariants.{StoreAt};
 ghost use Rattle.boxed_nodes.specs.Moves.{IsFresh};
 ghost use Rattle.node_turns.specs.Turns.{shown_at};
-ghost use Rattle.data_nodes.specs.Nodes.{addr_numbered, IsIn};
+ghost use Rattle.data_nodes.specs.Nodes.{node_of, IsIn};
 
 use crate::places::{addr_numbered, place_numbered};
 use crate::saying::say;
@@ -52,16 +52,15 @@ impl DataNode {
     /// The data node with this number, counted over the masters in the roster's order, each master's nodes by address; none where
     /// there is no such node. The node of a master's configuration begins as that master, the others follow it. No memory is taken.
     pub fn new(conf: &Conf, number: u16) -> Option<DataNode>
-        ensures none { IfNone result (addr_numbered conf.now.roster number ≡ None) }
+        ensures node { result ≡ node_of conf.now number }
         ensures known { IfSome result (λ node. IsIn node conf.now.roster) }
-        ensures named { IfSome result (λ node. node.number ≡ number) }
         ensures fresh { IfSome result (λ node. IsFresh (IsIn node) (shown_at node.turn)) }
     {
         let masters = conf.roster().masters();
         let at = place_numbered(masters, number)?;
         let addr = masters[at.master].nodes()[at.place];
         let card = conf.kept().masters.as_slice()[at.master].card;
-        let follows = if addr == card.addr {
+        let follows = if addr.is_same(&card.addr) {
             None
         } else {
             Some(card.addr)

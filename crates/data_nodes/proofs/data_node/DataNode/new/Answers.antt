@@ -8,7 +8,7 @@ use Rattle.boxed_nodes.specs.Images.{OfOther}
 use Rattle.sentinel_rules.proofs.KeptParts.{kept_long}
 use Rattle.data_nodes.proofs.MasterAddrs.{card_addr}
 use Rattle.data_nodes.proofs.data_node.DataNode.new.Goals as goal
-use Rattle.data_nodes.proofs.data_node.DataNode.new.Goals.{then-eq, else-eq}
+use Rattle.data_nodes.proofs.data_node.DataNode.new.Goals.{then-is_same, else-is_same}
 
 pub bounds-as_slice-at : goal.bounds-as_slice-at
 bounds-as_slice-at c =
@@ -25,9 +25,9 @@ new-requires c =
     let masters : length c.masters-masters.result.now ≡ length conf.roster.masters = ap length (c.masters-masters.ensures ∙ ap (λ (r : Roster). r.masters) c.roster.ensures.value) in
     let kept = c.as_slice.ensures ∙ ap (λ (k : Kept). k.masters) c.kept.ensures.value in
     let known : c.in_ok-at.at.master < length c.masters-masters.result.now = c.in_ok-at.ensures.known in
-    elim c.if-eq.branch [
-      | then-eq w ↦ subst (λ f. IfSome f IsAddr) (sym w.follows-is) tt
-      | else-eq w ↦ subst (λ f. IfSome f IsAddr) (sym w.follows-is) (card_addr conf c.as_slice.result.now c.in_ok-at.at.master _ c.roster.ensures.sound kept (omega arith))
+    elim c.if-is_same.branch [
+      | then-is_same w ↦ subst (λ f. IfSome f IsAddr) (sym w.follows-is) tt
+      | else-is_same w ↦ subst (λ f. IfSome f IsAddr) (sym w.follows-is) (card_addr conf c.as_slice.result.now c.in_ok-at.at.master _ c.roster.ensures.sound kept (omega arith))
     ]
 
 pub returns-clause-fresh : goal.returns-clause-fresh
