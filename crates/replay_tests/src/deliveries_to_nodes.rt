@@ -1,5 +1,6 @@
 //! What a message becomes at its target.
 
+ghost use Rattle.ballot_law.specs.Hellos.{IsAddr};
 ghost use Rattle.message_texts.specs.MessageTexts.{IsWritable};
 ghost use Rattle.sentinel_rules.specs.Limits.{IsWithinBody};
 
@@ -16,7 +17,9 @@ const HELLO: &[u8] =
     b"127.0.0.1,26379,aaaaaaaaaaaaaaaaaaaaaaaaaaaaaaaaaaaaaaaa,1,mymaster,127.0.0.1,6381,1";
 
 /// The address 127.0.0.1:6379.
-fn addr() -> Addr {
+fn addr() -> Addr
+    ensures { IsAddr result }
+{
     Addr {
         ip: 2_130_706_433,
         port: 6_379,
@@ -43,10 +46,11 @@ fn an_answer_to_ping_counts_as_its_text_says(rt: HostRuntime) -> Result<(), Fail
         is_error: true,
         text,
     };
-    match comes(rt.alloc(), NodeName::SentinelAt(0), body)? {
+    let event = comes(rt.alloc(), NodeName::SentinelAt(0), body)?;
+    match &event {
         Some(Event::Pinged { node, reply }) => {
-            assert_eq!(rt; node, NodeName::StoreAt(1));
-            assert_eq!(rt; reply, PingReply::Loading);
+            assert_eq!(rt; *node, NodeName::StoreAt(1));
+            assert_eq!(rt; *reply, PingReply::Loading);
         }
         _ => return Err("not heard")?,
     }
@@ -67,18 +71,20 @@ fn an_info_and_a_hello_come_as_bytes(rt: HostRuntime) -> Result<(), Fail> {
     };
     let wanted =
         b"role:slave\r\nmaster_host:127.0.0.1\r\nmaster_port:6379\r\nmaster_link_status:down\r\nmaster_link_down_since_seconds:9\r\nslave_priority:0\r\nslave_repl_offset:7\r\n";
-    match comes(alloc, NodeName::SentinelAt(0), Body::InfoText(info))? {
+    let event = comes(alloc, NodeName::SentinelAt(0), Body::InfoText(info))?;
+    match &event {
         Some(Event::InfoRead { node, text }) => {
-            assert_eq!(rt; node, NodeName::StoreAt(1));
+            assert_eq!(rt; *node, NodeName::StoreAt(1));
             assert_eq!(rt; text.as_slice(), wanted.as_slice());
         }
         _ => return Err("not read")?,
     }
-    match comes(
+    let event = comes(
         alloc,
         NodeName::SentinelAt(0),
         Body::HelloText(read_hello(HELLO)?),
-    )? {
+    )?;
+    match &event {
         Some(Event::HelloRead { text }) => assert_eq!(rt; text.as_slice(), HELLO),
         _ => return Err("not read")?,
     }
@@ -99,10 +105,11 @@ fn questions_are_commands(rt: HostRuntime) -> Result<(), Fail> {
         epoch: 4,
         candidate,
     };
-    match comes(rt.alloc(), NodeName::SentinelAt(0), ask)? {
+    let event = comes(rt.alloc(), NodeName::SentinelAt(0), ask)?;
+    match &event {
         Some(Event::Command { sender, command }) => {
-            assert_eq!(rt; sender, NodeName::StoreAt(1));
-            assert_eq!(rt; command, wanted);
+            assert_eq!(rt; *sender, NodeName::StoreAt(1));
+            assert_eq!(rt; *command, wanted);
         }
         _ => return Err("no command")?,
     }
@@ -140,7 +147,8 @@ fn others_are_handed_the_message(rt: HostRuntime) -> Result<(), Fail> {
     };
     let copy = copy_of(rt.alloc(), &message)?;
     assert_eq!(rt; copy.sender, NodeName::SentinelAt(1));
-    match event_of(rt.alloc(), &copy)? {
+    let event = event_of(rt.alloc(), &copy)?;
+    match &event {
         Some(
             Event::Handed(
                 Message {

@@ -1,5 +1,6 @@
 //! Messages as comments of a trace.
 
+ghost use Rattle.ballot_law.specs.Hellos.{IsAddr};
 ghost use Rattle.message_texts.specs.MessageTexts.{IsWritable};
 
 use ballot_law::{
@@ -12,7 +13,9 @@ use std::alloc::Global;
 use std::test::Fail;
 
 /// The address 127.0.0.1:6379.
-fn addr() -> Addr {
+fn addr() -> Addr
+    ensures { IsAddr result }
+{
     Addr {
         ip: 2_130_706_433,
         port: 6_379,

@@ -1,6 +1,6 @@
 //! The arguments of a line, each kind with its fault.
 
-ghost use Rattle.std.specs.Prelude.{◌≡◌, ◌∷◌, [], true, false, is_some, codes, MatchResult};
+ghost use Rattle.std.specs.Prelude.{◌≡◌, ◌≤◌, ◌∷◌, [], true, false, is_some, codes, IfOk, MatchResult};
 ghost use Rattle.ballot_law.specs.Words.{number_within};
 ghost use Rattle.scenarios.specs.declared.faults.ScenarioKind.TheVariants.{WrongWords, BadNumber};
 ghost use Rattle.scenarios.specs.Scenarios.{NUMBER_MAX, Node, OneOf, is_node, may_be, has_number, number, place, node, kept, refused};
@@ -24,7 +24,8 @@ pub fn check_node(word: &[u8]) -> Result<(), ScenarioKind>
 
 /// A number up to this one.
 pub fn number_word(word: &[u8], greatest: u64) -> Result<u64, ScenarioKind>
-    ensures { MatchResult result
+    ensures range { IfOk result (λ n. n ≤ greatest) }
+    ensures value { MatchResult result
         (λ n. (is_some (number_within 0 greatest word.now) ≡ true) × (n ≡ number word.now))
         (λ kind. (kind ≡ BadNumber) × (is_some (number_within 0 greatest word.now) ≡ false)) }
 {

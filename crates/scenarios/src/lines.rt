@@ -1,11 +1,12 @@
 //! What a line tells, by its first word.
 
-ghost use Rattle.std.specs.Prelude.{◌≡◌, ◌⊎◌, Err, Some, None, MatchResult};
-ghost use Rattle.resp2.specs.Commands.{bulks};
+ghost use Rattle.std.specs.Prelude.{◌≡◌, ◌⊎◌, Err, Some, None, IfOk, MatchResult};
+ghost use Rattle.resp2.specs.Commands.{bulks, IsWithin};
 ghost use Rattle.resp2_frames.specs.Frame.{frames_view};
 ghost use Rattle.scenarios.specs.declared.faults.ScenarioKind.TheVariants.{WrongWords, NoMemory};
 ghost use Rattle.scenarios.specs.Scenarios.{tick_row, deliver_row, set_row, store_row, release_row, done_row, stop_row, start_row, answer_row, stored, row_line, table, named, command_of_words, command_line, line_of};
 ghost use Rattle.scenarios.specs.Read.{words_left, told_line};
+ghost use Rattle.scenarios.specs.Within.{IsWithinStep, IsWithinTold};
 
 use crate::arguments::{check_node, kept_word, node_word, number_word, place_word, store_word};
 use crate::faults::ScenarioKind;
@@ -20,7 +21,8 @@ const AMOUNT_MAX: u64 = 9_223_372_036_854_775_807;
 
 /// `tick <node> <master> <now> <random>`.
 fn tick(args: Option<&[u8]>) -> Result<Told, ScenarioKind>
-    ensures { told_line result ≡ row_line tick_row (words_left args.entry) }
+    ensures line { told_line result ≡ row_line tick_row (words_left args.entry) }
+    ensures within { IfOk result IsWithinTold }
 {
     let (node, master, now, random) = four_words(args)?;
     check_node(node)?;
@@ -37,7 +39,8 @@ fn tick(args: Option<&[u8]>) -> Result<Told, ScenarioKind>
 
 /// `deliver <message> <now>`.
 fn deliver(args: Option<&[u8]>) -> Result<Told, ScenarioKind>
-    ensures { told_line result ≡ row_line deliver_row (words_left args.entry) }
+    ensures line { told_line result ≡ row_line deliver_row (words_left args.entry) }
+    ensures within { IfOk result IsWithinTold }
 {
     let (message, now) = two_words(args)?;
     let message = number_word(message, u64::MAX)?;
@@ -47,7 +50,8 @@ fn deliver(args: Option<&[u8]>) -> Result<Told, ScenarioKind>
 
 /// `set <node> <priority> <offset> <link down s>`.
 fn set(args: Option<&[u8]>) -> Result<Told, ScenarioKind>
-    ensures { told_line result ≡ row_line set_row (words_left args.entry) }
+    ensures line { told_line result ≡ row_line set_row (words_left args.entry) }
+    ensures within { IfOk result IsWithinTold }
 {
     let (node, priority, offset, link_down) = four_words(args)?;
     check_node(node)?;
@@ -68,7 +72,8 @@ fn set(args: Option<&[u8]>) -> Result<Told, ScenarioKind>
 
 /// The store of a node, or its refusal, which leaves this text.
 fn stored(node: NodeName, left: Option<KeptText>) -> Step
-    ensures { result ≡ stored node left }
+    ensures step { result ≡ stored node left }
+    ensures within { IsWithinStep result }
 {
     match left {
         None => Step::Store { node },
@@ -78,7 +83,8 @@ fn stored(node: NodeName, left: Option<KeptText>) -> Step
 
 /// `store <node> ok|old|new`.
 fn store(args: Option<&[u8]>) -> Result<Told, ScenarioKind>
-    ensures { told_line result ≡ row_line store_row (words_left args.entry) }
+    ensures line { told_line result ≡ row_line store_row (words_left args.entry) }
+    ensures within { IfOk result IsWithinTold }
 {
     let (node, how) = two_words(args)?;
     check_node(node)?;
@@ -89,7 +95,8 @@ fn store(args: Option<&[u8]>) -> Result<Told, ScenarioKind>
 
 /// `release <node>`.
 fn release(args: Option<&[u8]>) -> Result<Told, ScenarioKind>
-    ensures { told_line result ≡ row_line release_row (words_left args.entry) }
+    ensures line { told_line result ≡ row_line release_row (words_left args.entry) }
+    ensures within { IfOk result IsWithinTold }
 {
     let node = one_word(args)?;
     check_node(node)?;
@@ -99,7 +106,8 @@ fn release(args: Option<&[u8]>) -> Result<Told, ScenarioKind>
 
 /// `done <node>`: a store and the release behind it.
 fn done(args: Option<&[u8]>) -> Result<Told, ScenarioKind>
-    ensures { told_line result ≡ row_line done_row (words_left args.entry) }
+    ensures line { told_line result ≡ row_line done_row (words_left args.entry) }
+    ensures within { IfOk result IsWithinTold }
 {
     let node = one_word(args)?;
     check_node(node)?;
@@ -109,7 +117,8 @@ fn done(args: Option<&[u8]>) -> Result<Told, ScenarioKind>
 
 /// `stop <node> old|new`.
 fn stop(args: Option<&[u8]>) -> Result<Told, ScenarioKind>
-    ensures { told_line result ≡ row_line stop_row (words_left args.entry) }
+    ensures line { told_line result ≡ row_line stop_row (words_left args.entry) }
+    ensures within { IfOk result IsWithinTold }
 {
     let (node, left) = two_words(args)?;
     check_node(node)?;
@@ -120,7 +129,8 @@ fn stop(args: Option<&[u8]>) -> Result<Told, ScenarioKind>
 
 /// `start <node> <now>`.
 fn start(args: Option<&[u8]>) -> Result<Told, ScenarioKind>
-    ensures { told_line result ≡ row_line start_row (words_left args.entry) }
+    ensures line { told_line result ≡ row_line start_row (words_left args.entry) }
+    ensures within { IfOk result IsWithinTold }
 {
     let (node, now) = two_words(args)?;
     check_node(node)?;
@@ -131,7 +141,8 @@ fn start(args: Option<&[u8]>) -> Result<Told, ScenarioKind>
 
 /// `answer <node> <master>`.
 fn answer(args: Option<&[u8]>) -> Result<Told, ScenarioKind>
-    ensures { told_line result ≡ row_line answer_row (words_left args.entry) }
+    ensures line { told_line result ≡ row_line answer_row (words_left args.entry) }
+    ensures within { IfOk result IsWithinTold }
 {
     let (node, master) = two_words(args)?;
     check_node(node)?;
@@ -156,7 +167,8 @@ fn bulk_strings(alloc: Global, words: Option<&[u8]>) -> Result<Vec<Value>, Scena
 
 /// The command of a port that these words are.
 fn port_command(alloc: Global, words: Option<&[u8]>) -> Result<Command, ScenarioKind>
-    ensures { MatchResult result (λ command. command_of_words (words_left words.entry) ≡ Some command)
+    ensures within { IfOk result IsWithin }
+    ensures command { MatchResult result (λ command. command_of_words (words_left words.entry) ≡ Some command)
         (λ kind. (kind ≡ NoMemory)
         ⊎ ((kind ≡ WrongWords) × (command_of_words (words_left words.entry) ≡ None))) }
 {
@@ -169,7 +181,8 @@ fn port_command(alloc: Global, words: Option<&[u8]>) -> Result<Command, Scenario
 
 /// `command <node> <now> <word>..`.
 fn command(alloc: Global, args: Option<&[u8]>) -> Result<Told, ScenarioKind>
-    ensures { (result ≡ Err NoMemory) ⊎ (told_line result ≡ command_line (words_left args.entry)) }
+    ensures line { (result ≡ Err NoMemory) ⊎ (told_line result ≡ command_line (words_left args.entry)) }
+    ensures within { IfOk result IsWithinTold }
 {
     let Some((node, more)) = next_word(args) else {
         return Err(ScenarioKind::WrongWords);
@@ -191,7 +204,8 @@ fn command(alloc: Global, args: Option<&[u8]>) -> Result<Told, ScenarioKind>
 
 /// The line of this name, but for `command`.
 fn named(name: &[u8], args: Option<&[u8]>) -> Result<Told, ScenarioKind>
-    ensures { told_line result ≡ named table name.now (words_left args.entry) }
+    ensures line { told_line result ≡ named table name.now (words_left args.entry) }
+    ensures within { IfOk result IsWithinTold }
 {
     if name == b"tick".as_slice() {
         tick(args)
@@ -218,7 +232,8 @@ fn named(name: &[u8], args: Option<&[u8]>) -> Result<Told, ScenarioKind>
 
 /// What a line tells.
 pub fn line_of(alloc: Global, line: &[u8]) -> Result<Told, ScenarioKind>
-    ensures { (result ≡ Err NoMemory) ⊎ (told_line result ≡ line_of line.now) }
+    ensures line { (result ≡ Err NoMemory) ⊎ (told_line result ≡ line_of line.now) }
+    ensures within { IfOk result IsWithinTold }
 {
     match line {
         [] => return Ok(Told::Nothing),

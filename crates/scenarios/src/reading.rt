@@ -1,9 +1,10 @@
 //! The steps of a whole scenario.
 
-ghost use Rattle.std.specs.Prelude.{◌≡◌, ◌⊎◌, ◌++◌, Ok, Err, OnOk, IfErr, IfOk};
+ghost use Rattle.std.specs.Prelude.{◌≡◌, ◌⊎◌, ◌++◌, ◌∷◌, [], Ok, Err, All, OnOk, IfErr, IfOk};
 ghost use Rattle.ballot_law.specs.Cuts.{lines};
 ghost use Rattle.scenarios.specs.Scenarios.{no_memory, scenario, steps_from};
 ghost use Rattle.scenarios.specs.Read.{steps_of};
+ghost use Rattle.scenarios.specs.Within.{IsWithinStep, IsWithinTold};
 
 use crate::faults::{ScenarioFault, ScenarioKind};
 use crate::lines::line_of;
@@ -24,17 +25,32 @@ fn fault_at(line: u64, kind: ScenarioKind) -> ScenarioFault
     }
 }
 
+/// Adds a step.
+fn add_step(steps: &mut Vec<Step>, step: Step) -> Result<(), ScenarioFault>
+    requires within { IsWithinStep step }
+    requires before { All IsWithinStep steps.old.items }
+    ensures within { OnOk result (All IsWithinStep steps.new.items) }
+    ensures added { OnOk result (steps.new.items ≡ steps.old.items ++ step ∷ []) }
+    ensures fault { IfErr result (λ fault. fault ≡ no_memory) }
+{
+    steps.push(step)?;
+    Ok(())
+}
+
 /// Adds the steps of a line.
 fn add(steps: &mut Vec<Step>, told: Told) -> Result<(), ScenarioFault>
+    requires within { IsWithinTold told }
+    requires before { All IsWithinStep steps.old.items }
+    ensures within { OnOk result (All IsWithinStep steps.new.items) }
     ensures added { OnOk result (steps.new.items ≡ steps.old.items ++ steps_of told) }
     ensures fault { IfErr result (λ fault. fault ≡ no_memory) }
 {
     match told {
         Told::Nothing => {}
-        Told::One(step) => steps.push(step)?,
+        Told::One(step) => add_step(steps, step)?,
         Told::Two(first, second) => {
-            steps.push(first)?;
-            steps.push(second)?;
+            add_step(steps, first)?;
+            add_step(steps, second)?;
         }
     }
     Ok(())
@@ -42,6 +58,7 @@ fn add(steps: &mut Vec<Step>, told: Told) -> Result<(), ScenarioFault>
 
 /// The steps of the lines of a text.
 fn steps_of_lines(alloc: Global, text: &[u8]) -> Result<Vec<Step>, ScenarioFault>
+    ensures within { IfOk result (λ steps. All IsWithinStep steps.items) }
     ensures steps { IfOk result (λ steps. steps_from 1 (lines text.now) ≡ Ok steps.items) }
     ensures fault { IfErr result (λ fault. (fault ≡ no_memory) ⊎ (steps_from 1 (lines text.now) ≡ Err fault)) }
 {
@@ -66,7 +83,10 @@ fn steps_of_lines(alloc: Global, text: &[u8]) -> Result<Vec<Step>, ScenarioFault
 /// between them. Numbers are one or more decimal digits, up to 2^64 - 1, and in `set` up to 2^63 - 1. A node or a master
 /// whose number is above 65,535 counts as the one at 65,535. A text that isn't UTF-8 is refused with line 0, and so is
 /// want of memory, which may stand in place of any other answer.
+///
+/// The numbers in the steps are within the limits of a group: the epoch of a command, and what a `set` gives.
 pub fn read_scenario(alloc: Global, text: &[u8]) -> Result<Vec<Step>, ScenarioFault>
+    ensures within { IfOk result (λ steps. All IsWithinStep steps.items) }
     ensures steps { IfOk result (λ steps. scenario text.now ≡ Ok steps.items) }
     ensures fault { IfErr result (λ fault. (fault ≡ no_memory) ⊎ (scenario text.now ≡ Err fault)) }
 {

@@ -12,9 +12,10 @@ loop-rest-preserved c =
     let line = c.split_line.result.0.now in
     let more = lines c.split_line.result.1.now in
     let told = steps_of c.in-Ok.told in
-    let meant : line_of line ≡ Ok told = ⊎_elim (λ e. absurd (cc)) (λ h. sym h) c.in-Ok.ensures in
+    let meant : line_of line ≡ Ok told = ⊎_elim (λ e. absurd (cc)) (λ h. sym h) c.in-Ok.ensures.line in
     record {
       told = c.loop-rest.invariant.told ∙ ap (λ t. behind before (steps_from n t)) c.split_line.ensures.lines ∙ one_more n line more before told meant
           ∙ ap (λ t. behind t (steps_from (n + 1) more)) (sym c.in_ok-add-in-Ok.ensures.added);
+      within = c.in_ok-add-in-Ok.ensures.within;
       counted = let shorter = c.split_line.ensures.shorter in let left = c.loop-rest.invariant.counted in omega (arith, shorter, left);
     }
