@@ -96,24 +96,36 @@ fn local(port: u16) -> Addr {
     }
 }
 
+/// A master with all flags or none: its name, its address, its quorum, and the numbers of its answer in their order.
+fn master(
+    name: &[u8],
+    addr: Addr,
+    is_failing: bool,
+    quorum: u32,
+    numbers: [u64; 6],
+) -> Result<MasterRow, Fail> {
+    let [replicas, others, after_ms, timeout, parallel_syncs, epoch] = numbers;
+    Ok(MasterRow {
+        name: Name::from_slice(name).ok_or("refused")?,
+        addr,
+        down: is_failing,
+        odown: is_failing,
+        failing_over: is_failing,
+        replicas,
+        others,
+        quorum,
+        after_ms,
+        timeout,
+        parallel_syncs,
+        epoch,
+    })
+}
+
 #[test]
 fn a_master_with_all_flags(rt: HostRuntime) -> Result<(), Fail> {
     let mut answers = AnswerText::with_room(rt.alloc())?;
-    let name = Name::from_slice(b"mymaster").ok_or("refused")?;
-    answers.add_master(&MasterRow {
-        name,
-        addr: local(6379),
-        down: true,
-        odown: true,
-        failing_over: true,
-        replicas: 2,
-        others: 4,
-        quorum: 3,
-        after_ms: 30_000,
-        timeout: 180_000,
-        parallel_syncs: 1,
-        epoch: 281_474_976_710_655,
-    });
+    let numbers = [2, 4, 30_000, 180_000, 1, 281_474_976_710_655];
+    answers.add_master(&master(b"mymaster", local(6379), true, 3, numbers)?);
     assert!(rt; answers.as_slice() == FAILING_MASTER.as_bytes());
     Ok(())
 }
@@ -121,24 +133,12 @@ fn a_master_with_all_flags(rt: HostRuntime) -> Result<(), Fail> {
 #[test]
 fn a_master_with_no_flags(rt: HostRuntime) -> Result<(), Fail> {
     let mut answers = AnswerText::with_room(rt.alloc())?;
-    let name = Name::from_slice(b"m.1").ok_or("refused")?;
-    answers.add_master(&MasterRow {
-        name,
-        addr: Addr {
-            ip: 3_232_235_774,
-            port: 16_379,
-        },
-        down: false,
-        odown: false,
-        failing_over: false,
-        replicas: 0,
-        others: 12,
-        quorum: 4_294_967_295,
-        after_ms: 1,
-        timeout: 4_294_967_295,
-        parallel_syncs: 0,
-        epoch: 0,
-    });
+    let addr = Addr {
+        ip: 3_232_235_774,
+        port: 16_379,
+    };
+    let numbers = [0, 12, 1, 4_294_967_295, 0, 0];
+    answers.add_master(&master(b"m.1", addr, false, 4_294_967_295, numbers)?);
     assert!(rt; answers.as_slice() == RUNNING_MASTER.as_bytes());
     Ok(())
 }
