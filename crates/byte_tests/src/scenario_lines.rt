@@ -43,7 +43,8 @@ deliver 23 6300\ndone s0\nanswer s0 0\n";
 
 #[test]
 fn a_failover_is_forty_steps(rt: HostRuntime) -> Result<(), Fail> {
-    let steps = "Take { node: SentinelAt(0), input: Input { now: 2000, event: Tick { master: 0, random: 0 } } }
+    let steps =
+        "Take { node: SentinelAt(0), input: Input { now: 2000, event: Tick { master: 0, random: 0 } } }
 Store { node: SentinelAt(0) }
 Release { node: SentinelAt(0) }
 Deliver { message: 3, now: 2100 }
@@ -93,7 +94,8 @@ fn each_word_has_its_step(rt: HostRuntime) -> Result<(), Fail> {
     let text = b"# a story\n\nset d1 100 7 0\nstore s0 ok\nstore s1 old\nstore s2 new\nrelease c0
 stop s0 old\nstop s1 new\nstart s0 5000\nanswer s0 15\n#done s0\ncommand s3 7000 PING
 command s3 7001 SENTINEL IS-MASTER-DOWN-BY-ADDR 127.0.0.1 6379 1 00000000000000000000000000000000000000ff";
-    let steps = "Take { node: StoreAt(1), input: Input { now: 0, event: Become { priority: 100, offset: 7, link_down: 0 } } }
+    let steps =
+        "Take { node: StoreAt(1), input: Input { now: 0, event: Become { priority: 100, offset: 7, link_down: 0 } } }
 Store { node: SentinelAt(0) }
 StoreRefused { node: SentinelAt(1), left: Old }
 StoreRefused { node: SentinelAt(2), left: New }
@@ -120,7 +122,8 @@ fn nothing_is_told_by_nothing(rt: HostRuntime) -> Result<(), Fail> {
 fn greatest_numbers(rt: HostRuntime) -> Result<(), Fail> {
     let text =
         b"tick s0 65536 18446744073709551615 007\nset d0 9223372036854775807 0 0\nrelease s65534\nrelease s65536";
-    let steps = "Take { node: SentinelAt(0), input: Input { now: 18446744073709551615, event: Tick { master: 65535, random: 7 } } }
+    let steps =
+        "Take { node: SentinelAt(0), input: Input { now: 18446744073709551615, event: Tick { master: 65535, random: 7 } } }
 Take { node: StoreAt(0), input: Input { now: 0, event: Become { priority: 9223372036854775807, offset: 0, link_down: 0 } } }
 Release { node: SentinelAt(65534) }
 Release { node: SentinelAt(65535) }

@@ -2,10 +2,10 @@
 
 ghost use Rattle.std.specs.Prelude.{◌≡◌, ◌++◌, OnOk, OnErr, map};
 ghost use Rattle.message_words.specs.Lines.{shown, comment};
-ghost use Rattle.resp2_frames.specs.Writing.{Adds};
+ghost use Rattle.resp2_frames.specs.Writing.{Begins};
 
 use ballot_law::NoMemory;
-use resp2_frames::{ByteSink, OutText};
+use resp2_frames::OutText;
 
 /// The byte as it is shown: one that isn't a printable one of ASCII is a space.
 fn shown(byte: u8) -> u8
@@ -22,10 +22,11 @@ fn shown(byte: u8) -> u8
 
 /// Adds these bytes as they are shown.
 fn add_shown(text: &mut OutText, bytes: &[u8]) -> Result<(), NoMemory>
-    ensures { Adds result text.old text.new (map shown bytes.now) }
+    ensures ok { OnOk result (text.new ≡ text.old ++ map shown bytes.now) }
+    ensures err { OnErr result (Begins text.old text.new) }
 {
     for byte in bytes {
-        text.push(&[shown(*byte)])?;
+        text.add(&[shown(*byte)])?;
     }
     Ok(())
 }
@@ -48,9 +49,10 @@ pub fn add_comment(text: &mut OutText, words: &[u8]) -> Result<(), NoMemory>
 
 /// Adds the parts of a comment line.
 fn add_line(text: &mut OutText, words: &[u8]) -> Result<(), NoMemory>
-    ensures { Adds result text.old text.new (comment words.now) }
+    ensures ok { OnOk result (text.new ≡ text.old ++ comment words.now) }
+    ensures err { OnErr result (Begins text.old text.new) }
 {
-    text.push(b"# ")?;
+    text.add(b"# ")?;
     add_shown(text, words)?;
-    text.push(b"\n")
+    text.add(b"\n")
 }

@@ -21,7 +21,6 @@ use ballot_law::{Body, Command, Event, Hello, Input, Message, NodeName, Note, Ou
 use node_texts::{TextFault, read_hello, read_info};
 use sentinel_answers::{answer_by_text, answer_plainly};
 use sentinel_news::{hear_answer, hear_pong, take_hello, take_info};
-use watched_nodes::FrameList;
 use sentinel_outbox::Outbox;
 use sentinel_plan::Plan;
 use sentinel_rules::{
@@ -29,6 +28,7 @@ use sentinel_rules::{
 };
 use sentinel_state::State;
 use sentinel_ticks::tick;
+use watched_nodes::FrameList;
 
 /// A message of this Sentinel.
 fn send(plan: &Plan, target: NodeName, body: Body) -> Output

@@ -18,7 +18,6 @@ use crate::faults::{OpenFault, ReleaseFault, StoreFault, TakeFault};
 use crate::former::Former;
 use ballot_law::{Card, Command, Event, Input, Roster};
 use sentinel_conf::{Conf, ConfStore, ConfText, rewrite_into};
-use watched_nodes::FrameList;
 use sentinel_outbox::{Outbox, Phase, Room};
 use sentinel_plan::Plan;
 use sentinel_rules::{
@@ -28,6 +27,7 @@ use sentinel_rules::{
 use sentinel_state::State;
 use std::alloc::Global;
 use std::marker::Model;
+use watched_nodes::FrameList;
 
 /// What an input did.
 #[derive(Clone, Copy, Debug, PartialEq, Eq)]

@@ -6,9 +6,9 @@ ghost use Rattle.watched_nodes.specs.Room.{bounded};
 ghost use Rattle.sentinel_rules.specs.News.{card_taken};
 
 use ballot_law::Card;
-use watched_nodes::FrameList;
 use sentinel_rules::Frame;
 use sentinel_state::State;
+use watched_nodes::FrameList;
 
 /// Takes a configuration of a master: its nodes are sent hellos at the next tick, and where the address is a new one, what was said
 /// of the old one is forgotten and a note tells of the change.

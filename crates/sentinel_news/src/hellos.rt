@@ -10,9 +10,9 @@ ghost use Rattle.watched_nodes.specs.Room.{bounded};
 use crate::cards::take_card;
 use ballot_law::{Card, Hello};
 use node_texts::TextFault;
-use watched_nodes::FrameList;
 use sentinel_plan::Plan;
 use sentinel_state::State;
+use watched_nodes::FrameList;
 
 /// Whether a configuration has a greater epoch than the kept one, and names a node of the master.
 fn is_newer(state: &State, plan: &Plan, m: u16, card: Card) -> bool

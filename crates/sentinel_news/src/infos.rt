@@ -10,10 +10,10 @@ use crate::cards::take_card;
 use ballot_law::{Addr, Card, DataRole, Info, NodeName, clock_of};
 use failover_states::State as Stage;
 use node_texts::TextFault;
-use watched_nodes::FrameList;
 use sentinel_plan::Plan;
 use sentinel_rules::{Frame, WRONG_ROLE_MS};
 use sentinel_state::State;
+use watched_nodes::FrameList;
 
 /// Whether this is the role of a master.
 fn is_master(role: DataRole) -> bool

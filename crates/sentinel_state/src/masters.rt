@@ -7,10 +7,10 @@ ghost use Rattle.sentinel_rules.specs.States.{new_master};
 use ballot_law::{NoMemory, RunId};
 use down_detector::DownReports;
 use failover_states::Failover;
-use watched_nodes::Node;
 use std::alloc::Global;
 use std::marker::Model;
 use vote_book::Heard;
+use watched_nodes::Node;
 
 /// What is kept of a master.
 #[derive(Drop)]

@@ -10,8 +10,8 @@ ghost use Rattle.sentinel_rules.specs.Ticks.{node_after, node_frames, nodes_part
 use crate::masters::Master;
 use crate::state::State;
 use ballot_law::clock_of;
-use watched_nodes::{FrameList, Sending, ping_period, send_each_node, send_each_peer};
 use sentinel_plan::Plan;
+use watched_nodes::{FrameList, Sending, ping_period, send_each_node, send_each_peer};
 
 impl Master {
     /// Sends each of its nodes what is due.

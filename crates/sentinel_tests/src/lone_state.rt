@@ -6,7 +6,6 @@ ghost use Rattle.sentinel_answers.specs.Plain.{is_plain};
 use ballot_law::{Addr, Body, Command, RunId, Shown, Win};
 use sentinel_answers::{answer_by_text, answer_plainly};
 use sentinel_conf::read;
-use watched_nodes::FrameList;
 use sentinel_plan::Plan;
 use sentinel_rules::Frame;
 use sentinel_state::State;
@@ -14,6 +13,7 @@ use sentinel_ticks::tick;
 use std::alloc::Global;
 use std::marker::Model;
 use std::test::Fail;
+use watched_nodes::FrameList;
 
 /// Two masters and two Sentinels, of which this one is the second by run id.
 pub(crate) const TWO_MASTERS: &str = "sentinel myid bbbbbbbbbbbbbbbbbbbbbbbbbbbbbbbbbbbbbbbb\n\

@@ -8,10 +8,10 @@ ghost use Rattle.sentinel_rules.specs.States.{master_of};
 ghost use Rattle.sentinel_rules.specs.Ticks.{is_ask_due, ask_candidate, ask_frames, ask_part};
 
 use ballot_law::{RunId, clock_of};
-use watched_nodes::{FrameList, Peer};
 use sentinel_plan::Plan;
 use sentinel_rules::{ASK_MS, Frame};
 use sentinel_state::State;
+use watched_nodes::{FrameList, Peer};
 
 /// Asks each other Sentinel whether a master is down, and for its vote where there is a candidate.
 fn ask_each(peers: &[Peer], plan: &Plan, m: u16, candidate: Option<RunId>, frames: &mut FrameList)

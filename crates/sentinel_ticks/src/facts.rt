@@ -10,10 +10,10 @@ ghost use Rattle.sentinel_ticks.specs.Rows.{looks_at_votes, looks_at_best, looks
 use ballot_law::{Addr, RunId, clock_of};
 use failover_states::State as Stage;
 use replica_choice::{Candidate, Limits, choose};
-use watched_nodes::Node;
 use sentinel_plan::Plan;
 use sentinel_state::State;
 use std::marker::Model;
+use watched_nodes::Node;
 
 /// The greatest number of data nodes of a master.
 const NODES_MAX: usize = 256;

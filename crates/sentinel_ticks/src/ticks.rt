@@ -10,9 +10,9 @@ ghost use Rattle.watched_nodes.specs.Room.{bounded};
 
 use crate::asking::ask_others;
 use crate::failing_over::{start_failover, take_row};
-use watched_nodes::FrameList;
 use sentinel_plan::Plan;
 use sentinel_state::State;
+use watched_nodes::FrameList;
 
 /// A tick of a master, with a random number: the clock takes a turn, what is due is sent, and unless the clock is in TILT the
 /// master is judged. A tick of a master that isn't in the roster is a turn of the clock alone.
