@@ -2,8 +2,8 @@
 
 use ballot_law::NodeName;
 use sentinel_rules::Frame;
-use sentinel_state::FrameList;
 use std::test::Fail;
+use watched_nodes::FrameList;
 
 #[test]
 fn frames_beyond_the_room_are_cut(rt: HostRuntime) -> Result<(), Fail> {
