@@ -2,10 +2,10 @@
 
 ghost use Rattle.std.specs.Prelude.{◌≡◌, ◌==◌, ◌<◌, ◌≤◌, ◌++◌, ◌≢◌, ℕ, nat_lt, map, length, slice_index_or, IfOk, OnOk, IfErr, IfSome, IfNone, ◌⊎◌, Some, None};
 ghost use Rattle.std.specs.List.{flat_map, list_any};
-ghost use Rattle.ballot_law.specs.Rosters.{need, HasNode, nodes_in_order, master_at, no_addr};
+ghost use Rattle.ballot_law.specs.Rosters.{need, HasNode, nodes_in_order, master_at, no_addr, HasDistinctIds, HasDistinctNames};
 ghost use Rattle.ballot_law.specs.Orders.{same_addr, same_bytes, bytes_before};
 ghost use Rattle.ballot_law.specs.declared.rosters.RosterFault.TheVariants.{NoMemory};
-ghost use Rattle.ballot_law.specs.RosterFaults.{Makes, fault_of, first_that_fits, first_tests, last_tests, addresses};
+ghost use Rattle.ballot_law.specs.RosterFaults.{IsRoster, Makes, fault_of, first_that_fits, first_tests, last_tests, addresses};
 
 use crate::addresses::{Addr, RunId};
 use crate::comparisons::is_same_bytes;
@@ -330,6 +330,16 @@ impl Roster {
         let sentinels = ordered(alloc, sentinels)?;
         let masters = ordered(alloc, with_nodes_in_order(alloc, masters)?)?;
         Ok(Roster { sentinels, masters })
+    }
+
+    /// What each roster is: made of members of which no fault fits, and so within its limits, with no run id and no name twice. No memory
+    /// is taken.
+    pub fn is_made(&self)
+        ensures made { IsRoster self.now }
+        ensures ids { HasDistinctIds self.now }
+        ensures names { HasDistinctNames self.now }
+    {
+        let _made = &self.sentinels;
     }
 
     /// The Sentinels, by run id.

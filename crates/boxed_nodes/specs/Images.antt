@@ -1,5 +1,5 @@
 -- A node as the model of the group sees it, and how each call moves it.
-use Rattle.std.specs.Prelude.{◌≡◌, ℕ, Bool, true, false, Option, Some, None, List, [], All, length, ◌-◌, nat_lt, if◌then◌else◌, Result, Ok, Err, slice_index_or}
+use Rattle.std.specs.Prelude.{◌≡◌, ◌≢◌, ◌<◌, ℕ, Bool, true, false, Option, Some, None, List, [], All, length, ◌-◌, nat_lt, if◌then◌else◌, Result, Ok, Err, slice_index_or}
 use Rattle.ballot_law.specs.declared.cards.Card.{Card}
 use Rattle.ballot_law.specs.declared.cards.Kept.{Kept}
 use Rattle.ballot_law.specs.declared.events.Event.{Event}
@@ -26,6 +26,13 @@ use Rattle.sentinel_core.specs.declared.faults.ReleaseFault.TheVariants as relea
 pub data Image : Type 0 where
   OfSentinel : Sentinel → Image
   OfOther : Other → Image
+
+-- the kind of node that has the name
+abbrev pub IsOfKind : NodeName → Image → Type 0
+IsOfKind (SentinelAt i) (OfSentinel s) = Unit {0}
+IsOfKind (StoreAt k) (OfOther o) = Unit {0}
+IsOfKind (ClientAt k) (OfOther o) = Unit {0}
+IsOfKind name image = ⊥
 
 -- what the node with this name is in a world
 abbrev pub image_at : World → NodeName → Image
@@ -167,6 +174,12 @@ card_shown (OfSentinel s) m =
     if is_stopped s.state then None
     else (if nat_lt m (length (last_stored s).masters) then Some (card_of (last_stored s) m) else None)
 card_shown (OfOther o) m = None
+
+-- a Sentinel that isn't stopped has stored something since its start, with a configuration of each master
+abbrev pub HasStored : Roster → Image → Type 0
+HasStored roster (OfSentinel s) =
+    (s.state ≢ Stopped) → (0 < length s.stored) × (length (last_stored s).masters ≡ length roster.masters)
+HasStored roster (OfOther o) = Unit {0}
 
 abbrev pub wins_of : Image → List Win
 wins_of (OfSentinel s) = s.parts.wins

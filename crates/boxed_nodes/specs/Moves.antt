@@ -13,7 +13,7 @@ use Rattle.sentinel_core.specs.declared.faults.StoreFault.TheVariants as store_f
 use Rattle.sentinel_core.specs.declared.faults.TakeFault.{TakeFault}
 use Rattle.sentinel_core.specs.declared.faults.ReleaseFault.{ReleaseFault}
 use Rattle.boxed_nodes.specs.declared.calls.HowStored.{HowStored}
-use Rattle.boxed_nodes.specs.Images.{Image, TakenTo, state_of, after_store, store_answer, released_image, stopped_image, started_image, why_not_taken, why_not_released, card_shown, wins_of, IsFreshImage}
+use Rattle.boxed_nodes.specs.Images.{Image, TakenTo, state_of, after_store, store_answer, released_image, stopped_image, started_image, why_not_taken, why_not_released, card_shown, HasStored, wins_of, IsFreshImage, IsOfKind}
 
 -- the images that a node stands for in the model of a roster's group
 abbrev pub Shows : Type 1
@@ -57,8 +57,13 @@ pub record IsNamed (old : Shows) (name_before name_after : NodeName) : Type 0 wh
 pub record Starts (old new : Shows) : Type 0 where
   pub each : (roster : Roster) (image : Image) → old roster image → state_of image ≡ Stopped → new roster (started_image roster image)
 
+-- each image that the node stands for is of the kind that its name tells
+pub record ShowsKind (name : NodeName) (shows : Shows) : Type 0 where
+  pub each : (roster : Roster) (image : Image) → shows roster image → IsOfKind name image
+
 pub record ShowsCard (m : ℕ) (card : Option Card) (shows : Shows) : Type 0 where
   pub each : (roster : Roster) (image : Image) → shows roster image → card ≡ card_shown image m
+  pub stored : (roster : Roster) (image : Image) → shows roster image → HasStored roster image
 
 -- master and epoch of the election that the last take brought
 abbrev pub wins_told : Option (ℕ × ℕ) → List Win

@@ -8,7 +8,7 @@ ghost use Rattle.sentinel_outbox.specs.declared.room.Room.{Room};
 ghost use Rattle.sentinel_outbox.specs.Outboxes.{Fits};
 ghost use Rattle.boxed_nodes.specs.Images.{Image};
 ghost use Rattle.boxed_nodes.specs.Sendable.{IsTakeable, IsSendableOutput, IsHeldBy};
-ghost use Rattle.boxed_nodes.specs.Moves.{Stays, Takes, Refuses, Stores, Releases, Stops, Starts, IsNamed, ShowsCard, ShowsWin};
+ghost use Rattle.boxed_nodes.specs.Moves.{Stays, Takes, Refuses, Stores, Releases, Stops, Starts, IsNamed, ShowsKind, ShowsCard, ShowsWin};
 
 use crate::calls::HowStored;
 use ballot_law::{Card, Input, KeptText, NodeName, Roster};
@@ -37,7 +37,8 @@ pub trait Node: Drop {
 
     /// Its name: its kind, and its place among the nodes of that kind.
     fn kind(&self) -> NodeName
-        ensures { result ≡ name self.now };
+        ensures name { result ≡ name self.now }
+        ensures shown { ShowsKind result (shows self.now) };
 
     /// How much room an outbox needs for the outputs of any one take.
     fn room(&self) -> Room
@@ -48,7 +49,7 @@ pub trait Node: Drop {
         ensures { IsTrue result ↔ is_known self.now roster.now };
 
     /// The configuration of the master with this number that a Sentinel stored last since its start. None of a Sentinel that is
-    /// stopped, of a master that isn't in the roster, and of other nodes.
+    /// stopped, of a master that isn't in the roster, and of other nodes. A Sentinel that isn't stopped has stored one of each master.
     fn card(&self, m: u16) -> Option<Card>
         ensures { ShowsCard m result (shows self.now) };
 

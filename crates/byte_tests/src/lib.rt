@@ -1,5 +1,5 @@
 //! Tests of the crates that read and write bytes, by their public calls: words and numbers, frames, commands, files, hellos, INFO, ROLE,
-//! the answers of a port, scenarios. The values that they expect come from public standards and from what Redis writes.
+//! the answers of a port, scenarios, reports. The values that they expect come from public standards and from what Redis writes.
 #![tactic(auto)]
 
 #[cfg(test)]
@@ -18,6 +18,8 @@ mod frames;
 mod hellos;
 #[cfg(test)]
 mod infos;
+#[cfg(test)]
+mod reports;
 #[cfg(test)]
 mod roles;
 #[cfg(test)]

@@ -1,0 +1,4 @@
+mod Holding
+mod MasterAddrs
+mod SaidMessages
+mod Taking

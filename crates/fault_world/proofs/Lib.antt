@@ -1,0 +1,12 @@
+mod Answering
+mod Found
+mod Lists
+mod MasterNames
+mod NodeKinds
+mod Running
+mod Safety
+mod Seen
+mod Standing
+mod Stepping
+mod Takeable
+mod Told

@@ -1,0 +1,13 @@
+use Rattle.std.proofs.Common.{rules}
+use Rattle.fault_world.proofs.Found.{seat_at, store_found, store_none}
+use Rattle.fault_world.proofs.fault_world.FaultWorld.store.Goals as goal
+
+pub returns-in_default-clause-ok : goal.returns-in_default-clause-ok
+returns-in_default-clause-ok g c = store_none c.args.self.now.members.items c.args.node c.args.how c.args.self.now.roster _ c.args.report.now.entries c.reserve.new.self.entries (search rules) _ _ c.in_default.ensures.none
+
+pub store-won-requires : goal.store-won-requires
+store-won-requires g c = (seat_at c.args.self.now.members.items c.in-Some.k c.index_mut-member.result.now c.args.self.now.roster _ (search rules) c.index_mut-member.ensures.value _ _ c.requires).1.goes_by
+
+pub returns-clause-ok : goal.returns-clause-ok
+returns-clause-ok g c =
+    store_found c.args.self.now.members.items c.in-Some.k c.index_mut-member.result.now c.store-won.new.self c.args.node c.args.how c.args.self.now.roster _ c.store-won.result c.args.report.now.entries c.tell_won.new.report.entries (search rules) c.index_mut-member.ensures.value (search rules) _ _ c.in-Some.ensures.some c.store-won.ensures.name c.store-won.ensures.stores

@@ -1,0 +1,4 @@
+pub mod News
+pub mod Runs
+pub mod Laws
+pub mod Faults

@@ -1,0 +1,180 @@
+//! What a step adds to the elections and to what was said, as entries of a report.
+
+ghost use Rattle.std.specs.Prelude.{◌≡◌, ◌≤◌, ◌<◌, ◌+◌, ◌*◌, ◌++◌, ◌∷◌, [], length};
+ghost use Rattle.std.specs.List.{flat_map, AllByRecursion};
+ghost use Rattle.ballot_law.specs.Messages.{advertised, advertised_by};
+ghost use Rattle.ballot_law.specs.Rosters.{HasDistinctNames};
+ghost use Rattle.ballot_law.specs.Worlds.{said_by};
+ghost use Rattle.boxed_nodes.specs.Moves.{wins_told};
+ghost use Rattle.boxed_nodes.specs.Sendable.{IsFewShown, IsFewIn, IsHeldBy};
+ghost use Rattle.fault_world.specs.News.{news_of_election, news_of_said, elected_told, said_told};
+
+use crate::names::master_named;
+use ballot_law::{Body, Card, Elected, NodeName, Output, Roster, Said, Shown};
+use world_reports::{Entry, Report};
+
+/// How many configurations one message advertises at most.
+pub(crate) const SHOWN_MAX: usize = 16;
+
+/// Tells of an election of a Sentinel and a master of the roster.
+fn tell_election(report: &mut Report, roster: &Roster, election: &Elected)
+    requires { 0 < report.old.room }
+    ensures entries { report.new.entries ≡ report.old.entries ++ news_of_election roster.now election.now }
+{
+    if (election.sentinel as usize) < roster.sentinels().len()
+        && (election.master as usize) < roster.masters().len()
+    {
+        report.push(Entry::of_election(roster, election));
+    }
+}
+
+/// Tells of what a Sentinel of the roster said of one of its masters.
+fn tell_one(report: &mut Report, roster: &Roster, said: &Said)
+    requires { 0 < report.old.room }
+    ensures entries { report.new.entries ≡ report.old.entries ++ news_of_said roster.now said.now }
+    ensures room { report.old.room ≤ report.new.room + 1 }
+{
+    if (said.sentinel as usize) < roster.sentinels().len()
+        && (said.master as usize) < roster.masters().len()
+    {
+        report.push(Entry::of_said(roster, said));
+    }
+}
+
+/// Tells of the election that a node stored.
+pub(crate) fn tell_won(
+    report: &mut Report,
+    roster: &Roster,
+    node: NodeName,
+    won: Option<(u16, u64)>,
+)
+    requires { 0 < report.old.room }
+    ensures { report.new.entries
+        ≡ report.old.entries ++ flat_map (news_of_election roster.now) (elected_told node (wins_told won)) }
+{
+    let Some((master, epoch)) = won else {
+        return;
+    };
+    let NodeName::SentinelAt(sentinel) = node else {
+        return;
+    };
+    tell_election(
+        report,
+        roster,
+        &Elected {
+            sentinel,
+            master,
+            epoch,
+        },
+    );
+}
+
+/// Tells of a configuration that a Sentinel showed.
+pub(crate) fn tell_said(report: &mut Report, roster: &Roster, said: &Said)
+    requires { 0 < report.old.room }
+    ensures { report.new.entries ≡ report.old.entries ++ flat_map (news_of_said roster.now) (said.now ∷ []) }
+{
+    tell_one(report, roster, said);
+}
+
+/// Tells of the configurations that an answer shows, in order.
+fn tell_shown(report: &mut Report, roster: &Roster, sentinel: u16, shown: &[Shown])
+    requires { length shown.now ≤ report.old.room }
+    ensures entries { report.new.entries
+        ≡ report.old.entries ++ flat_map (news_of_said roster.now) (said_by sentinel shown.now) }
+    ensures room { report.old.room ≤ report.new.room + length shown.now }
+{
+    for one in shown {
+        tell_one(
+            report,
+            roster,
+            &Said {
+                sentinel,
+                master: one.master,
+                card: one.card,
+            },
+        );
+    }
+}
+
+/// Tells of what a message advertises.
+fn tell_body(report: &mut Report, roster: &Roster, sentinel: u16, body: &Body)
+    requires names { HasDistinctNames roster.now }
+    requires few { IsFewIn body.now }
+    requires room { SHOWN_MAX ≤ report.old.room }
+    ensures entries { report.new.entries
+        ≡ report.old.entries ++ flat_map (news_of_said roster.now) (said_by sentinel (advertised roster.now body.now)) }
+    ensures room { report.old.room ≤ report.new.room + SHOWN_MAX }
+{
+    match body {
+        Body::Publish(hello) => {
+            if let Some(master) = master_named(roster, &hello.master) {
+                tell_one(
+                    report,
+                    roster,
+                    &Said {
+                        sentinel,
+                        master,
+                        card: hello.card,
+                    },
+                );
+            }
+        }
+        Body::AddressAnswer(Some(shown)) => tell_one(
+            report,
+            roster,
+            &Said {
+                sentinel,
+                master: shown.master,
+                card: shown.card,
+            },
+        ),
+        Body::PortReply { shown, .. } => tell_shown(report, roster, sentinel, shown.as_slice()),
+        _ => (),
+    }
+}
+
+/// Tells of what an output advertises; a note advertises nothing.
+fn tell_output(report: &mut Report, roster: &Roster, sentinel: u16, output: &Output)
+    requires names { HasDistinctNames roster.now }
+    requires few { IsFewShown output.now }
+    requires room { SHOWN_MAX ≤ report.old.room }
+    ensures entries { report.new.entries
+        ≡ report.old.entries ++ flat_map (news_of_said roster.now) (said_by sentinel (advertised_by roster.now (output.now ∷ []))) }
+    ensures room { report.old.room ≤ report.new.room + SHOWN_MAX }
+{
+    if let Output::Send(message) = output {
+        tell_body(report, roster, sentinel, &message.body);
+    }
+}
+
+/// Tells of what a Sentinel advertises by its outputs, in order.
+fn tell_outputs(report: &mut Report, roster: &Roster, sentinel: u16, outputs: &[Output])
+    requires names { HasDistinctNames roster.now }
+    requires few { AllByRecursion IsFewShown outputs.now }
+    requires room { SHOWN_MAX * length outputs.now ≤ report.old.room }
+    ensures { report.new.entries
+        ≡ report.old.entries ++ flat_map (news_of_said roster.now) (said_by sentinel (advertised_by roster.now outputs.now)) }
+{
+    for output in outputs {
+        tell_output(report, roster, sentinel, output);
+    }
+}
+
+/// Tells of what a node advertises by the outputs that it releases. Only Sentinels advertise.
+pub(crate) fn tell_released(
+    report: &mut Report,
+    roster: &Roster,
+    node: NodeName,
+    outputs: &[Output],
+)
+    requires names { HasDistinctNames roster.now }
+    requires few { IsHeldBy node outputs.now }
+    requires room { SHOWN_MAX * length outputs.now ≤ report.old.room }
+    ensures { report.new.entries
+        ≡ report.old.entries ++ flat_map (news_of_said roster.now) (said_told roster.now node outputs.now) }
+{
+    if let NodeName::SentinelAt(sentinel) = node {
+        tell_outputs(report, roster, sentinel, outputs);
+    }
+}
