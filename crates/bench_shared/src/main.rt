@@ -1,0 +1,105 @@
+//! Shares a Sentinel with the sentinel.conf of standard input among threads, and prints for each thread how many calls it made and how
+//! many nanoseconds they took; with no text it prints nothing. The words say what the threads do: `address 4` has four threads ask for
+//! the address of the first master, `ping 4` has four threads ask PING, and with `store` behind these one thread more asks for votes,
+//! each of which is stored, until the others are done. `bench/shared` runs it.
+#![tactic(auto)]
+
+ghost use Rattle.std.specs.Prelude.{◌≡◌, IfSome};
+
+mod bench;
+
+use crate::bench::{Bench, Task, Which, Worker};
+use conf_store::MemoryStore;
+use sentinel_cell::{MOST_SEATS, Seat, SharedSentinel};
+use sentinel_conf::read;
+use sentinel_core::Sentinel;
+use std::alloc::Global;
+use std::env;
+use std::io::{self, Read};
+use std::marker::Brand;
+use std::rt::Clock;
+use std::sync::Wait;
+use std::thread::{self, Threads};
+
+/// How often a thread asks for an address.
+const ADDRESSES: u64 = 20_000_000;
+
+/// How often a thread asks PING.
+const PINGS: u64 = 100_000;
+
+/// The most threads.
+const MOST_THREADS: u64 = 8;
+
+/// The tasks that the words name.
+fn tasks_of(alloc: Global, words: &[String]) -> io::Result<Vec<Task>> {
+    let mut tasks = Vec::new(alloc);
+    let (Some(what), Some(count)) = (words.get(1), words.get(2)) else {
+        return Ok(tasks);
+    };
+    let task = if what.as_str() == "ping" {
+        Task::Ping(PINGS)
+    } else {
+        Task::AskAddress(ADDRESSES)
+    };
+    let count = count.as_str().parse().unwrap_or(1).min(MOST_THREADS);
+    for _ in 0..count {
+        tasks.push(task)?;
+    }
+    if words.len() > 3 {
+        tasks.push(Task::Store(count))?;
+    }
+    Ok(tasks)
+}
+
+/// A Sentinel of this file, shared.
+fn shared(alloc: Global, text: &[u8]) -> Option<(SharedSentinel<MemoryStore>, Seat)>
+    ensures { IfSome result (λ r. r.1.cell ≡ r.0.id) }
+{
+    let store = MemoryStore::holding(alloc, text).ok()?;
+    let sentinel = Sentinel::open(alloc, read(alloc, text).ok()?, 0).ok()?;
+    SharedSentinel::new(alloc, sentinel, store, MOST_SEATS).ok()
+}
+
+/// Runs each worker in a thread of its own.
+fn run_all<J: Which + Send + Sync, R: Threads + Wait + Clock + Sync>(
+    rt: &R,
+    bench: &Bench<J>,
+    workers: &mut [Worker<J>],
+) {
+    thread::for_each_mut(rt, workers, 16, &|_, worker| drop(worker.run(rt, bench)));
+}
+
+/// Measures the tasks, and gives the calls of each thread and the nanoseconds that they took.
+fn measure<J: Which + Send + Sync, R: Threads + Wait + Clock + Sync>(
+    rt: &R,
+    alloc: Global,
+    cell: SharedSentinel<MemoryStore>,
+    seat: Seat,
+    tasks: &[Task],
+) -> io::Result<Vec<(u64, u128)>>
+    requires { (cell.id ≡ J.cell) × (seat.cell ≡ J.cell) }
+{
+    let mut figures = Vec::new(alloc);
+    let Some((bench, mut workers)) = Bench::<J>::of(alloc, cell, seat, tasks)? else {
+        return Ok(figures);
+    };
+    run_all(rt, &bench, workers.as_mut_slice());
+    for worker in &workers {
+        figures.push((worker.calls, worker.nanos))?;
+    }
+    Ok(figures)
+}
+
+fn main(rt: HostRuntime) -> io::Result<()> {
+    let words: Vec<String> = env::args(&rt)?.collect(rt.alloc())?;
+    let tasks = tasks_of(rt.alloc(), words.as_slice())?;
+    let mut text = Vec::new(rt.alloc());
+    rt.stdin().read_to_end(&mut text)?;
+    let Some((cell, seat)) = shared(rt.alloc(), text.as_slice()) else {
+        return Ok(());
+    };
+    for (calls, nanos) in measure::<Brand, _>(&rt, rt.alloc(), cell, seat, tasks.as_slice())? {
+        println!(rt; "{calls} {nanos}")?;
+    }
+    Ok(())
+}
