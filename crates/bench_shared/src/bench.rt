@@ -4,7 +4,7 @@ ghost use Rattle.std.specs.Prelude.{◌≡◌, []};
 ghost use Rattle.sentinel_rules.specs.Facts.{IsWithinEvent};
 
 use ballot_law::{Addr, Command, Event, Input, NodeName, RunId};
-use conf_store::MemoryStore;
+use conf_store::ConfStore;
 use sentinel_cell::{Seat, SharedSentinel};
 use sentinel_core::Outbox;
 use std::alloc::{AllocError, Global};
@@ -54,8 +54,8 @@ pub struct Worker<J: Which> {
 
 /// The cell that is measured.
 #[derive(Drop)]
-pub struct Bench<J: Which> {
-    cell: SharedSentinel<MemoryStore>,
+pub struct Bench<J: Which, S: ConfStore> {
+    cell: SharedSentinel<S>,
     done: AtomicU64,
     of: PhantomData<J>,
     ghost is: { cell.id ≡ J.cell },
@@ -106,14 +106,14 @@ fn request(epoch: u32) -> Input
     }
 }
 
-impl<J: Which> Bench<J> {
+impl<J: Which, S: ConfStore + Drop> Bench<J, S> {
     /// This cell, with a thread for each task. None where the seat's share is too small.
     pub fn of(
         alloc: Global,
-        cell: SharedSentinel<MemoryStore>,
+        cell: SharedSentinel<S>,
         seat: Seat,
         tasks: &[Task],
-    ) -> Result<Option<(Bench<J>, Vec<Worker<J>>)>, AllocError>
+    ) -> Result<Option<(Bench<J, S>, Vec<Worker<J>>)>, AllocError>
         requires { (cell.id ≡ J.cell) × (seat.cell ≡ J.cell) }
     {
         let bench = new_bench(cell);
@@ -140,7 +140,7 @@ impl<J: Which> Bench<J> {
 }
 
 /// A cell that no thread is done with.
-fn new_bench<J: Which>(cell: SharedSentinel<MemoryStore>) -> Bench<J>
+fn new_bench<J: Which, S: ConfStore>(cell: SharedSentinel<S>) -> Bench<J, S>
     requires { cell.id ≡ J.cell }
 {
     Bench {
@@ -152,7 +152,7 @@ fn new_bench<J: Which>(cell: SharedSentinel<MemoryStore>) -> Bench<J>
 
 impl<J: Which> Worker<J> {
     /// One input.
-    fn act<R: Wait>(&mut self, rt: &R, bench: &Bench<J>, input: &Input) -> bool
+    fn act<S: ConfStore, R: Wait>(&mut self, rt: &R, bench: &Bench<J, S>, input: &Input) -> bool
         requires { IsWithinEvent input.now.event }
     {
         self.outbox.clear();
@@ -163,7 +163,7 @@ impl<J: Which> Worker<J> {
     }
 
     /// Asks for the address, and counts the answers.
-    fn ask_addresses(&mut self, bench: &Bench<J>, count: u64) {
+    fn ask_addresses<S: ConfStore>(&mut self, bench: &Bench<J, S>, count: u64) {
         for _ in 0..count {
             if bench.cell.address(&mut self.seat, 0).is_some() {
                 self.calls = self.calls.wrapping_add(1);
@@ -172,7 +172,7 @@ impl<J: Which> Worker<J> {
     }
 
     /// Asks PING, and counts the answers.
-    fn ping<R: Wait>(&mut self, rt: &R, bench: &Bench<J>, count: u64) {
+    fn ping<S: ConfStore, R: Wait>(&mut self, rt: &R, bench: &Bench<J, S>, count: u64) {
         let input = ping();
         for _ in 0..count {
             if self.act(rt, bench, &input) {
@@ -182,7 +182,7 @@ impl<J: Which> Worker<J> {
     }
 
     /// Asks for votes until so many threads are done, and counts them.
-    fn store<R: Wait>(&mut self, rt: &R, bench: &Bench<J>, others: u64) {
+    fn store<S: ConfStore, R: Wait>(&mut self, rt: &R, bench: &Bench<J, S>, others: u64) {
         for epoch in 1..u32::MAX {
             if bench.done.load(Ordering::SeqCst) >= others {
                 return;
@@ -194,7 +194,7 @@ impl<J: Which> Worker<J> {
     }
 
     /// Does its task, and says that it is done.
-    fn work<R: Wait>(&mut self, rt: &R, bench: &Bench<J>) {
+    fn work<S: ConfStore, R: Wait>(&mut self, rt: &R, bench: &Bench<J, S>) {
         match self.task {
             Task::AskAddress(count) => self.ask_addresses(bench, count),
             Task::Ping(count) => self.ping(rt, bench, count),
@@ -204,7 +204,11 @@ impl<J: Which> Worker<J> {
     }
 
     /// Does its task, and measures it.
-    pub fn run<R: Wait + Clock>(&mut self, rt: &R, bench: &Bench<J>) -> io::Result<()> {
+    pub fn run<S: ConfStore, R: Wait + Clock>(
+        &mut self,
+        rt: &R,
+        bench: &Bench<J, S>,
+    ) -> io::Result<()> {
         let start = Instant::now(rt)?;
         self.work(rt, bench);
         self.nanos = start.elapsed(rt)?.as_nanos();

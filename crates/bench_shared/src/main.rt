@@ -1,18 +1,19 @@
 //! Shares a Sentinel with the sentinel.conf of standard input among threads, and prints for each thread how many calls it made and how
 //! many nanoseconds they took; with no text it prints nothing. The words say what the threads do: `address 4` has four threads ask for
 //! the address of the first master, `ping 4` has four threads ask PING, and with `store` behind these one thread more asks for votes,
-//! each of which is stored, until the others are done. `bench/shared` runs it.
+//! each of which is stored, until the others are done; a path behind `store` names the file that holds them, else memory does. `bench/shared` runs it.
 #![tactic(auto)]
 
-ghost use Rattle.std.specs.Prelude.{◌≡◌, IfSome};
+ghost use Rattle.std.specs.Prelude.{◌≡◌, ◌<◌, ◌-◌, ◌^◌, IfSome};
 
 mod bench;
 
 use crate::bench::{Bench, Task, Which, Worker};
-use conf_store::MemoryStore;
+use conf_store::{ConfStore, MemoryStore};
 use sentinel_cell::{MOST_SEATS, Seat, SharedSentinel};
 use sentinel_conf::read;
 use sentinel_core::Sentinel;
+use sentinel_runner::FileStore;
 use std::alloc::Global;
 use std::env;
 use std::io::{self, Read};
@@ -22,7 +23,7 @@ use std::sync::Wait;
 use std::thread::{self, Threads};
 
 /// How often a thread asks for an address.
-const ADDRESSES: u64 = 20_000_000;
+const ADDRESSES: u64 = 200_000_000;
 
 /// How often a thread asks PING.
 const PINGS: u64 = 100_000;
@@ -51,36 +52,40 @@ fn tasks_of(alloc: Global, words: &[String]) -> io::Result<Vec<Task>> {
     Ok(tasks)
 }
 
-/// A Sentinel of this file, shared.
-fn shared(alloc: Global, text: &[u8]) -> Option<(SharedSentinel<MemoryStore>, Seat)>
+/// A Sentinel of this text, shared, over this store.
+fn shared<S: ConfStore + Drop>(
+    alloc: Global,
+    text: &[u8],
+    store: S,
+) -> Option<(SharedSentinel<S>, Seat)>
+    requires { S.failure_count store < 2 ^ 64 - 1 }
     ensures { IfSome result (λ r. r.1.cell ≡ r.0.id) }
 {
-    let store = MemoryStore::holding(alloc, text).ok()?;
     let sentinel = Sentinel::open(alloc, read(alloc, text).ok()?, 0).ok()?;
     SharedSentinel::new(alloc, sentinel, store, MOST_SEATS).ok()
 }
 
 /// Runs each worker in a thread of its own.
-fn run_all<J: Which + Send + Sync, R: Threads + Wait + Clock + Sync>(
+fn run_all<J: Which + Send + Sync, S: ConfStore + Drop + Send, R: Threads + Wait + Clock + Sync>(
     rt: &R,
-    bench: &Bench<J>,
+    bench: &Bench<J, S>,
     workers: &mut [Worker<J>],
 ) {
     thread::for_each_mut(rt, workers, 16, &|_, worker| drop(worker.run(rt, bench)));
 }
 
 /// Measures the tasks, and gives the calls of each thread and the nanoseconds that they took.
-fn measure<J: Which + Send + Sync, R: Threads + Wait + Clock + Sync>(
+fn measure<J: Which + Send + Sync, S: ConfStore + Drop + Send, R: Threads + Wait + Clock + Sync>(
     rt: &R,
     alloc: Global,
-    cell: SharedSentinel<MemoryStore>,
+    cell: SharedSentinel<S>,
     seat: Seat,
     tasks: &[Task],
 ) -> io::Result<Vec<(u64, u128)>>
     requires { (cell.id ≡ J.cell) × (seat.cell ≡ J.cell) }
 {
     let mut figures = Vec::new(alloc);
-    let Some((bench, mut workers)) = Bench::<J>::of(alloc, cell, seat, tasks)? else {
+    let Some((bench, mut workers)) = Bench::<J, S>::of(alloc, cell, seat, tasks)? else {
         return Ok(figures);
     };
     run_all(rt, &bench, workers.as_mut_slice());
@@ -90,15 +95,40 @@ fn measure<J: Which + Send + Sync, R: Threads + Wait + Clock + Sync>(
     Ok(figures)
 }
 
+/// Shares a Sentinel of this text over this store, and measures the tasks. Nothing, where the text makes none.
+fn figures<S: ConfStore + Drop + Send, R: Threads + Wait + Clock + Sync>(
+    rt: &R,
+    alloc: Global,
+    text: &[u8],
+    store: S,
+    tasks: &[Task],
+) -> io::Result<Vec<(u64, u128)>>
+    requires { S.failure_count store < 2 ^ 64 - 1 }
+{
+    match shared(alloc, text, store) {
+        Some((cell, seat)) => measure::<Brand, S, R>(rt, alloc, cell, seat, tasks),
+        None => Ok(Vec::new(alloc)),
+    }
+}
+
 fn main(rt: HostRuntime) -> io::Result<()> {
     let words: Vec<String> = env::args(&rt)?.collect(rt.alloc())?;
     let tasks = tasks_of(rt.alloc(), words.as_slice())?;
     let mut text = Vec::new(rt.alloc());
     rt.stdin().read_to_end(&mut text)?;
-    let Some((cell, seat)) = shared(rt.alloc(), text.as_slice()) else {
-        return Ok(());
+    let told = match words.get(4) {
+        Some(path) => {
+            let store = FileStore::at(&rt, rt.alloc(), path.as_str())?;
+            figures(&rt, rt.alloc(), text.as_slice(), store, tasks.as_slice())?
+        }
+        None => {
+            let Ok(store) = MemoryStore::holding(rt.alloc(), text.as_slice()) else {
+                return Ok(());
+            };
+            figures(&rt, rt.alloc(), text.as_slice(), store, tasks.as_slice())?
+        }
     };
-    for (calls, nanos) in measure::<Brand, _>(&rt, rt.alloc(), cell, seat, tasks.as_slice())? {
+    for (calls, nanos) in told {
         println!(rt; "{calls} {nanos}")?;
     }
     Ok(())

@@ -1,4 +1,4 @@
-use Rattle.bench_shared.proofs.main.Given as goal
+use Rattle.bench_shared.proofs.figures.Given as goal
 
 -- which cell it is
 abbrev pub ghosts-measure : goal.ghosts-measure
