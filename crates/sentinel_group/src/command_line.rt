@@ -2,7 +2,7 @@
 
 use crate::failures::fail;
 use clap::error::ErrorKind;
-use clap::{Arg, Command, Error};
+use clap::{Arg, ArgAction, Command, Error};
 use sentinel_core::ServeFault;
 use std::alloc::{AllocError, Global};
 use std::env::{self, Env};
@@ -15,19 +15,45 @@ const REFUSED_WORDS: u8 = 2;
 /// The version of the program, as `--version` prints it.
 const VERSION: &str = "0.1.0";
 
-/// The command line of the program.
-pub(crate) fn command<'a>(alloc: Global) -> Result<Command<'a>, AllocError> {
+/// The words of `answer`.
+fn answer<'a>(alloc: Global) -> Result<Command<'a>, AllocError> {
     let conf = Arg::new(alloc, "conf").long("conf").value_name("file").help(
         "The sentinel.conf that is read and rewritten; without it what it holds is kept in memory",
     );
-    let answer = Command::new(alloc, "answer")
+    Command::new(alloc, "answer")
         .about("Answers the commands of standard input on standard output")
-        .arg(conf)?;
+        .arg(conf)
+}
+
+/// The words of `replay`.
+fn replay<'a>(alloc: Global) -> Result<Command<'a>, AllocError> {
+    let trace = Arg::new(alloc, "trace")
+        .long("trace")
+        .action(ArgAction::SetTrue)
+        .help("Prints the scenario again, with each message and each line of the report as a comment");
+    let scenario = Arg::new(alloc, "scenario")
+        .required(true)
+        .help("The steps of the story, one a line");
+    let confs = Arg::new(alloc, "conf")
+        .required(true)
+        .num_args(1..)
+        .action(ArgAction::Append)
+        .help("The sentinel.conf of each Sentinel");
+    Command::new(alloc, "replay")
+        .about("Plays a story of a whole group, and prints who was elected and which addresses were told")
+        .arg(trace)?
+        .arg(scenario)?
+        .arg(confs)
+}
+
+/// The command line of the program.
+pub(crate) fn command<'a>(alloc: Global) -> Result<Command<'a>, AllocError> {
     Command::new(alloc, "sentinel_group")
         .about("A failover group with the behaviour of Redis Sentinel")
         .version(VERSION)
         .subcommand_required(true)
-        .subcommand(answer)
+        .subcommand(answer(alloc)?)?
+        .subcommand(replay(alloc)?)
 }
 
 /// The words that the program was started with, its own name first.

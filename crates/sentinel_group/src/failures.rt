@@ -2,6 +2,8 @@
 
 use sentinel_conf::{ConfFault, ConfKind};
 use sentinel_core::ServeFault;
+use scenario_replay::ReplayFault;
+use scenarios::{ScenarioFault, ScenarioKind};
 use std::fmt::Display;
 use std::process::ExitCode;
 
@@ -32,6 +34,25 @@ pub(crate) fn refuse_file<D: Display + Drop>(
 ) -> ExitCode {
     let _ = eprintln!(rt; "sentinel_group: {path}:{line}: {kind}");
     ExitCode::from(REFUSED_FILE)
+}
+
+/// Tells the fault of a scenario that was read.
+pub(crate) fn refuse_scenario(rt: &impl Eprint, path: &str, fault: ScenarioFault) -> ExitCode {
+    match fault.kind {
+        ScenarioKind::NoMemory => fail(rt, ServeFault::NoMemory),
+        kind => refuse_file(rt, path, fault.line, kind),
+    }
+}
+
+/// Tells why a story isn't played: its files are refused together, or memory was.
+pub(crate) fn refuse_story(rt: &impl Eprint, fault: ReplayFault) -> ExitCode {
+    match fault {
+        ReplayFault::NoMemory => fail(rt, ServeFault::NoMemory),
+        fault => {
+            let _ = eprintln!(rt; "sentinel_group: {fault}");
+            ExitCode::from(REFUSED_FILE)
+        }
+    }
 }
 
 /// Tells the fault of a file that was read.

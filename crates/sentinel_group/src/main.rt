@@ -1,13 +1,16 @@
-//! The program `sentinel_group`: `answer` serves the commands of standard input on standard output.
+//! The program `sentinel_group`: `answer` serves the commands of standard input on standard output, `replay` plays a story of a whole group.
 #![tactic(auto)]
 
 ghost use Rattle.std.specs.Prelude.{◌<◌, ◌-◌, ◌^◌};
 
 mod command_line;
 mod failures;
+mod replaying;
 
 use crate::command_line::{command, refuse_unread, tell_words, words};
 use crate::failures::{fail, refuse_conf, refuse_file};
+use crate::replaying::replay;
+use clap::ArgMatches;
 use sentinel_conf::{Conf, ConfStore, LoadFault, MemoryStore, read};
 use sentinel_core::{Sentinel, ServeFault};
 use sentinel_runner::FileStore;
@@ -60,6 +63,14 @@ fn answer_from(rt: HostRuntime, path: &str) -> ExitCode {
     }
 }
 
+/// Serves with the file that the words name, or in memory.
+fn answer(rt: HostRuntime, words: &ArgMatches) -> ExitCode {
+    match words.get_str("conf") {
+        Some(path) => answer_from(rt, path),
+        None => answer_in_memory(rt),
+    }
+}
+
 fn main(rt: HostRuntime) -> ExitCode {
     let Ok(mut command) = command(rt.alloc()) else {
         return fail(&rt, ServeFault::NoMemory);
@@ -70,10 +81,8 @@ fn main(rt: HostRuntime) -> ExitCode {
     };
     match command.try_get_matches_from(words.as_slice()) {
         Ok(matches) => match matches.subcommand() {
-            Some((_, words)) => match words.get_str("conf") {
-                Some(path) => answer_from(rt, path),
-                None => answer_in_memory(rt),
-            },
+            Some(("replay", words)) => replay(&rt, words),
+            Some((_, words)) => answer(rt, words),
             None => answer_in_memory(rt),
         },
         Err(error) => tell_words(&rt, &error),

@@ -1,0 +1,11 @@
+use Rattle.std.proofs.Common.{length}
+use Rattle.world_members.specs.Groups.{IsShown, Stands}
+use Rattle.world_members.specs.Seats.{IsSeat}
+use Rattle.scenario_replay.proofs.traces.trace.Given as goal
+
+abbrev pub invariant-loop-rest : goal.invariant-loop-rest
+invariant-loop-rest g l =
+    Stands l.world.roster (IsShown (λ m. m.name) (λ m. IsSeat m.name ((goal.Node-dyn g (m.node.vtable, m.node.value)).name m.node.value) ((goal.Node-dyn g (m.node.vtable, m.node.value)).shows m.node.value) m.outbox.held m.stopped) l.world.roster l.world.members.items l.world.messages.items)
+
+abbrev pub decreases-loop-rest : goal.decreases-loop-rest
+decreases-loop-rest g l = length l.rest

@@ -1,0 +1,27 @@
+-- What the text of a played story tells.
+use Rattle.std.specs.Prelude.{◌≡◌, ℕ, List, map, Ok}
+use Rattle.ballot_law.specs.declared.steps.Step.{Step}
+use Rattle.ballot_law.specs.Rosters.{Roster}
+use Rattle.ballot_law.specs.Worlds.{World, StepOf, JoinedBy}
+use Rattle.ballot_law.specs.Law.{HasOneLeader, HasOneAddress, IsSafeStep}
+use Rattle.scenarios.specs.Scenarios.{scenario}
+use Rattle.world_members.specs.Groups.{IsReached}
+use Rattle.world_reports.specs.declared.entry.Entry.{Entry}
+use Rattle.world_reports.specs.Told.{report_text}
+use Rattle.fault_world.specs.Runs.{Ran}
+
+-- the story's steps are a run of the model of the roster's group, and the text has a line for each election and advertisement that the run
+-- brought, in order, and no other. In that run at most one Sentinel is elected for a master in an epoch, two advertisements of a master
+-- with one epoch have one address, and at no step falls the epoch of a master's configuration in a Sentinel's file
+pub record IsTold (roster : Roster) (story text : List ℕ) : Type 0 where
+  pub steps : List Step
+  pub read : scenario story ≡ Ok steps
+  pub first : World
+  pub begins : IsReached roster first
+  pub news : List Entry
+  pub last : World
+  pub ran : Ran roster steps first news last
+  pub text_is : text ≡ report_text news
+  pub one_leader : HasOneLeader last.elected
+  pub one_address : HasOneAddress last.said
+  pub never_falls : JoinedBy IsSafeStep roster (map StepOf steps) first last

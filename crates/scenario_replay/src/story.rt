@@ -1,0 +1,141 @@
+//! A story, from the bytes of its files to the text of what it brought.
+
+ghost use Rattle.std.specs.Prelude.{◌≡◌, ◌⊎◌, All, OnOk, IfOk, IfErr, IfSome, Err};
+ghost use Rattle.scenarios.specs.Scenarios.{scenario, no_memory};
+ghost use Rattle.boxed_nodes.specs.Moves.{IsFresh};
+ghost use Rattle.world_members.specs.Groups.{IsShown, Stands};
+ghost use Rattle.world_members.specs.Seats.{IsSeat};
+ghost use Rattle.scenario_replay.specs.Playing.{IsTold};
+
+use crate::faults::ReplayFault;
+use crate::seats::{Seat, Seats};
+use crate::traces::trace;
+use ballot_law::NoMemory;
+use boxed_nodes::Node;
+use client_nodes::ClientNode;
+use data_nodes::DataNode;
+use fault_world::FaultWorld;
+use resp2_frames::OutText;
+use scenarios::{ScenarioFault, read_scenario};
+use sentinel_conf::{Conf, ConfFault, ConfKind, read};
+use sentinel_nodes::SentinelNode;
+use std::alloc::Global;
+
+/// What a story prints.
+#[derive(Clone, Copy, Debug, PartialEq, Eq)]
+pub enum Printed {
+    /// The lines of the elections and advertisements.
+    Report,
+    /// The scenario, with what each line caused.
+    Trace,
+}
+
+/// A scenario with the files of its Sentinels.
+#[derive(Drop)]
+pub struct Story {
+    alloc: Global,
+    text: Vec<u8>,
+    files: Vec<Vec<u8>>,
+    first: Option<Conf>,
+}
+
+fn no_memory() -> ConfFault {
+    ConfFault {
+        line: 0,
+        kind: ConfKind::NoMemory,
+    }
+}
+
+/// Adds a node that a run can begin with to others.
+fn add(nodes: &mut Vec<Box<dyn Node>>, node: Box<dyn Node>) -> Result<(), NoMemory>
+    requires node { IsFresh (is_known node) (shows node) }
+    requires before { All (λ b. IsFresh (is_known b) (shows b)) nodes.old.items }
+    ensures { OnOk result (All (λ b. IsFresh (is_known b) (shows b)) nodes.new.items) }
+{
+    nodes.push(node)?;
+    Ok(())
+}
+
+/// Plays the scenario in the world, and gives the lines of the elections and advertisements that it brings.
+fn tell(alloc: Global, world: &mut FaultWorld, scenario: &[u8]) -> Result<OutText, ReplayFault>
+    requires { Stands world.old.roster
+        (IsShown (λ m. m.name) (λ m. IsSeat m.name (name (m.node.vtable, m.node.value)) (shows (m.node.vtable, m.node.value)) m.outbox.held m.stopped) world.old.roster world.old.members.items world.old.messages.items) }
+    ensures { IfOk result (IsTold world.old.roster scenario.now) }
+{
+    let steps = read_scenario(alloc, scenario)?;
+    let report = world.run(&steps)?;
+    let mut text = OutText::new(alloc);
+    report.lines(&mut text)?;
+    Ok(text)
+}
+
+impl Story {
+    /// The story of a scenario, with no Sentinel yet, or the scenario's first fault.
+    pub fn new(alloc: Global, text: Vec<u8>) -> Result<Story, ScenarioFault>
+        ensures story { IfOk result (λ story. story.text ≡ text) }
+        ensures fault { IfErr result (λ fault. (fault ≡ no_memory) ⊎ (scenario text.items ≡ Err fault)) }
+    {
+        let _steps = read_scenario(alloc, text.as_slice())?;
+        Ok(Story {
+            alloc,
+            text,
+            files: Vec::new(alloc),
+            first: None,
+        })
+    }
+
+    /// Adds the Sentinel of a file. The fault is the file's first, and then the story is as it was. The group is that of the first file.
+    pub fn add_conf(&mut self, file: Vec<u8>) -> Result<(), ConfFault> {
+        let conf = read(self.alloc, file.as_slice())?;
+        if self.files.push(file).is_err() {
+            return Err(no_memory());
+        }
+        if self.first.is_none() {
+            self.first = Some(conf);
+        }
+        Ok(())
+    }
+
+    /// Plays the story from the beginning, and gives what is to be printed.
+    ///
+    /// The Sentinels are ready at clock 0 with what their files hold. Data nodes and clients, one for each master, are those of the first
+    /// file. A story of no file is `NotTheRoster`.
+    pub fn play(&self, printed: Printed) -> Result<OutText, ReplayFault>
+        ensures { IfSome self.now.first (λ conf. IfOk result (λ text. printed ≡ Printed.Report → IsTold conf.roster self.now.text.items text)) }
+    {
+        let Some(conf) = &self.first else {
+            return Err(ReplayFault::NotTheRoster);
+        };
+        let seats = Seats::of(self.files.len(), conf.roster());
+        let mut nodes: Vec<Box<dyn Node>> = Vec::new(self.alloc);
+        for number in 0..seats.count() {
+            match seats.at(number) {
+                Some(Seat::Sentinel(place)) => {
+                    let Ok(node) = SentinelNode::new(self.alloc, &self.files[place], 0) else {
+                        return Err(ReplayFault::NoMemory);
+                    };
+                    add(&mut nodes, Box::new(self.alloc, node)?)?;
+                }
+                Some(Seat::Store(number)) => {
+                    if let Some(node) = DataNode::new(conf, number) {
+                        add(&mut nodes, Box::new(self.alloc, node)?)?;
+                    }
+                }
+                Some(Seat::Client(number)) => {
+                    let node = ClientNode::new(self.alloc, conf, number, number)?;
+                    add(&mut nodes, Box::new(self.alloc, node)?)?;
+                }
+                None => {}
+            }
+        }
+        let roster = conf.roster().copy(self.alloc)?;
+        let mut world = match FaultWorld::new(self.alloc, roster, nodes) {
+            Ok(world) => world,
+            Err((fault, _)) => return Err(ReplayFault::from(fault)),
+        };
+        match printed {
+            Printed::Report => tell(self.alloc, &mut world, &self.text),
+            Printed::Trace => trace(self.alloc, &mut world, &self.text),
+        }
+    }
+}

@@ -1,0 +1,70 @@
+//! Traces: a scenario with what each of its lines caused.
+
+ghost use Rattle.world_members.specs.Groups.{IsShown, Stands};
+ghost use Rattle.world_members.specs.Seats.{IsSeat};
+
+use crate::faults::ReplayFault;
+use ballot_law::NoMemory;
+use fault_world::{FaultWorld, Report};
+use message_words::{add_comment, add_message};
+use resp2_frames::OutText;
+use scenarios::read_scenario;
+use std::alloc::Global;
+use words::split_line;
+
+/// Adds the messages from this number on as comments, and answers the number of the next one.
+fn add_messages(
+    alloc: Global,
+    text: &mut OutText,
+    world: &FaultWorld,
+    first: usize,
+) -> Result<usize, NoMemory>
+    requires { Stands world.now.roster
+        (IsShown (λ m. m.name) (λ m. IsSeat m.name (name (m.node.vtable, m.node.value)) (shows (m.node.vtable, m.node.value)) m.outbox.held m.stopped) world.now.roster world.now.members.items world.now.messages.items) }
+{
+    for number in first..usize::MAX {
+        let Some(message) = world.message(number) else {
+            return Ok(number);
+        };
+        add_message(alloc, text, number, message)?;
+    }
+    Ok(usize::MAX)
+}
+
+/// Adds the lines of a report as comments.
+fn add_report(alloc: Global, text: &mut OutText, report: &Report) -> Result<(), NoMemory> {
+    let mut lines = OutText::new(alloc);
+    report.lines(&mut lines)?;
+    let mut rest = lines.as_slice();
+    while !rest.is_empty() {
+        let (line, behind) = split_line(rest);
+        add_comment(text, line)?;
+        rest = behind;
+    }
+    Ok(())
+}
+
+/// Plays the scenario in the world line by line, and gives its lines, each with what it caused as comments behind it.
+pub(crate) fn trace(
+    alloc: Global,
+    world: &mut FaultWorld,
+    scenario: &[u8],
+) -> Result<OutText, ReplayFault>
+    requires { Stands world.old.roster
+        (IsShown (λ m. m.name) (λ m. IsSeat m.name (name (m.node.vtable, m.node.value)) (shows (m.node.vtable, m.node.value)) m.outbox.held m.stopped) world.old.roster world.old.members.items world.old.messages.items) }
+{
+    let mut text = OutText::new(alloc);
+    let mut sent = 0;
+    let mut rest = scenario;
+    while !rest.is_empty() {
+        let (line, behind) = split_line(rest);
+        let steps = read_scenario(alloc, line)?;
+        text.add(line)?;
+        text.add(b"\n")?;
+        let report = world.run(&steps)?;
+        sent = add_messages(alloc, &mut text, world, sent)?;
+        add_report(alloc, &mut text, &report)?;
+        rest = behind;
+    }
+    Ok(text)
+}
