@@ -30,7 +30,9 @@ fn replay<'a>(alloc: Global) -> Result<Command<'a>, AllocError> {
     let trace = Arg::new(alloc, "trace")
         .long("trace")
         .action(ArgAction::SetTrue)
-        .help("Prints the scenario again, with each message and each line of the report as a comment");
+        .help(
+            "Prints the scenario again, with each message and each line of the report as a comment",
+        );
     let scenario = Arg::new(alloc, "scenario")
         .required(true)
         .help("The steps of the story, one a line");
@@ -40,7 +42,9 @@ fn replay<'a>(alloc: Global) -> Result<Command<'a>, AllocError> {
         .action(ArgAction::Append)
         .help("The sentinel.conf of each Sentinel");
     Command::new(alloc, "replay")
-        .about("Plays a story of a whole group, and prints who was elected and which addresses were told")
+        .about(
+            "Plays a story of a whole group, and prints who was elected and which addresses were told",
+        )
         .arg(trace)?
         .arg(scenario)?
         .arg(confs)

@@ -1,9 +1,9 @@
 //! Why the program ends early: a line on standard error, and the exit status.
 
-use sentinel_conf::{ConfFault, ConfKind};
-use sentinel_core::ServeFault;
 use scenario_replay::ReplayFault;
 use scenarios::{ScenarioFault, ScenarioKind};
+use sentinel_conf::{ConfFault, ConfKind};
+use sentinel_core::ServeFault;
 use std::fmt::Display;
 use std::process::ExitCode;
 
