@@ -3,28 +3,4 @@
 #![tactic(auto)]
 
 #[cfg(test)]
-mod answers;
-#[cfg(test)]
-mod bounded_lists;
-#[cfg(test)]
-mod commands;
-#[cfg(test)]
-mod conf_files;
-#[cfg(test)]
-mod conf_stores;
-#[cfg(test)]
-mod frames;
-#[cfg(test)]
-mod hellos;
-#[cfg(test)]
-mod infos;
-#[cfg(test)]
-mod reports;
-#[cfg(test)]
-mod roles;
-#[cfg(test)]
-mod scenario_lines;
-#[cfg(test)]
-mod server_infos;
-#[cfg(test)]
-mod words_and_numbers;
+mod tests;

@@ -2,8 +2,4 @@
 #![tactic(auto)]
 
 #[cfg(test)]
-mod clients;
-#[cfg(test)]
-mod data_nodes_alone;
-#[cfg(test)]
-mod lone_node;
+mod tests;

@@ -2,8 +2,4 @@
 #![tactic(auto)]
 
 #[cfg(test)]
-mod comments;
-#[cfg(test)]
-mod deliveries_to_nodes;
-#[cfg(test)]
-mod message_lines;
+mod tests;

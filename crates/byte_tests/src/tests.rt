@@ -1,0 +1,15 @@
+//! The tests, one file for each part.
+
+mod answers;
+mod bounded_lists;
+mod commands;
+mod conf_files;
+mod conf_stores;
+mod frames;
+mod hellos;
+mod infos;
+mod reports;
+mod roles;
+mod scenario_lines;
+mod server_infos;
+mod words_and_numbers;

@@ -1,0 +1,5 @@
+use Rattle.cell_tests.proofs.tests.stores_held.address_while_storing.Given as goal
+
+-- which cell it is
+abbrev pub ghosts-ask_while_held : goal.ghosts-ask_while_held
+ghosts-ask_while_held g a = record { cell = a.cell.id }

@@ -1,0 +1,103 @@
+//! One Sentinel that no threads share, with its file, for tests.
+
+ghost use Rattle.sentinel_rules.specs.Facts.{IsWithinEvent};
+
+use super::calls::Call;
+use super::files::{FOUR_SENTINELS, RefusingFile};
+use ballot_law::{Input, NoMemory, Output, Text};
+use sentinel_cell::ActFault;
+use sentinel_conf::{ConfStore, read};
+use sentinel_core::{Outbox, Sentinel, TakeFault};
+use std::alloc::Global;
+use std::marker::Model;
+use std::test::Fail;
+
+/// A Sentinel with its file, and the outputs of its last input. Its contracts tell tests nothing but that each call may be made.
+#[derive(Drop)]
+pub(crate) struct PlainSentinel {
+    sentinel: Sentinel,
+    outbox: Outbox,
+    file: RefusingFile,
+}
+
+impl Model for PlainSentinel {
+    ghost use Rattle.std.specs.Prelude.{ℕ};
+
+    ghost Value = { ℕ };
+
+    ghost view = { λ _. 0 };
+}
+
+impl PlainSentinel {
+    /// Opens it at clock 0, with this file for its text.
+    pub(crate) fn open(alloc: Global, file: RefusingFile) -> Result<PlainSentinel, NoMemory> {
+        let Ok(conf) = read(alloc, file.text()) else {
+            return Err(NoMemory);
+        };
+        let Ok(sentinel) = Sentinel::open(alloc, conf, 0) else {
+            return Err(NoMemory);
+        };
+        let mut outbox = Outbox::new(alloc);
+        outbox.reserve(&sentinel.room())?;
+        Ok(PlainSentinel {
+            sentinel,
+            outbox,
+            file,
+        })
+    }
+
+    fn take(&mut self, input: &Input) -> Result<(), ActFault>
+        requires { IsWithinEvent input.now.event }
+    {
+        match self.sentinel.take(input, &mut self.outbox) {
+            Ok(_) => Ok(()),
+            Err(TakeFault::Halted) => Err(ActFault::Halted),
+            Err(_) => Err(ActFault::NoMemory),
+        }
+    }
+
+    fn store(&mut self) -> Result<(), ActFault> {
+        if self.file.failures() == u64::MAX || self.sentinel.store(&mut self.file).is_err() {
+            return Err(ActFault::StoreRefused);
+        }
+        Ok(())
+    }
+
+    fn release(&mut self) -> Result<(), ActFault> {
+        match self.sentinel.release(&mut self.outbox) {
+            Ok(()) => Ok(()),
+            Err(_) => Err(ActFault::Halted),
+        }
+    }
+
+    /// Takes, stores and releases an input, as a call of a seat does it: the outputs of the last input are dropped before.
+    pub(crate) fn give(&mut self, input: &Input) -> Result<(), ActFault>
+        requires { IsWithinEvent input.now.event }
+    {
+        self.outbox.clear();
+        self.outbox.drop_held();
+        self.take(input)?;
+        self.store()?;
+        self.release()
+    }
+
+    /// What its last input showed.
+    pub(crate) fn outputs(&self) -> &[Output] {
+        self.outbox.outputs()
+    }
+
+    /// The text of its file.
+    pub(crate) fn text(&self) -> &[u8] {
+        self.file.text()
+    }
+}
+
+/// The text of the file of a Sentinel that took these inputs at clock 0.
+pub(crate) fn text_after(alloc: Global, calls: &[Call]) -> Result<Text, Fail> {
+    let file = RefusingFile::holding(alloc, FOUR_SENTINELS)?;
+    let mut plain = PlainSentinel::open(alloc, file)?;
+    for call in calls {
+        let _ = plain.give(&call.input(alloc, 0)?);
+    }
+    Ok(Text::from_slice(alloc, plain.text())?)
+}

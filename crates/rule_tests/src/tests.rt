@@ -1,0 +1,9 @@
+//! The tests, one file for each part.
+
+mod best_replica;
+mod client_searches;
+mod down_states;
+mod failover_turns;
+mod names_and_texts;
+mod rosters_in_order;
+mod votes_and_elections;
