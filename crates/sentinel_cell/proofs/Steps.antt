@@ -237,6 +237,10 @@ module _ {C : Type 0} (Legal : List Entry → Type 0) (stored : List Entry → �
   in_place (x ∷ xs) zero a b e = refl
   in_place (x ∷ xs) (suc i) a b e = in_place xs i a b e
 
+  -- the seat that has the slot out serves
+  slot_served : (s : St) (r : Rule s) (o : Out s.homes s.views) → Queued r.history r.flight r.drawer (served s) (next s) o.1.0 o.1.1.share o.1.1.front o.1.1.flight (Serving o.1.2)
+  slot_served s r o = subst (Queued r.history r.flight r.drawer (served s) (next s) o.1.0 o.1.1.share o.1.1.front o.1.1.flight) o.1.4 (r.each o.1.0 o.1.1 o.1.3).queued
+
   -- where the seat's ticket is served and it does not serve yet, the slot is at home
   at_home : (s : St) (r : Rule s) (id : ℕ) (v : View) → get_elem? s.views id ≡ some v → v.stage ≡ Waiting (served s) → AtHome Fits r.history r.flight s.homes
   at_home s r id v at is = ⊎_elim (λ (a : AtHome Fits r.history r.flight s.homes). a) (λ (o : Out s.homes s.views). absurd (taken o)) r.slot
@@ -246,13 +250,10 @@ module _ {C : Type 0} (Legal : List Entry → Type 0) (stored : List Entry → �
 
       taken : Out s.homes s.views → ⊥
       taken o =
-          let j : ℕ = o.1.0 in
-          let u : View = o.1.1 in
-          let t : ℕ = o.1.2 in
-          let there : Queued r.history r.flight r.drawer (served s) (next s) j u.share u.front u.flight (Serving t) = subst (Queued r.history r.flight r.drawer (served s) (next s) j u.share u.front u.flight) o.1.4 (r.each j u o.1.3).queued in
-          let same : id ≡ j = sym mine.1 ∙ (ap r.drawer (sym there.2) ∙ there.1) in
-          let one : v ≡ u = some-injective v u (sym at ∙ (ap (get_elem? s.views) same ∙ o.1.3)) in
-          waiting_serves v.stage (served s) is t (ap (λ (x : View). x.stage) one ∙ o.1.4)
+          let there = slot_served s r o in
+          let same : id ≡ o.1.0 = sym mine.1 ∙ (ap r.drawer (sym there.2) ∙ there.1) in
+          let one : v ≡ o.1.1 = some-injective v o.1.1 (sym at ∙ (ap (get_elem? s.views) same ∙ o.1.3)) in
+          waiting_serves v.stage (served s) is o.1.2 (ap (λ (x : View). x.stage) one ∙ o.1.4)
 
   turns : (slots id : ℕ) (me : M) (t : ℕ) → me.0.stage ≡ Waiting t → Allows Rule slots id me 0 (λ n. n) (Turns Legal Fits (step slots 0 0 0 none) me)
   turns slots id me t is s r _ at _ = dite (ℕ_discrete (served s) t)
@@ -528,6 +529,27 @@ module _ {C : Type 0} (Legal : List Entry → Type 0) (stored : List Entry → �
   in_reach (x ∷ xs) zero a e = omega arith
   in_reach (x ∷ xs) (suc i) a e = let h = in_reach xs i a e in omega arith
 
+  -- other seats with the same history, words and slot, who have other numbers
+  reseated : (s : St) (r : Rule s) (views : List View) (owner : ℕ → ℕ) → next s + total looks_of views ≤ 9223372036854775808 + seats → total share_of views ≡ seats
+      → ((j : ℕ) (u : View) → get_elem? views j ≡ some u → Knows stored r.history r.flight r.given owner r.drawer (served s) (next s) j u)
+      → AtHome Fits r.history r.flight s.homes ⊎ Out s.homes views → Rule record { words = s.words; homes = s.homes; views = views }
+  reseated s r views owner room shares each slot = record {
+    history = r.history;
+    flight = r.flight;
+    given = r.given;
+    owner = owner;
+    drawer = r.drawer;
+    legal = r.legal;
+    wide = r.wide;
+    cards = r.cards;
+    ordered = r.ordered;
+    room = room;
+    shares = shares;
+    numbered = r.numbered;
+    each = each;
+    slot = slot;
+  }
+
   -- a new seat at the end has none of the other seats' numbers but n
   splits : (id : ℕ) (v : View) (n : ℕ) (ns : List ℕ) → v.stage ≡ Idle → v.numbers ≡ n ∷ ns → ¬ Has n ns → Splits Rule id v (left_half v) (right_half v)
   splits id v n ns is numbers fresh s r at =
@@ -573,29 +595,16 @@ module _ {C : Type 0} (Legal : List Entry → Type 0) (stored : List Entry → �
         };
         queued = tt;
       } in
-      record {
-        history = r.history;
-        flight = r.flight;
-        given = r.given;
-        owner = owner;
-        drawer = r.drawer;
-        legal = r.legal;
-        wide = r.wide;
-        cards = r.cards;
-        ordered = r.ordered;
-        room = omega arith;
-        shares = omega arith;
-        numbered = r.numbered;
-        each = λ j u e. ⊎_elim
-            (λ (there : get_elem? (set s.views id left) j ≡ some u). seats_stay K s.views id left mine_left
-            (λ i x apart was. later stored r.history r.flight r.history r.flight r.given r.given r.owner owner r.drawer r.drawer (served s) (served s) (next s) (next s) i x (begins_self r.history) (begins_self (r.history ++ r.flight))
-            (λ y low own. (else_owner y (λ same. apart (sym own ∙ (ap r.owner same ∙ mine.1))) ∙ own, refl)) (omega arith) (λ t l. refl) (omega arith) (λ t d l. l) (λ d. (refl, refl, refl)) (r.each i x was)) j u there)
-            (λ (last : (j ≡ length (set s.views id left)) × (right ≡ u)). subst (λ (x : ℕ × View). K x.0 x.1) (λ i. (sym (last.0 ∙ length-set s.views id left) i, last.1 i)) mine_right)
-            (at_end (set s.views id left) right u j e);
-        slot = ⊎_elim (λ (a : AtHome Fits r.history r.flight s.homes). inl a)
-            (λ (o : Out s.homes (set s.views id left)). inr (o.0, (o.1.0, o.1.1, o.1.2, at_longer (set s.views id left) (right ∷ []) o.1.0 o.1.1 o.1.3, o.1.4)))
-            (slot_stays r.history r.flight s.homes s.views id v left at (idle_serves v.stage is) r.slot);
-      }
+      reseated s r (set s.views id left ++ right ∷ []) owner (omega arith) (omega arith)
+      (λ j u e. ⊎_elim
+      (λ (there : get_elem? (set s.views id left) j ≡ some u). seats_stay K s.views id left mine_left
+      (λ i x apart was. later stored r.history r.flight r.history r.flight r.given r.given r.owner owner r.drawer r.drawer (served s) (served s) (next s) (next s) i x (begins_self r.history) (begins_self (r.history ++ r.flight))
+      (λ y low own. (else_owner y (λ same. apart (sym own ∙ (ap r.owner same ∙ mine.1))) ∙ own, refl)) (omega arith) (λ t l. refl) (omega arith) (λ t d l. l) (λ d. (refl, refl, refl)) (r.each i x was)) j u there)
+      (λ (last : (j ≡ length (set s.views id left)) × (right ≡ u)). subst (λ (x : ℕ × View). K x.0 x.1) (λ i. (sym (last.0 ∙ length-set s.views id left) i, last.1 i)) mine_right)
+      (at_end (set s.views id left) right u j e))
+      (⊎_elim (λ (a : AtHome Fits r.history r.flight s.homes). inl a)
+      (λ (o : Out s.homes (set s.views id left)). inr (o.0, (o.1.0, o.1.1, o.1.2, at_longer (set s.views id left) (right ∷ []) o.1.0 o.1.1 o.1.3, o.1.4)))
+      (slot_stays r.history r.flight s.homes s.views id v left at (idle_serves v.stage is) r.slot))
 
   has_either : (n : ℕ) (xs ys : List ℕ) → Has n (xs ++ ys) → Has n xs ⊎ Has n ys
   has_either n [] ys h = inr h
@@ -664,35 +673,22 @@ module _ {C : Type 0} (Legal : List Entry → Type 0) (stored : List Entry → �
         };
         queued = tt;
       } in
+      reseated s r (set views other spent) owner (omega arith) (omega arith)
+      (seats_stay K views other spent
       record {
-        history = r.history;
-        flight = r.flight;
-        given = r.given;
-        owner = owner;
-        drawer = r.drawer;
-        legal = r.legal;
-        wide = r.wide;
-        cards = r.cards;
-        ordered = r.ordered;
-        room = omega arith;
-        shares = omega arith;
-        numbered = r.numbered;
-        each = seats_stay K views other spent
-            record {
-              front = begins_empty r.history;
-              told = begins_empty [];
-              told_calls = λ x h. absurd h;
-              mine = λ x h. absurd h;
-              answers = λ x c h. absurd h;
-              tickets = omega arith;
-              numbers = record { upto = omega arith; own = λ x h. absurd h; calls = λ x h. refl };
-              queued = tt;
-            }
-            (λ j u off e. seats_stay (λ i x. i ≢ other → K i x) s.views id both (λ _. mine_both)
-            (λ i x not was away. later stored r.history r.flight r.history r.flight r.given r.given r.owner owner r.drawer r.drawer (served s) (served s) (next s) (next s) i x (begins_self r.history) (begins_self (r.history ++ r.flight))
-            (λ y low own. (else_owner y (λ same. away (sym own ∙ same)) ∙ own, refl)) (omega arith) (λ t h. refl) (omega arith) (λ t d h. h) (λ d. (refl, refl, refl)) (r.each i x was)) j u e off);
-        slot = slot_stays r.history r.flight s.homes views other w spent there (idle_serves w.stage is') (slot_stays r.history r.flight s.homes s.views id v both at (idle_serves v.stage is) r.slot);
+        front = begins_empty r.history;
+        told = begins_empty [];
+        told_calls = λ x h. absurd h;
+        mine = λ x h. absurd h;
+        answers = λ x c h. absurd h;
+        tickets = omega arith;
+        numbers = record { upto = omega arith; own = λ x h. absurd h; calls = λ x h. refl };
+        queued = tt;
       }
+      (λ j u off e. seats_stay (λ i x. i ≢ other → K i x) s.views id both (λ _. mine_both)
+      (λ i x not was away. later stored r.history r.flight r.history r.flight r.given r.given r.owner owner r.drawer r.drawer (served s) (served s) (next s) (next s) i x (begins_self r.history) (begins_self (r.history ++ r.flight))
+      (λ y low own. (else_owner y (λ same. away (sym own ∙ same)) ∙ own, refl)) (omega arith) (λ t h. refl) (omega arith) (λ t d h. h) (λ d. (refl, refl, refl)) (r.each i x was)) j u e off))
+      (slot_stays r.history r.flight s.homes views other w spent there (idle_serves w.stage is') (slot_stays r.history r.flight s.homes s.views id v both at (idle_serves v.stage is) r.slot))
 
   only_one : (v u : View) (j : ℕ) → get_elem? (v ∷ []) j ≡ some u → (j ≡ 0) × (v ≡ u)
   only_one v u zero e = (refl, some-injective v u e)
@@ -732,14 +728,11 @@ module _ {C : Type 0} (Legal : List Entry → Type 0) (stored : List Entry → �
     where
       taken : Out s.homes s.views → ⊥
       taken o =
-          let j : ℕ = o.1.0 in
           let u : View = o.1.1 in
-          let t : ℕ = o.1.2 in
-          let there : Queued r.history r.flight r.drawer (served s) (next s) j u.share u.front u.flight (Serving t) = subst (Queued r.history r.flight r.drawer (served s) (next s) j u.share u.front u.flight) o.1.4 (r.each j u o.1.3).queued in
-          let some_share : 0 < u.share = there.0 in
-          dite (ℕ_discrete j id)
-          (λ same. idle_serves v.stage is t (ap (λ (x : View). x.stage) (some-injective v u (sym at ∙ (ap (get_elem? s.views) (sym same) ∙ o.1.3))) ∙ o.1.4))
-          (λ apart. let none = no_share s.views id j v u at (whole ∙ sym r.shares) apart o.1.3 in omega arith)
+          let some_share : 0 < u.share = (slot_served s r o).0 in
+          dite (ℕ_discrete o.1.0 id)
+          (λ same. idle_serves v.stage is o.1.2 (ap (λ (x : View). x.stage) (some-injective v u (sym at ∙ (ap (get_elem? s.views) (sym same) ∙ o.1.3))) ∙ o.1.4))
+          (λ apart. let none = no_share s.views id o.1.0 v u at (whole ∙ sym r.shares) apart o.1.3 in omega arith)
 
   -- A new table
 
