@@ -23,6 +23,11 @@ fn fault_of(bytes: &[u8]) -> Option<TextFault> {
     read_info(bytes).err()
 }
 
+/// Whether these bytes are refused for the field with this number.
+fn is_refused(bytes: &[u8], field: u8) -> bool {
+    fault_of(bytes) == Some(TextFault::BadField(field))
+}
+
 /// What `REPLICA` tells.
 const TOLD: Info = Info {
     id: None,
@@ -89,25 +94,20 @@ fn info_of_a_master_without_an_id(rt: HostRuntime) -> Result<(), Fail> {
 
 #[test]
 fn info_with_bad_fields(rt: HostRuntime) {
-    assert!(rt; fault_of(b"role:slave\nslave_priority:x\n") == Some(TextFault::BadField(7)));
+    assert!(rt; is_refused(b"role:slave\nslave_priority:x\n", 7));
+    assert!(rt; is_refused(b"run_id:xyz\nrole:slave\nslave_priority:x\n", 1));
+    assert!(rt; is_refused(b"role:sentinel\n", 2));
     assert!(rt;
-        fault_of(b"run_id:xyz\nrole:slave\nslave_priority:x\n") == Some(TextFault::BadField(1))
+        is_refused(
+            b"role:slave\nmaster_host:redis.example\nmaster_port:6379\n",
+            3
+        )
     );
-    assert!(rt; fault_of(b"role:sentinel\n") == Some(TextFault::BadField(2)));
-    assert!(rt;
-        fault_of(b"role:slave\nmaster_host:redis.example\nmaster_port:6379\n")
-            == Some(TextFault::BadField(3))
-    );
-    assert!(rt; fault_of(b"role:slave\nmaster_port:65536\n") == Some(TextFault::BadField(4)));
-    assert!(rt; fault_of(b"role:slave\nmaster_link_status:\n") == Some(TextFault::BadField(5)));
-    assert!(rt;
-        fault_of(b"role:slave\nmaster_link_down_since_seconds:-\n") == Some(TextFault::BadField(6))
-    );
-    assert!(rt; fault_of(b"role:slave\nslave_priority:-1\n") == Some(TextFault::BadField(7)));
-    assert!(rt;
-        fault_of(b"role:slave\nslave_repl_offset:9223372036854775808\n")
-            == Some(TextFault::BadField(8))
-    );
+    assert!(rt; is_refused(b"role:slave\nmaster_port:65536\n", 4));
+    assert!(rt; is_refused(b"role:slave\nmaster_link_status:\n", 5));
+    assert!(rt; is_refused(b"role:slave\nmaster_link_down_since_seconds:-\n", 6));
+    assert!(rt; is_refused(b"role:slave\nslave_priority:-1\n", 7));
+    assert!(rt; is_refused(b"role:slave\nslave_repl_offset:9223372036854775808\n", 8));
     assert!(rt; fault_of(b"role:slave\nanything:\xff\n") == Some(TextFault::NotUtf8));
 }
 
