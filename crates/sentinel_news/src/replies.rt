@@ -2,32 +2,12 @@
 
 ghost use Rattle.std.specs.Prelude.{◌≡◌};
 ghost use Rattle.ballot_law.specs.Clocks.{clock};
-ghost use Rattle.sentinel_rules.specs.News.{answer_of, answered, pinged_at, pinged};
+ghost use Rattle.sentinel_rules.specs.News.{answered, pinged_at, pinged};
 ghost use Rattle.sentinel_rules.specs.Plans.{node_named};
 
 use ballot_law::{Addr, NodeName, PingReply, RunId};
 use sentinel_plan::Plan;
 use sentinel_state::State;
-
-/// Takes what the Sentinel at a place says of a master, where it is another one of the roster, and the master is one of it.
-fn hear_answer_of(
-    state: &mut State,
-    plan: &Plan,
-    voter: u16,
-    m: u16,
-    now: u64,
-    addr: Addr,
-    down: bool,
-    leader: Option<RunId>,
-    epoch: u64,
-)
-    ensures { state.new ≡ answer_of plan.now voter m (clock now) addr down leader epoch state.old }
-{
-    if plan.is_other(voter) && m < plan.master_count() {
-        state.hear_report(voter, m, now, addr, down);
-        state.hear_vote(voter, m, epoch, leader);
-    }
-}
 
 /// Takes the answer of a node to the question whether a master is down: whether it finds it down, and its vote. One that isn't
 /// another Sentinel of the roster changes nothing.
@@ -44,8 +24,12 @@ pub fn hear_answer(
 )
     ensures { state.new ≡ answered plan.now voter m (clock now) addr down leader epoch state.old }
 {
-    if let NodeName::SentinelAt(voter) = voter {
-        hear_answer_of(state, plan, voter, m, now, addr, down, leader, epoch);
+    let NodeName::SentinelAt(voter) = voter else {
+        return;
+    };
+    if plan.is_other(voter) && m < plan.master_count() {
+        state.hear_report(voter, m, now, addr, down);
+        state.hear_vote(voter, m, epoch, leader);
     }
 }
 

@@ -75,31 +75,11 @@ fn turn(state: &mut State, plan: &Plan, m: u16, now: u64, odown: bool) -> Act
 {
     let stage = state.stage(m);
     let down = down_for_rows(state, plan, m, now, stage);
-    let facts = turn_facts(state, plan, m, now, odown, stage, down.as_slice());
+    let facts = facts(state, plan, m, now, odown, stage, down.as_slice());
     state.take_turn(m, &facts)
 }
 
-/// The facts of a turn: it is the same with all facts as with those alone that its rows look at.
-fn turn_facts<'a>(
-    state: &State,
-    plan: &Plan,
-    m: u16,
-    now: u64,
-    odown: bool,
-    stage: Stage,
-    down: &'a [bool],
-) -> Facts<'a>
-    requires plan { m < master_count plan.now }
-    requires stage { stage ≡ (failover_of state.now m).state }
-    requires down { down.now ≡ (looked_at stage (known_of plan.now state.now m (clock now) odown)).down }
-    ensures turn { turned (failover_of state.now m) (known result) ≡ turn_of plan.now state.now m (clock now) odown }
-    ensures odown { result.odown ≡ odown }
-    ensures few { IfSome result.best (λ best. best.0 ≤ 256) }
-{
-    facts(state, plan, m, now, odown, stage, down)
-}
-
-/// What a turn of the failover in this state looks at.
+/// What a turn of the failover in this state looks at: it is the same with all facts as with those alone that its rows look at.
 fn facts<'a>(
     state: &State,
     plan: &Plan,
@@ -112,7 +92,7 @@ fn facts<'a>(
     requires plan { m < master_count plan.now }
     requires stage { stage ≡ (failover_of state.now m).state }
     requires down { down.now ≡ (looked_at stage (known_of plan.now state.now m (clock now) odown)).down }
-    ensures known { known result ≡ looked_at (failover_of state.now m).state (known_of plan.now state.now m (clock now) odown) }
+    ensures turn { turned (failover_of state.now m) (known result) ≡ turn_of plan.now state.now m (clock now) odown }
     ensures odown { result.odown ≡ odown }
     ensures few { IfSome result.best (λ best. best.0 ≤ 256) }
 {
