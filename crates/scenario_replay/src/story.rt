@@ -1,11 +1,13 @@
 //! A story, from the bytes of its files to the text of what it brought.
 
-ghost use Rattle.std.specs.Prelude.{◌≡◌, ◌⊎◌, All, OnOk, IfOk, IfErr, IfSome, Err};
-ghost use Rattle.scenarios.specs.Scenarios.{scenario, no_memory};
+ghost use Rattle.std.specs.Prelude.{◌≡◌, ◌++◌, ◌∷◌, [], All, OnOk, OnErr, IfOk, IfErr, IfSome, IfNone, Some, Ok};
+ghost use Rattle.conf_lines.specs.Faults.{no_memory};
+ghost use Rattle.sentinel_conf.specs.Reading.{conf_of_bytes};
 ghost use Rattle.boxed_nodes.specs.Moves.{IsFresh};
 ghost use Rattle.world_members.specs.Groups.{IsShown, Stands};
 ghost use Rattle.world_members.specs.Seats.{IsSeat};
 ghost use Rattle.scenario_replay.specs.Playing.{IsTold};
+ghost use Rattle.scenario_replay.specs.Refusals.{IsScenarioFault, IsConfFault};
 
 use crate::faults::ReplayFault;
 use crate::seats::{Seat, Seats};
@@ -39,7 +41,9 @@ pub struct Story {
     first: Option<Conf>,
 }
 
-fn no_memory() -> ConfFault {
+fn no_memory() -> ConfFault
+    ensures { result ≡ no_memory }
+{
     ConfFault {
         line: 0,
         kind: ConfKind::NoMemory,
@@ -73,7 +77,7 @@ impl Story {
     /// The story of a scenario, with no Sentinel yet, or the scenario's first fault.
     pub fn new(alloc: Global, text: Vec<u8>) -> Result<Story, ScenarioFault>
         ensures story { IfOk result (λ story. story.text ≡ text) }
-        ensures fault { IfErr result (λ fault. (fault ≡ no_memory) ⊎ (scenario text.items ≡ Err fault)) }
+        ensures fault { IfErr result (IsScenarioFault text.items) }
     {
         let _steps = read_scenario(alloc, text.as_slice())?;
         Ok(Story {
@@ -85,7 +89,15 @@ impl Story {
     }
 
     /// Adds the Sentinel of a file. The fault is the file's first, and then the story is as it was. The group is that of the first file.
-    pub fn add_conf(&mut self, file: Vec<u8>) -> Result<(), ConfFault> {
+    pub fn add_conf(&mut self, file: Vec<u8>) -> Result<(), ConfFault>
+        ensures added { OnOk result (self.new.files.items ≡ self.old.files.items ++ file ∷ []) }
+        ensures first { OnOk result (IfNone self.old.first (IfSome self.new.first (λ conf. conf_of_bytes file.items ≡ Ok conf))) }
+        ensures later { OnOk result (IfSome self.old.first (λ conf. self.new.first ≡ Some conf)) }
+        ensures story { self.new.text ≡ self.old.text }
+        ensures fault { IfErr result (IsConfFault file.items) }
+        ensures files { OnErr result (self.new.files.items ≡ self.old.files.items) }
+        ensures group { OnErr result (self.new.first ≡ self.old.first) }
+    {
         let conf = read(self.alloc, file.as_slice())?;
         if self.files.push(file).is_err() {
             return Err(no_memory());

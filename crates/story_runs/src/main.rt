@@ -1,5 +1,5 @@
 //! Plays the stories that its words name, and says of each whether it prints the lines that stand beside it, and whether its trace, played
-//! as a story, prints them too.
+//! as a story, prints them too. Where a trace stands beside it, its own trace has to be that one.
 //!
 //! A word is the path of a story's files without their endings. The Sentinels of a story are the conf files of its folder.
 #![tactic(auto)]
@@ -30,33 +30,32 @@ fn printed(rt: &HostRuntime, folder: &str, story: Vec<u8>, what: Printed) -> Opt
     story.play(what).ok()
 }
 
-/// What the trace of the story at this path prints, played as a story.
-fn printed_by_trace(rt: &HostRuntime, folder: &str, path: &str) -> Option<OutText> {
-    let story = bytes_of(rt, path, ".scenario")?;
-    let trace = printed(rt, folder, story, Printed::Trace)?;
-    let trace = Vec::from_slice(rt.alloc(), trace.as_slice()).ok()?;
-    printed(rt, folder, trace, Printed::Report)
+/// Whether the trace is the one that stands beside the story, if one does.
+fn is_as_traced(rt: &HostRuntime, path: &str, trace: &OutText) -> bool {
+    match bytes_of(rt, path, ".trace") {
+        Some(expected) => trace.as_slice() == expected.as_slice(),
+        None => true,
+    }
 }
 
 /// Whether the story at this path, and its trace too, prints what stands beside it; none where it can't be played.
 fn is_as_told(rt: &HostRuntime, path: &str) -> Option<bool> {
     let (folder, _) = path.rsplit_once('/')?;
     let expected = bytes_of(rt, path, ".expected")?;
-    let report = printed(
-        rt,
-        folder,
-        bytes_of(rt, path, ".scenario")?,
-        Printed::Report,
-    )?;
-    let again = printed_by_trace(rt, folder, path)?;
-    Some(report.as_slice() == expected.as_slice() && again.as_slice() == expected.as_slice())
+    let report = printed(rt, folder, bytes_of(rt, path, ".scenario")?, Printed::Report)?;
+    let trace = printed(rt, folder, bytes_of(rt, path, ".scenario")?, Printed::Trace)?;
+    let is_traced = is_as_traced(rt, path, &trace);
+    let story = Vec::from_slice(rt.alloc(), trace.as_slice()).ok()?;
+    let again = printed(rt, folder, story, Printed::Report)?;
+    let is_told = report.as_slice() == expected.as_slice();
+    Some(is_traced && is_told && again.as_slice() == expected.as_slice())
 }
 
 fn main(rt: HostRuntime) -> io::Result<()> {
     for path in env::args(&rt)?.skip(1) {
         match is_as_told(&rt, path.as_str()) {
             Some(true) => println!(rt; "{path}")?,
-            Some(false) => println!(rt; "{path} prints other lines")?,
+            Some(false) => println!(rt; "{path} tells something else")?,
             None => println!(rt; "{path} can't be played")?,
         }
     }
