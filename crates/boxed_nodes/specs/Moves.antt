@@ -14,6 +14,7 @@ use Rattle.sentinel_core.specs.declared.faults.TakeFault.{TakeFault}
 use Rattle.sentinel_core.specs.declared.faults.ReleaseFault.{ReleaseFault}
 use Rattle.boxed_nodes.specs.declared.calls.HowStored.{HowStored}
 use Rattle.boxed_nodes.specs.Images.{Image, TakenTo, state_of, after_store, store_answer, released_image, stopped_image, started_image, why_not_taken, why_not_released, card_shown, HasStored, wins_of, IsFreshImage, IsOfKind}
+use Rattle.boxed_nodes.specs.Sendable.{AreListed}
 
 -- the images that a node stands for in the model of a roster's group
 abbrev pub Shows : Type 1
@@ -23,11 +24,13 @@ Shows = Roster → Image → Type 0
 pub record Stays (old new : Shows) : Type 0 where
   pub same : (roster : Roster) (image : Image) → old roster image → new roster image
 
--- one take: some image after it is one that the model allows, and holds what the outbox holds
+-- one take: some image after it is one that the model allows, and holds what the outbox holds; of a Sentinel, that advertises
+-- configurations of masters of the roster alone
 pub record Taken (roster : Roster) (name : NodeName) (event : Event) (image : Image) (held : List Output) (new : Image → Type 0) : Type 0 where
   pub ready : state_of image ≡ Ready
   pub after : Image
   pub moved : TakenTo roster name event image held after
+  pub listed : AreListed roster name held
   pub shows : new after
 
 pub record Takes (name : NodeName) (event : Event) (held : List Output) (old new : Shows) : Type 0 where

@@ -1,6 +1,7 @@
 -- What a node may send, and what it may be given to take.
 use Rattle.std.specs.Prelude.{◌<◌, ◌≤◌, ◌^◌, List, length}
 use Rattle.std.specs.List.{AllByRecursion}
+use Rattle.ballot_law.specs.declared.cards.Shown.{Shown}
 use Rattle.ballot_law.specs.declared.events.Event.{Event}
 use Rattle.ballot_law.specs.declared.events.Event.TheVariants.{Become, Handed}
 use Rattle.ballot_law.specs.declared.messages.Body.{Body}
@@ -10,6 +11,8 @@ use Rattle.ballot_law.specs.declared.messages.NodeName.{NodeName}
 use Rattle.ballot_law.specs.declared.messages.NodeName.TheVariants.{SentinelAt}
 use Rattle.ballot_law.specs.declared.messages.Output.{Output}
 use Rattle.ballot_law.specs.declared.messages.Output.TheVariants.{Send, Tell}
+use Rattle.ballot_law.specs.Messages.{advertised}
+use Rattle.ballot_law.specs.Rosters.{Roster}
 use Rattle.message_texts.specs.MessageTexts.{IsWritable}
 use Rattle.sentinel_outbox.specs.Outboxes.{IsOfOther}
 use Rattle.sentinel_rules.specs.Facts.{IsWithinEvent}
@@ -32,6 +35,23 @@ IsFewIn body = Unit {0}
 abbrev pub IsFewShown : Output → Type 0
 IsFewShown (Send message) = IsFewIn message.body
 IsFewShown (Tell note) = Unit {0}
+
+-- a configuration of a master of the roster
+abbrev pub IsOfMaster : Roster → Shown → Type 0
+IsOfMaster roster shown = shown.master < length roster.masters
+
+-- each configuration that it advertises is of a master of the roster; a note advertises none
+abbrev pub IsListedIn : Roster → Body → Type 0
+IsListedIn roster body = AllByRecursion (IsOfMaster roster) (advertised roster body)
+
+abbrev pub IsListed : Roster → Output → Type 0
+IsListed roster (Send message) = IsListedIn roster message.body
+IsListed roster (Tell note) = Unit {0}
+
+-- so is all that a Sentinel holds; of other nodes nothing is asked, since only Sentinels advertise
+abbrev pub AreListed : Roster → NodeName → List Output → Type 0
+AreListed roster (SentinelAt i) held = AllByRecursion (IsListed roster) held
+AreListed roster name held = Unit {0}
 
 -- what a Sentinel holds shows few configurations; what another node holds is messages of such nodes
 abbrev pub IsHeldBy : NodeName → List Output → Type 0

@@ -57,9 +57,9 @@ pub trait Node: Drop {
     fn won(&self) -> Option<(u16, u64)>
         ensures { ShowsWin result (shows self.now) };
 
-    /// Takes an input. Its outputs stand in the outbox as held: those of a Sentinel rest on what it keeps at the end of the take, those
-    /// of another node are messages under its own name, none publishes a hello, and a hello is passed on only where it was handed to
-    /// the node in this very take.
+    /// Takes an input. Its outputs stand in the outbox as held: those of a Sentinel rest on what it keeps at the end of the take and
+    /// advertise configurations of masters of the roster alone; those of another node are messages under its own name, none publishes a
+    /// hello, and a hello is passed on only where it was handed to the node in this very take.
     ///
     /// The fault is that of the node's state; `NoRoom` is told by a ready node alone, exactly where the outbox doesn't fit `room`. Then
     /// nothing has changed.

@@ -1,6 +1,7 @@
 -- Each call of a Sentinel in memory moves the Sentinel of the model for which it stands.
 use Rattle.std.proofs.Common.{inl, inr, ◌≡◌, ◌≢◌, ◌↔◌, ◌⊎◌, ℕ, ◌≤◌, ◌<◌, ◌||◌, Bool, true, false, Option, Some, None, List, [], ◌∷◌, ◌++◌, length, nat_lt, refl, sym, ◌∙◌, ap, subst, arith, Result, Ok, Err, is_ok, OnOk, IsOk, IfOk, IsErrOf, IsTrue, IsFalse}
 use Rattle.std.specs.Prelude.{All, IfSome}
+use Rattle.std.specs.List.{AllByRecursion}
 use Rattle.std.proofs.lemmas.Bool.{le-ltb}
 use Rattle.ballot_law.specs.declared.cards.Kept.{Kept}
 use Rattle.ballot_law.specs.declared.events.Event.{Event}
@@ -31,11 +32,13 @@ use Rattle.boxed_nodes.specs.declared.calls.HowStored.TheVariants as how
 use Rattle.conf_store.specs.Stores.{Outcome}
 use Rattle.sentinel_nodes.specs.Files.{File, outcome_of, outcome_with, refusal_of}
 use Rattle.boxed_nodes.specs.Images.{Image, OfSentinel, OfOther, TakenTo, state_of, after_store, store_answer, stopped_image, stopped_sentinel, started_image, refused_sentinel, refusal}
+use Rattle.boxed_nodes.specs.Sendable.{IsListed}
 use Rattle.boxed_nodes.specs.Moves.{Taken, Takes, Stores, Stops, Starts, IsNamed, IsFresh}
 use Rattle.sentinel_core.specs.declared.sentinel.Took.{Took}
 use Rattle.sentinel_core.specs.declared.faults.TakeFault.{TakeFault}
 use Rattle.sentinel_nodes.specs.Kinds.{IsSentinelImage, IsImageOf, IsPendingAs, state_in, is_running}
 use Rattle.sentinel_nodes.proofs.Fresh.{well_formed}
+use Rattle.sentinel_nodes.proofs.Listed.{outputs_listed}
 
 -- A take
 
@@ -142,6 +145,8 @@ taken_sentinel before after text now event changed outputs took roster s h =
         refl,
         refl,
       );
+      listed = subst (λ r. AllByRecursion (IsListed r) outputs) h.has_roster
+          (subst (AllByRecursion (IsListed (roster_of before.plan))) (sym took.outputs_are) (outputs_listed before.plan before.core now event));
       shows = record {
         whole_ok = took.whole;
         has_roster = ap roster_of took.plan ∙ h.has_roster;

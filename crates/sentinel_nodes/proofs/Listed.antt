@@ -1,0 +1,100 @@
+-- What a Sentinel puts out advertises configurations of masters of its roster alone.
+use Rattle.std.proofs.Common.{◌≡◌, ◌≤◌, ◌<◌, ◌+◌, ℕ, zero, suc, List, [], ◌∷◌, length, Option, Some, None, map, arith, refl, subst, sym}
+use Rattle.std.specs.List.{AllByRecursion}
+use Rattle.ballot_law.specs.declared.addresses.Addr.{Addr}
+use Rattle.ballot_law.specs.declared.addresses.RunId.{RunId}
+use Rattle.ballot_law.specs.declared.cards.Shown.{Shown}
+use Rattle.ballot_law.specs.declared.commands.Command.{Command}
+use Rattle.ballot_law.specs.declared.commands.Command.TheVariants.{Ping, IsMasterDownByAddr, GetMasterAddrByName, Masters, Master, Replicas, Sentinels, MyId, CkQuorum, FlushConfig}
+use Rattle.ballot_law.specs.declared.events.Event.{Event}
+use Rattle.ballot_law.specs.declared.events.Event.TheVariants.{Tick, Command as Commanded, Answered as AnswerCame, Pinged, InfoRead, HelloRead, Become, Handed}
+use Rattle.ballot_law.specs.declared.messages.Body.{Body}
+use Rattle.ballot_law.specs.declared.messages.Body.TheVariants.{AddressAnswer}
+use Rattle.ballot_law.specs.declared.messages.Output.{Output}
+use Rattle.ballot_law.specs.declared.replies.Hello.{Hello}
+use Rattle.ballot_law.specs.Clocks.{clock}
+use Rattle.ballot_law.specs.Messages.{shown_by}
+use Rattle.ballot_law.specs.Rosters.{Roster, master_named}
+use Rattle.ballot_law.proofs.RosterLemmas.{named_master}
+use Rattle.boxed_nodes.specs.Sendable.{IsOfMaster, IsListedIn, IsListed}
+use Rattle.sentinel_rules.specs.declared.frames.Frame.{Frame}
+use Rattle.sentinel_rules.specs.declared.frames.Frame.TheVariants.{PingTo, InfoTo, HelloTo, AskTo, PromoteTo, FollowTo, NoteOf}
+use Rattle.sentinel_rules.specs.Answers.{commanded, asked_of, asked_at, master_with_card, named, about, address_of, numbers_from, all_masters}
+use Rattle.sentinel_rules.specs.Parts.{output_of, shown_of, hello_of_master}
+use Rattle.sentinel_rules.specs.Plans.{Plan, roster_of, master_count}
+use Rattle.sentinel_rules.specs.States.{Core}
+use Rattle.sentinel_rules.specs.Takes.{next, next_at, part_of, cleared}
+
+-- Masters that are found by their names, and all of them
+
+named_listed : (plan : Plan) (name : Option (List ℕ)) (m : ℕ) → named plan name ≡ Some m → m < length (roster_of plan).masters
+named_listed plan None m found = absurd (cc)
+named_listed plan (Some name) m found = (named_master (roster_of plan) name m found).0
+
+shown_listed : (roster : Roster) (hello : Hello) (found : Option ℕ) → master_named roster hello.master ≡ found
+    → AllByRecursion (IsOfMaster roster) (elim found as (λ _. List Shown) [ None ↦ [] | Some m ↦ (record { master = m; card = hello.card }) ∷ [] ])
+shown_listed roster hello None found = tt
+shown_listed roster hello (Some m) found = ((named_master roster hello.master m found).0, tt)
+
+numbers_listed : (roster : Roster) (core : Core) (first count : ℕ) → first + count ≤ length roster.masters → AllByRecursion (IsOfMaster roster) (map (shown_of core) (numbers_from first count))
+numbers_listed roster core first zero few = tt
+numbers_listed roster core first (suc count) few = (omega (arith, few), numbers_listed roster core (first + 1) count (omega (arith, few)))
+
+-- Answers
+
+asked_listed : (plan : Plan) (now : ℕ) (addr : Addr) (epoch : ℕ) (candidate : Option RunId) (m : Option ℕ) (core : Core) → IsListedIn (roster_of plan) (asked_of plan now addr epoch candidate m core).body
+asked_listed plan now addr epoch candidate None core = tt
+asked_listed plan now addr epoch None (Some m) core = tt
+asked_listed plan now addr epoch (Some candidate) (Some m) core = tt
+
+address_listed : (plan : Plan) (core : Core) (found : Option ℕ) → ((m : ℕ) → found ≡ Some m → m < length (roster_of plan).masters)
+    → IsListedIn (roster_of plan) (AddressAnswer (address_of core found))
+address_listed plan core None within = tt
+address_listed plan core (Some m) within = (within m refl, tt)
+
+about_listed : (plan : Plan) (core : Core) (found : Option ℕ) (body : ℕ → Body) → ((m : ℕ) → found ≡ Some m → IsListedIn (roster_of plan) (body m)) → IsListedIn (roster_of plan) (about core found body)
+about_listed plan core None body each = tt
+about_listed plan core (Some m) body each = each m refl
+
+answer_listed : (plan : Plan) (now : ℕ) (command : Command) (core : Core) → IsListedIn (roster_of plan) (commanded plan now command core).body
+answer_listed plan now Ping core = tt
+answer_listed plan now (IsMasterDownByAddr addr epoch candidate) core = asked_listed plan now addr epoch candidate (master_with_card core.kept.masters addr) core
+answer_listed plan now (GetMasterAddrByName name) core = address_listed plan core (named plan name) (named_listed plan name)
+answer_listed plan now Masters core = numbers_listed (roster_of plan) core 0 (master_count plan) (omega arith)
+answer_listed plan now (Master name) core = about_listed plan core (named plan name) _ (λ m found. (named_listed plan name m found, tt))
+answer_listed plan now (Replicas name) core = about_listed plan core (named plan name) _ (λ m found. tt)
+answer_listed plan now (Sentinels name) core = about_listed plan core (named plan name) _ (λ m found. tt)
+answer_listed plan now MyId core = tt
+answer_listed plan now (CkQuorum name) core = about_listed plan core (named plan name) _ (λ m found. tt)
+answer_listed plan now FlushConfig core = tt
+
+-- Frames: of these only a hello advertises, and a hello shows nothing where its name is no master's
+
+frame_listed : (plan : Plan) (core : Core) (frame : Frame) → IsListed (roster_of plan) (output_of plan core frame)
+frame_listed plan core (PingTo target) = tt
+frame_listed plan core (InfoTo target) = tt
+frame_listed plan core (HelloTo target m) =
+    let hello = hello_of_master plan core m in shown_listed (roster_of plan) hello (master_named (roster_of plan) hello.master) refl
+frame_listed plan core (AskTo place m candidate) = tt
+frame_listed plan core (PromoteTo target) = tt
+frame_listed plan core (FollowTo target m) = tt
+frame_listed plan core (NoteOf m old) = tt
+
+frames_listed : (plan : Plan) (core : Core) (frames : List Frame) → AllByRecursion (IsListed (roster_of plan)) (map (output_of plan core) frames)
+frames_listed plan core [] = tt
+frames_listed plan core (frame ∷ frames) = (frame_listed plan core frame, frames_listed plan core frames)
+
+-- One input
+
+outputs_at : (plan : Plan) (now : ℕ) (event : Event) (core : Core) → AllByRecursion (IsListed (roster_of plan)) (next_at plan now event core).outputs
+outputs_at plan now (Commanded sender c) core = (answer_listed plan now c core, tt)
+outputs_at plan now (Tick m random) core = frames_listed plan (part_of plan now (Tick m random) core).core (part_of plan now (Tick m random) core).frames
+outputs_at plan now (AnswerCame voter m addr down leader epoch) core = tt
+outputs_at plan now (Pinged node reply) core = tt
+outputs_at plan now (InfoRead node text) core = frames_listed plan (part_of plan now (InfoRead node text) core).core (part_of plan now (InfoRead node text) core).frames
+outputs_at plan now (HelloRead text) core = frames_listed plan (part_of plan now (HelloRead text) core).core (part_of plan now (HelloRead text) core).frames
+outputs_at plan now (Become priority offset link_down) core = tt
+outputs_at plan now (Handed message) core = tt
+
+pub outputs_listed : (plan : Plan) (core : Core) (now : ℕ) (event : Event) → AllByRecursion (IsListed (roster_of plan)) (next plan core now event).outputs
+outputs_listed plan core now event = outputs_at plan (clock now) event (cleared core)
