@@ -1,5 +1,5 @@
 -- What each call of a node ensures, for each image that the node stands for.
-use Rattle.std.specs.Prelude.{◌≡◌, ◌≢◌, ℕ, Option, Some, None, List, [], ◌∷◌, Result, Ok, Err}
+use Rattle.std.specs.Prelude.{◌≡◌, ◌≢◌, ℕ, ◌<◌, Option, Some, None, IfSome, List, [], ◌∷◌, length, Result, Ok, Err}
 use Rattle.ballot_law.specs.declared.cards.Card.{Card}
 use Rattle.ballot_law.specs.declared.events.Event.{Event}
 use Rattle.ballot_law.specs.declared.messages.NodeName.{NodeName}
@@ -73,8 +73,13 @@ abbrev pub wins_told : Option (ℕ × ℕ) → List Win
 wins_told None = []
 wins_told (Some won) = (record { master = won.0; epoch = won.1 }) ∷ []
 
+-- it is of a master of the roster
+abbrev pub IsWonIn : Roster → Option (ℕ × ℕ) → Type 0
+IsWonIn roster won = IfSome won (λ w. w.0 < length roster.masters)
+
 pub record ShowsWin (won : Option (ℕ × ℕ)) (shows : Shows) : Type 0 where
   pub each : (roster : Roster) (image : Image) → shows roster image → wins_of image ≡ wins_told won
+  pub listed : (roster : Roster) (image : Image) → shows roster image → IsWonIn roster won
 
 -- fresh: in each roster that it knows, it stands for a node that a run can begin with
 pub record IsFresh (knows : Roster → Type 0) (shows : Shows) : Type 0 where

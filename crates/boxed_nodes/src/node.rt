@@ -53,7 +53,8 @@ pub trait Node: Drop {
     fn card(&self, m: u16) -> Option<Card>
         ensures { ShowsCard m result (shows self.now) };
 
-    /// Master and epoch of the election that the last take brought a Sentinel; a take brings one at most.
+    /// Master and epoch of the election that the last take brought a Sentinel; a take brings one at most, and the master is one of the
+    /// roster.
     fn won(&self) -> Option<(u16, u64)>
         ensures { ShowsWin result (shows self.now) };
 

@@ -13,7 +13,7 @@ use Rattle.node_turns.specs.declared.turn.Turn.TheVariants as turn
 use Rattle.node_turns.specs.Turns.{IsImageAt, shown_at}
 
 taken_at : (roster : Roster) (k : ℕ) (event : Event) (held : List Output) (image : Image) → All (IsPassable (ClientAt k) event) held → IsImageAt turn.Ready image → Taken roster (ClientAt k) event image held (IsImageAt turn.Pending)
-taken_at roster k event held (OfOther o) all h = record { ready = h; after = OfOther (record { state = Pending; held = held }); moved = (all, refl); shows = refl }
+taken_at roster k event held (OfOther o) all h = record { ready = h; after = OfOther (record { state = Pending; held = held }); moved = (all, refl); listed = tt; shows = refl }
 taken_at roster k event held (OfSentinel s) all h = absurd h
 
 pub client_takes : (k : ℕ) (event : Event) (held : List Output) (old new : Turn) → old ≡ turn.Ready → new ≡ turn.Pending → All (IsPassable (ClientAt k) event) held → Takes (ClientAt k) event held (shown_at old) (shown_at new)

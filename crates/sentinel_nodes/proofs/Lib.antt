@@ -4,3 +4,4 @@ mod Listed
 mod Same
 mod Sending
 mod SentinelMoves
+mod Wins

@@ -1,5 +1,5 @@
 -- What a Sentinel puts out advertises configurations of masters of its roster alone.
-use Rattle.std.proofs.Common.{◌≡◌, ◌≤◌, ◌<◌, ◌+◌, ℕ, zero, suc, List, [], ◌∷◌, length, Option, Some, None, map, arith, refl, subst, sym}
+use Rattle.std.proofs.Common.{◌≡◌, ◌≤◌, ◌<◌, ◌+◌, ℕ, zero, suc, List, [], ◌∷◌, length, Option, Some, None, map, arith, refl}
 use Rattle.std.specs.List.{AllByRecursion}
 use Rattle.ballot_law.specs.declared.addresses.Addr.{Addr}
 use Rattle.ballot_law.specs.declared.addresses.RunId.{RunId}
@@ -10,16 +10,14 @@ use Rattle.ballot_law.specs.declared.events.Event.{Event}
 use Rattle.ballot_law.specs.declared.events.Event.TheVariants.{Tick, Command as Commanded, Answered as AnswerCame, Pinged, InfoRead, HelloRead, Become, Handed}
 use Rattle.ballot_law.specs.declared.messages.Body.{Body}
 use Rattle.ballot_law.specs.declared.messages.Body.TheVariants.{AddressAnswer}
-use Rattle.ballot_law.specs.declared.messages.Output.{Output}
 use Rattle.ballot_law.specs.declared.replies.Hello.{Hello}
 use Rattle.ballot_law.specs.Clocks.{clock}
-use Rattle.ballot_law.specs.Messages.{shown_by}
 use Rattle.ballot_law.specs.Rosters.{Roster, master_named}
 use Rattle.ballot_law.proofs.RosterLemmas.{named_master}
 use Rattle.boxed_nodes.specs.Sendable.{IsOfMaster, IsListedIn, IsListed}
 use Rattle.sentinel_rules.specs.declared.frames.Frame.{Frame}
 use Rattle.sentinel_rules.specs.declared.frames.Frame.TheVariants.{PingTo, InfoTo, HelloTo, AskTo, PromoteTo, FollowTo, NoteOf}
-use Rattle.sentinel_rules.specs.Answers.{commanded, asked_of, asked_at, master_with_card, named, about, address_of, numbers_from, all_masters}
+use Rattle.sentinel_rules.specs.Answers.{commanded, asked_of, master_with_card, named, about, address_of, numbers_from}
 use Rattle.sentinel_rules.specs.Parts.{output_of, shown_of, hello_of_master}
 use Rattle.sentinel_rules.specs.Plans.{Plan, roster_of, master_count}
 use Rattle.sentinel_rules.specs.States.{Core}

@@ -1,6 +1,6 @@
 -- Each call of a Sentinel in memory moves the Sentinel of the model for which it stands.
 use Rattle.std.proofs.Common.{inl, inr, ◌≡◌, ◌≢◌, ◌↔◌, ◌⊎◌, ℕ, ◌≤◌, ◌<◌, ◌||◌, Bool, true, false, Option, Some, None, List, [], ◌∷◌, ◌++◌, length, nat_lt, refl, sym, ◌∙◌, ap, subst, arith, Result, Ok, Err, is_ok, OnOk, IsOk, IfOk, IsErrOf, IsTrue, IsFalse}
-use Rattle.std.specs.Prelude.{All, IfSome}
+use Rattle.std.specs.Prelude.{All}
 use Rattle.std.specs.List.{AllByRecursion}
 use Rattle.std.proofs.lemmas.Bool.{le-ltb}
 use Rattle.ballot_law.specs.declared.cards.Kept.{Kept}
@@ -9,18 +9,16 @@ use Rattle.ballot_law.specs.declared.events.Event.TheVariants.{Tick, Command as 
 use Rattle.ballot_law.specs.declared.commands.Command.TheVariants as command
 use Rattle.ballot_law.specs.declared.messages.NodeName.TheVariants.{SentinelAt}
 use Rattle.ballot_law.specs.declared.messages.Output.{Output}
-use Rattle.ballot_law.specs.declared.steps.KeptText.{KeptText}
 use Rattle.ballot_law.specs.declared.steps.KeptText.TheVariants.{Old, New}
-use Rattle.ballot_law.specs.Rosters.{Roster, id_of, size, HasDistinctIds}
+use Rattle.ballot_law.specs.Rosters.{Roster, id_of, size}
 use Rattle.ballot_law.specs.Ballots.{Parts, Moved, restored}
-use Rattle.ballot_law.specs.Worlds.{Sentinel, State, Ready, Pending, Stored, Halted, Stopped, IsFlush, Choice, IsChoice, IsRightOutput, taken, stored_now, ended, ended_new, started}
+use Rattle.ballot_law.specs.Worlds.{Sentinel, State, Ready, Pending, Stored, Halted, Stopped, IsFlush, Choice, IsRightOutput, taken, stored_now, ended, ended_new, started}
 use Rattle.sentinel_conf.specs.Meaning.{ConfPlan}
 use Rattle.sentinel_conf.specs.Reading.{conf_of_bytes}
 use Rattle.sentinel_conf.specs.Rewritten.{rewritten, IsKeptPart}
 use Rattle.sentinel_rules.specs.Plans.{Plan, roster_of}
 use Rattle.sentinel_rules.specs.States.{Core, opened}
 use Rattle.sentinel_rules.specs.Steps.{IsPartsOf, IsTake, OpenedIsSound}
-use Rattle.sentinel_rules.specs.Facts.{IsSound, IsSoundPlan}
 use Rattle.sentinel_rules.specs.Takes.{next}
 use Rattle.sentinel_core.specs.Sentinels.{Whole, IsWhole, is_flush, is_pending}
 use Rattle.sentinel_outbox.specs.declared.phase.Phase.{Phase}
@@ -31,14 +29,15 @@ use Rattle.boxed_nodes.specs.declared.calls.HowStored.{HowStored}
 use Rattle.boxed_nodes.specs.declared.calls.HowStored.TheVariants as how
 use Rattle.conf_store.specs.Stores.{Outcome}
 use Rattle.sentinel_nodes.specs.Files.{File, outcome_of, outcome_with, refusal_of}
-use Rattle.boxed_nodes.specs.Images.{Image, OfSentinel, OfOther, TakenTo, state_of, after_store, store_answer, stopped_image, stopped_sentinel, started_image, refused_sentinel, refusal}
+use Rattle.boxed_nodes.specs.Images.{Image, OfSentinel, OfOther, state_of, after_store, store_answer, stopped_image, stopped_sentinel, started_image, refused_sentinel, refusal}
 use Rattle.boxed_nodes.specs.Sendable.{IsListed}
 use Rattle.boxed_nodes.specs.Moves.{Taken, Takes, Stores, Stops, Starts, IsNamed, IsFresh}
 use Rattle.sentinel_core.specs.declared.sentinel.Took.{Took}
 use Rattle.sentinel_core.specs.declared.faults.TakeFault.{TakeFault}
-use Rattle.sentinel_nodes.specs.Kinds.{IsSentinelImage, IsImageOf, IsPendingAs, state_in, is_running}
+use Rattle.sentinel_nodes.specs.Kinds.{IsSentinelImage, IsImageOf, IsPendingAs, IsWinOf, state_in, is_running}
 use Rattle.sentinel_nodes.proofs.Fresh.{well_formed}
 use Rattle.sentinel_nodes.proofs.Listed.{outputs_listed}
+use Rattle.sentinel_nodes.proofs.Wins.{won_of}
 
 -- A take
 
@@ -156,6 +155,8 @@ taken_sentinel before after text now event changed outputs took roster s h =
         before = h.before;
         stored_is = λ _. h.stored_is (λ e. (let f : phase.Ready ≡ phase.Stopped = sym took.ready ∙ e in cc)) ∙ ap (λ k. h.before ++ k ∷ []) (sym took.stored);
         parts_of = t.parts_after;
+        won = won_of roster before.plan.place event t.ballots s.parts t.moved_to after.core
+            (subst (λ r. Moved r before.plan.place event t.ballots (record s.parts { casts = []; wins = [] }) t.moved_to) h.has_roster t.moved) t.parts_after;
         pending = pending_as after (taken s choice) after.phase (changed || is_flush event) took.phase_is refl
             (λ none. took.unchanged (or_false changed (is_flush event) none) ∙ same ∙ sym took.stored);
       };
@@ -216,6 +217,7 @@ stored_image_of again before after text text2 roster s h p whole e read =
       before = s.stored;
       stored_is = λ _. ap (λ k. s.stored ++ k ∷ []) (h.parts_of.kept ∙ sym (ap (λ (w : Whole). w.stored) e));
       parts_of = subst (λ (w : Whole). IsPartsOf w.core s.parts) (sym e) h.parts_of;
+      won = subst (λ (w : Whole). IsWinOf roster w.core.won) (sym e) h.won;
       pending = subst (λ (w : Whole). IsPendingAs w.phase w (stored_now s)) (sym e) tt;
     }
 
@@ -232,6 +234,7 @@ halted_image_of before after text text2 roster s s2 h p whole e state stored par
       before = h.before;
       stored_is = λ _. stored ∙ h.stored_is (λ x. (let f : phase.Pending true ≡ phase.Stopped = sym p ∙ x in cc)) ∙ ap (λ k. h.before ++ k ∷ []) (sym (ap (λ (w : Whole). w.stored) e));
       parts_of = subst (λ (w : Whole). IsPartsOf w.core s2.parts) (sym e) (subst (IsPartsOf before.core) (sym parts) h.parts_of);
+      won = subst (λ (w : Whole). IsWinOf roster w.core.won) (sym e) h.won;
       pending = subst (λ (w : Whole). IsPendingAs w.phase w s2) (sym e) tt;
     }
 
@@ -367,6 +370,7 @@ stopped_as before after text text2 roster s s2 h whole plan core p state parts r
       before = [];
       stored_is = λ r. absurd (r p);
       parts_of = subst (λ c. IsPartsOf c s2.parts) (sym core) (subst (IsPartsOf before.core) (sym parts) h.parts_of);
+      won = subst (λ (c : Core). IsWinOf roster c.won) (sym core) h.won;
       pending = subst (λ q. IsPendingAs q after s2) (sym p) tt;
     }
 
@@ -454,6 +458,7 @@ started_moves open_ok before after text conf now st roster (OfSentinel s) h stop
       file_is = λ _. sym kept ∙ sym st.stored;
       before = [];
       stored_is = λ _. ap (λ k. k ∷ []) (sym kept ∙ sym st.stored);
+      won = subst (λ (c : Core). IsWinOf roster c.won) (sym st.core) tt;
       parts_of = subst (λ c. IsPartsOf c (restored roster s.file)) (sym st.core)
           (subst (λ r. IsPartsOf (opened after.plan now) (restored r s.file)) has (subst (λ k. IsPartsOf (opened after.plan now) (restored (roster_of after.plan) k)) (ap (λ (c : ConfPlan). c.kept) st.plan ∙ kept) (open_ok after.plan now st.whole.plan).1));
       pending = subst (λ q. IsPendingAs q after (started roster s.file)) (sym st.phase_is) tt;
@@ -533,6 +538,7 @@ fresh_of open_ok node text text2 conf now st e =
           file_is = λ _. sym st.stored;
           before = [];
           stored_is = λ _. ap (λ k. k ∷ []) (sym st.stored);
+          won = subst (λ (c : Core). IsWinOf roster c.won) (sym st.core) tt;
           parts_of = subst (λ c. IsPartsOf c (restored roster conf.kept)) (sym st.core)
               (subst (λ r. IsPartsOf (opened node.plan now) (restored r conf.kept)) has (subst (λ k. IsPartsOf (opened node.plan now) (restored (roster_of node.plan) k)) (ap (λ (c : ConfPlan). c.kept) st.plan) (open_ok node.plan now st.whole.plan).1));
           pending = subst (λ q. IsPendingAs q node (started roster conf.kept)) (sym st.phase_is) tt;

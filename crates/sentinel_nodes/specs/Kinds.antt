@@ -1,6 +1,7 @@
 -- What a Sentinel in memory stands for.
-use Rattle.std.specs.Prelude.{◌≡◌, ◌≢◌, ℕ, Bool, true, false, Option, Some, None, List, [], ◌∷◌, ◌++◌, Ok, length}
+use Rattle.std.specs.Prelude.{◌≡◌, ◌≢◌, ℕ, ◌<◌, Bool, true, false, Option, IfSome, List, [], ◌∷◌, ◌++◌, Ok, length}
 use Rattle.ballot_law.specs.declared.cards.Kept.{Kept}
+use Rattle.ballot_law.specs.declared.records.Win.{Win}
 use Rattle.ballot_law.specs.Rosters.{Roster}
 use Rattle.ballot_law.specs.Worlds.{Sentinel, State, Ready, Pending, Stored, Halted, Stopped}
 use Rattle.sentinel_conf.specs.Reading.{conf_of_bytes}
@@ -31,6 +32,10 @@ abbrev pub IsPendingAs : Phase → Whole → Sentinel → Type 0
 IsPendingAs (phase.Pending must_store) whole s = (s.must_store ≡ must_store) × (must_store ≡ false → whole.core.kept ≡ whole.stored)
 IsPendingAs phase whole s = Unit {0}
 
+-- an election is of a master of the roster
+abbrev pub IsWinOf : Roster → Option Win → Type 0
+IsWinOf roster won = IfSome won (λ win. win.master < length roster.masters)
+
 -- the Sentinel of the model for which one in memory stands, with the text of its file
 pub record IsSentinelImage (whole : Whole) (text : List ℕ) (roster : Roster) (s : Sentinel) : Type 0 where
   pub whole_ok : IsWhole whole
@@ -41,6 +46,7 @@ pub record IsSentinelImage (whole : Whole) (text : List ℕ) (roster : Roster) (
   pub before : List Kept
   pub stored_is : whole.phase ≢ phase.Stopped → s.stored ≡ before ++ whole.stored ∷ []
   pub parts_of : IsPartsOf whole.core s.parts
+  pub won : IsWinOf roster whole.core.won
   pub pending : IsPendingAs whole.phase whole s
 
 abbrev pub IsImageOf : Whole → List ℕ → Roster → Image → Type 0

@@ -12,7 +12,7 @@ use Rattle.ballot_law.specs.Worlds.{World, Ready, IsNode}
 use Rattle.ballot_law.specs.Law.{IsStart}
 use Rattle.boxed_nodes.specs.Images.{Image, OfSentinel, OfOther, image_at, state_of, held_of, is_stopped, IsFreshImage}
 use Rattle.boxed_nodes.specs.Moves.{Shows, ShowsKind, IsFresh}
-use Rattle.boxed_nodes.specs.Sendable.{IsHeldBy, IsSendableOutput}
+use Rattle.boxed_nodes.specs.Sendable.{IsHeldBy, AreListed, IsSendableOutput}
 use Rattle.world_members.specs.Seats.{IsSeat}
 use Rattle.world_members.specs.Groups.{IsShown, Stands}
 use Rattle.world_starts.specs.Groups.{IsGroupOf, BeginAlike, IsPlaced}
@@ -31,6 +31,12 @@ holds_nothing (StoreAt k) = tt
 holds_nothing (ClientAt k) = tt
 holds_nothing (PortAt k) = tt
 
+lists_nothing : (roster : Roster) (name : NodeName) → AreListed roster name []
+lists_nothing roster (SentinelAt i) = tt
+lists_nothing roster (StoreAt k) = tt
+lists_nothing roster (ClientAt k) = tt
+lists_nothing roster (PortAt k) = tt
+
 seat_of : (name own : NodeName) (shows : Shows) (held : List Output) (stopped : Bool) (roster : Roster) (image : Image) → IsNewMember name own held stopped → IsFreshImage roster image → shows roster image → IsSeat name own shows held stopped roster image
 seat_of name own shows held stopped roster image new fresh shown =
     let ready = fresh_ready roster image fresh in
@@ -40,6 +46,7 @@ seat_of name own shows held stopped roster image new fresh shown =
       held_is = ready.1 ∙ sym new.holds;
       sendable = subst (AllByRecursion IsSendableOutput) (sym new.holds) tt;
       held_by = subst (IsHeldBy name) (sym new.holds) (holds_nothing name);
+      listed = subst (AreListed roster name) (sym new.holds) (lists_nothing roster name);
       told = new.runs ∙ sym (ap is_stopped ready.0);
       quiet = λ _. new.holds;
     }
