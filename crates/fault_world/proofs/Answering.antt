@@ -1,7 +1,6 @@
 -- An answer shows the configuration that a Sentinel stored last.
-use Rattle.std.proofs.Common.{inl, inr, ◌≡◌, ◌≢◌, ◌⊎◌, ℕ, zero, suc, ◌<◌, ◌-◌, Bool, true, false, cond, nat_lt, Option, Some, None, List, [], ◌∷◌, ◌++◌, length, slice_get, get_or, set, refl, sym, ◌∙◌, ap, subst, arith, append-nil}
+use Rattle.std.proofs.Common.{inl, inr, ◌≡◌, ◌≢◌, ◌⊎◌, ℕ, zero, suc, ◌<◌, ◌-◌, Bool, true, false, cond, nat_lt, Option, Some, None, List, [], ◌∷◌, ◌++◌, length, slice_get, get_or, set, map, refl, sym, ◌∙◌, ap, subst, arith, append-nil}
 use Rattle.std.specs.Prelude.{IfSome}
-use Rattle.std.specs.List.{flat_map}
 use Rattle.std.proofs.lemmas.Bool.Decides.{nat_tests}
 use Rattle.std.proofs.lemmas.Option.{none-some, same_Some}
 use Rattle.ballot_law.specs.declared.cards.Card.{Card}
@@ -10,14 +9,15 @@ use Rattle.ballot_law.specs.declared.messages.NodeName.{NodeName}
 use Rattle.ballot_law.specs.declared.messages.NodeName.TheVariants.{SentinelAt, StoreAt, ClientAt, PortAt}
 use Rattle.ballot_law.specs.declared.records.Said.{Said}
 use Rattle.ballot_law.specs.declared.steps.Step.TheVariants as step
-use Rattle.ballot_law.specs.Rosters.{Roster}
+use Rattle.ballot_law.specs.Rosters.{Roster, size}
 use Rattle.ballot_law.specs.Ballots.{card_of}
 use Rattle.ballot_law.specs.Worlds.{World, Sentinel, State, Ready, Pending, Stored, Halted, Stopped, sentinel_at, stores_of, card_after, Steps, Answers}
 use Rattle.boxed_nodes.specs.Images.{Image, OfSentinel, OfOther, HasStored, image_at, is_stopped, last_stored, card_shown}
 use Rattle.boxed_nodes.specs.Moves.{Shows, ShowsCard}
 use Rattle.world_members.specs.Groups.{IsShown}
 use Rattle.world_reports.specs.declared.entry.Entry.{Entry}
-use Rattle.fault_world.specs.News.{news_of, news_of_said}
+use Rattle.world_reports.specs.Told.{entry_of_said}
+use Rattle.fault_world.specs.News.{news_of}
 use Rattle.fault_world.specs.Runs.{RunsTo, RunsOn, Tells}
 use Rattle.fault_world.proofs.Lists.{slice_get_at, held_at, none_at_all}
 use Rattle.fault_world.proofs.NodeKinds.{kind_at}
@@ -55,6 +55,22 @@ set_same (y ∷ xs) (suc k) x e = ap (λ zs. y ∷ zs) (set_same xs k x e)
 below : (n : ℕ) → 0 < n → n - 1 < n
 below n h = omega arith
 
+-- a configuration that is shown is of a Sentinel and a master of the roster
+pub card_inside : {M : Type 0} (members : List M) (k i m : ℕ) (x : M) (card : Card) (roster : Roster) (messages : List Message) → k < length members → x ≡ get_or members k x →
+    (name : M → NodeName) (seat : M → Roster → Image → Type 0) → (w : World) × IsShown name seat roster members messages w → IfSome (slice_get members k) (λ m. name m ≡ SentinelAt i) → ShowsCard m (Some card) (seat x) →
+    (i < size roster) × (m < length roster.masters)
+card_inside members k i m x card roster messages within is name seat shown found shows =
+    let w = shown.0 in
+    let g = shown.1 in
+    let named = held_at members k x within is (λ m. name m ≡ SentinelAt i) found in
+    let at' = g.each k x (slice_get_at members k x within ∙ ap Some (sym is)) in
+    let s = sentinel_at w i in
+    let seated : seat x roster (OfSentinel s) = subst (λ n. seat x roster (image_at w n)) named at'.1 in
+    let told = shown_cases (is_stopped s.state) (nat_lt m (length (last_stored s).masters)) (card_of (last_stored s) m) card (shows.each roster (OfSentinel s) seated) in
+    let stored = shows.stored roster (OfSentinel s) seated (running s told.0) in
+    let there : i < length w.sentinels = subst (λ n. Rattle.ballot_law.specs.Worlds.IsNode w n) named at'.0 in
+    (subst (λ n. i < n) g.sentinels there, subst (λ n. m < n) stored.1 (lt_told m (length (last_stored s).masters) told.1))
+
 answer_said : {M : Type 0} (members : List M) (k i m : ℕ) (x : M) (card : Card) (roster : Roster) (messages : List Message) → slice_get members k ≡ Some x →
     (name : M → NodeName) (seat : M → Roster → Image → Type 0) → name x ≡ SentinelAt i → ShowsCard m (Some card) (seat x) →
     (w : World) → IsShown name seat roster members messages w → RunsTo roster (step.Answer (SentinelAt i) m ∷ []) w (news_of roster [] ((record { sentinel = i; master = m; card = card }) ∷ [])) (IsShown name seat roster members messages)
@@ -74,7 +90,7 @@ answer_said members k i m x card roster messages here name seat named shows w g 
     (subst (λ n. Applied roster (step.Answer (SentinelAt i) m) w n (image_at w n) [] [] ((record { sentinel = i; master = m; card = card_of (last_stored s) m }) ∷ [])) (sym named) st)))
 
 pub answer_found : {M : Type 0} (members : List M) (k i m : ℕ) (x : M) (node : NodeName) (card : Card) (roster : Roster) (messages : List Message) (before after : List Entry) → k < length members → x ≡ get_or members k x → node ≡ SentinelAt i →
-    after ≡ before ++ flat_map (news_of_said roster) ((record { sentinel = i; master = m; card = card }) ∷ []) →
+    after ≡ before ++ map (entry_of_said roster) ((record { sentinel = i; master = m; card = card }) ∷ []) →
     (name : M → NodeName) (seat : M → Roster → Image → Type 0) → IfSome (slice_get members k) (λ m. name m ≡ SentinelAt i) → ShowsCard m (Some card) (seat x) →
     Tells roster (step.Answer node m ∷ []) before after (IsShown name seat roster members messages) (IsShown name seat roster members messages)
 answer_found members k i m x node card roster messages before after within is kind told name seat found shows w g =

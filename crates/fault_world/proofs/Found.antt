@@ -1,7 +1,7 @@
 -- In the words of the calls: the member x at place k has the step's name, and becomes m2.
-use Rattle.std.proofs.Common.{append_assoc, inl, inr, ◌≡◌, ◌≢◌, ◌⊎◌, ℕ, suc, ◌<◌, ◌≤◌, ◌+◌, Bool, true, false, Option, Some, None, List, [], ◌∷◌, ◌++◌, length, slice_get, get_or, take, set, refl, sym, ◌∙◌, ap, subst, append-nil, arith, Result, Ok, Err, OnOk, OnErr, IfOk, IfErr}
+use Rattle.std.proofs.Common.{append_assoc, inl, inr, ◌≡◌, ◌≢◌, ◌⊎◌, ℕ, suc, ◌<◌, ◌≤◌, ◌+◌, Bool, true, false, Option, Some, None, List, [], ◌∷◌, ◌++◌, length, slice_get, get_or, take, set, map, refl, sym, ◌∙◌, ap, subst, append-nil, arith, Result, Ok, Err, OnOk, OnErr, IfOk, IfErr}
 use Rattle.std.specs.Prelude.{IfSome, IfNone, IsSome, All}
-use Rattle.std.specs.List.{AllByRecursion, flat_map}
+use Rattle.std.specs.List.{AllByRecursion}
 use Rattle.std.proofs.Math.Seq.{take-suc}
 use Rattle.std.proofs.lemmas.List.{take_all}
 use Rattle.ballot_law.specs.declared.events.Event.{Event}
@@ -14,21 +14,22 @@ use Rattle.ballot_law.specs.declared.steps.KeptText.{KeptText}
 use Rattle.ballot_law.specs.declared.steps.KeptText.TheVariants.{Old, New}
 use Rattle.ballot_law.specs.declared.steps.Step.{Step}
 use Rattle.ballot_law.specs.declared.steps.Step.TheVariants as step
-use Rattle.ballot_law.specs.Rosters.{Roster}
+use Rattle.ballot_law.specs.Rosters.{Roster, size}
 use Rattle.ballot_law.specs.Messages.{sent, Delivers, IsFor}
 use Rattle.ballot_law.specs.Worlds.{World, State, Ready, Pending, Stored, Stopped, IsAt, IsNode, IsFree, Steps, Run}
 use Rattle.boxed_nodes.specs.declared.calls.HowStored.{HowStored}
 use Rattle.boxed_nodes.specs.declared.calls.HowStored.TheVariants as how
 use Rattle.boxed_nodes.specs.Images.{Image, image_at, how_left, held_of, state_of}
-use Rattle.boxed_nodes.specs.Moves.{Stops, Stays, wins_told, Shows}
-use Rattle.boxed_nodes.specs.Sendable.{IsSendable, IsSendableOutput, IsHeldBy}
+use Rattle.boxed_nodes.specs.Moves.{Stops, Stays, wins_told, Shows, IsWonIn}
+use Rattle.boxed_nodes.specs.Sendable.{IsSendable, IsSendableOutput, IsHeldBy, AreListed}
 use Rattle.world_members.specs.Groups.{IsShown, IsReached, Stands}
 use Rattle.world_members.specs.Seats.{IsSeat, SeatTakes, SeatStores, SeatReleases, SeatStarts}
 use Rattle.world_reports.specs.declared.entry.Entry.{Entry}
-use Rattle.fault_world.specs.News.{news_of, news_of_election, news_of_said, elected_told, said_told}
+use Rattle.world_reports.specs.Told.{entry_of_election, entry_of_said}
+use Rattle.fault_world.specs.News.{news_of, elected_told, said_told, IsInGroup}
 use Rattle.fault_world.specs.Runs.{mover_of, Stepped, Ran, RunsTo, RunsOn, Keeps, Leads, Tells, stored_by}
 use Rattle.fault_world.proofs.Lists.{slice_get_at, held_at, none_at_all, all_get}
-use Rattle.fault_world.proofs.NodeKinds.{stored_or_not}
+use Rattle.fault_world.proofs.NodeKinds.{pending_or_not, stored_or_not}
 use Rattle.fault_world.proofs.Running.{still, shown_still, take_runs, deliver_runs, stop_runs, start_runs, store_runs, refused_runs, release_runs}
 use Rattle.fault_world.proofs.Stepping.{no_message, not_delivered}
 
@@ -81,21 +82,21 @@ store_by how.RefusedOld name seat roster members messages w k m m2 won stores g 
 store_by how.RefusedNew name seat roster members messages w k m m2 won stores g at' named = refused_runs name seat roster members messages w k m m2 New won stores g at' named
 
 pub store_found : {M : Type 0} (members : List M) (k : ℕ) (x m2 : M) (node : NodeName) (h : HowStored) (roster : Roster) (messages : List Message) (won : Option (ℕ × ℕ)) (before after : List Entry) → k < length members → x ≡ get_or members k x →
-    after ≡ before ++ flat_map (news_of_election roster) (elected_told node (wins_told won)) →
+    after ≡ before ++ map (entry_of_election roster) (elected_told node (wins_told won)) →
     (name : M → NodeName) (seat : M → Roster → Image → Type 0) → IfSome (slice_get members k) (λ m. name m ≡ node) → name m2 ≡ name x → SeatStores h won (seat x) (seat m2) →
     Tells roster (stored_by node h ∷ []) before after (IsShown name seat roster members messages) (IsShown name seat roster (set members k m2) messages)
 store_found members k x m2 node h roster messages won before after within is told name seat found named stores w g =
-    telling (told ∙ ap (λ ys. before ++ ys) (sym (append-nil (flat_map (news_of_election roster) (elected_told node (wins_told won))))))
+    telling (told ∙ ap (λ ys. before ++ ys) (sym (append-nil (map (entry_of_election roster) (elected_told node (wins_told won))))))
     (subst (λ n. RunsTo roster (stored_by n h ∷ []) w (news_of roster (elected_told n (wins_told won)) []) (IsShown name seat roster (set members k m2) messages)) (held_at members k x within is (λ m. name m ≡ node) found)
     (store_by h name seat roster members messages w k x m2 won stores g (slice_get_at members k x within ∙ ap Some (sym is)) named))
 
 pub release_found : {M : Type 0} (members : List M) (k : ℕ) (x m2 : M) (node : NodeName) (roster : Roster) (messages messages2 : List Message) (out : List Output) (before after : List Entry) → k < length members → x ≡ get_or members k x →
-    messages2 ≡ messages ++ sent out → after ≡ before ++ flat_map (news_of_said roster) (said_told roster node out) →
+    messages2 ≡ messages ++ sent out → after ≡ before ++ map (entry_of_said roster) (said_told roster node out) →
     (name : M → NodeName) (seat : M → Roster → Image → Type 0) → ((image : Image) → seat x roster image → AllByRecursion IsSendableOutput (held_of image)) → IfSome (slice_get members k) (λ m. name m ≡ node) → name m2 ≡ name x → SeatReleases [] out (seat x) (seat m2) →
     Tells roster (step.Release node ∷ []) before after (IsShown name seat roster members messages) (IsShown name seat roster (set members k m2) messages2)
 release_found members k x m2 node roster messages messages2 out before after within is sent_are told name seat fine found named releases w g =
     telling told
-    (subst (λ xs. RunsTo roster (step.Release node ∷ []) w (flat_map (news_of_said roster) (said_told roster node out)) (IsShown name seat roster (set members k m2) xs)) (sym sent_are)
+    (subst (λ xs. RunsTo roster (step.Release node ∷ []) w (map (entry_of_said roster) (said_told roster node out)) (IsShown name seat roster (set members k m2) xs)) (sym sent_are)
     (subst (λ n. RunsTo roster (step.Release n ∷ []) w (news_of roster [] (said_told roster n out)) (IsShown name seat roster (set members k m2) (messages ++ sent out))) (held_at members k x within is (λ m. name m ≡ node) found)
     (release_runs name seat roster members messages out w k x m2 releases fine g (slice_get_at members k x within ∙ ap Some (sym is)) named)))
 
@@ -294,6 +295,51 @@ few_released members k x m2 node roster messages out within is name own shows he
     let at' = seat_at members k x roster messages within is name (λ m. IsSeat (name m) (own m) (shows m) (held m) (stopped m)) shown in
     subst (λ n. IsHeldBy n out) (held_at members k x within is (λ m. name m ≡ node) found)
     (few_of_seats (name x) (held x) out (IsSeat (name x) (own x) (shows x) (held x) (stopped x)) (IsSeat (name m2) (own m2) (shows m2) (held m2) (stopped m2)) roster at'.0 at'.1 at'.1.held_is at'.1.held_by releases)
+
+listed_of_seats : (named : NodeName) (held out : List Output) (old new : Shows) (roster : Roster) (image : Image) → old roster image → held_of image ≡ held → AreListed roster named held → SeatReleases [] out old new → AreListed roster named out
+listed_of_seats named held out old new roster image seated is listed releases =
+    elim (stored_or_not (state_of image)) as (λ _. AreListed roster named out) [
+      | inl stored ↦ subst (AreListed roster named) (sym ((releases.stored roster image seated stored).1 ∙ is)) listed
+      | inr other ↦ subst (AreListed roster named) (sym (releases.other roster image seated other).1) (none_listed named)
+    ]
+  where
+    none_listed : (n : NodeName) → AreListed roster n []
+    none_listed (SentinelAt i) = tt
+    none_listed (StoreAt i) = tt
+    none_listed (ClientAt i) = tt
+    none_listed (PortAt i) = tt
+
+pub listed_released : {M : Type 0} (members : List M) (k : ℕ) (x m2 : M) (node : NodeName) (roster : Roster) (messages : List Message) (out : List Output) → k < length members → x ≡ get_or members k x →
+    (name own : M → NodeName) (shows : M → Shows) (held : M → List Output) (stopped : M → Bool) → (w : World) × IsShown name (λ m. IsSeat (name m) (own m) (shows m) (held m) (stopped m)) roster members messages w → IfSome (slice_get members k) (λ m. name m ≡ node) →
+    SeatReleases [] out (IsSeat (name x) (own x) (shows x) (held x) (stopped x)) (IsSeat (name m2) (own m2) (shows m2) (held m2) (stopped m2)) → AreListed roster node out
+listed_released members k x m2 node roster messages out within is name own shows held stopped shown found releases =
+    let at' = seat_at members k x roster messages within is name (λ m. IsSeat (name m) (own m) (shows m) (held m) (stopped m)) shown in
+    subst (λ n. AreListed roster n out) (held_at members k x within is (λ m. name m ≡ node) found)
+    (listed_of_seats (name x) (held x) out (IsSeat (name x) (own x) (shows x) (held x) (stopped x)) (IsSeat (name m2) (own m2) (shows m2) (held m2) (stopped m2)) roster at'.0 at'.1 at'.1.held_is at'.1.listed releases)
+
+-- a member that is a Sentinel is one of the roster
+node_inside : (w : World) (roster : Roster) (node : NodeName) → IsNode w node → length w.sentinels ≡ size roster → IsInGroup roster node
+node_inside w roster (SentinelAt i) is many = subst (λ n. i < n) many is
+node_inside w roster (StoreAt k) is many = tt
+node_inside w roster (ClientAt k) is many = tt
+node_inside w roster (PortAt k) is many = tt
+
+pub inside_group : {M : Type 0} (members : List M) (k : ℕ) (x : M) (node : NodeName) (roster : Roster) (messages : List Message) → k < length members → x ≡ get_or members k x →
+    (name : M → NodeName) (seat : M → Roster → Image → Type 0) → (w : World) × IsShown name seat roster members messages w → IfSome (slice_get members k) (λ m. name m ≡ node) → IsInGroup roster node
+inside_group members k x node roster messages within is name seat shown found =
+    let g = shown.1 in
+    subst (IsInGroup roster) (held_at members k x within is (λ m. name m ≡ node) found)
+    (node_inside shown.0 roster (name x) (g.each k x (slice_get_at members k x within ∙ ap Some (sym is))).0 g.sentinels)
+
+-- what a member's store tells of is an election of a master of the roster
+pub won_listed : {M : Type 0} (members : List M) (k : ℕ) (x m2 : M) (h : HowStored) (roster : Roster) (messages : List Message) (won : Option (ℕ × ℕ)) → k < length members → x ≡ get_or members k x →
+    (name : M → NodeName) (seat : M → Roster → Image → Type 0) → (w : World) × IsShown name seat roster members messages w → SeatStores h won (seat x) (seat m2) → IsWonIn roster won
+won_listed members k x m2 h roster messages won within is name seat shown stores =
+    let at' = seat_at members k x roster messages within is name seat shown in
+    elim (pending_or_not (state_of at'.0)) as (λ _. IsWonIn roster won) [
+      | inl pending ↦ (stores.pending roster at'.0 at'.1 pending).2
+      | inr other ↦ subst (IsWonIn roster) (sym (stores.other roster at'.0 at'.1 other).1) tt
+    ]
 
 pub first_released : (before out : List Output) (old new : Shows) → before ≡ [] → SeatReleases before out old new → SeatReleases [] out old new
 first_released before out old new e releases = subst (λ xs. SeatReleases xs out old new) e releases

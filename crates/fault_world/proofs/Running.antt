@@ -1,6 +1,6 @@
 -- A call on one member of a group is a step of the model's world.
 use Rattle.std.proofs.Common.{inl, inr, ◌≡◌, ◌≢◌, ◌⊎◌, ℕ, ◌<◌, ◌+◌, ◌≤◌, Bool, true, false, Option, Some, None, List, [], ◌∷◌, ◌++◌, length, slice_get, get_or, take, set, refl, sym, ◌∙◌, ap, subst, append-nil, is_ok, cond}
-use Rattle.std.specs.List.{AllByRecursion, flat_map}
+use Rattle.std.specs.List.{AllByRecursion}
 use Rattle.ballot_law.specs.declared.events.Event.{Event}
 use Rattle.ballot_law.specs.declared.events.Input.{Input}
 use Rattle.ballot_law.specs.declared.messages.Message.{Message}
@@ -26,7 +26,7 @@ use Rattle.boxed_nodes.specs.Sendable.{IsSendable, IsSendableOutput}
 use Rattle.world_members.specs.Groups.{IsShown}
 use Rattle.world_members.specs.Seats.{SeatTakes, SeatStores, SeatReleases, SeatStarts, wins_stored}
 use Rattle.world_reports.specs.declared.entry.Entry.{Entry}
-use Rattle.fault_world.specs.News.{news_of, news_of_election, elected_told, said_told}
+use Rattle.fault_world.specs.News.{news_of, elected_told, said_told}
 use Rattle.fault_world.specs.Runs.{mover_of, Stepped, RunsTo, RunsOn}
 use Rattle.fault_world.proofs.NodeKinds.{kind_at, kind_stored, kind_refused, kind_stopped, kind_started, kind_released, kind_taken, ready_or_not, pending_or_not, stored_or_not, stopped_or_not}
 use Rattle.fault_world.proofs.Seen.{with_image, elected_of, said_of, Changed, unchanged, image_there}

@@ -1,6 +1,5 @@
 -- What a step adds to the elections and to what was said, as a report tells it.
-use Rattle.std.specs.Prelude.{ℕ, ◌&&◌, nat_lt, if◌then◌else◌, List, [], ◌∷◌, ◌++◌, length}
-use Rattle.std.specs.List.{flat_map}
+use Rattle.std.specs.Prelude.{◌<◌, List, [], ◌++◌, map}
 use Rattle.ballot_law.specs.declared.messages.NodeName.{NodeName}
 use Rattle.ballot_law.specs.declared.messages.NodeName.TheVariants.{SentinelAt}
 use Rattle.ballot_law.specs.declared.messages.Output.{Output}
@@ -13,20 +12,9 @@ use Rattle.ballot_law.specs.Worlds.{elected_by, said_by}
 use Rattle.world_reports.specs.declared.entry.Entry.{Entry}
 use Rattle.world_reports.specs.Told.{entry_of_election, entry_of_said}
 
--- what is of a Sentinel and a master of the roster
-abbrev pub if_listed : {X : Type 0} → Roster → (sentinel master : ℕ) → X → List X
-if_listed roster sentinel master x =
-    if nat_lt sentinel (size roster) && nat_lt master (length roster.masters) then x ∷ [] else []
-
-abbrev pub news_of_election : Roster → Elected → List Entry
-news_of_election roster election = if_listed roster election.sentinel election.master (entry_of_election roster election)
-
-abbrev pub news_of_said : Roster → Said → List Entry
-news_of_said roster said = if_listed roster said.sentinel said.master (entry_of_said roster said)
-
--- elections and advertisements, in their order
+-- elections and advertisements, an entry for each, in their order
 abbrev pub news_of : Roster → List Elected → List Said → List Entry
-news_of roster elected said = flat_map (news_of_election roster) elected ++ flat_map (news_of_said roster) said
+news_of roster elected said = map (entry_of_election roster) elected ++ map (entry_of_said roster) said
 
 -- the elections that a node told of, and what it advertises by outputs that it releases
 abbrev pub elected_told : NodeName → List Win → List Elected
@@ -36,3 +24,8 @@ elected_told name wins = []
 abbrev pub said_told : Roster → NodeName → List Output → List Said
 said_told roster (SentinelAt i) outputs = said_by i (advertised_by roster outputs)
 said_told roster name outputs = []
+
+-- a Sentinel of the roster, or another node
+abbrev pub IsInGroup : Roster → NodeName → Type 0
+IsInGroup roster (SentinelAt i) = i < size roster
+IsInGroup roster name = Unit {0}

@@ -232,6 +232,7 @@ impl FaultWorld {
 
     /// A client gets the configuration of a master that a Sentinel stored last, if it runs.
     fn answer(&mut self, node: NodeName, master: u16, report: &mut Report) -> Result<(), NoMemory>
+        requires { (w : World) × IsShown (λ m. m.name) (λ m. IsSeat m.name (name (m.node.vtable, m.node.value)) (shows (m.node.vtable, m.node.value)) m.outbox.held m.stopped) self.old.roster self.old.members.items self.old.messages.items w }
         ensures ok { OnOk result (Tells self.old.roster (Step.Answer node master ∷ []) report.old.entries report.new.entries
             (IsShown (λ m. m.name) (λ m. IsSeat m.name (name (m.node.vtable, m.node.value)) (shows (m.node.vtable, m.node.value)) m.outbox.held m.stopped) self.old.roster self.old.members.items self.old.messages.items)
             (IsShown (λ m. m.name) (λ m. IsSeat m.name (name (m.node.vtable, m.node.value)) (shows (m.node.vtable, m.node.value)) m.outbox.held m.stopped) self.old.roster self.new.members.items self.new.messages.items)) }

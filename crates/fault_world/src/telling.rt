@@ -1,13 +1,14 @@
 //! What a step adds to the elections and to what was said, as entries of a report.
 
-ghost use Rattle.std.specs.Prelude.{◌≡◌, ◌≤◌, ◌<◌, ◌+◌, ◌*◌, ◌++◌, ◌∷◌, [], length};
-ghost use Rattle.std.specs.List.{flat_map, AllByRecursion};
+ghost use Rattle.std.specs.Prelude.{◌≡◌, ◌≤◌, ◌<◌, ◌+◌, ◌*◌, ◌++◌, ◌∷◌, [], length, map};
+ghost use Rattle.std.specs.List.{AllByRecursion};
 ghost use Rattle.ballot_law.specs.Messages.{advertised, advertised_by};
-ghost use Rattle.ballot_law.specs.Rosters.{HasDistinctNames};
+ghost use Rattle.ballot_law.specs.Rosters.{HasDistinctNames, size};
 ghost use Rattle.ballot_law.specs.Worlds.{said_by};
-ghost use Rattle.boxed_nodes.specs.Moves.{wins_told};
-ghost use Rattle.boxed_nodes.specs.Sendable.{IsFewShown, IsFewIn, IsHeldBy};
-ghost use Rattle.fault_world.specs.News.{news_of_election, news_of_said, elected_told, said_told};
+ghost use Rattle.boxed_nodes.specs.Moves.{wins_told, IsWonIn};
+ghost use Rattle.boxed_nodes.specs.Sendable.{IsFewShown, IsFewIn, IsHeldBy, IsOfMaster, IsListedIn, IsListed, AreListed};
+ghost use Rattle.world_reports.specs.Told.{entry_of_election, entry_of_said};
+ghost use Rattle.fault_world.specs.News.{elected_told, said_told, IsInGroup};
 
 use crate::names::master_named;
 use ballot_law::{Body, Card, Elected, NodeName, Output, Roster, Said, Shown};
@@ -16,29 +17,15 @@ use world_reports::{Entry, Report};
 /// How many configurations one message advertises at most.
 pub(crate) const SHOWN_MAX: usize = 16;
 
-/// Tells of an election of a Sentinel and a master of the roster.
-fn tell_election(report: &mut Report, roster: &Roster, election: &Elected)
-    requires { 0 < report.old.room }
-    ensures entries { report.new.entries ≡ report.old.entries ++ news_of_election roster.now election.now }
-{
-    if (election.sentinel as usize) < roster.sentinels().len()
-        && (election.master as usize) < roster.masters().len()
-    {
-        report.push(Entry::of_election(roster, election));
-    }
-}
-
-/// Tells of what a Sentinel of the roster said of one of its masters.
-fn tell_one(report: &mut Report, roster: &Roster, said: &Said)
-    requires { 0 < report.old.room }
-    ensures entries { report.new.entries ≡ report.old.entries ++ news_of_said roster.now said.now }
+/// Tells of a configuration that a Sentinel showed; both the Sentinel and the master are in the roster.
+pub(crate) fn tell_said(report: &mut Report, roster: &Roster, said: &Said)
+    requires sentinel { said.now.sentinel < size roster.now }
+    requires master { said.now.master < length roster.now.masters }
+    requires room { 0 < report.old.room }
+    ensures entries { report.new.entries ≡ report.old.entries ++ map (entry_of_said roster.now) (said.now ∷ []) }
     ensures room { report.old.room ≤ report.new.room + 1 }
 {
-    if (said.sentinel as usize) < roster.sentinels().len()
-        && (said.master as usize) < roster.masters().len()
-    {
-        report.push(Entry::of_said(roster, said));
-    }
+    report.push(Entry::of_said(roster, said));
 }
 
 /// Tells of the election that a node stored.
@@ -48,9 +35,11 @@ pub(crate) fn tell_won(
     node: NodeName,
     won: Option<(u16, u64)>,
 )
-    requires { 0 < report.old.room }
+    requires inside { IsInGroup roster.now node }
+    requires won { IsWonIn roster.now won }
+    requires room { 0 < report.old.room }
     ensures { report.new.entries
-        ≡ report.old.entries ++ flat_map (news_of_election roster.now) (elected_told node (wins_told won)) }
+        ≡ report.old.entries ++ map (entry_of_election roster.now) (elected_told node (wins_told won)) }
 {
     let Some((master, epoch)) = won else {
         return;
@@ -58,34 +47,27 @@ pub(crate) fn tell_won(
     let NodeName::SentinelAt(sentinel) = node else {
         return;
     };
-    tell_election(
-        report,
+    report.push(Entry::of_election(
         roster,
         &Elected {
             sentinel,
             master,
             epoch,
         },
-    );
-}
-
-/// Tells of a configuration that a Sentinel showed.
-pub(crate) fn tell_said(report: &mut Report, roster: &Roster, said: &Said)
-    requires { 0 < report.old.room }
-    ensures { report.new.entries ≡ report.old.entries ++ flat_map (news_of_said roster.now) (said.now ∷ []) }
-{
-    tell_one(report, roster, said);
+    ));
 }
 
 /// Tells of the configurations that an answer shows, in order.
 fn tell_shown(report: &mut Report, roster: &Roster, sentinel: u16, shown: &[Shown])
-    requires { length shown.now ≤ report.old.room }
+    requires sentinel { sentinel < size roster.now }
+    requires listed { AllByRecursion (IsOfMaster roster.now) shown.now }
+    requires room { length shown.now ≤ report.old.room }
     ensures entries { report.new.entries
-        ≡ report.old.entries ++ flat_map (news_of_said roster.now) (said_by sentinel shown.now) }
+        ≡ report.old.entries ++ map (entry_of_said roster.now) (said_by sentinel shown.now) }
     ensures room { report.old.room ≤ report.new.room + length shown.now }
 {
     for one in shown {
-        tell_one(
+        tell_said(
             report,
             roster,
             &Said {
@@ -100,16 +82,18 @@ fn tell_shown(report: &mut Report, roster: &Roster, sentinel: u16, shown: &[Show
 /// Tells of what a message advertises.
 fn tell_body(report: &mut Report, roster: &Roster, sentinel: u16, body: &Body)
     requires names { HasDistinctNames roster.now }
+    requires sentinel { sentinel < size roster.now }
     requires few { IsFewIn body.now }
+    requires listed { IsListedIn roster.now body.now }
     requires room { SHOWN_MAX ≤ report.old.room }
     ensures entries { report.new.entries
-        ≡ report.old.entries ++ flat_map (news_of_said roster.now) (said_by sentinel (advertised roster.now body.now)) }
+        ≡ report.old.entries ++ map (entry_of_said roster.now) (said_by sentinel (advertised roster.now body.now)) }
     ensures room { report.old.room ≤ report.new.room + SHOWN_MAX }
 {
     match body {
         Body::Publish(hello) => {
             if let Some(master) = master_named(roster, &hello.master) {
-                tell_one(
+                tell_said(
                     report,
                     roster,
                     &Said {
@@ -120,7 +104,7 @@ fn tell_body(report: &mut Report, roster: &Roster, sentinel: u16, body: &Body)
                 );
             }
         }
-        Body::AddressAnswer(Some(shown)) => tell_one(
+        Body::AddressAnswer(Some(shown)) => tell_said(
             report,
             roster,
             &Said {
@@ -137,10 +121,12 @@ fn tell_body(report: &mut Report, roster: &Roster, sentinel: u16, body: &Body)
 /// Tells of what an output advertises; a note advertises nothing.
 fn tell_output(report: &mut Report, roster: &Roster, sentinel: u16, output: &Output)
     requires names { HasDistinctNames roster.now }
+    requires sentinel { sentinel < size roster.now }
     requires few { IsFewShown output.now }
+    requires listed { IsListed roster.now output.now }
     requires room { SHOWN_MAX ≤ report.old.room }
     ensures entries { report.new.entries
-        ≡ report.old.entries ++ flat_map (news_of_said roster.now) (said_by sentinel (advertised_by roster.now (output.now ∷ []))) }
+        ≡ report.old.entries ++ map (entry_of_said roster.now) (said_by sentinel (advertised_by roster.now (output.now ∷ []))) }
     ensures room { report.old.room ≤ report.new.room + SHOWN_MAX }
 {
     if let Output::Send(message) = output {
@@ -151,10 +137,12 @@ fn tell_output(report: &mut Report, roster: &Roster, sentinel: u16, output: &Out
 /// Tells of what a Sentinel advertises by its outputs, in order.
 fn tell_outputs(report: &mut Report, roster: &Roster, sentinel: u16, outputs: &[Output])
     requires names { HasDistinctNames roster.now }
+    requires sentinel { sentinel < size roster.now }
     requires few { AllByRecursion IsFewShown outputs.now }
+    requires listed { AllByRecursion (IsListed roster.now) outputs.now }
     requires room { SHOWN_MAX * length outputs.now ≤ report.old.room }
     ensures { report.new.entries
-        ≡ report.old.entries ++ flat_map (news_of_said roster.now) (said_by sentinel (advertised_by roster.now outputs.now)) }
+        ≡ report.old.entries ++ map (entry_of_said roster.now) (said_by sentinel (advertised_by roster.now outputs.now)) }
 {
     for output in outputs {
         tell_output(report, roster, sentinel, output);
@@ -169,10 +157,12 @@ pub(crate) fn tell_released(
     outputs: &[Output],
 )
     requires names { HasDistinctNames roster.now }
+    requires inside { IsInGroup roster.now node }
     requires few { IsHeldBy node outputs.now }
+    requires listed { AreListed roster.now node outputs.now }
     requires room { SHOWN_MAX * length outputs.now ≤ report.old.room }
     ensures { report.new.entries
-        ≡ report.old.entries ++ flat_map (news_of_said roster.now) (said_told roster.now node outputs.now) }
+        ≡ report.old.entries ++ map (entry_of_said roster.now) (said_told roster.now node outputs.now) }
 {
     if let NodeName::SentinelAt(sentinel) = node {
         tell_outputs(report, roster, sentinel, outputs);
