@@ -20,8 +20,8 @@ use Rattle.ballot_law.specs.Messages.{Vote, vote_shown, published, sent, adverti
 use Rattle.ballot_law.specs.Ballots.{card_of}
 use Rattle.ballot_law.specs.declared.cards.Kept.{Kept}
 use Rattle.ballot_law.specs.Worlds.{State, Ready, Pending, Stored, Halted, Stopped, Sentinel, Other, World, no_sentinel, no_other, sentinel_at, with_sentinel, IsSentinel, IsAt, IsNode, Choice, IsChoice, taken, elected_by, said_by, filed, after_store, after_refused, after_release, after_stop, after_answer, started, stores_of, card_after, other_at, IsOther, with_other, IsPassable, Takes, Stores, IsRefused, Releases, Stops, Starts, Answers, AnswersNow, IsDelivered, Steps, Move, StepOf, LateAnswer, Moves}
-use Rattle.ballot_law.specs.declared.records.Elected.{Elected}
-use Rattle.ballot_law.specs.declared.records.Said.{Said}
+use Rattle.ballot_law.specs.declared.records.Election.{Election}
+use Rattle.ballot_law.specs.declared.records.Advertisement.{Advertisement}
 use Rattle.ballot_law.specs.Law.{FallsNowhere}
 use Rattle.ballot_law.proofs.History.{Pick, History, Group, Backed, CardOk, Within, Grows, Grows-same, Grows-others, Backed-grows, CardOk-grows, grown, Within-grown}
 use Rattle.ballot_law.proofs.Takes.{MessageOk, MessageOk-grows, EventOk, WinOk}
@@ -30,10 +30,10 @@ use Rattle.ballot_law.proofs.Nodes.{sent_ok, advertised_ok, LiveOk, StoredOk, No
 abbrev pub history : World → List Pick → History
 history w picks = record { votes = w.votes; picks = picks }
 
-abbrev pub ElectedOk : Group → History → Elected → Type 0
+abbrev pub ElectedOk : Group → History → Election → Type 0
 ElectedOk t g e = (e.sentinel < size t.roster) × Backed t g e.master e.epoch e.sentinel
 
-abbrev pub SaidOk : Group → History → Said → Type 0
+abbrev pub SaidOk : Group → History → Advertisement → Type 0
 SaidOk t g s = CardOk t g s.master s.card
 
 pub record Holds (t : Group) (picks : List Pick) (w : World) : Type 0 where
@@ -95,15 +95,15 @@ replaced_filed t picks w i node fresh ok place casts_by picks_by new =
 
 -- Messages, elections and what was said, with more behind them
 
-with_lists : (t : Group) (picks : List Pick) (w : World) (messages : List Message) (elected : List Elected) (said : List Said) → Holds t picks w → All (MessageOk t (history w picks)) messages → All (ElectedOk t (history w picks)) elected → All (SaidOk t (history w picks)) said → Holds t picks (record w { messages = messages; elected = elected; said = said })
+with_lists : (t : Group) (picks : List Pick) (w : World) (messages : List Message) (elected : List Election) (said : List Advertisement) → Holds t picks w → All (MessageOk t (history w picks)) messages → All (ElectedOk t (history w picks)) elected → All (SaidOk t (history w picks)) said → Holds t picks (record w { messages = messages; elected = elected; said = said })
 with_lists t picks w messages elected said ok sent led told =
     record { count = ok.count; nodes = ok.nodes; stores = ok.stores; clients = ok.clients; messages = sent; elected = led; said = told }
 
-more_elected : (t : Group) (picks : List Pick) (w : World) (new : List Elected) → Holds t picks w → All (ElectedOk t (history w picks)) new → Holds t picks (record w { elected = w.elected ++ new })
+more_elected : (t : Group) (picks : List Pick) (w : World) (new : List Election) → Holds t picks w → All (ElectedOk t (history w picks)) new → Holds t picks (record w { elected = w.elected ++ new })
 more_elected t picks w new ok more =
     with_lists t picks w w.messages (w.elected ++ new) w.said ok ok.messages (All-append (ElectedOk t (history w picks)) w.elected new ok.elected more) ok.said
 
-more_said : (t : Group) (picks : List Pick) (w : World) (new : List Said) → Holds t picks w → All (SaidOk t (history w picks)) new → Holds t picks (record w { said = w.said ++ new })
+more_said : (t : Group) (picks : List Pick) (w : World) (new : List Advertisement) → Holds t picks w → All (SaidOk t (history w picks)) new → Holds t picks (record w { said = w.said ++ new })
 more_said t picks w new ok more =
     with_lists t picks w w.messages w.elected (w.said ++ new) ok ok.messages ok.elected (All-append (SaidOk t (history w picks)) w.said new ok.said more)
 

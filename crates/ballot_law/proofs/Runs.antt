@@ -14,8 +14,8 @@ use Rattle.ballot_law.specs.Ballots.{no_kept, card_of}
 use Rattle.ballot_law.specs.declared.cards.Kept.{Kept}
 use Rattle.ballot_law.specs.declared.cards.KeptMaster.{KeptMaster}
 use Rattle.ballot_law.specs.Worlds.{Ready, Stopped, Sentinel, Other, World, no_sentinel, no_other, sentinel_at, started, Move, StepOf, Joined, JoinedBy}
-use Rattle.ballot_law.specs.declared.records.Elected.{Elected}
-use Rattle.ballot_law.specs.declared.records.Said.{Said}
+use Rattle.ballot_law.specs.declared.records.Election.{Election}
+use Rattle.ballot_law.specs.declared.records.Advertisement.{Advertisement}
 use Rattle.ballot_law.specs.Law.{IsWellFormed, IsFresh, IsFreshOther, IsStart, IsReadyStored, OneLeader, IsSafeStep, OneAddress, NeverFalls, NeverFallsAlong, RunsJoin, StepsJoin}
 use Rattle.ballot_law.proofs.Counting.{AtLeast-shared}
 use Rattle.ballot_law.proofs.History.{Pick, History, Group, Voted, Picked, Backed, CardOk}
@@ -102,8 +102,8 @@ holds_at_start roster w begins =
       stores = λ k. other_at_start t g (StoreAt k) w.stores k begins.stores (cases_lt k (length w.stores));
       clients = λ k. client_at_start t g k (get_or w.clients k None) (fresh_client w.clients k begins.clients);
       messages = subst (λ (xs : List Message). All (MessageOk t g) xs) (sym begins.messages) (All-nil (MessageOk t g));
-      elected = subst (λ (xs : List Elected). All (ElectedOk t g) xs) (sym begins.elected) (All-nil (ElectedOk t g));
-      said = subst (λ (xs : List Said). All (SaidOk t g) xs) (sym begins.said) (All-nil (SaidOk t g));
+      elected = subst (λ (xs : List Election). All (ElectedOk t g) xs) (sym begins.elected) (All-nil (ElectedOk t g));
+      said = subst (λ (xs : List Advertisement). All (SaidOk t g) xs) (sym begins.said) (All-nil (SaidOk t g));
     }
 
 -- Runs

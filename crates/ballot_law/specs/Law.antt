@@ -2,8 +2,8 @@
 use Rattle.std.specs.Prelude.{◌≡◌, ◌≢◌, ℕ, ◌<◌, ◌≤◌, ◌⊎◌, Contains, IfSome, List, [], ◌++◌, All, length}
 use Rattle.ballot_law.specs.declared.cards.Card.{Card}
 use Rattle.ballot_law.specs.declared.cards.Kept.{Kept}
-use Rattle.ballot_law.specs.declared.records.Elected.{Elected}
-use Rattle.ballot_law.specs.declared.records.Said.{Said}
+use Rattle.ballot_law.specs.declared.records.Election.{Election}
+use Rattle.ballot_law.specs.declared.records.Advertisement.{Advertisement}
 use Rattle.ballot_law.specs.declared.steps.Step.{Step}
 use Rattle.ballot_law.specs.Rosters.{Roster, HasNode, size, HasDistinctIds}
 use Rattle.ballot_law.specs.RosterFaults.{IsRoster}
@@ -39,12 +39,12 @@ pub record IsStart (roster : Roster) (w : World) : Type 0 where
   pub said : w.said ≡ []
 
 -- at most one Sentinel is elected for a master in an epoch
-abbrev pub HasOneLeader : List Elected → Type 0
+abbrev pub HasOneLeader : List Election → Type 0
 HasOneLeader elected =
     (i j m e : ℕ) → Contains elected (record { sentinel = i; master = m; epoch = e }) → Contains elected (record { sentinel = j; master = m; epoch = e }) → i ≡ j
 
 -- cards of one master and one epoch that were shown have one address
-abbrev pub HasOneAddress : List Said → Type 0
+abbrev pub HasOneAddress : List Advertisement → Type 0
 HasOneAddress said =
     (i j m : ℕ) (c d : Card) → Contains said (record { sentinel = i; master = m; card = c }) → Contains said (record { sentinel = j; master = m; card = d }) → c.epoch ≡ d.epoch → c.addr ≡ d.addr
 

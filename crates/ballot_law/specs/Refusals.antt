@@ -14,8 +14,8 @@ use Rattle.ballot_law.specs.declared.messages.Body.TheVariants.{PingText, Addres
 use Rattle.ballot_law.specs.declared.messages.Message.{Message}
 use Rattle.ballot_law.specs.declared.messages.NodeName.{NodeName}
 use Rattle.ballot_law.specs.declared.messages.NodeName.TheVariants.{SentinelAt, StoreAt, ClientAt, PortAt}
-use Rattle.ballot_law.specs.declared.records.Elected.{Elected}
-use Rattle.ballot_law.specs.declared.records.Said.{Said}
+use Rattle.ballot_law.specs.declared.records.Election.{Election}
+use Rattle.ballot_law.specs.declared.records.Advertisement.{Advertisement}
 use Rattle.ballot_law.specs.declared.steps.KeptText.TheVariants.{Old, New}
 use Rattle.ballot_law.specs.declared.steps.Step.{Step}
 use Rattle.ballot_law.specs.declared.steps.Step.TheVariants.{Take, Deliver, Store, StoreRefused, Release, Stop, Start, Answer}
@@ -169,7 +169,7 @@ flushed =
 abbrev pub steps : List Step
 steps = others_speak ++ asked ++ refused_old ++ refused_new ++ elected ++ flushed
 
-abbrev pub says : (m : ℕ) → Card → Said
+abbrev pub says : (m : ℕ) → Card → Advertisement
 says m card = record { sentinel = 0; master = m; card = card }
 
 -- what the world shows at the end
@@ -177,7 +177,7 @@ pub record IsEnd (last : World) : Type 0 where
   pub messages : Contains last.messages pong
   pub votes : last.votes ≡ vote 0 0 (MAX_EPOCH - 1) own_id ∷ vote 0 1 MAX_EPOCH own_id ∷ []
   -- the failover whose store was refused with the new text is no election
-  pub elected_are : last.elected ≡ (let e : Elected = record { sentinel = 0; master = 1; epoch = MAX_EPOCH } in e) ∷ []
+  pub elected_are : last.elected ≡ (let e : Election = record { sentinel = 0; master = 1; epoch = MAX_EPOCH } in e) ∷ []
   -- two answers to the question, one to MASTERS, and four at moments between
   pub said : last.said
       ≡ says 0 first_card

@@ -11,8 +11,8 @@ use Rattle.ballot_law.specs.declared.messages.NodeName.{NodeName}
 use Rattle.ballot_law.specs.declared.messages.NodeName.TheVariants.{SentinelAt, StoreAt, ClientAt}
 use Rattle.ballot_law.specs.declared.messages.Output.{Output}
 use Rattle.ballot_law.specs.declared.messages.Output.TheVariants.{Send, Tell}
-use Rattle.ballot_law.specs.declared.records.Elected.{Elected}
-use Rattle.ballot_law.specs.declared.records.Said.{Said}
+use Rattle.ballot_law.specs.declared.records.Election.{Election}
+use Rattle.ballot_law.specs.declared.records.Advertisement.{Advertisement}
 use Rattle.ballot_law.specs.declared.records.Win.{Win}
 use Rattle.ballot_law.specs.declared.replies.Hello.{Hello}
 use Rattle.ballot_law.specs.declared.steps.KeptText.{KeptText}
@@ -54,8 +54,8 @@ pub record World : Type 0 where
   pub clients : List (Option Other)
   pub messages : List Message
   pub votes : List Vote
-  pub elected : List Elected
-  pub said : List Said
+  pub elected : List Election
+  pub said : List Advertisement
 
 -- where no node is
 abbrev pub no_sentinel : Sentinel
@@ -143,10 +143,10 @@ started roster file =
 
 -- The world after a step of Sentinel i
 
-abbrev pub elected_by : ℕ → List Win → List Elected
+abbrev pub elected_by : ℕ → List Win → List Election
 elected_by i wins = map (λ win. record { sentinel = i; master = win.master; epoch = win.epoch }) wins
 
-abbrev pub said_by : ℕ → List Shown → List Said
+abbrev pub said_by : ℕ → List Shown → List Advertisement
 said_by i shown = map (λ s. record { sentinel = i; master = s.master; card = s.card }) shown
 
 -- the file is the new text, so the casts of the take are votes

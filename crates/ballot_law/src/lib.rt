@@ -41,7 +41,7 @@ pub use messages::{Body, Message, NodeName, Note, OUTPUTS_MAX, Output};
 pub use names::{NAME_MAX, Name};
 pub use ordering::{Placed, ordered};
 pub use periods::{REPLICA_MS, REPORT_MS, STEP_MS, TILT_MS};
-pub use records::{Elected, Said, Win};
+pub use records::{Advertisement, Election, Win};
 pub use replies::{DataRole, Hello, Info, PingReply, Role};
 pub use rosters::{Member, Roster, RosterFault, Watched};
 pub use steps::{KeptText, Step};

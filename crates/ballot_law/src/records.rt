@@ -4,7 +4,7 @@ use crate::cards::Card;
 
 /// The election of a Sentinel for a master in an epoch.
 #[derive(Clone, Copy, Debug, PartialEq, Eq)]
-pub struct Elected {
+pub struct Election {
     /// The Sentinel's place in the roster.
     pub sentinel: u16,
     pub master: u16,
@@ -14,7 +14,7 @@ pub struct Elected {
 
 /// A configuration that a Sentinel showed to a client or to other Sentinels.
 #[derive(Clone, Copy, Debug, PartialEq, Eq)]
-pub struct Said {
+pub struct Advertisement {
     /// The Sentinel's place in the roster.
     pub sentinel: u16,
     pub master: u16,

@@ -7,7 +7,7 @@ use Rattle.ballot_law.specs.declared.cards.Card.{Card}
 use Rattle.ballot_law.specs.declared.messages.Message.{Message}
 use Rattle.ballot_law.specs.declared.messages.NodeName.{NodeName}
 use Rattle.ballot_law.specs.declared.messages.NodeName.TheVariants.{SentinelAt, StoreAt, ClientAt, PortAt}
-use Rattle.ballot_law.specs.declared.records.Said.{Said}
+use Rattle.ballot_law.specs.declared.records.Advertisement.{Advertisement}
 use Rattle.ballot_law.specs.declared.steps.Step.TheVariants as step
 use Rattle.ballot_law.specs.Rosters.{Roster, size}
 use Rattle.ballot_law.specs.Ballots.{card_of}

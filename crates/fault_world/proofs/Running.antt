@@ -8,8 +8,8 @@ use Rattle.ballot_law.specs.declared.messages.NodeName.{NodeName}
 use Rattle.ballot_law.specs.declared.messages.NodeName.TheVariants.{SentinelAt, StoreAt, ClientAt, PortAt}
 use Rattle.ballot_law.specs.declared.messages.Output.{Output}
 use Rattle.ballot_law.specs.declared.messages.Output.TheVariants.{Send, Tell}
-use Rattle.ballot_law.specs.declared.records.Elected.{Elected}
-use Rattle.ballot_law.specs.declared.records.Said.{Said}
+use Rattle.ballot_law.specs.declared.records.Election.{Election}
+use Rattle.ballot_law.specs.declared.records.Advertisement.{Advertisement}
 use Rattle.ballot_law.specs.declared.records.Win.{Win}
 use Rattle.ballot_law.specs.declared.steps.KeptText.{KeptText}
 use Rattle.ballot_law.specs.declared.steps.KeptText.TheVariants.{Old, New}
@@ -69,7 +69,7 @@ one_step : (roster : Roster) (s : Step) (w w2 : World) (news : List Entry) (show
 one_step roster s w w2 news shown st g = record { last = w2; ran = (w2, news, [], st, (refl, refl), sym (append-nil news)); shows = g }
 
 -- the part of every step that applies
-pub moved : {M : Type 0} (name : M → NodeName) (seat : M → Roster → Image → Type 0) (roster : Roster) (members : List M) (messages more : List Message) (elected : List Elected) (said : List Said) (w : World) (k : ℕ) (m m2 : M) (image : Image) (s : Step) →
+pub moved : {M : Type 0} (name : M → NodeName) (seat : M → Roster → Image → Type 0) (roster : Roster) (members : List M) (messages more : List Message) (elected : List Election) (said : List Advertisement) (w : World) (k : ℕ) (m m2 : M) (image : Image) (s : Step) →
     IsShown name seat roster members messages w → slice_get members k ≡ Some m → name m2 ≡ name m → IsOfKind (name m) image → seat m2 roster image → AllByRecursion IsSendable more → mover_of w s ≡ Some (name m) → Applied roster s w (name m) image more elected said →
     RunsTo roster (s ∷ []) w (news_of roster elected said) (IsShown name seat roster (set members k m2) (messages ++ more))
 moved name seat roster members messages more elected said w k m m2 image s g at' named kind seated fine mover st =
@@ -86,7 +86,7 @@ moved name seat roster members messages more elected said w k m m2 image s g at'
     (shown_after name seat roster members messages more elected said w st.next_world k m m2 image g at' named kind seated fine st.changed)
 
 -- one that sends nothing
-pub moved_silently : {M : Type 0} (name : M → NodeName) (seat : M → Roster → Image → Type 0) (roster : Roster) (members : List M) (messages : List Message) (elected : List Elected) (said : List Said) (w : World) (k : ℕ) (m m2 : M) (image : Image) (s : Step) →
+pub moved_silently : {M : Type 0} (name : M → NodeName) (seat : M → Roster → Image → Type 0) (roster : Roster) (members : List M) (messages : List Message) (elected : List Election) (said : List Advertisement) (w : World) (k : ℕ) (m m2 : M) (image : Image) (s : Step) →
     IsShown name seat roster members messages w → slice_get members k ≡ Some m → name m2 ≡ name m → IsOfKind (name m) image → seat m2 roster image → mover_of w s ≡ Some (name m) → Applied roster s w (name m) image [] elected said →
     RunsTo roster (s ∷ []) w (news_of roster elected said) (IsShown name seat roster (set members k m2) messages)
 moved_silently name seat roster members messages elected said w k m m2 image s g at' named kind seated mover st =

@@ -5,8 +5,8 @@ use Rattle.std.proofs.lemmas.List.{set-get_or}
 use Rattle.ballot_law.specs.declared.messages.Message.{Message}
 use Rattle.ballot_law.specs.declared.messages.NodeName.{NodeName}
 use Rattle.ballot_law.specs.declared.messages.NodeName.TheVariants.{SentinelAt, StoreAt, ClientAt, PortAt}
-use Rattle.ballot_law.specs.declared.records.Elected.{Elected}
-use Rattle.ballot_law.specs.declared.records.Said.{Said}
+use Rattle.ballot_law.specs.declared.records.Election.{Election}
+use Rattle.ballot_law.specs.declared.records.Advertisement.{Advertisement}
 use Rattle.ballot_law.specs.declared.records.Win.{Win}
 use Rattle.ballot_law.specs.Messages.{advertised_by}
 use Rattle.ballot_law.specs.Rosters.{Roster}
@@ -21,16 +21,16 @@ with_image w (ClientAt k) (OfOther o) = with_other w (ClientAt k) o
 with_image w name image = w
 
 -- the elections that a store of this node brings, and what a release of it advertises
-abbrev pub elected_of : NodeName → Image → List Elected
+abbrev pub elected_of : NodeName → Image → List Election
 elected_of (SentinelAt i) (OfSentinel s) = elected_by i s.parts.wins
 elected_of name image = []
 
-abbrev pub said_of : Roster → NodeName → Image → List Said
+abbrev pub said_of : Roster → NodeName → Image → List Advertisement
 said_of roster (SentinelAt i) (OfSentinel s) = said_by i (advertised_by roster s.held)
 said_of roster name image = []
 
 -- this node has become this image, and these have joined the lists; all else stays
-pub record Changed (w : World) (name : NodeName) (image : Image) (messages : List Message) (elected : List Elected) (said : List Said) (w2 : World) : Type 0 where
+pub record Changed (w : World) (name : NodeName) (image : Image) (messages : List Message) (elected : List Election) (said : List Advertisement) (w2 : World) : Type 0 where
   pub sentinels : w2.sentinels ≡ (with_image w name image).sentinels
   pub stores : w2.stores ≡ (with_image w name image).stores
   pub clients : w2.clients ≡ (with_image w name image).clients

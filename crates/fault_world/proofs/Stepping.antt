@@ -7,8 +7,8 @@ use Rattle.ballot_law.specs.declared.messages.Message.{Message}
 use Rattle.ballot_law.specs.declared.messages.NodeName.{NodeName}
 use Rattle.ballot_law.specs.declared.messages.NodeName.TheVariants.{SentinelAt, StoreAt, ClientAt, PortAt}
 use Rattle.ballot_law.specs.declared.messages.Output.{Output}
-use Rattle.ballot_law.specs.declared.records.Elected.{Elected}
-use Rattle.ballot_law.specs.declared.records.Said.{Said}
+use Rattle.ballot_law.specs.declared.records.Election.{Election}
+use Rattle.ballot_law.specs.declared.records.Advertisement.{Advertisement}
 use Rattle.ballot_law.specs.declared.steps.KeptText.{KeptText}
 use Rattle.ballot_law.specs.declared.steps.KeptText.TheVariants.{Old, New}
 use Rattle.ballot_law.specs.declared.steps.Step.{Step}
@@ -21,7 +21,7 @@ use Rattle.boxed_nodes.specs.Images.{Image, OfSentinel, OfOther, image_at, state
 use Rattle.fault_world.proofs.Seen.{with_image, elected_of, said_of, Changed, unchanged}
 
 -- a step that applies is a step of the model, and changes one node
-pub record Applied (roster : Roster) (s : Step) (w : World) (name : NodeName) (image : Image) (messages : List Message) (elected : List Elected) (said : List Said) : Type 0 where
+pub record Applied (roster : Roster) (s : Step) (w : World) (name : NodeName) (image : Image) (messages : List Message) (elected : List Election) (said : List Advertisement) : Type 0 where
   pub next_world : World
   pub steps : Steps roster s w next_world
   pub changed : Changed w name image messages elected said next_world
@@ -100,7 +100,7 @@ store_steps roster w (ClientAt k) node p =
 store_steps roster w (PortAt k) node p = absurd node
 
 -- the elections of a store that was to be refused: those of a store, where there was nothing to refuse
-abbrev pub elected_unless : Bool → NodeName → Image → List Elected
+abbrev pub elected_unless : Bool → NodeName → Image → List Election
 elected_unless true name image = []
 elected_unless false name image = elected_of name image
 

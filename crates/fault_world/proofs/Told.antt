@@ -6,7 +6,7 @@ use Rattle.std.proofs.lemmas.List.Concat.{flat_map-cons}
 use Rattle.ballot_law.specs.declared.cards.Shown.{Shown}
 use Rattle.ballot_law.specs.declared.messages.Output.{Output}
 use Rattle.ballot_law.specs.declared.messages.Output.TheVariants.{Send, Tell}
-use Rattle.ballot_law.specs.declared.records.Said.{Said}
+use Rattle.ballot_law.specs.declared.records.Advertisement.{Advertisement}
 use Rattle.ballot_law.specs.Messages.{advertised, advertised_by}
 use Rattle.ballot_law.specs.Rosters.{Roster}
 use Rattle.ballot_law.specs.Worlds.{said_by}
@@ -28,7 +28,7 @@ all_shown roster i shown k before after past e = e ∙ ap (λ xs. before ++ map 
 
 said_append : (roster : Roster) (i : ℕ) (xs ys : List Shown) → map (entry_of_said roster) (said_by i (xs ++ ys)) ≡ map (entry_of_said roster) (said_by i xs) ++ map (entry_of_said roster) (said_by i ys)
 said_append roster i xs ys =
-    ap (map (entry_of_said roster)) (map-append (λ (s : Shown). let said : Said = record { sentinel = i; master = s.master; card = s.card } in said) xs ys) ∙ map-append (entry_of_said roster) (said_by i xs) (said_by i ys)
+    ap (map (entry_of_said roster)) (map-append (λ (s : Shown). let said : Advertisement = record { sentinel = i; master = s.master; card = s.card } in said) xs ys) ∙ map-append (entry_of_said roster) (said_by i xs) (said_by i ys)
 
 outputs_told : (roster : Roster) (i : ℕ) (outputs : List Output) → flat_map (news_of_output roster i) outputs ≡ map (entry_of_said roster) (said_by i (advertised_by roster outputs))
 outputs_told roster i [] = refl

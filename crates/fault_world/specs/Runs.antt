@@ -2,8 +2,8 @@
 use Rattle.std.specs.Prelude.{◌≡◌, ◌≢◌, Option, Some, None, List, [], ◌∷◌, ◌++◌, slice_get}
 use Rattle.std.specs.Option.{option_map}
 use Rattle.ballot_law.specs.declared.messages.NodeName.{NodeName}
-use Rattle.ballot_law.specs.declared.records.Elected.{Elected}
-use Rattle.ballot_law.specs.declared.records.Said.{Said}
+use Rattle.ballot_law.specs.declared.records.Election.{Election}
+use Rattle.ballot_law.specs.declared.records.Advertisement.{Advertisement}
 use Rattle.ballot_law.specs.declared.steps.Step.{Step}
 use Rattle.ballot_law.specs.declared.steps.Step.TheVariants.{Take, Deliver, Store, StoreRefused, Release, Stop, Start, Answer}
 use Rattle.ballot_law.specs.declared.steps.KeptText.TheVariants.{Old, New}
@@ -34,8 +34,8 @@ IsStill mover w w2 = (node : NodeName) → Some node ≢ mover → image_at w2 n
 pub record Stepped (roster : Roster) (step : Step) (w : World) (news : List Entry) (w2 : World) : Type 0 where
   pub steps : Steps roster step w w2
   pub still : IsStill (mover_of w step) w w2
-  pub elected : List Elected
-  pub said : List Said
+  pub elected : List Election
+  pub said : List Advertisement
   pub elected_are : w2.elected ≡ w.elected ++ elected
   pub said_are : w2.said ≡ w.said ++ said
   pub news_are : news ≡ news_of roster elected said

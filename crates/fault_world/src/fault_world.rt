@@ -19,8 +19,8 @@ use crate::faults::RunFault;
 use crate::sending::send_all;
 use crate::telling::{SHOWN_MAX, tell_released, tell_said, tell_won};
 use ballot_law::{
-    Input, KeptText, Message, NoMemory, NodeName, Output, Roster, Said, Step, law_never_falls,
-    law_one_address, law_one_leader,
+    Advertisement, Input, KeptText, Message, NoMemory, NodeName, Output, Roster, Step,
+    law_never_falls, law_one_address, law_one_leader,
 };
 use deliveries::event_of;
 use std::alloc::Global;
@@ -253,7 +253,7 @@ impl FaultWorld {
             tell_said(
                 report,
                 &self.roster,
-                &Said {
+                &Advertisement {
                     sentinel,
                     master,
                     card,

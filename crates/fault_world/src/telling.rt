@@ -11,14 +11,14 @@ ghost use Rattle.world_reports.specs.Told.{entry_of_election, entry_of_said};
 ghost use Rattle.fault_world.specs.News.{elected_told, said_told, IsInGroup};
 
 use crate::names::master_named;
-use ballot_law::{Body, Card, Elected, NodeName, Output, Roster, Said, Shown};
+use ballot_law::{Advertisement, Body, Card, Election, NodeName, Output, Roster, Shown};
 use world_reports::{Entry, Report};
 
 /// How many configurations one message advertises at most.
 pub(crate) const SHOWN_MAX: usize = 16;
 
 /// Tells of a configuration that a Sentinel showed; both the Sentinel and the master are in the roster.
-pub(crate) fn tell_said(report: &mut Report, roster: &Roster, said: &Said)
+pub(crate) fn tell_said(report: &mut Report, roster: &Roster, said: &Advertisement)
     requires sentinel { said.now.sentinel < size roster.now }
     requires master { said.now.master < length roster.now.masters }
     requires room { 0 < report.old.room }
@@ -49,7 +49,7 @@ pub(crate) fn tell_won(
     };
     report.push(Entry::of_election(
         roster,
-        &Elected {
+        &Election {
             sentinel,
             master,
             epoch,
@@ -70,7 +70,7 @@ fn tell_shown(report: &mut Report, roster: &Roster, sentinel: u16, shown: &[Show
         tell_said(
             report,
             roster,
-            &Said {
+            &Advertisement {
                 sentinel,
                 master: one.master,
                 card: one.card,
@@ -96,7 +96,7 @@ fn tell_body(report: &mut Report, roster: &Roster, sentinel: u16, body: &Body)
                 tell_said(
                     report,
                     roster,
-                    &Said {
+                    &Advertisement {
                         sentinel,
                         master,
                         card: hello.card,
@@ -107,7 +107,7 @@ fn tell_body(report: &mut Report, roster: &Roster, sentinel: u16, body: &Body)
         Body::AddressAnswer(Some(shown)) => tell_said(
             report,
             roster,
-            &Said {
+            &Advertisement {
                 sentinel,
                 master: shown.master,
                 card: shown.card,

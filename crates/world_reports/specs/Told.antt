@@ -3,18 +3,18 @@ use Rattle.std.specs.Prelude.{ℕ, List, [], ◌∷◌, ◌++◌, codes, decimal
 use Rattle.std.specs.List.{flat_map}
 use Rattle.ballot_law.specs.declared.addresses.RunId.{RunId}
 use Rattle.ballot_law.specs.declared.cards.Card.{Card}
-use Rattle.ballot_law.specs.declared.records.Elected as election
-use Rattle.ballot_law.specs.declared.records.Said as showing
+use Rattle.ballot_law.specs.declared.records.Election.{Election}
+use Rattle.ballot_law.specs.declared.records.Advertisement.{Advertisement}
 use Rattle.ballot_law.specs.Rosters.{Roster, master_at, id_of}
 use Rattle.ballot_law.specs.Words.{ip_text, id_text}
 use Rattle.world_reports.specs.declared.entry.Entry.{Entry}
 use Rattle.world_reports.specs.declared.entry.Entry.TheVariants.{Elected, Said}
 
 -- the entry of an election of the model, and of a configuration that was shown in it: numbers become a run id and a name
-abbrev pub entry_of_election : Roster → election.Elected → Entry
+abbrev pub entry_of_election : Roster → Election → Entry
 entry_of_election roster e = Elected (master_at roster e.master).name e.epoch (id_of roster e.sentinel)
 
-abbrev pub entry_of_said : Roster → showing.Said → Entry
+abbrev pub entry_of_said : Roster → Advertisement → Entry
 entry_of_said roster s = Said (id_of roster s.sentinel) (master_at roster s.master).name s.card
 
 -- words with a space between two, and LF at the end

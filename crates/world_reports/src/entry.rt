@@ -4,7 +4,7 @@ ghost use Rattle.std.specs.Prelude.{◌≡◌, ◌<◌, length};
 ghost use Rattle.ballot_law.specs.Rosters.{size};
 ghost use Rattle.world_reports.specs.Told.{entry_of_election, entry_of_said};
 
-use ballot_law::{Card, Elected, Name, Roster, RunId, Said};
+use ballot_law::{Advertisement, Card, Election, Name, Roster, RunId};
 
 /// What happened, in the words of the roster.
 #[derive(Clone, Copy, Debug, PartialEq, Eq)]
@@ -28,7 +28,7 @@ pub enum Entry {
 
 impl Entry {
     /// The entry of an election: the numbers of the Sentinel and of the master become its run id and its name. Both are in the roster.
-    pub fn of_election(roster: &Roster, election: &Elected) -> Entry
+    pub fn of_election(roster: &Roster, election: &Election) -> Entry
         requires sentinel { election.now.sentinel < size roster.now }
         requires master { election.now.master < length roster.now.masters }
         ensures { result ≡ entry_of_election roster.now election.now }
@@ -44,7 +44,7 @@ impl Entry {
 
     /// The entry of a configuration that was shown: the numbers of the Sentinel and of the master become its run id and its name. Both
     /// are in the roster.
-    pub fn of_said(roster: &Roster, said: &Said) -> Entry
+    pub fn of_said(roster: &Roster, said: &Advertisement) -> Entry
         requires sentinel { said.now.sentinel < size roster.now }
         requires master { said.now.master < length roster.now.masters }
         ensures { result ≡ entry_of_said roster.now said.now }

@@ -1,6 +1,8 @@
 //! Reports of a run as text, as `sentinel_group replay` prints them.
 
-use ballot_law::{Addr, Card, Elected, MAX_EPOCH, Member, Name, Roster, RunId, Said, Watched};
+use ballot_law::{
+    Addr, Advertisement, Card, Election, MAX_EPOCH, Member, Name, Roster, RunId, Watched,
+};
 use resp2_frames::OutText;
 use std::alloc::Global;
 use std::test::Fail;
@@ -41,7 +43,7 @@ fn roster(alloc: Global) -> Result<Roster, Fail> {
 
 /// The entry of an election.
 fn elected(roster: &Roster, sentinel: u16, master: u16, epoch: u64) -> Result<Entry, Fail> {
-    let election = Elected {
+    let election = Election {
         sentinel,
         master,
         epoch,
@@ -56,7 +58,7 @@ fn elected(roster: &Roster, sentinel: u16, master: u16, epoch: u64) -> Result<En
 
 /// The entry of a configuration that was shown.
 fn said(roster: &Roster, sentinel: u16, master: u16, card: Card) -> Result<Entry, Fail> {
-    let said = Said {
+    let said = Advertisement {
         sentinel,
         master,
         card,

@@ -96,7 +96,7 @@ impl<N: Node> LoneNode<N> {
     }
 
     /// Takes an input, stores and releases: what it says, a message a line.
-    #[tactic(auto, using(super::proofs::Sending::each_sendable))]
+    #[tactic(auto, using(crate::proofs::Sending::each_sendable))]
     pub(crate) fn says(&mut self, event: Event) -> Result<OutText, Fail>
         requires { IsTakeable event }
     {
