@@ -1,0 +1,4 @@
+pub mod Lines
+pub mod Turning
+pub mod Replying
+pub mod Stepping

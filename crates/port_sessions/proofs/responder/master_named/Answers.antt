@@ -1,0 +1,10 @@
+use Rattle.std.proofs.Common.{◌∙◌, refl}
+use Rattle.sentinel_plan.proofs.MasterNames.{found_named}
+use Rattle.sentinel_rules.specs.Plans.{roster_of}
+use Rattle.port_sessions.proofs.responder.master_named.Goals as goal
+
+pub returns-in-Some-clause-value : goal.returns-in-Some-clause-value
+returns-in-Some-clause-value g c =
+    let plan = c.args.cell.now.start.plan in
+    rw c.in-Some.is (rw c.roster-roster.ensures at (found_named _ c.roster-roster.result.now c.in-Some.name c.master_named.result refl c.is_made.ensures.names
+    c.master_named.ensures.some c.master_named.ensures.none))

@@ -1,0 +1,88 @@
+-- What is true within a call that takes a piece.
+use Rattle.std.specs.Prelude.{◌≡◌, ◌≢◌, ◌⊎◌, ◌++◌, ◌∷◌, ℕ, Bool, true, false, List, [], Result, Ok, Err}
+use Rattle.ballot_law.specs.declared.commands.Command.{Command}
+use Rattle.ballot_law.specs.declared.messages.Message.{Message}
+use Rattle.ballot_law.specs.declared.messages.Output.{Output}
+use Rattle.ballot_law.specs.declared.messages.Output.TheVariants.{Send}
+use Rattle.message_texts.specs.MessageTexts.{IsWritable}
+use Rattle.port_serving.specs.declared.fault.ServeFault.{ServeFault}
+use Rattle.port_serving.specs.declared.fault.ServeFault.TheVariants.{Frame as FaultyFrame, Read, Write, Halted as Refused, NoMemory as OutOfMemory}
+use Rattle.port_serving.specs.Serving.{last_line}
+use Rattle.resp2.specs.declared.command.CommandFault.{CommandFault}
+use Rattle.resp2_frames.specs.declared.fault.FrameFault.{FrameFault}
+use Rattle.resp2_frames.specs.declared.fault.FrameFault.TheVariants.{NoMemory as FrameMemory}
+use Rattle.resp2_frames.specs.Frame.{Frame}
+use Rattle.resp2_frames.specs.Stream.{Held, reading, Parts}
+use Rattle.sentinel_cell.specs.declared.entry.Outcome.TheVariants.{Stored}
+use Rattle.sentinel_cell.specs.declared.fault.ActFault.{ActFault}
+use Rattle.sentinel_cell.specs.declared.fault.ActFault.TheVariants.{NoMemory, Spent, Halted as Stopped, StoreRefused}
+use Rattle.sentinel_cell.specs.declared.view.View.{View}
+use Rattle.sentinel_cell.specs.Histories.{World}
+use Rattle.sentinel_cell.specs.Standing.{Adds, Faulted}
+use Rattle.port_sessions.specs.Talks.{asked, Replies, AnswersTo, IsHaltedAt, IsAnswered, Breaks}
+
+module _ (start : World) (now : ℕ) where
+  -- a command took its turn, and shows one message
+  abbrev pub ShowsAnswer : View → Command → (shown : List Output) → View → Type 0
+  ShowsAnswer v command outputs w =
+      (message : Message) × (outputs ≡ Send message ∷ []) × IsWritable message.body × Adds start v (asked now command) Stored outputs w
+
+  -- it showed nothing
+  abbrev pub ShowsNothing : View → Command → ServeFault → View → Type 0
+  ShowsNothing v command Refused w = (why : ActFault) × (why ≢ NoMemory) × Faulted start v (asked now command) [] w why
+  ShowsNothing v command OutOfMemory w = w ≡ v
+  ShowsNothing v command (FaultyFrame fault) w = ⊥
+  ShowsNothing v command Read w = ⊥
+  ShowsNothing v command Write w = ⊥
+
+  -- how the turn of a command ends
+  abbrev pub Turns : {X : Type 0} → View → Command → Result X ServeFault → (shown : List Output) → View → Type 0
+  Turns v command (Ok x) outputs w = ShowsAnswer v command outputs w
+  Turns v command (Err fault) outputs w = ShowsNothing v command fault w
+
+  -- a value has no answer
+  abbrev pub Fails : View → Result Command CommandFault → ServeFault → View → Type 0
+  Fails v command Refused w = IsHaltedAt start now v command w
+  Fails v command OutOfMemory w = (w ≡ v) ⊎ ((bytes : List ℕ) × Replies start now v command bytes w)
+  Fails v command (FaultyFrame fault) w = ⊥
+  Fails v command Read w = ⊥
+  Fails v command Write w = ⊥
+
+  -- how the answering of one value ends
+  abbrev pub Ends : {X : Type 0} → View → Result Command CommandFault → Result X ServeFault → (text : List ℕ) → View → Type 0
+  Ends v command (Ok x) text w = Replies start now v command text w
+  Ends v command (Err fault) text w = Fails v command fault w
+
+  -- these values of the stream were answered, and the bytes behind them are held
+  pub record IsOnTheWay (stream : List ℕ) (v : View) (held : Held) (bytes : List ℕ) (w : View) : Type 0 where
+    pub values : List Frame
+    pub rest : List ℕ
+    pub held_is : held ≡ reading rest
+    pub parts : Parts stream values rest
+    pub answers : AnswersTo start now v values bytes w
+
+  -- all values of the stream were answered
+  abbrev pub IsDone : (stream : List ℕ) → View → Held → (bytes : List ℕ) → View → Type 0
+  IsDone stream v held bytes w = (rest : List ℕ) × (held ≡ reading rest) × IsAnswered start now stream v rest bytes w
+
+  -- how the answering of the first whole value ends: it was answered, or there is none
+  abbrev pub Steps : (stream : List ℕ) → View → Result Bool ServeFault → Held → (bytes : List ℕ) → View → Type 0
+  Steps stream v (Ok true) held bytes w = IsOnTheWay stream v held bytes w
+  Steps stream v (Ok false) held bytes w = IsDone stream v held bytes w
+  Steps stream v (Err fault) held bytes w = Breaks start now stream v fault bytes w
+
+  -- how the answering of all whole values ends
+  abbrev pub Drains : {X : Type 0} → (stream : List ℕ) → View → Result X ServeFault → Held → (bytes : List ℕ) → View → Type 0
+  Drains stream v (Ok x) held bytes w = IsDone stream v held bytes w
+  Drains stream v (Err fault) held bytes w = Breaks start now stream v fault bytes w
+
+-- the fault that ends a session at a turn that shows nothing
+abbrev pub ended_by : ActFault → ServeFault
+ended_by NoMemory = OutOfMemory
+ended_by Spent = Refused
+ended_by Stopped = Refused
+ended_by StoreRefused = Refused
+
+-- the fault that ends a session at a frame's fault, and what is put out for it
+abbrev pub Refuses : FrameFault → (line : List ℕ) → ServeFault → Type 0
+Refuses fault line why = ((why ≡ OutOfMemory) × (line ≡ [])) ⊎ ((fault ≢ FrameMemory) × (why ≡ FaultyFrame fault) × (line ≡ last_line))

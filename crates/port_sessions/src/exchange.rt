@@ -1,0 +1,167 @@
+//! What came from a client and what goes to it.
+
+ghost use Rattle.std.specs.Prelude.{◌≡◌, ◌≤◌, ◌<◌, ◌++◌, ℕ, List, [], OnOk, OnErr, IfOk, IfErr, IsTrue, length, drop};
+ghost use Rattle.resp2_frames.specs.Stream.{reading, held_size};
+ghost use Rattle.sentinel_cell.specs.declared.view.View.{View};
+ghost use Rattle.port_sessions.specs.Talks.{Receives, bytes_in};
+ghost use Rattle.port_sessions.specs.OnTheWay.{IsOnTheWay, Steps, Drains, Refuses};
+
+use crate::responder::Responder;
+use bytes::BytesMut;
+use port_serving::ServeFault;
+use resp2::{FrameFault, Frames};
+use sentinel_cell::{Seat, SharedSentinel};
+use sentinel_conf::ConfStore;
+use std::alloc::Global;
+use std::sync::Wait;
+
+/// The bytes that came, what answers the values in them, and the answers that aren't sent yet.
+#[derive(Drop)]
+pub(crate) struct Exchange {
+    alloc: Global,
+    pub(crate) frames: Frames,
+    responder: Responder,
+    pub(crate) unsent: BytesMut,
+}
+
+impl Exchange {
+    /// Nothing came yet. No memory is taken.
+    pub(crate) fn new(alloc: Global) -> Exchange
+        ensures frames { result.frames ≡ reading [] }
+        ensures unsent { result.unsent.items ≡ [] }
+    {
+        Exchange {
+            alloc,
+            frames: Frames::new(alloc),
+            responder: Responder::new(alloc),
+            unsent: BytesMut::new(alloc),
+        }
+    }
+
+    /// The answers that aren't sent yet.
+    pub(crate) fn unsent(&self) -> &[u8]
+        ensures { result.now ≡ self.now.unsent.items }
+    {
+        self.unsent.as_slice()
+    }
+
+    /// Takes the first `n` bytes of them away.
+    pub(crate) fn sent(&mut self, n: usize)
+        requires { n ≤ length self.old.unsent.items }
+        ensures unsent { self.new.unsent.items ≡ drop n self.old.unsent.items }
+        ensures frames { self.new.frames ≡ self.old.frames }
+    {
+        self.unsent.advance(n);
+    }
+
+    /// Drops the bytes that are no whole value.
+    pub(crate) fn drop_held(&mut self)
+        ensures frames { self.new.frames ≡ reading [] }
+        ensures unsent { self.new.unsent.items ≡ self.old.unsent.items }
+    {
+        self.frames = Frames::new(self.alloc);
+    }
+
+    /// Puts out the answer that the responder has.
+    fn put_out(&mut self) -> Result<(), ServeFault>
+        ensures frames { self.new.frames ≡ self.old.frames }
+        ensures ok { OnOk result (self.new.unsent.items ≡ self.old.unsent.items ++ self.old.responder.text) }
+        ensures err { OnErr result (self.new.unsent.items ≡ self.old.unsent.items) }
+        ensures fault { IfErr result (λ fault. fault ≡ ServeFault.NoMemory) }
+    {
+        match self.unsent.extend_from_slice(self.responder.text()) {
+            Ok(()) => Ok(()),
+            Err(_) => Err(ServeFault::NoMemory),
+        }
+    }
+
+    /// Puts out the line of a frame's fault, and gives the fault that ends the session.
+    fn refuse(&mut self, fault: FrameFault) -> ServeFault
+        ensures frames { self.new.frames ≡ self.old.frames }
+        ensures refused { (line : List ℕ) × (self.new.unsent.items ≡ self.old.unsent.items ++ line) × Refuses fault line result }
+    {
+        if let FrameFault::NoMemory = fault {
+            return ServeFault::NoMemory;
+        }
+        if self.responder.answer_protocol_error().is_err() || self.put_out().is_err() {
+            return ServeFault::NoMemory;
+        }
+        ServeFault::Frame(fault)
+    }
+
+    /// Answers the first value that is whole, and tells whether there was one.
+    fn answer_next<S: ConfStore, R: Wait>(
+        &mut self,
+        rt: &R,
+        cell: &SharedSentinel<S>,
+        seat: &mut Seat,
+        now: u64,
+    ) -> Result<bool, ServeFault>
+        requires own { seat.old.cell ≡ cell.now.id }
+        ensures own { seat.new.cell ≡ seat.old.cell }
+        ensures smaller { IfOk result (λ more. IsTrue more → held_size self.new.frames < held_size self.old.frames) }
+        ensures answered { (stream before bytes : List ℕ) (v : View) → self.old.unsent.items ≡ before ++ bytes
+            → IsOnTheWay cell.now.start now stream v self.old.frames bytes seat.old.view
+            → (more : List ℕ) × (self.new.unsent.items ≡ before ++ more)
+            × Steps cell.now.start now stream v result self.new.frames more seat.new.view }
+    {
+        let value = match self.frames.next() {
+            Ok(Some(value)) => value,
+            Ok(None) => return Ok(false),
+            Err(fault) => return Err(self.refuse(fault)),
+        };
+        if let Err(fault) = self.responder.answer(rt, cell, seat, now, &value) {
+            return Err(fault);
+        }
+        match self.put_out() {
+            Ok(()) => Ok(true),
+            Err(fault) => Err(fault),
+        }
+    }
+
+    /// Answers each value that is whole.
+    fn answer_whole<S: ConfStore, R: Wait>(
+        &mut self,
+        rt: &R,
+        cell: &SharedSentinel<S>,
+        seat: &mut Seat,
+        now: u64,
+    ) -> Result<(), ServeFault>
+        requires own { seat.old.cell ≡ cell.now.id }
+        ensures own { seat.new.cell ≡ seat.old.cell }
+        ensures answered { (stream before bytes : List ℕ) (v : View) → self.old.unsent.items ≡ before ++ bytes
+            → IsOnTheWay cell.now.start now stream v self.old.frames bytes seat.old.view
+            → (more : List ℕ) × (self.new.unsent.items ≡ before ++ more)
+            × Drains cell.now.start now stream v result self.new.frames more seat.new.view }
+    {
+        loop {
+            match self.answer_next(rt, cell, seat, now) {
+                Ok(true) => {}
+                Ok(false) => return Ok(()),
+                Err(fault) => return Err(fault),
+            }
+        }
+    }
+
+    /// Takes the next piece, and answers the values that are whole with it.
+    pub(crate) fn take_piece<S: ConfStore, R: Wait>(
+        &mut self,
+        rt: &R,
+        cell: &SharedSentinel<S>,
+        seat: &mut Seat,
+        now: u64,
+        piece: &[u8],
+    ) -> Result<(), ServeFault>
+        requires own { seat.old.cell ≡ cell.now.id }
+        requires open { self.old.frames ≡ reading (bytes_in self.old.frames) }
+        ensures own { seat.new.cell ≡ seat.old.cell }
+        ensures open { OnOk result (self.new.frames ≡ reading (bytes_in self.new.frames)) }
+        ensures received { (more : List ℕ) × (self.new.unsent.items ≡ self.old.unsent.items ++ more)
+            × Receives cell.now.start now (bytes_in self.old.frames ++ piece.now) seat.old.view result (bytes_in self.new.frames) more seat.new.view }
+    {
+        if self.frames.feed(piece).is_err() {
+            return Err(ServeFault::NoMemory);
+        }
+        self.answer_whole(rt, cell, seat, now)
+    }
+}

@@ -1,0 +1,23 @@
+//! The conversation with one client of a port of a Sentinel that threads share.
+//!
+//! A client's bytes come in pieces of any length, and its answers are taken away as the connection takes them. A `Session` has what lies between: the bytes
+//! that are no whole value yet, and the answers that aren't sent yet. It knows no socket and no clock; who has the connection hands it
+//! what came.
+//!
+//! ```text
+//! let mut session = Session::new(alloc);
+//! let heard = session.received(rt, &cell, &mut seat, now, piece);    // its answers stand behind those that aren't sent yet
+//! let count = connection.write(session.unsent())?;
+//! session.sent(count);
+//! if heard.is_err() && session.unsent().is_empty() { close(connection) }
+//! ```
+//!
+//! What a stream of commands is answered stands in `Talks`.
+#![tactic(auto)]
+
+mod exchange;
+mod responder;
+mod session;
+
+pub use port_serving::ServeFault;
+pub use session::Session;

@@ -1,0 +1,245 @@
+//! The answer to one value.
+
+ghost use Rattle.std.specs.Prelude.{◌≡◌, ◌<◌, ℕ, [], None, Ok, Err, true, IfSome, OnOk, IfErr, IsErr};
+ghost use Rattle.ballot_law.specs.declared.messages.Body.TheVariants.{AddressAnswer};
+ghost use Rattle.message_texts.specs.MessageTexts.{message_bytes, IsWritable};
+ghost use Rattle.port_answers.specs.Answers.{command_fault};
+ghost use Rattle.port_serving.specs.Serving.{last_line};
+ghost use Rattle.resp2.specs.Commands.{command_of, IsWithin};
+ghost use Rattle.resp2_frames.specs.Frame.{view, spelling};
+ghost use Rattle.sentinel_rules.specs.Answers.{named};
+ghost use Rattle.sentinel_rules.specs.Plans.{master_count};
+ghost use Rattle.port_sessions.specs.Talks.{IsTold, takes_turn};
+ghost use Rattle.port_sessions.specs.OnTheWay.{Ends, Turns, ended_by};
+
+use ballot_law::{Body, Card, Command, Event, Input, Message, Name, NodeName, Output, Shown};
+use message_texts::message_text;
+use port_answers::AnswerText;
+use port_serving::ServeFault;
+use resp2::{CommandFault, OutText, Value, command_of};
+use sentinel_cell::{ActFault, Seat, SharedSentinel};
+use sentinel_conf::ConfStore;
+use sentinel_outbox::Outbox;
+use std::alloc::Global;
+use std::sync::Wait;
+
+/// What answers one value after another: the room for the outputs of a command, and the text of the last answer.
+#[derive(Drop)]
+pub(crate) struct Responder {
+    alloc: Global,
+    outbox: Outbox,
+    pub(crate) text: OutText,
+    ghost none_held: { outbox.held ≡ [] },
+}
+
+/// The number of the master that a question names, where there is such a master.
+fn master_named<S: ConfStore>(cell: &SharedSentinel<S>, name: Option<Name>) -> Option<u16>
+    ensures value { result ≡ named cell.now.start.plan name }
+    ensures known { IfSome result (λ m. m < master_count cell.now.start.plan) }
+{
+    let roster = cell.roster();
+    roster.is_made();
+    match name {
+        Some(name) => roster.master_named(&name),
+        None => None,
+    }
+}
+
+/// What one load of its word tells of the master with this name.
+fn told_of<S: ConfStore>(
+    cell: &SharedSentinel<S>,
+    seat: &mut Seat,
+    name: Option<Name>,
+) -> Option<Shown>
+    requires own { seat.old.cell ≡ cell.now.id }
+    ensures own { seat.new.cell ≡ seat.old.cell }
+    ensures told { IsTold cell.now.start seat.old.view (named cell.now.start.plan name) result seat.new.view }
+{
+    let Some(master) = master_named(cell, name) else {
+        return None;
+    };
+    let Some((epoch, addr)) = cell.address(seat, master) else {
+        unreachable!()
+    };
+    Some(Shown {
+        master,
+        card: Card { epoch, addr },
+    })
+}
+
+/// The answer to a question for an address, as a message at the port; neither of its ends stands on the wire.
+fn address_answer(shown: Option<Shown>) -> Message
+    ensures { result.body ≡ AddressAnswer shown }
+{
+    Message {
+        sender: NodeName::PortAt(0),
+        target: NodeName::PortAt(0),
+        body: Body::AddressAnswer(shown),
+    }
+}
+
+/// Has the text hold this message, and nothing else.
+fn write_message(alloc: Global, message: &Message, text: &mut OutText) -> Result<(), ServeFault>
+    requires { IsWritable message.now.body }
+    ensures ok { OnOk result (text.new ≡ message_bytes message.now.body) }
+    ensures fault { IfErr result (λ fault. fault ≡ ServeFault.NoMemory) }
+{
+    text.clear();
+    match message_text(alloc, message, text) {
+        Ok(()) => Ok(()),
+        Err(_) => Err(ServeFault::NoMemory),
+    }
+}
+
+/// The fault that ends a session at a turn that shows nothing.
+fn of_act(fault: ActFault) -> ServeFault
+    ensures { result ≡ ended_by fault }
+{
+    match fault {
+        ActFault::NoMemory => ServeFault::NoMemory,
+        ActFault::Spent => ServeFault::Halted,
+        ActFault::Halted => ServeFault::Halted,
+        ActFault::StoreRefused => ServeFault::Halted,
+    }
+}
+
+impl Responder {
+    /// No answer was given yet. No memory is taken.
+    pub(crate) fn new(alloc: Global) -> Responder {
+        Responder {
+            alloc,
+            outbox: Outbox::new(alloc),
+            text: OutText::new(alloc),
+        }
+    }
+
+    /// The last answer.
+    pub(crate) fn text(&self) -> &[u8]
+        ensures { result.now ≡ self.now.text }
+    {
+        self.text.as_slice()
+    }
+
+    /// The answer is this line.
+    fn answer_line(&mut self, line: &AnswerText) -> Result<(), ServeFault>
+        ensures ok { OnOk result (self.new.text ≡ line.now) }
+        ensures fault { IfErr result (λ fault. fault ≡ ServeFault.NoMemory) }
+    {
+        self.text.clear();
+        match self.text.add(line.as_slice()) {
+            Ok(()) => Ok(()),
+            Err(_) => Err(ServeFault::NoMemory),
+        }
+    }
+
+    /// The answer to bytes that are no RESP2.
+    #[tactic(auto, using(crate::proofs::Lines::protocol_error_fits))]
+    pub(crate) fn answer_protocol_error(&mut self) -> Result<(), ServeFault>
+        ensures ok { OnOk result (self.new.text ≡ last_line) }
+        ensures fault { IfErr result (λ fault. fault ≡ ServeFault.NoMemory) }
+    {
+        let Ok(mut line) = AnswerText::with_room(self.alloc) else {
+            return Err(ServeFault::NoMemory);
+        };
+        line.add_protocol_error();
+        self.answer_line(&line)
+    }
+
+    /// The answer to a value that is no command.
+    #[tactic(auto, using(port_serving::proofs::Answering::line_fits))]
+    fn answer_fault(&mut self, fault: CommandFault) -> Result<(), ServeFault>
+        ensures ok { OnOk result (self.new.text ≡ spelling (command_fault fault)) }
+        ensures fault { IfErr result (λ fault. fault ≡ ServeFault.NoMemory) }
+    {
+        let Ok(mut line) = AnswerText::with_room(self.alloc) else {
+            return Err(ServeFault::NoMemory);
+        };
+        line.add_command_fault(fault);
+        self.answer_line(&line)
+    }
+
+    /// The answer to a question for an address.
+    fn answer_address<S: ConfStore>(
+        &mut self,
+        cell: &SharedSentinel<S>,
+        seat: &mut Seat,
+        name: Option<Name>,
+    ) -> Result<(), ServeFault>
+        requires own { seat.old.cell ≡ cell.now.id }
+        ensures own { seat.new.cell ≡ seat.old.cell }
+        ensures answered { (now : ℕ) → Ends cell.now.start now seat.old.view (Ok (Command.GetMasterAddrByName name)) result self.new.text seat.new.view }
+    {
+        let shown = told_of(cell, seat, name);
+        write_message(self.alloc, &address_answer(shown), &mut self.text)
+    }
+
+    /// Has a command take its turn, after which the outbox shows its answer alone.
+    fn take_turn<S: ConfStore, R: Wait>(
+        &mut self,
+        rt: &R,
+        cell: &SharedSentinel<S>,
+        seat: &mut Seat,
+        now: u64,
+        command: Command,
+    ) -> Result<(), ServeFault>
+        requires own { seat.old.cell ≡ cell.now.id }
+        requires within { IsWithin command }
+        ensures own { seat.new.cell ≡ seat.old.cell }
+        ensures turned { Turns cell.now.start now seat.old.view command result self.new.outbox.shown seat.new.view }
+    {
+        self.outbox.clear();
+        let sender = NodeName::PortAt(0);
+        let input = Input {
+            now,
+            event: Event::Command { sender, command },
+        };
+        match cell.act(rt, seat, &input, &mut self.outbox) {
+            Ok(_) => Ok(()),
+            Err(fault) => Err(of_act(fault)),
+        }
+    }
+
+    /// The answer to a command that takes a turn.
+    fn answer_in_turn<S: ConfStore, R: Wait>(
+        &mut self,
+        rt: &R,
+        cell: &SharedSentinel<S>,
+        seat: &mut Seat,
+        now: u64,
+        command: Command,
+    ) -> Result<(), ServeFault>
+        requires own { seat.old.cell ≡ cell.now.id }
+        requires within { IsWithin command }
+        requires turn { takes_turn command ≡ true }
+        ensures own { seat.new.cell ≡ seat.old.cell }
+        ensures answered { Ends cell.now.start now seat.old.view (Ok command) result self.new.text seat.new.view }
+    {
+        if let Err(fault) = self.take_turn(rt, cell, seat, now, command) {
+            return Err(fault);
+        }
+        let Some(Output::Send(message)) = self.outbox.outputs().first() else {
+            unreachable!()
+        };
+        write_message(self.alloc, message, &mut self.text)
+    }
+
+    /// The answer to a value: what it asks for, or the line of its fault where it is no command.
+    pub(crate) fn answer<S: ConfStore, R: Wait>(
+        &mut self,
+        rt: &R,
+        cell: &SharedSentinel<S>,
+        seat: &mut Seat,
+        now: u64,
+        value: &Value,
+    ) -> Result<(), ServeFault>
+        requires own { seat.old.cell ≡ cell.now.id }
+        ensures own { seat.new.cell ≡ seat.old.cell }
+        ensures answered { Ends cell.now.start now seat.old.view (command_of (view value.now)) result self.new.text seat.new.view }
+    {
+        match command_of(value) {
+            Ok(Command::GetMasterAddrByName(name)) => self.answer_address(cell, seat, name),
+            Ok(command) => self.answer_in_turn(rt, cell, seat, now, command),
+            Err(fault) => self.answer_fault(fault),
+        }
+    }
+}
