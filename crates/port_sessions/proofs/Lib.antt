@@ -2,3 +2,5 @@ pub mod Lines
 pub mod Turning
 pub mod Replying
 pub mod Stepping
+pub mod Joining
+pub mod Served

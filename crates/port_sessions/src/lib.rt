@@ -16,8 +16,10 @@
 #![tactic(auto)]
 
 mod exchange;
+mod laws;
 mod responder;
 mod session;
 
+pub use laws::{law_answers_are_served, law_pieces_join};
 pub use port_serving::ServeFault;
 pub use session::Session;

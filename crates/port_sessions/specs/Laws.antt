@@ -1,0 +1,31 @@
+-- What the answers of a session are to the answers of a stream, and to its pieces.
+use Rattle.std.specs.Prelude.{◌≡◌, ◌⊎◌, ◌++◌, ℕ, List, Result, Ok, Err}
+use Rattle.ballot_law.specs.declared.commands.Command.{Command}
+use Rattle.port_serving.specs.Serving.{replied}
+use Rattle.resp2.specs.Commands.{command_of}
+use Rattle.resp2_frames.specs.Frame.{Frame}
+use Rattle.sentinel_cell.specs.declared.entry.Entry.{Entry}
+use Rattle.sentinel_cell.specs.declared.view.View.{View}
+use Rattle.sentinel_cell.specs.Calls.{Begins}
+use Rattle.sentinel_cell.specs.Histories.{World, IsLegal, replay}
+use Rattle.sentinel_rules.specs.States.{Core}
+use Rattle.port_sessions.specs.Talks.{Replies, IsAnswered}
+
+-- what a Sentinel has that keeps what is stored: the same as its core, but after a refused store
+abbrev pub stored_core : World → Core
+stored_core w = record w.core { kept = w.stored }
+
+-- the bytes are those that `serve` writes for the value
+abbrev pub IsServed : World → (now : ℕ) → View → Frame → (bytes : List ℕ) → Type 0
+IsServed start now v value bytes =
+    ((core : Core) → bytes ≡ (replied start.plan now core value).bytes)
+    ⊎ ((history : List Entry) × IsLegal start history × Begins v.front history × (bytes ≡ (replied start.plan now (stored_core (replay start history)) value).bytes))
+
+abbrev pub AnswersAreServed : Type 0
+AnswersAreServed = (start : World) (now : ℕ) (v w : View) (value : Frame) (bytes : List ℕ) → Replies start now v (command_of value) bytes w → IsServed start now v value bytes
+
+abbrev pub PiecesJoin : Type 0
+PiecesJoin =
+    (start : World) (now : ℕ) (stream piece held later bytes more : List ℕ) (v middle w : View)
+    → IsAnswered start now stream v held bytes middle → IsAnswered start now (held ++ piece) middle later more w
+    → IsAnswered start now (stream ++ piece) v later (bytes ++ more) w
