@@ -1,5 +1,5 @@
 -- The answer to a value, and the text that it is written to.
-use Rattle.std.proofs.Common.{◌≡◌, ℕ, Bool, true, false, List, [], ◌∷◌, ◌++◌, Result, Ok, Err, Option, refl, sym, ap, ◌∙◌, subst, inl, inr, true≢false}
+use Rattle.std.proofs.Common.{◌≡◌, ℕ, true, List, Result, Ok, Err, Option, refl, sym, ap, ◌∙◌, subst, inl, inr, true≢false}
 use Rattle.std.proofs.lemmas.List.{append-nil}
 use Rattle.std.specs.Prelude.{OnOk, IfErr}
 use Rattle.ballot_law.specs.declared.cards.Shown.{Shown}
@@ -9,7 +9,6 @@ use Rattle.ballot_law.specs.declared.messages.Body.{Body}
 use Rattle.ballot_law.specs.declared.messages.Body.TheVariants.{AddressAnswer}
 use Rattle.ballot_law.specs.declared.messages.Message.{Message}
 use Rattle.ballot_law.specs.declared.messages.Output.{Output}
-use Rattle.ballot_law.specs.declared.messages.Output.TheVariants.{Send}
 use Rattle.message_texts.specs.MessageTexts.{message_bytes}
 use Rattle.port_serving.specs.Serving.{output_bytes}
 use Rattle.std.specs.List.{flat_map}

@@ -11,25 +11,23 @@ use Rattle.ballot_law.specs.declared.events.Input.{Input}
 use Rattle.ballot_law.specs.declared.events.Event.TheVariants.{Command as Commanded}
 use Rattle.ballot_law.specs.declared.messages.Body.TheVariants.{AddressAnswer}
 use Rattle.ballot_law.specs.declared.messages.NodeName.TheVariants.{PortAt}
-use Rattle.ballot_law.specs.declared.messages.Output.{Output}
 use Rattle.message_texts.specs.MessageTexts.{message_bytes}
 use Rattle.port_serving.specs.Serving.{output_bytes, replied_to}
 use Rattle.resp2.specs.declared.command.CommandFault.{CommandFault}
 use Rattle.resp2.specs.Commands.{command_of}
-use Rattle.resp2_frames.specs.Frame.{Frame}
 use Rattle.sentinel_cell.specs.declared.entry.Entry.{Entry}
 use Rattle.sentinel_cell.specs.declared.entry.Outcome.{Outcome}
 use Rattle.sentinel_cell.specs.declared.entry.Outcome.TheVariants.{Stored}
 use Rattle.sentinel_cell.specs.declared.view.View.{View}
 use Rattle.sentinel_cell.specs.Calls.{Begins}
-use Rattle.sentinel_cell.specs.Histories.{World, IsGood, IsLegal, IsStep, IsOutcome, next_of, replay, stored_at}
+use Rattle.sentinel_cell.specs.Histories.{World, IsLegal, IsStep, IsOutcome, replay, stored_at}
 use Rattle.sentinel_cell.proofs.Acts.{first_steps}
 use Rattle.sentinel_cell.proofs.Cards.{same_plan}
 use Rattle.sentinel_rules.specs.Answers.{named, address_of}
 use Rattle.sentinel_rules.specs.Plans.{Plan}
 use Rattle.sentinel_rules.specs.States.{Core}
 use Rattle.sentinel_rules.specs.Takes.{next, cleared}
-use Rattle.port_sessions.specs.Talks.{asked, shown, IsTold, TellsAddress, TakesTurn, Replies}
+use Rattle.port_sessions.specs.Talks.{asked, shown, IsTold, TakesTurn, Replies}
 use Rattle.port_sessions.specs.Laws.{stored_core, AnswersAreServed}
 use Rattle.port_sessions.proofs.Turning.{last_world}
 

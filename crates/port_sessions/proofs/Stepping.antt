@@ -1,5 +1,5 @@
 -- One value more, and the ends of a piece.
-use Rattle.std.proofs.Common.{◌≡◌, ◌≢◌, ◌⊎◌, ℕ, Bool, true, false, List, [], ◌∷◌, ◌++◌, Option, Some, None, Result, Ok, Err, refl, sym, ap, ◌∙◌, subst, inl, inr, append_assoc, true≢false}
+use Rattle.std.proofs.Common.{◌≡◌, ◌≢◌, ◌⊎◌, ℕ, Bool, true, false, List, [], ◌∷◌, ◌++◌, Some, None, Result, Ok, Err, refl, sym, ap, ◌∙◌, subst, inl, inr, append_assoc, true≢false}
 use Rattle.std.proofs.lemmas.List.{append-nil}
 use Rattle.std.specs.Prelude.{OnOk, is_err}
 use Rattle.port_serving.specs.declared.fault.ServeFault.{ServeFault}
@@ -10,11 +10,11 @@ use Rattle.resp2_frames.specs.declared.fault.FrameFault.{FrameFault}
 use Rattle.resp2_frames.specs.declared.fault.FrameFault.TheVariants.{NoMemory}
 use Rattle.resp2_frames.specs.declared.value.Value.{Value}
 use Rattle.resp2_frames.specs.Frame.{Frame, view}
-use Rattle.resp2_frames.specs.Stream.{Held, reading, ended, Feeds, Answers, Parts, Splits}
+use Rattle.resp2_frames.specs.Stream.{Held, reading, ended, Feeds, Answers, Splits}
 use Rattle.resp2_frames.proofs.Drains.{fault_drains, value_drains, end_drains}
 use Rattle.sentinel_cell.specs.declared.view.View.{View}
 use Rattle.sentinel_cell.specs.Histories.{World}
-use Rattle.port_sessions.specs.Talks.{Replies, AnswersTo, IsAnswered, IsRefused, IsHalted, IsLost, IsCut, Breaks, Receives, bytes_in}
+use Rattle.port_sessions.specs.Talks.{Replies, AnswersTo, IsAnswered, IsRefused, IsCut, Breaks, Receives, bytes_in}
 use Rattle.port_sessions.specs.OnTheWay.{Fails, IsOnTheWay, IsDone, Steps, Drains, Refuses}
 
 module _ (start : World) (now : ℕ) where

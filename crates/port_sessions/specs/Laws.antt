@@ -1,6 +1,5 @@
 -- What the answers of a session are to the answers of a stream, and to its pieces.
-use Rattle.std.specs.Prelude.{◌≡◌, ◌⊎◌, ◌++◌, ℕ, List, Result, Ok, Err}
-use Rattle.ballot_law.specs.declared.commands.Command.{Command}
+use Rattle.std.specs.Prelude.{◌≡◌, ◌⊎◌, ◌++◌, ℕ, List}
 use Rattle.port_serving.specs.Serving.{replied}
 use Rattle.resp2.specs.Commands.{command_of}
 use Rattle.resp2_frames.specs.Frame.{Frame}

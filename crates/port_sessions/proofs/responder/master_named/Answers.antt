@@ -1,6 +1,5 @@
-use Rattle.std.proofs.Common.{◌∙◌, refl}
+use Rattle.std.proofs.Common.{refl}
 use Rattle.sentinel_plan.proofs.MasterNames.{found_named}
-use Rattle.sentinel_rules.specs.Plans.{roster_of}
 use Rattle.port_sessions.proofs.responder.master_named.Goals as goal
 
 pub returns-in-Some-clause-value : goal.returns-in-Some-clause-value

@@ -1,4 +1,4 @@
-use Rattle.std.proofs.Common.{◌≡◌, ◌++◌, ◌∙◌, [], sym, ap}
+use Rattle.std.proofs.Common.{◌++◌, ◌∙◌, [], sym}
 use Rattle.std.proofs.lemmas.List.{append-nil}
 use Rattle.port_sessions.specs.Talks.{bytes_in}
 use Rattle.port_sessions.proofs.Stepping.{begun, still_open, was_received}

@@ -1,0 +1,96 @@
+//! A shared Sentinel with one seat, and a client of its port, for tests.
+
+ghost use Rattle.std.specs.Prelude.{◌≡◌, IfSome};
+ghost use Rattle.sentinel_outbox.specs.declared.phase.Phase.TheVariants.{Ready};
+
+use port_sessions::{ServeFault, Session};
+use sentinel_cell::{Seat, SharedSentinel};
+use sentinel_conf::{MemoryStore, read};
+use sentinel_core::Sentinel;
+use std::alloc::Global;
+use std::sync::Wait;
+
+/// A Sentinel that watches a master with two replicas, with three others.
+const FOUR_SENTINELS: &[u8] = b"sentinel myid 0000000000000000000000000000000000000000\n\
+sentinel monitor mymaster 127.0.0.1 6379 2\n\
+sentinel down-after-milliseconds mymaster 1000\n\
+sentinel failover-timeout mymaster 3000\n\
+sentinel known-replica mymaster 127.0.0.1 6380\n\
+sentinel known-replica mymaster 127.0.0.1 6381\n\
+sentinel known-sentinel mymaster 127.0.0.1 26380 bbbbbbbbbbbbbbbbbbbbbbbbbbbbbbbbbbbbbbbb\n\
+sentinel known-sentinel mymaster 127.0.0.1 26381 cccccccccccccccccccccccccccccccccccccccc\n\
+sentinel known-sentinel mymaster 127.0.0.1 26382 dddddddddddddddddddddddddddddddddddddddd\n";
+
+/// One seat of a Sentinel, and two clients who are answered at it.
+#[derive(Drop)]
+pub(crate) struct Conversation {
+    alloc: Global,
+    cell: SharedSentinel<MemoryStore>,
+    seat: Seat,
+    session: Session,
+    other: Session,
+    ghost own: { seat.cell ≡ cell.id },
+}
+
+/// That Sentinel, whose store refuses its first text if that is wanted, with its seat.
+fn shared(alloc: Global, refuses: bool) -> Option<(SharedSentinel<MemoryStore>, Seat)>
+    ensures { IfSome result (λ r. r.1.cell ≡ r.0.id) }
+{
+    let conf = read(alloc, FOUR_SENTINELS).ok()?;
+    let sentinel = Sentinel::open(alloc, conf, 0).ok()?;
+    let mut store = MemoryStore::holding(alloc, FOUR_SENTINELS).ok()?;
+    if refuses {
+        store.refuse_next(false);
+    }
+    SharedSentinel::new(alloc, sentinel, store, 1).ok()
+}
+
+impl Conversation {
+    /// A conversation that hasn't begun; None where there is no memory. The first text that is to be stored is refused where that is wanted.
+    pub(crate) fn new(alloc: Global, refuses: bool) -> Option<Conversation> {
+        let (cell, seat) = shared(alloc, refuses)?;
+        Some(Conversation {
+            alloc,
+            cell,
+            seat,
+            session: Session::new(alloc),
+            other: Session::new(alloc),
+        })
+    }
+
+    /// The client sends a piece, at clock 0.
+    pub(crate) fn says<R: Wait>(&mut self, rt: &R, piece: &[u8]) -> Result<(), ServeFault> {
+        self.session
+            .received(rt, &self.cell, &mut self.seat, 0, piece)
+    }
+
+    /// The other client of the seat sends a piece, at clock 0.
+    pub(crate) fn other_says<R: Wait>(&mut self, rt: &R, piece: &[u8]) -> Result<(), ServeFault> {
+        self.other
+            .received(rt, &self.cell, &mut self.seat, 0, piece)
+    }
+
+    /// What the client wasn't sent yet.
+    pub(crate) fn unsent(&self) -> &[u8] {
+        self.session.unsent()
+    }
+
+    /// What the other client wasn't sent yet.
+    pub(crate) fn other_unsent(&self) -> &[u8] {
+        self.other.unsent()
+    }
+
+    /// The client is sent so many bytes; false where there aren't so many.
+    pub(crate) fn send(&mut self, count: usize) -> bool {
+        if count > self.session.unsent().len() {
+            return false;
+        }
+        self.session.sent(count);
+        true
+    }
+
+    /// The next client is there.
+    pub(crate) fn begin_anew(&mut self) {
+        self.session = Session::new(self.alloc);
+    }
+}

@@ -1,0 +1,108 @@
+//! Streams of commands, cut in any way.
+
+use crate::conversation::Conversation;
+use std::alloc::Global;
+use std::process::Abort;
+use std::sync::Wait;
+use std::test::Fail;
+
+/// Four requests for votes: of epoch 1 by `aa..` and by `bb..`, of epoch 2 by `bb..`, of epoch 1 by `cc..`.
+const FOUR_REQUESTS: &[u8] =
+    b"*6\r\n$8\r\nSENTINEL\r\n$22\r\nIS-MASTER-DOWN-BY-ADDR\r\n$9\r\n127.0.0.1\r\n$4\r\n6379\r\n$1\r\n1\r\n$40\r\naaaaaaaaaaaaaaaaaaaaaaaaaaaaaaaaaaaaaaaa\r\n\
+*6\r\n$8\r\nSENTINEL\r\n$22\r\nIS-MASTER-DOWN-BY-ADDR\r\n$9\r\n127.0.0.1\r\n$4\r\n6379\r\n$1\r\n1\r\n$40\r\nbbbbbbbbbbbbbbbbbbbbbbbbbbbbbbbbbbbbbbbb\r\n\
+*6\r\n$8\r\nSENTINEL\r\n$22\r\nIS-MASTER-DOWN-BY-ADDR\r\n$9\r\n127.0.0.1\r\n$4\r\n6379\r\n$1\r\n2\r\n$40\r\nbbbbbbbbbbbbbbbbbbbbbbbbbbbbbbbbbbbbbbbb\r\n\
+*6\r\n$8\r\nSENTINEL\r\n$22\r\nIS-MASTER-DOWN-BY-ADDR\r\n$9\r\n127.0.0.1\r\n$4\r\n6379\r\n$1\r\n1\r\n$40\r\ncccccccccccccccccccccccccccccccccccccccc\r\n";
+
+/// The vote of epoch 1 is `aa..`'s and that of epoch 2 is `bb..`'s, whoever asks later.
+const FOUR_VOTES: &[u8] = b"*3\r\n:0\r\n$40\r\naaaaaaaaaaaaaaaaaaaaaaaaaaaaaaaaaaaaaaaa\r\n:1\r\n\
+*3\r\n:0\r\n$40\r\naaaaaaaaaaaaaaaaaaaaaaaaaaaaaaaaaaaaaaaa\r\n:1\r\n\
+*3\r\n:0\r\n$40\r\nbbbbbbbbbbbbbbbbbbbbbbbbbbbbbbbbbbbbbbbb\r\n:2\r\n\
+*3\r\n:0\r\n$40\r\nbbbbbbbbbbbbbbbbbbbbbbbbbbbbbbbbbbbbbbbb\r\n:2\r\n";
+
+/// Whether the stream has these answers, where it comes in pieces of so many bytes.
+fn is_answered_in_pieces<R: Wait>(
+    rt: &R,
+    alloc: Global,
+    stream: &[u8],
+    size: usize,
+    wanted: &[u8],
+) -> bool {
+    let Some(mut conversation) = Conversation::new(alloc, false) else {
+        return false;
+    };
+    for piece in stream.chunks(size.max(1)) {
+        if conversation.says(rt, piece).is_err() {
+            return false;
+        }
+    }
+    conversation.unsent() == wanted
+}
+
+/// Whether the stream has these answers, where it is cut in two behind so many bytes.
+fn is_answered_cut_at<R: Wait>(
+    rt: &R,
+    alloc: Global,
+    stream: &[u8],
+    at: usize,
+    wanted: &[u8],
+) -> bool {
+    let Some((first, rest)) = stream.split_at_checked(at) else {
+        return false;
+    };
+    let Some(mut conversation) = Conversation::new(alloc, false) else {
+        return false;
+    };
+    conversation.says(rt, first).is_ok()
+        && conversation.says(rt, rest).is_ok()
+        && conversation.unsent() == wanted
+}
+
+#[test]
+fn votes_are_answered_in_order(rt: HostRuntime) -> Result<(), Fail> {
+    let size = FOUR_REQUESTS.len();
+    assert!(rt; is_answered_in_pieces(&rt, rt.alloc(), FOUR_REQUESTS, size, FOUR_VOTES));
+    Ok(())
+}
+
+#[test]
+fn votes_are_answered_byte_by_byte(rt: HostRuntime) -> Result<(), Fail> {
+    assert!(rt; is_answered_in_pieces(&rt, rt.alloc(), FOUR_REQUESTS, 1, FOUR_VOTES));
+    Ok(())
+}
+
+#[test]
+fn a_stream_may_be_cut_at_any_place(rt: HostRuntime) -> Result<(), Fail> {
+    for at in 0..=FOUR_REQUESTS.len() {
+        assert!(rt; is_answered_cut_at(&rt, rt.alloc(), FOUR_REQUESTS, at, FOUR_VOTES));
+    }
+    Ok(())
+}
+
+#[test]
+fn a_value_that_is_cut_off_waits(rt: HostRuntime) -> Result<(), Fail> {
+    let Some((last, most)) = FOUR_REQUESTS.split_last() else {
+        panic!(rt; "no bytes")
+    };
+    let Some(mut conversation) = Conversation::new(rt.alloc(), false) else {
+        panic!(rt; "no memory")
+    };
+    assert_eq!(rt; conversation.says(&rt, most), Ok(()));
+    assert_eq!(rt; conversation.unsent().len() * 4, FOUR_VOTES.len() * 3);
+    assert_eq!(rt; conversation.says(&rt, &[*last]), Ok(()));
+    assert_eq!(rt; conversation.unsent(), FOUR_VOTES);
+    Ok(())
+}
+
+#[test]
+fn two_clients_of_a_seat_are_answered_apart(rt: HostRuntime) -> Result<(), Fail> {
+    let Some(mut conversation) = Conversation::new(rt.alloc(), false) else {
+        panic!(rt; "no memory")
+    };
+    assert_eq!(rt; conversation.says(&rt, b"*1\r\n$4\r\nPI"), Ok(()));
+    let other = conversation.other_says(&rt, b"*2\r\n$8\r\nSENTINEL\r\n$11\r\nFLUSHCONFIG\r\n");
+    assert_eq!(rt; other, Ok(()));
+    assert_eq!(rt; conversation.says(&rt, b"NG\r\n"), Ok(()));
+    assert_eq!(rt; conversation.unsent(), b"+PONG\r\n".as_slice());
+    assert_eq!(rt; conversation.other_unsent(), b"+OK\r\n".as_slice());
+    Ok(())
+}
