@@ -42,7 +42,12 @@ fn is_as_traced(rt: &HostRuntime, path: &str, trace: &OutText) -> bool {
 fn is_as_told(rt: &HostRuntime, path: &str) -> Option<bool> {
     let (folder, _) = path.rsplit_once('/')?;
     let expected = bytes_of(rt, path, ".expected")?;
-    let report = printed(rt, folder, bytes_of(rt, path, ".scenario")?, Printed::Report)?;
+    let report = printed(
+        rt,
+        folder,
+        bytes_of(rt, path, ".scenario")?,
+        Printed::Report,
+    )?;
     let trace = printed(rt, folder, bytes_of(rt, path, ".scenario")?, Printed::Trace)?;
     let is_traced = is_as_traced(rt, path, &trace);
     let story = Vec::from_slice(rt.alloc(), trace.as_slice()).ok()?;
