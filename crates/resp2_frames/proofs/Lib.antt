@@ -15,3 +15,4 @@ pub mod Written
 pub mod Adding
 pub mod Stops
 pub mod Told
+pub mod Passing

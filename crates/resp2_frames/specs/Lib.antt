@@ -3,3 +3,4 @@ pub mod Reading
 pub mod Stream
 pub mod Writing
 pub mod Faults
+pub mod Place

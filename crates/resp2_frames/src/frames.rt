@@ -1,11 +1,13 @@
 //! A reader of values from a stream that comes in pieces.
-ghost use Rattle.std.specs.Prelude.{◌≡◌, ℕ, ◌≤◌, ◌++◌, [], List, length, take, drop, map, IfOk, IfSome, MatchResult, MatchOption};
+ghost use Rattle.std.specs.Prelude.{◌≡◌, ℕ, ◌≤◌, ◌++◌, [], List, length, take, drop, map, IfOk, IfSome, IsTrue, Err, MatchResult, MatchOption};
 ghost use Rattle.resp2_frames.specs.declared.fault.FrameFault.TheVariants.{NoMemory};
+ghost use Rattle.resp2_frames.specs.declared.fault.Unread.TheVariants.{NeedsMore};
 ghost use Rattle.resp2_frames.specs.Frame.{Frame, view, spelling, IsFrame};
 ghost use Rattle.resp2_frames.specs.Reading.{Gives, frame_at};
 ghost use Rattle.resp2_frames.specs.Stream.{Held, held_of, reading, Feeds, Answers};
 
 use crate::fault::{FrameFault, Stopped, Unread};
+use crate::place::{DEEPEST, Place};
 use crate::reading::value_of;
 use crate::value::Value;
 use bytes::BytesMut;
@@ -14,9 +16,6 @@ use std::marker::Model;
 
 /// How many bytes a frame may have.
 const LONGEST: usize = 65_536;
-
-/// How deep a frame may be.
-const DEEPEST: usize = 8;
 
 /// The bytes that a frame may have.
 fn window_of(bytes: &[u8]) -> &[u8]
@@ -58,12 +57,18 @@ fn frame_of(alloc: Global, bytes: &[u8]) -> Result<(Value, usize), Stopped>
 pub struct Frames {
     bytes: BytesMut,
     fault: Option<FrameFault>,
+    place: Place,
 }
 
 impl Model for Frames {
+    ghost use Rattle.resp2_frames.specs.Place.{Stands};
+
     ghost Value = { Held };
 
     ghost view = { λ frames. held_of frames.fault frames.bytes.items };
+
+    // The reading of the first value stands behind bytes that are held.
+    ghost invariant = { λ frames. Stands frames.bytes.items frames.place.outer.items frames.place.left frames.place.at };
 }
 
 impl Frames {
@@ -74,6 +79,7 @@ impl Frames {
         Frames {
             bytes: BytesMut::new(alloc),
             fault: None,
+            place: Place::new(),
         }
     }
 
@@ -121,17 +127,37 @@ impl Frames {
         if let Some(fault) = self.fault {
             return Err(fault);
         }
+        if self.place.at > 0 && self.waits() {
+            return Ok(None);
+        }
         match frame_of(*self.bytes.allocator(), self.bytes.as_slice()) {
             Ok((value, count)) => {
                 self.bytes.advance(count);
+                self.place = Place::new();
                 Ok(Some(value))
             }
-            Err(Stopped::At(Unread::NeedsMore)) => Ok(None),
+            Err(Stopped::At(Unread::NeedsMore)) => {
+                self.waits();
+                Ok(None)
+            }
             Err(Stopped::At(Unread::Faulty(fault))) => {
                 self.fault = Some(fault);
                 Err(fault)
             }
             Err(Stopped::Memory) => Err(FrameFault::NoMemory),
         }
+    }
+
+    /// Goes on over what came of the first value. `true` says that more bytes are needed, `false` that the value should be read.
+    fn waits(&mut self) -> bool
+        ensures unchanged { self.new ≡ self.old }
+        ensures waits { (bytes : List ℕ) → self.old ≡ reading bytes → IsTrue result
+            → frame_at bytes ≡ Err NeedsMore }
+    {
+        let bytes = self.bytes.as_slice();
+        bytes.len() <= LONGEST
+            && self
+                .place
+                .waits(*self.bytes.allocator(), bytes, LONGEST - bytes.len())
     }
 }

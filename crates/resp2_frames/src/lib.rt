@@ -10,6 +10,7 @@ mod frames;
 mod laws;
 mod out_text;
 mod pieces;
+mod place;
 mod reading;
 mod sink;
 mod value;

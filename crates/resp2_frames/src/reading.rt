@@ -1,11 +1,12 @@
 //! Reads a value from the front of a list of bytes.
-ghost use Rattle.std.specs.Prelude.{◌≡◌, ◌+◌, ◌-◌, ◌^◌, ◌||◌, ◌==◌, length, map, min, Some, None, Result, if◌then◌else◌};
+ghost use Rattle.std.specs.Prelude.{◌≡◌, ◌+◌, ◌-◌, ◌^◌, ◌||◌, ◌==◌, length, map, min, Some, None, Result, if◌then◌else◌, IfSome};
 ghost use Rattle.std.specs.Str.{all_ascii_digits};
 ghost use Rattle.ballot_law.specs.Cuts.{IsEnd};
 ghost use Rattle.ballot_law.specs.Words.{number_on};
 ghost use Rattle.resp2_frames.specs.Frame as frames;
 ghost use Rattle.resp2_frames.specs.Frame.{view, frames_view, simple, fault};
 ghost use Rattle.resp2_frames.specs.Reading as read;
+ghost use Rattle.resp2_frames.specs.Place.{OpensAt};
 ghost use Rattle.resp2_frames.specs.Reading.{Gives};
 
 use crate::fault::{FrameFault, Stopped, Unread};
@@ -185,6 +186,27 @@ fn bulk_of(alloc: Global, bytes: &[u8], more: usize) -> Result<(Value, &[u8]), S
     match size_of(line)? {
         Some(size) => block_of(alloc, rest, more, size),
         None => Ok((Value::NullBulk, rest)),
+    }
+}
+
+/// How many items follow the header of an array that stands here, and what is behind it; `None` where no such header is whole.
+pub fn header_of(bytes: &[u8]) -> Option<(u64, &[u8])>
+    ensures { IfSome result (λ header. OpensAt bytes.now header.0 header.1.now) }
+{
+    let (first, rest) = bytes.split_first()?;
+    if *first != b'*' {
+        return None;
+    }
+    match line_of(rest) {
+        Ok((line, after)) => {
+            let count = number_of(line)?;
+            if MOST_ITEMS < count {
+                None
+            } else {
+                Some((count, after))
+            }
+        }
+        Err(_) => None,
     }
 }
 

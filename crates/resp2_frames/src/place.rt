@@ -1,0 +1,103 @@
+//! Where the reading of a value stands that hasn't come whole.
+ghost use Rattle.std.specs.Prelude.{◌≡◌, ℕ, ◌≤◌, ◌<◌, ◌+◌, List, [], length, Err, IsTrue, IfOk, IfSome};
+ghost use Rattle.resp2_frames.specs.declared.fault.Unread.TheVariants.{NeedsMore};
+ghost use Rattle.resp2_frames.specs.declared.fault.Stopped.TheVariants.{At};
+ghost use Rattle.resp2_frames.specs.Reading.{value_at};
+ghost use Rattle.resp2_frames.specs.Place.{Stands, OpensAt, way_left};
+
+use crate::fault::{Stopped, Unread};
+use crate::reading::{header_of, value_of};
+use arrayvec::ArrayVec;
+use std::alloc::Global;
+
+/// How deep a frame may be.
+pub const DEEPEST: usize = 8;
+
+/// Where the reading of a first value stands that hasn't come whole: in front of it each item and each header of an array was
+/// read once, and none of them is read again to see whether the value is whole.
+///
+/// The value itself counts as the one item of an outermost array.
+#[derive(Drop)]
+pub struct Place {
+    /// How many items are to come behind the one that is being read, in each open array but the innermost; the outermost first.
+    pub outer: ArrayVec<u64, DEEPEST>,
+    /// How many items of the innermost open array are to come.
+    pub left: u64,
+    /// How many bytes are passed.
+    pub at: usize,
+}
+
+impl Place {
+    /// The place in front of a value.
+    pub fn new() -> Place
+        ensures { (bytes : List ℕ) → Stands bytes result.outer.items result.left result.at }
+    {
+        Place {
+            outer: ArrayVec::new(),
+            left: 1,
+            at: 0,
+        }
+    }
+
+    /// Goes on over all that came. `true` says that the value needs more bytes; `false` that it should be read, since it is whole,
+    /// a fault shows, or memory was refused.
+    pub fn waits(&mut self, alloc: Global, bytes: &[u8], more: usize) -> bool
+        requires stands { Stands bytes.now self.old.outer.items self.old.left self.old.at }
+        requires short { length bytes.now + more ≤ 65536 }
+        ensures stands { Stands bytes.now self.new.outer.items self.new.left self.new.at }
+        ensures waits { IsTrue result → value_at 1024 more 8 bytes.now ≡ Err NeedsMore }
+    {
+        loop {
+            match self.pass(alloc, bytes, more) {
+                Ok(true) => {}
+                Ok(false) => return false,
+                Err(Stopped::At(Unread::NeedsMore)) => return true,
+                Err(_) => return false,
+            }
+        }
+    }
+
+    /// Passes an item, the header of an array, or the end of one; `false` where the value is whole.
+    fn pass(&mut self, alloc: Global, bytes: &[u8], more: usize) -> Result<bool, Stopped>
+        requires stands { Stands bytes.now self.old.outer.items self.old.left self.old.at }
+        requires short { length bytes.now + more ≤ 65536 }
+        ensures stands { Stands bytes.now self.new.outer.items self.new.left self.new.at }
+        ensures less { IfOk result (λ passed. IsTrue passed
+            → way_left bytes.now self.new.outer.items self.new.at
+                < way_left bytes.now self.old.outer.items self.old.at) }
+        ensures waits { result ≡ Err (At NeedsMore) → value_at 1024 more 8 bytes.now ≡ Err NeedsMore }
+    {
+        if self.left == 0 {
+            return Ok(self.leave());
+        }
+        let (_, rest) = bytes.split_at(self.at);
+        if self.outer.len() < DEEPEST {
+            if let Some((count, after)) = header_of(rest) {
+                self.outer.push(self.left - 1);
+                self.left = count;
+                self.at = bytes.len() - after.len();
+                return Ok(true);
+            }
+        }
+        let (_, after) = value_of(alloc, rest, more, DEEPEST - self.outer.len())?;
+        self.left -= 1;
+        self.at = bytes.len() - after.len();
+        Ok(true)
+    }
+
+    /// Leaves the innermost array, which is whole; `false` where no array is open.
+    fn leave(&mut self) -> bool
+        requires { self.old.left ≡ 0 }
+        ensures stands { (bytes : List ℕ) → Stands bytes self.old.outer.items self.old.left self.old.at
+            → Stands bytes self.new.outer.items self.new.left self.new.at }
+        ensures less { IsTrue result → (length self.new.outer.items < length self.old.outer.items) × (self.new.at ≡ self.old.at) }
+    {
+        match self.outer.pop() {
+            Some(left) => {
+                self.left = left;
+                true
+            }
+            None => false,
+        }
+    }
+}
