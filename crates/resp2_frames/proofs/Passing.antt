@@ -1,15 +1,17 @@
 -- Passing the items of a value one after the other, and what the reading of the whole value then gives.
-use Rattle.std.proofs.Common.{◌≡◌, ℕ, suc, zero, ◌+◌, ◌-◌, ◌*◌, ◌^◌, ◌<◌, ◌≤◌, false, ltb, List, [], ◌∷◌, ◌++◌, length, take, drop, Some, Result, Ok, Err, refl, sym, ap, ◌∙◌, append_assoc, arith}
+use Rattle.std.proofs.Common.{◌≡◌, ℕ, suc, zero, ◌+◌, ◌-◌, ◌<◌, ◌≤◌, false, ltb, List, [], ◌∷◌, ◌++◌, length, take, drop, Some, Result, Ok, Err, refl, sym, ap, ◌∙◌, append_assoc, arith}
 use Rattle.std.proofs.lemmas.Bool.{le-ltb}
-use Rattle.std.proofs.lemmas.List.{take-append-drop, length-append, length-drop, take_at, take-append-le}
+use Rattle.std.proofs.lemmas.List.{take-append-drop, length-append, length-drop, take_at, take_all, take-append-le}
 use Rattle.ballot_law.specs.Results.{◌>>=◌}
 use Rattle.resp2_frames.specs.declared.fault.Unread.{Unread}
+use Rattle.resp2_frames.specs.declared.fault.Unread.TheVariants.{NeedsMore}
 use Rattle.resp2_frames.specs.Frame.{Frame, FrameList, simple, fault, int, bulk, null_bulk, items, null_items, frame, line_end, spelling}
-use Rattle.resp2_frames.specs.Reading.{line_at, number_of, size_of, values_at, items_at, kind_at, value_at}
-use Rattle.resp2_frames.specs.Place.{skip, behind_open, Passed, Stands, Opens, OpensAt, way_left}
+use Rattle.resp2_frames.specs.Reading.{line_at, number_of, size_of, values_at, items_at, kind_at, value_at, frame_at}
+use Rattle.resp2_frames.specs.Place.{skip, behind_open, Passed, Stands, Opens, OpensAt}
 use Rattle.resp2_frames.proofs.Again.{value_again}
 use Rattle.resp2_frames.proofs.Lines.{line_takes, line_again}
 use Rattle.resp2_frames.proofs.Takes.{value_takes}
+use Rattle.resp2_frames.proofs.Window.{frame_needs}
 
 -- ---- steps
 
@@ -179,3 +181,8 @@ item_gets_on bytes after depth at more f room reads le =
 pub stands_waits : (bytes outer : List ℕ) (left n at more : ℕ) (u : Unread) → left ≡ suc n → value_at 1024 more (8 - length outer) (drop at bytes) ≡ Err u → Stands bytes outer left at → value_at 1024 more 8 bytes ≡ Err u
 stands_waits bytes outer left n at more u is stops stands =
     ap (λ (t : List ℕ). value_at 1024 more 8 t) (sym (take-append-drop at bytes)) ∙ passed_waits (take at bytes) outer n more (drop at bytes) u (rw is at stands.1) stops
+
+-- ---- what a reader holds
+
+pub waits_held : (bytes : List ℕ) → length bytes ≤ 65536 → value_at 1024 (65536 - length bytes) 8 bytes ≡ Err NeedsMore → frame_at bytes ≡ Err NeedsMore
+waits_held bytes le e = frame_needs bytes bytes (sym (take_all 65536 bytes le)) e le

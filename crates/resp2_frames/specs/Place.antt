@@ -1,8 +1,8 @@
 -- Where the reading of a first value stands that hasn't come whole.
-use Rattle.std.specs.Prelude.{◌≡◌, ℕ, zero, suc, ◌-◌, ◌<◌, ◌≤◌, ◌+◌, ◌*◌, List, [], ◌∷◌, ◌++◌, length, take, Result, Ok, Err}
+use Rattle.std.specs.Prelude.{◌≡◌, ℕ, zero, suc, ◌-◌, ◌<◌, ◌≤◌, ◌+◌, ◌*◌, List, [], ◌∷◌, ◌++◌, length, take, Result, Ok}
 use Rattle.ballot_law.specs.Results.{◌>>=◌}
 use Rattle.resp2_frames.specs.declared.fault.Unread.{Unread}
-use Rattle.resp2_frames.specs.Frame.{Frame, FrameList, items}
+use Rattle.resp2_frames.specs.Frame.{Frame, items}
 use Rattle.resp2_frames.specs.Reading.{values_at, value_at}
 
 -- what stands behind so many values

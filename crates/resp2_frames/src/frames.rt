@@ -1,8 +1,9 @@
 //! A reader of values from a stream that comes in pieces.
-ghost use Rattle.std.specs.Prelude.{◌≡◌, ℕ, ◌≤◌, ◌++◌, [], List, length, take, drop, map, IfOk, IfSome, IsTrue, Err, MatchResult, MatchOption};
+ghost use Rattle.std.specs.Prelude.{◌≡◌, ℕ, ◌≤◌, ◌++◌, [], List, length, take, drop, map, IfOk, IfSome, IsTrue, Ok, None, MatchResult, MatchOption};
 ghost use Rattle.resp2_frames.specs.declared.fault.FrameFault.TheVariants.{NoMemory};
-ghost use Rattle.resp2_frames.specs.declared.fault.Unread.TheVariants.{NeedsMore};
+ghost use Rattle.resp2_frames.specs.declared.value.Value.{Value};
 ghost use Rattle.resp2_frames.specs.Frame.{Frame, view, spelling, IsFrame};
+ghost use Rattle.resp2_frames.specs.Place.{Stands};
 ghost use Rattle.resp2_frames.specs.Reading.{Gives, frame_at};
 ghost use Rattle.resp2_frames.specs.Stream.{Held, held_of, reading, Feeds, Answers};
 
@@ -61,8 +62,6 @@ pub struct Frames {
 }
 
 impl Model for Frames {
-    ghost use Rattle.resp2_frames.specs.Place.{Stands};
-
     ghost Value = { Held };
 
     ghost view = { λ frames. held_of frames.fault frames.bytes.items };
@@ -121,14 +120,21 @@ impl Frames {
         self.take_first()
     }
 
+    /// Reads an incomplete value on where its reading stood, and the whole value once none of its parts is missing.
     fn take_first(&mut self) -> Result<Option<Value>, FrameFault>
+        ensures { Answers view self.old result self.new }
+    {
+        if self.place.at > 0 && self.waits() {
+            return Ok(None);
+        }
+        self.read_first()
+    }
+
+    fn read_first(&mut self) -> Result<Option<Value>, FrameFault>
         ensures { Answers view self.old result self.new }
     {
         if let Some(fault) = self.fault {
             return Err(fault);
-        }
-        if self.place.at > 0 && self.waits() {
-            return Ok(None);
         }
         match frame_of(*self.bytes.allocator(), self.bytes.as_slice()) {
             Ok((value, count)) => {
@@ -148,12 +154,14 @@ impl Frames {
         }
     }
 
-    /// Goes on over what came of the first value. `true` says that more bytes are needed, `false` that the value should be read.
+    /// Passes what came of the first value. `true` says that more bytes are needed, `false` that it should be read.
     fn waits(&mut self) -> bool
         ensures unchanged { self.new ≡ self.old }
-        ensures waits { (bytes : List ℕ) → self.old ≡ reading bytes → IsTrue result
-            → frame_at bytes ≡ Err NeedsMore }
+        ensures waits { IsTrue result → Answers {V = Value} view self.old (Ok None) self.new }
     {
+        if self.fault.is_some() {
+            return false;
+        }
         let bytes = self.bytes.as_slice();
         bytes.len() <= LONGEST
             && self

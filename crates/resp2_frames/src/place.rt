@@ -64,7 +64,7 @@ impl Place {
         ensures stands { Stands bytes.now self.new.outer.items self.new.left self.new.at }
         ensures less { IfOk result (λ passed. IsTrue passed
             → way_left bytes.now self.new.outer.items self.new.at
-                < way_left bytes.now self.old.outer.items self.old.at) }
+            < way_left bytes.now self.old.outer.items self.old.at) }
         ensures waits { result ≡ Err (At NeedsMore) → value_at 1024 more 8 bytes.now ≡ Err NeedsMore }
     {
         if self.left == 0 {

@@ -1,9 +1,8 @@
-use Rattle.std.proofs.Common.{◌≡◌, ℕ, suc, ◌-◌, ◌+◌, ◌<◌, ◌≤◌, ◌++◌, drop, length, Ok, Err, refl, sym, ap, ◌∙◌, arith}
+use Rattle.std.proofs.Common.{◌≡◌, suc, ◌-◌, ◌<◌, length, refl, sym, ◌∙◌, arith}
 use Rattle.std.proofs.lemmas.Result.{err_from_is_err_and}
 use Rattle.resp2_frames.specs.declared.fault.Unread.TheVariants.{NeedsMore}
 use Rattle.resp2_frames.specs.declared.fault.Stopped.TheVariants.{At}
 use Rattle.resp2_frames.specs.Frame.{view}
-use Rattle.resp2_frames.specs.Reading.{value_at}
 use Rattle.resp2_frames.proofs.Steps.{fails_at}
 use Rattle.resp2_frames.proofs.Passing.{stands_inside, stands_behind, stands_waits, item_gets_on}
 use Rattle.resp2_frames.proofs.place.Place.pass.Goals as goal

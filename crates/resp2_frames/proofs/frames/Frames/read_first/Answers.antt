@@ -2,7 +2,7 @@ use Rattle.std.proofs.Common.{◌≡◌, rules}
 use Rattle.resp2_frames.specs.Frame.{view}
 use Rattle.resp2_frames.specs.Stream.{reading}
 use Rattle.resp2_frames.proofs.Named.{fault_answers}
-use Rattle.resp2_frames.proofs.frames.Frames.take_first.Goals as goal
+use Rattle.resp2_frames.proofs.frames.Frames.read_first.Goals as goal
 
 pub returns-in-Err-At-Faulty : goal.returns-in-Err-At-Faulty
 returns-in-Err-At-Faulty c =
