@@ -1,7 +1,7 @@
 -- Lines: what is read as a line is one, and a line is read whatever follows.
-use Rattle.std.proofs.Common.{◌≡◌, ℕ, zero, suc, ◌<◌, ◌≤◌, Bool, true, false, cond, eqb, ◌||◌, List, [], ◌∷◌, ◌++◌, length, take, drop, Ok, Err, refl, sym, ap, subst, ◌∙◌, arith, inl, inr}
+use Rattle.std.proofs.Common.{◌≡◌, ℕ, zero, suc, ◌+◌, ◌<◌, ◌≤◌, Bool, true, false, cond, eqb, ◌||◌, List, [], ◌∷◌, ◌++◌, length, take, drop, Ok, Err, refl, sym, ap, subst, ◌∙◌, arith, inl, inr}
 use Rattle.std.proofs.lemmas.Bool.{eqb-true, eqb-false, ne_eqb, cases_lt}
-use Rattle.std.proofs.lemmas.List.{take_at, drop_at, take-append-drop, drop_all, take-append-le, drop-append-le}
+use Rattle.std.proofs.lemmas.List.{take_at, take_all, drop_at, take-append-drop, drop_all, take-append-le, drop-append-le}
 use Rattle.resp2_frames.specs.declared.fault.FrameFault.TheVariants.{MissingEnd}
 use Rattle.resp2_frames.specs.declared.fault.Unread.TheVariants.{Faulty}
 use Rattle.resp2_frames.specs.Frame.{IsLine, line_end}
@@ -113,3 +113,12 @@ line_length_at_end (b ∷ bs) (suc n) e =
 
 pub line_length_is : (bytes : List ℕ) (n : ℕ) → IsEnd (λ b. eqb b 13 || eqb b 10) bytes n → n ≡ line_length bytes
 line_length_is bytes n e = sym (line_length_at_end bytes n e)
+
+-- the search for a line's end may begin where none was found before
+pub line_length_behind : (bytes : List ℕ) (n : ℕ) → n ≤ length bytes → IsLine (take n bytes) → line_length bytes ≡ n + line_length (drop n bytes)
+line_length_behind bytes zero le h = omega arith
+line_length_behind [] (suc n) le h = absurd (omega arith)
+line_length_behind (b ∷ bs) (suc n) le h = let later = line_length_behind bs n (omega arith) h.1 in rw (ne_eqb b 13 h.0.0, ne_eqb b 10 h.0.1) (omega (arith, later))
+
+pub line_length_whole : (bytes : List ℕ) → line_length bytes ≡ length bytes → IsLine bytes
+line_length_whole bytes e = rw (ap (λ (n : ℕ). take n bytes) e ∙ take_all (length bytes) bytes (omega arith)) at (line_front bytes)

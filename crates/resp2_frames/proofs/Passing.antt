@@ -1,16 +1,18 @@
 -- Passing the items of a value one after the other, and what the reading of the whole value then gives.
 use Rattle.std.proofs.Common.{◌≡◌, ℕ, suc, zero, ◌+◌, ◌-◌, ◌<◌, ◌≤◌, false, ltb, List, [], ◌∷◌, ◌++◌, length, take, drop, Some, Result, Ok, Err, refl, sym, ap, ◌∙◌, append_assoc, arith}
 use Rattle.std.proofs.lemmas.Bool.{le-ltb}
-use Rattle.std.proofs.lemmas.List.{take-append-drop, length-append, length-drop, take_at, take_all, take-append-le}
+use Rattle.std.proofs.lemmas.List.{take-append-drop, length-append, length-drop, take_at, take_all, take-append-le, drop-append-le, append-nil}
 use Rattle.ballot_law.specs.Results.{◌>>=◌}
 use Rattle.resp2_frames.specs.declared.fault.Unread.{Unread}
 use Rattle.resp2_frames.specs.declared.fault.Unread.TheVariants.{NeedsMore}
+use Rattle.resp2_frames.specs.Faults.{IsKind}
 use Rattle.resp2_frames.specs.Frame.{Frame, FrameList, simple, fault, int, bulk, null_bulk, items, null_items, frame, line_end, spelling}
-use Rattle.resp2_frames.specs.Reading.{line_at, number_of, size_of, values_at, items_at, kind_at, value_at, frame_at}
-use Rattle.resp2_frames.specs.Place.{skip, behind_open, Passed, Stands, Opens, OpensAt}
+use Rattle.resp2_frames.specs.Reading.{line_length, line_at, number_of, size_of, values_at, items_at, kind_at, value_at, frame_at}
+use Rattle.resp2_frames.specs.Place.{skip, behind_open, Passed, Stands, Searched, IsOpenLine, Opens, OpensAt}
 use Rattle.resp2_frames.proofs.Again.{value_again}
-use Rattle.resp2_frames.proofs.Lines.{line_takes, line_again}
+use Rattle.resp2_frames.proofs.Lines.{line_takes, line_again, line_length_whole}
 use Rattle.resp2_frames.proofs.Takes.{value_takes}
+use Rattle.resp2_frames.proofs.Told.{line_fails, kind_line, value_kind}
 use Rattle.resp2_frames.proofs.Window.{frame_needs}
 
 -- ---- steps
@@ -181,6 +183,27 @@ item_gets_on bytes after depth at more f room reads le =
 pub stands_waits : (bytes outer : List ℕ) (left n at more : ℕ) (u : Unread) → left ≡ suc n → value_at 1024 more (8 - length outer) (drop at bytes) ≡ Err u → Stands bytes outer left at → value_at 1024 more 8 bytes ≡ Err u
 stands_waits bytes outer left n at more u is stops stands =
     ap (λ (t : List ℕ). value_at 1024 more 8 t) (sym (take-append-drop at bytes)) ∙ passed_waits (take at bytes) outer n more (drop at bytes) u (rw is at stands.1) stops
+
+-- ---- a line without an end
+
+pub open_line : (bytes : List ℕ) (kind : ℕ) (line : List ℕ) → bytes ≡ kind ∷ line → line_length bytes ≡ length bytes → IsKind kind → IsOpenLine bytes
+open_line bytes kind line is all told = let whole = rw is at (line_length_whole bytes all) in rw is (told, whole.1)
+
+-- its value needs more bytes
+open_line_waits : (more depth : ℕ) (bytes : List ℕ) → 0 < depth → IsOpenLine bytes → value_at 1024 more depth bytes ≡ Err NeedsMore
+open_line_waits more depth [] pos h = absurd h
+open_line_waits more depth (kind ∷ line) pos h =
+    let none : line_at line ≡ Err NeedsMore = ap line_at (sym (append-nil line)) ∙ line_fails line [] NeedsMore h.1 tt refl in
+    value_kind more depth kind line NeedsMore pos (λ inner. kind_line more inner kind line NeedsMore h.0 none)
+
+pub stands_in_line : (bytes outer : List ℕ) (left n at more : ℕ) → left ≡ suc n → length outer < 8 → IsOpenLine (drop at bytes) → Stands bytes outer left at → value_at 1024 more 8 bytes ≡ Err NeedsMore
+stands_in_line bytes outer left n at more is room line stands =
+    stands_waits bytes outer left n at more NeedsMore is (open_line_waits more (8 - length outer) (drop at bytes) (omega arith) line) stands
+
+pub searched_longer : (bytes piece : List ℕ) (at line : ℕ) → at ≤ length bytes → Searched bytes at line → Searched (bytes ++ piece) at line
+searched_longer bytes piece at line le searched =
+    let rest : drop at (bytes ++ piece) ≡ drop at bytes ++ piece = drop-append-le at bytes piece le in
+    rw (rest, take-append-le line (drop at bytes) piece searched.0) (omega (arith, length-append (drop at bytes) piece, searched.0), searched.1)
 
 -- ---- what a reader holds
 

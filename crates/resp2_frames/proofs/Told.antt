@@ -28,7 +28,7 @@ line_length_before [] (b ∷ bs) h (inl e) = rw e refl
 line_length_before [] (b ∷ bs) h (inr e) = rw e refl
 line_length_before (b ∷ bs) end h k = rw (ne_eqb b 13 h.0.0, ne_eqb b 10 h.0.1) (ap suc (line_length_before bs end h.1 k))
 
-line_fails : (line end : List ℕ) (u : Unread) → IsLine line → IsBehindLine end → end_at end ≡ Err u → line_at (line ++ end) ≡ Err u
+pub line_fails : (line end : List ℕ) (u : Unread) → IsLine line → IsBehindLine end → end_at end ≡ Err u → line_at (line ++ end) ≡ Err u
 unfolding line_at
 line_fails line end u h k e = let n = line_length_before line end h k in rw (n, drop_at line end (length line) refl, e) refl
 
@@ -64,7 +64,7 @@ items_fail : (inner : List ℕ → Result (Frame × List ℕ) Unread) (bytes : L
 unfolding items_at
 items_fail inner bytes u e = rw e refl
 
-kind_line : (more : ℕ) (inner : List ℕ → Result (Frame × List ℕ) Unread) (kind : ℕ) (bytes : List ℕ) (u : Unread) → IsKind kind → line_at bytes ≡ Err u → kind_at 1024 more inner kind bytes ≡ Err u
+pub kind_line : (more : ℕ) (inner : List ℕ → Result (Frame × List ℕ) Unread) (kind : ℕ) (bytes : List ℕ) (u : Unread) → IsKind kind → line_at bytes ≡ Err u → kind_at 1024 more inner kind bytes ≡ Err u
 unfolding kind_at
 kind_line more inner kind bytes u (inl k) e = subst (λ (c : ℕ). kind_at 1024 more inner c bytes ≡ Err u) (sym k) (text_fails simple bytes u e)
 kind_line more inner kind bytes u (inr (inl k)) e = subst (λ (c : ℕ). kind_at 1024 more inner c bytes ≡ Err u) (sym k) (text_fails fault bytes u e)
@@ -151,7 +151,7 @@ unfolding value_at
 value_empty more zero = refl
 value_empty more (suc levels) = refl
 
-value_kind : (more levels kind : ℕ) (rest : List ℕ) (u : Unread) → 0 < levels → ((inner : List ℕ → Result (Frame × List ℕ) Unread) → kind_at 1024 more inner kind rest ≡ Err u) → value_at 1024 more levels (kind ∷ rest) ≡ Err u
+pub value_kind : (more levels kind : ℕ) (rest : List ℕ) (u : Unread) → 0 < levels → ((inner : List ℕ → Result (Frame × List ℕ) Unread) → kind_at 1024 more inner kind rest ≡ Err u) → value_at 1024 more levels (kind ∷ rest) ≡ Err u
 unfolding value_at
 value_kind more zero kind rest u some h = absurd (omega arith)
 value_kind more (suc levels) kind rest u some h = h (value_at 1024 more levels)

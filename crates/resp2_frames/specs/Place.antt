@@ -1,8 +1,9 @@
 -- Where the reading of a first value stands that hasn't come whole.
-use Rattle.std.specs.Prelude.{◌≡◌, ℕ, zero, suc, ◌-◌, ◌<◌, ◌≤◌, ◌+◌, ◌*◌, List, [], ◌∷◌, ◌++◌, length, take, Result, Ok}
+use Rattle.std.specs.Prelude.{◌≡◌, ℕ, zero, suc, ◌-◌, ◌<◌, ◌≤◌, ◌+◌, ◌*◌, List, [], ◌∷◌, ◌++◌, length, take, drop, Result, Ok}
 use Rattle.ballot_law.specs.Results.{◌>>=◌}
 use Rattle.resp2_frames.specs.declared.fault.Unread.{Unread}
-use Rattle.resp2_frames.specs.Frame.{Frame, items}
+use Rattle.resp2_frames.specs.Faults.{IsKind}
+use Rattle.resp2_frames.specs.Frame.{Frame, items, IsLine}
 use Rattle.resp2_frames.specs.Reading.{values_at, value_at}
 
 -- what stands behind so many values
@@ -25,6 +26,15 @@ Passed front outer left = (more : ℕ) (rest : List ℕ)
 -- the reading stands behind so many of these bytes
 abbrev pub Stands : List ℕ → List ℕ → ℕ → ℕ → Type 0
 Stands bytes outer left at = (at ≤ length bytes) × Passed (take at bytes) outer left
+
+-- no line ends in so many of the bytes that stand behind these
+abbrev pub Searched : List ℕ → ℕ → ℕ → Type 0
+Searched bytes at line = (line ≤ length (drop at bytes)) × IsLine (take line (drop at bytes))
+
+-- a value begins with the byte of a kind, and its line has no end
+abbrev pub IsOpenLine : List ℕ → Type 0
+IsOpenLine [] = ⊥
+IsOpenLine (kind ∷ line) = IsKind kind × IsLine line
 
 -- an array of so many items begins with these bytes
 abbrev pub Opens : List ℕ → ℕ → Type 0

@@ -3,7 +3,7 @@ ghost use Rattle.std.specs.Prelude.{◌≡◌, ℕ, ◌≤◌, ◌++◌, [], Lis
 ghost use Rattle.resp2_frames.specs.declared.fault.FrameFault.TheVariants.{NoMemory};
 ghost use Rattle.resp2_frames.specs.declared.value.Value.{Value};
 ghost use Rattle.resp2_frames.specs.Frame.{Frame, view, spelling, IsFrame};
-ghost use Rattle.resp2_frames.specs.Place.{Stands};
+ghost use Rattle.resp2_frames.specs.Place.{Stands, Searched};
 ghost use Rattle.resp2_frames.specs.Reading.{Gives, frame_at};
 ghost use Rattle.resp2_frames.specs.Stream.{Held, held_of, reading, Feeds, Answers};
 
@@ -67,7 +67,8 @@ impl Model for Frames {
     ghost view = { λ frames. held_of frames.fault frames.bytes.items };
 
     // The reading of the first value stands behind bytes that are held.
-    ghost invariant = { λ frames. Stands frames.bytes.items frames.place.outer.items frames.place.left frames.place.at };
+    ghost invariant = { λ frames. Stands frames.bytes.items frames.place.outer.items frames.place.left frames.place.at
+        × Searched frames.bytes.items frames.place.at frames.place.line };
 }
 
 impl Frames {
@@ -124,7 +125,7 @@ impl Frames {
     fn take_first(&mut self) -> Result<Option<Value>, FrameFault>
         ensures { Answers view self.old result self.new }
     {
-        if self.place.at > 0 && self.waits() {
+        if self.place.is_begun() && self.waits() {
             return Ok(None);
         }
         self.read_first()

@@ -1,12 +1,13 @@
 //! Reads a value from the front of a list of bytes.
-ghost use Rattle.std.specs.Prelude.{◌≡◌, ◌+◌, ◌-◌, ◌^◌, ◌||◌, ◌==◌, length, map, min, Some, None, Result, if◌then◌else◌, IfSome};
+ghost use Rattle.std.specs.Prelude.{◌≡◌, ◌+◌, ◌-◌, ◌^◌, ◌||◌, ◌==◌, length, map, min, Some, None, Result, if◌then◌else◌, IfSome, IsTrue};
 ghost use Rattle.std.specs.Str.{all_ascii_digits};
 ghost use Rattle.ballot_law.specs.Cuts.{IsEnd};
 ghost use Rattle.ballot_law.specs.Words.{number_on};
+ghost use Rattle.resp2_frames.specs.Faults.{IsKind};
 ghost use Rattle.resp2_frames.specs.Frame as frames;
 ghost use Rattle.resp2_frames.specs.Frame.{view, frames_view, simple, fault};
 ghost use Rattle.resp2_frames.specs.Reading as read;
-ghost use Rattle.resp2_frames.specs.Place.{OpensAt};
+ghost use Rattle.resp2_frames.specs.Place.{IsOpenLine, OpensAt, Searched};
 ghost use Rattle.resp2_frames.specs.Reading.{Gives};
 
 use crate::fault::{FrameFault, Stopped, Unread};
@@ -55,6 +56,16 @@ fn line_length(bytes: &[u8]) -> usize
     ensures { result ≡ read.line_length bytes.now }
 {
     first_end(bytes)
+}
+
+/// The same where no line ends in the first bytes, so many of them.
+pub fn line_length_from(bytes: &[u8], searched: usize) -> usize
+    requires searched { Searched bytes.now 0 searched }
+    ensures value { result ≡ read.line_length bytes.now }
+    ensures searched { Searched bytes.now 0 result }
+{
+    let (_, rest) = bytes.split_at(searched);
+    searched + line_length(rest)
 }
 
 /// A line, and what stands behind its end.
@@ -187,6 +198,24 @@ fn bulk_of(alloc: Global, bytes: &[u8], more: usize) -> Result<(Value, &[u8]), S
         Some(size) => block_of(alloc, rest, more, size),
         None => Ok((Value::NullBulk, rest)),
     }
+}
+
+/// Whether this is the byte of a kind of value.
+fn is_kind(byte: u8) -> bool
+    ensures { IsTrue result → IsKind byte }
+{
+    matches!(byte, b'+' | b'-' | b':' | b'$' | b'*')
+}
+
+/// Whether a value has begun here with a line that is still without an end. The line has `line` bytes, the kind's with them.
+pub fn is_open_line(bytes: &[u8], line: usize) -> bool
+    requires { line ≡ read.line_length bytes.now }
+    ensures { IsTrue result → IsOpenLine bytes.now }
+{
+    let Some((kind, _)) = bytes.split_first() else {
+        return false;
+    };
+    line == bytes.len() && is_kind(*kind)
 }
 
 /// How many items follow the header of an array that stands here, and what is behind it; `None` where no such header is whole.

@@ -4,7 +4,7 @@ use Rattle.resp2_frames.specs.declared.fault.Unread.TheVariants.{NeedsMore}
 use Rattle.resp2_frames.specs.declared.fault.Stopped.TheVariants.{At}
 use Rattle.resp2_frames.specs.Frame.{view}
 use Rattle.resp2_frames.proofs.Steps.{fails_at}
-use Rattle.resp2_frames.proofs.Passing.{stands_inside, stands_behind, stands_waits, item_gets_on}
+use Rattle.resp2_frames.proofs.Passing.{stands_inside, stands_behind, stands_waits, stands_in_line, item_gets_on}
 use Rattle.resp2_frames.proofs.place.Place.pass.Goals as goal
 
 pub returns-in-Some-clause-stands : goal.returns-in-Some-clause-stands
@@ -45,3 +45,11 @@ returns-clause-less c = λ goes.
     let read = rw c.split_at.ensures.back at c.in_ok-after.ensures in
     let shorter = item_gets_on c.args.bytes.now c.in_ok-after.after.now (8 - c.len-2.result) place.at c.args.more (view c.in_ok-after.field-0-0) c.requires.short read c.requires.stands.0 in
     omega (arith, shorter)
+
+pub returns-then-is_open_line-clause-waits : goal.returns-then-is_open_line-clause-waits
+returns-then-is_open_line-clause-waits c = λ waits.
+    let place = c.args.self.now in
+    let some : place.left ≡ suc (place.left - 1) = omega arith in
+    let room : length place.outer.items < 8 = omega arith in
+    let line = rw c.split_at.ensures.back at (c.is_open_line.ensures c.if-is_open_line.true) in
+    stands_in_line c.args.bytes.now place.outer.items place.left (place.left - 1) place.at c.args.more some room line c.requires.stands
