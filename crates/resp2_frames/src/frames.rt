@@ -54,6 +54,9 @@ fn frame_of(alloc: Global, bytes: &[u8]) -> Result<(Value, usize), Stopped>
 /// is cut off the front of the bytes held with no copy, and their room is used again, so the memory
 /// taken goes with the bytes held and not with the length of the stream. Take every whole value
 /// before the next `feed`, so that no more than one frame and one piece are held.
+///
+/// A value that comes in pieces is passed part by part, each part once, and is read when all of it is
+/// there. So a piece costs what it adds to the stream, and not what came before it.
 #[derive(Drop)]
 pub struct Frames {
     bytes: BytesMut,

@@ -16,6 +16,22 @@ fn answer(alloc: Global, bytes: &[u8]) -> Result<Option<Value>, FrameFault>
     frames.next()
 }
 
+/// How often a fresh reader that is fed these bytes one at a time asks for more, and what it answers then.
+fn answer_by_bytes(alloc: Global, bytes: &[u8]) -> (usize, Result<Option<Value>, FrameFault>) {
+    let mut frames = Frames::new(alloc);
+    let mut asked: usize = 0;
+    for byte in bytes {
+        if let Err(fault) = frames.feed(&[*byte]) {
+            return (asked, Err(fault));
+        }
+        match frames.next() {
+            Ok(None) => asked = asked.saturating_add(1),
+            answer => return (asked, answer),
+        }
+    }
+    (asked, Ok(None))
+}
+
 fn bulk(alloc: Global, bytes: &[u8]) -> Result<Value, NoMemory> {
     Ok(Value::Bulk(Text::from_slice(alloc, bytes)?))
 }
@@ -63,6 +79,102 @@ fn fed_one_byte_at_a_time(rt: HostRuntime) -> Result<(), Fail> {
     }
     assert!(rt; values == asks(alloc, 4)?);
     assert_eq!(rt; frames.next(), Ok(None));
+    Ok(())
+}
+
+/// A command of 1,001 words in 57,017 bytes, and its value.
+fn large_command(alloc: Global) -> Result<(Vec<u8>, Value), Fail> {
+    let mut bytes = Vec::from_slice(alloc, b"*1001\r\n")?;
+    let mut words = Vec::new(alloc);
+    for _ in 0..954 {
+        bytes.extend_from_slice(b"$50\r\nabcdefghijklmnopqrstuvwxyzabcdefghijklmnopqrstuvwx\r\n")?;
+        words.push(bulk(alloc, b"abcdefghijklmnopqrstuvwxyzabcdefghijklmnopqrstuvwx")?)?;
+    }
+    for _ in 0..47 {
+        bytes.extend_from_slice(b"$49\r\nabcdefghijklmnopqrstuvwxyzabcdefghijklmnopqrstuvw\r\n")?;
+        words.push(bulk(alloc, b"abcdefghijklmnopqrstuvwxyzabcdefghijklmnopqrstuvw")?)?;
+    }
+    Ok((bytes, Value::Items(words)))
+}
+
+/// A reader that began anew at each byte would take a thousand times as long.
+#[test]
+fn large_commands_fed_one_byte_at_a_time(rt: HostRuntime) -> Result<(), Fail> {
+    let alloc = rt.alloc();
+    let (bytes, value) = large_command(alloc)?;
+    assert_eq!(rt; bytes.len(), 57_017);
+    for _ in 0..5 {
+        let (asked, answer) = answer_by_bytes(alloc, bytes.as_slice());
+        assert_eq!(rt; asked, 57_016);
+        assert!(rt; answer?.ok_or("no value")? == value);
+    }
+    Ok(())
+}
+
+/// An empty line at depth 8, in six arrays of one item.
+fn empty_line_in_arrays(alloc: Global) -> Result<Value, Fail> {
+    let mut value = Value::Simple(Text::from_slice(alloc, b"")?);
+    for _ in 0..6 {
+        value = Value::Items(vec![in alloc; value]?);
+    }
+    Ok(value)
+}
+
+#[test]
+fn deep_arrays_fed_one_byte_at_a_time(rt: HostRuntime) -> Result<(), Fail> {
+    let alloc = rt.alloc();
+    let mut bytes = Vec::from_slice(alloc, b"*1024\r\n")?;
+    let mut items = Vec::new(alloc);
+    for _ in 0..1024 {
+        bytes.extend_from_slice(b"*1\r\n*1\r\n*1\r\n*1\r\n*1\r\n*1\r\n+\r\n")?;
+        items.push(empty_line_in_arrays(alloc)?)?;
+    }
+    let value = Value::Items(items);
+    for _ in 0..5 {
+        let (asked, answer) = answer_by_bytes(alloc, bytes.as_slice());
+        assert_eq!(rt; asked, 27_654);
+        assert!(rt; answer?.ok_or("no value")? == value);
+    }
+    Ok(())
+}
+
+#[test]
+fn longest_line_fed_one_byte_at_a_time(rt: HostRuntime) -> Result<(), Fail> {
+    let alloc = rt.alloc();
+    let mut line = Vec::new(alloc);
+    for _ in 0..65_533 {
+        line.push(b'a')?;
+    }
+    let mut bytes = Vec::from_slice(alloc, b"+")?;
+    bytes.extend_from_slice(line.as_slice())?;
+    bytes.extend_from_slice(b"\r\n")?;
+    let (asked, answer) = answer_by_bytes(alloc, bytes.as_slice());
+    assert_eq!(rt; asked, 65_535);
+    assert_eq!(rt;
+        answer,
+        Ok(Some(Value::Simple(Text::from_slice(alloc, line.as_slice())?)))
+    );
+    Ok(())
+}
+
+#[test]
+fn faults_show_at_their_byte_behind_what_was_passed(rt: HostRuntime) -> Result<(), Fail> {
+    let alloc = rt.alloc();
+    let (asked, answer) = answer_by_bytes(alloc, b"*2\r\n:1\r\n!");
+    assert_eq!(rt; asked, 8);
+    assert_eq!(rt; answer, Err(FrameFault::BadKind));
+    let (asked, answer) = answer_by_bytes(alloc, b"*2\r\n$1\r\na\r\n$1\r\nbc");
+    assert_eq!(rt; asked, 16);
+    assert_eq!(rt; answer, Err(FrameFault::MissingEnd));
+    let (asked, answer) = answer_by_bytes(alloc, b"*1\r\n+ab\n");
+    assert_eq!(rt; asked, 7);
+    assert_eq!(rt; answer, Err(FrameFault::MissingEnd));
+    let (asked, answer) = answer_by_bytes(
+        alloc,
+        b"*1\r\n*1\r\n*1\r\n*1\r\n*1\r\n*1\r\n*1\r\n*1\r\n:",
+    );
+    assert_eq!(rt; asked, 32);
+    assert_eq!(rt; answer, Err(FrameFault::TooDeep));
     Ok(())
 }
 
