@@ -10,9 +10,10 @@ use Rattle.world_reports.specs.declared.entry.Entry.{Entry}
 use Rattle.world_reports.specs.Told.{report_text}
 use Rattle.fault_world.specs.Runs.{Ran}
 
--- the story's steps are a run of the model of the roster's group, and the text has a line for each election and advertisement that the run
--- brought, in order, and no other. In that run at most one Sentinel is elected for a master in an epoch, two advertisements of a master
--- with one epoch have one address, and at no step falls the epoch of a master's configuration in a Sentinel's file
+-- the story's steps are a run of the model of the roster's group, and the text has a line for each election and advertisement of the
+-- roster's Sentinels and masters that the run brought, in order, and no other. In that run at most one Sentinel is elected for a master in
+-- an epoch, two advertisements of a master with one epoch have one address, and at no step falls the epoch of a master's configuration in
+-- a Sentinel's file
 pub record IsTold (roster : Roster) (story text : List ℕ) : Type 0 where
   pub steps : List Step
   pub read : scenario story ≡ Ok steps

@@ -1,0 +1,21 @@
+use Rattle.std.proofs.Common.{◌∙◌, ◌++◌, ap, subst, sym, Ok, ◌≡◌}
+use Rattle.scenarios.specs.Scenarios.{scenario}
+use Rattle.world_reports.specs.Told.{report_text}
+use Rattle.scenario_replay.proofs.story.tell.Goals as goal
+
+pub returns : goal.returns
+returns g c =
+    let runs = c.in_ok-report.ensures.safe c.requires.world c.requires.reached c.requires.shows in
+    record {
+      steps = c.deref.result.now;
+      read = subst (λ steps. scenario c.args.scenario.now ≡ Ok steps) (sym c.deref.ensures.value) c.in_ok-steps.ensures.steps;
+      first = c.requires.world;
+      begins = c.requires.reached;
+      news = c.in_ok-report.report.entries;
+      last = runs.last;
+      ran = runs.ran;
+      text_is = c.in_ok-lines.ensures.ok ∙ ap (λ text. text ++ report_text c.in_ok-report.report.entries) c.new-text.ensures;
+      one_leader = runs.one_leader;
+      one_address = runs.one_address;
+      never_falls = runs.never_falls;
+    }
