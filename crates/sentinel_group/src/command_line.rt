@@ -15,6 +15,34 @@ const REFUSED_WORDS: u8 = 2;
 /// The version of the program, as `--version` prints it.
 const VERSION: &str = "0.1.0";
 
+/// The files of a group.
+fn conf_files<'a>(alloc: Global) -> Arg<'a> {
+    Arg::new(alloc, "conf")
+        .required(true)
+        .num_args(1..)
+        .action(ArgAction::Append)
+        .help("The sentinel.conf of each Sentinel")
+}
+
+/// The words of `check`.
+fn check<'a>(alloc: Global) -> Result<Command<'a>, AllocError> {
+    Command::new(alloc, "check")
+        .about("Tells what group conf files make, and what is wrong with it")
+        .arg(conf_files(alloc))
+}
+
+/// The words of `serve`.
+fn serve<'a>(alloc: Global) -> Result<Command<'a>, AllocError> {
+    let notes = Arg::new(alloc, "notes")
+        .long("notes")
+        .action(ArgAction::SetTrue)
+        .help("Notes on standard error what the Sentinels find, as +switch-master");
+    Command::new(alloc, "serve")
+        .about("Runs a group of Sentinels with their ports at 127.0.0.1, until standard input ends")
+        .arg(notes)?
+        .arg(conf_files(alloc))
+}
+
 /// The words of `answer`.
 fn answer<'a>(alloc: Global) -> Result<Command<'a>, AllocError> {
     let conf = Arg::new(alloc, "conf").long("conf").value_name("file").help(
@@ -36,18 +64,13 @@ fn replay<'a>(alloc: Global) -> Result<Command<'a>, AllocError> {
     let scenario = Arg::new(alloc, "scenario")
         .required(true)
         .help("The steps of the story, one a line");
-    let confs = Arg::new(alloc, "conf")
-        .required(true)
-        .num_args(1..)
-        .action(ArgAction::Append)
-        .help("The sentinel.conf of each Sentinel");
     Command::new(alloc, "replay")
         .about(
             "Plays a story of a whole group, and prints who was elected and which addresses were told",
         )
         .arg(trace)?
         .arg(scenario)?
-        .arg(confs)
+        .arg(conf_files(alloc))
 }
 
 /// The command line of the program.
@@ -57,7 +80,9 @@ pub(crate) fn command<'a>(alloc: Global) -> Result<Command<'a>, AllocError> {
         .version(VERSION)
         .subcommand_required(true)
         .subcommand(answer(alloc)?)?
-        .subcommand(replay(alloc)?)
+        .subcommand(check(alloc)?)?
+        .subcommand(replay(alloc)?)?
+        .subcommand(serve(alloc)?)
 }
 
 /// The words that the program was started with, its own name first.

@@ -4,6 +4,7 @@ use scenario_replay::ReplayFault;
 use scenarios::{ScenarioFault, ScenarioKind};
 use sentinel_conf::{ConfFault, ConfKind};
 use sentinel_core::ServeFault;
+use sentinel_runner::GroupFault;
 use std::fmt::Display;
 use std::process::ExitCode;
 
@@ -23,6 +24,22 @@ fn status_of(fault: ServeFault) -> u8 {
 pub(crate) fn fail(rt: &impl Eprint, fault: ServeFault) -> ExitCode {
     let _ = eprintln!(rt; "sentinel_group: {fault}");
     ExitCode::from(status_of(fault))
+}
+
+/// The exit status that tells why a group doesn't run, or didn't run whole.
+fn status_of_group(fault: GroupFault) -> u8 {
+    match fault {
+        GroupFault::NotOneRoster => REFUSED_FILE,
+        GroupFault::PortRefused => 4,
+        GroupFault::Halted => 5,
+        GroupFault::NoMemory => 6,
+    }
+}
+
+/// Tells why a group doesn't run, or didn't run whole, in one line and in the exit status.
+pub(crate) fn fail_group(rt: &impl Eprint, fault: GroupFault) -> ExitCode {
+    let _ = eprintln!(rt; "sentinel_group: {fault}");
+    ExitCode::from(status_of_group(fault))
 }
 
 /// Tells what is wrong with a file, and at which line; line 0 is the file as a whole.

@@ -1,16 +1,24 @@
-//! The program `sentinel_group`: `answer` serves the commands of standard input on standard output, `replay` plays a story of a whole group.
+//! The program `sentinel_group`: `answer` serves the commands of standard input on standard output, `serve` runs a group with its ports,
+//! `replay` plays a story of a group, `check` tells what group files make.
 #![tactic(auto)]
 
 ghost use Rattle.std.specs.Prelude.{◌<◌, ◌-◌, ◌^◌};
 
+mod checking;
 mod command_line;
 mod failures;
+mod group_files;
 mod replaying;
+mod serving;
 
+use crate::checking::check;
 use crate::command_line::{command, refuse_unread, tell_words, words};
 use crate::failures::{fail, refuse_conf, refuse_file};
 use crate::replaying::replay;
+use crate::serving::{level_of, serve as serve_group};
 use clap::ArgMatches;
+use log::Logged;
+use log::sink::Console;
 use sentinel_conf::{Conf, ConfStore, LoadFault, MemoryStore, read};
 use sentinel_core::{Sentinel, ServeFault};
 use sentinel_runner::FileStore;
@@ -81,7 +89,12 @@ fn main(rt: HostRuntime) -> ExitCode {
     };
     match command.try_get_matches_from(words.as_slice()) {
         Ok(matches) => match matches.subcommand() {
+            Some(("check", words)) => check(rt, words),
             Some(("replay", words)) => replay(&rt, words),
+            Some(("serve", words)) => {
+                let noting = Logged::new(rt, level_of(words), Console(rt));
+                serve_group(rt, &noting, words)
+            }
             Some((_, words)) => answer(rt, words),
             None => answer_in_memory(rt),
         },

@@ -2,6 +2,6 @@ mod Few
 mod Fresh
 mod Listed
 mod Same
-mod Sending
+pub mod Sending
 mod SentinelMoves
 mod Wins

@@ -64,10 +64,10 @@ outputs_at plan now (Become priority offset link_down) core h w = tt
 outputs_at plan now (Handed message) core h w = tt
 
 -- of a Sentinel that is sound before the input and keeps a part of its file after it
-pub outputs_sendable : OutputsAreWithin → (plan : Plan) (core : Core) (now : ℕ) (event : Event) → IsSoundPlan plan → IsSound plan core → IsTakeable event → IsKeptPart plan.conf (next plan core now event).core.kept
+pub outputs_sendable : OutputsAreWithin → (plan : Plan) (core : Core) (now : ℕ) (event : Event) → IsSoundPlan plan → IsSound plan core → IsWithinEvent event → IsKeptPart plan.conf (next plan core now event).core.kept
     → AllByRecursion IsSendableOutput (next plan core now event).outputs
 outputs_sendable within plan core now event p s h kept =
-    outputs_at plan (clock now) event (cleared core) kept (within plan core now event p s (within_event event h))
+    outputs_at plan (clock now) event (cleared core) kept (within plan core now event p s h)
 
 pub sendable_of : (result : Result Took TakeFault) (before after : Whole) (now : ℕ) (event : Event) (held : List Output) → OutputsAreWithin → IsWhole before → IsWhole after → IsTakeable event →
     OnOk result (after.core ≡ (next before.plan before.core now event).core) →
@@ -76,6 +76,6 @@ pub sendable_of : (result : Result Took TakeFault) (before after : Whole) (now :
     OnOk result (AllByRecursion IsSendableOutput held)
 sendable_of (Ok took) before after now event held within was is h core outputs plan =
     subst (AllByRecursion IsSendableOutput) (sym outputs)
-    (outputs_sendable within before.plan before.core now event was.plan was.core h
+    (outputs_sendable within before.plan before.core now event was.plan was.core (within_event event h)
     (subst (λ (c : Core). IsKeptPart before.plan.conf c.kept) core (subst (λ (p : Plan). IsKeptPart p.conf after.core.kept) plan is.core.kept)))
 sendable_of (Err fault) before after now event held within was is h core outputs plan = tt

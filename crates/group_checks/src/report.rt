@@ -1,0 +1,224 @@
+//! What is told of a group.
+
+use crate::differences::{Difference, difference_of};
+use ballot_law::{Addr, Name, NoMemory, Roster, RunId};
+use sentinel_conf::Conf;
+use std::alloc::Global;
+use words::{add_number, ip_text, run_id_text};
+
+/// A conf with the name of its file.
+#[derive(Drop)]
+pub struct NamedConf<'a> {
+    pub name: &'a str,
+    pub conf: Conf,
+}
+
+/// Lines that tell of a group, and whether it would be refused.
+#[derive(Drop)]
+pub struct Report {
+    text: Vec<u8>,
+    refused: bool,
+}
+
+impl Report {
+    /// What these files make, in the roster's order: each Sentinel with its file, each master with its quorum and the votes that it
+    /// needs, each data node, and what is wrong. The roster is that of the first file.
+    pub fn of(alloc: Global, files: &[NamedConf<'_>]) -> Result<Report, NoMemory> {
+        let mut report = Report {
+            text: Vec::new(alloc),
+            refused: false,
+        };
+        let Some(first) = files.first() else {
+            return Ok(report);
+        };
+        report.add_sentinels(first.conf.roster(), files)?;
+        report.add_masters(&first.conf)?;
+        report.add_differences(first, files)?;
+        report.add_verdict()?;
+        Ok(report)
+    }
+
+    /// The lines, each ended by LF.
+    pub fn text(&self) -> &[u8] {
+        self.text.as_slice()
+    }
+
+    /// Whether the group would be refused.
+    pub fn is_refused(&self) -> bool {
+        self.refused
+    }
+
+    /// Adds words.
+    fn add(&mut self, words: &str) -> Result<(), NoMemory> {
+        self.text.extend_from_slice(words.as_bytes())?;
+        Ok(())
+    }
+
+    /// Adds a number.
+    fn add_number(&mut self, number: u64) -> Result<(), NoMemory> {
+        add_number(&mut self.text, number)?;
+        Ok(())
+    }
+
+    /// Adds a name.
+    fn add_name(&mut self, name: &Name) -> Result<(), NoMemory> {
+        self.text.extend_from_slice(name.as_slice())?;
+        Ok(())
+    }
+
+    /// Adds an address.
+    fn add_addr(&mut self, addr: Addr) -> Result<(), NoMemory> {
+        self.text.extend_from_slice(ip_text(addr.ip).as_slice())?;
+        self.add(":")?;
+        self.add_number(u64::from(addr.port))
+    }
+
+    /// Adds a run id.
+    fn add_id(&mut self, id: RunId) -> Result<(), NoMemory> {
+        self.text.extend_from_slice(run_id_text(id).as_slice())?;
+        Ok(())
+    }
+
+    /// Adds each Sentinel with its files.
+    fn add_sentinels(&mut self, roster: &Roster, files: &[NamedConf<'_>]) -> Result<(), NoMemory> {
+        let members = roster.sentinels();
+        for place in 0..members.len() {
+            self.add("sentinel s")?;
+            self.add_number(place as u64)?;
+            self.add(": ")?;
+            self.add_id(members[place].id)?;
+            self.add(" at ")?;
+            self.add_addr(members[place].addr)?;
+            self.add_files(place, files)?;
+        }
+        Ok(())
+    }
+
+    /// Ends the line of a Sentinel with the names of its files; it is to have one.
+    fn add_files(&mut self, place: usize, files: &[NamedConf<'_>]) -> Result<(), NoMemory> {
+        let mut count: u32 = 0;
+        for file in files {
+            if file.conf.place() as usize == place {
+                count = count.saturating_add(1);
+                self.add(", file ")?;
+                self.add(file.name)?;
+            }
+        }
+        if count == 1 {
+            return self.add("\n");
+        }
+        self.refused = true;
+        if count == 0 {
+            self.add(": no file is its own\n")
+        } else {
+            self.add(": more than one file is its own\n")
+        }
+    }
+
+    /// Adds each master with its data nodes.
+    fn add_masters(&mut self, conf: &Conf) -> Result<(), NoMemory> {
+        let masters = conf.roster().masters();
+        let mut number = 0;
+        for m in 0..masters.len() {
+            self.add_master(conf, m)?;
+            number = self.add_nodes(conf, m, number)?;
+        }
+        Ok(())
+    }
+
+    /// Adds a master: its quorum, the votes that it needs, and when it counts as down.
+    fn add_master(&mut self, conf: &Conf, m: usize) -> Result<(), NoMemory> {
+        let (Some(master), Ok(number)) = (conf.roster().masters().get(m), u16::try_from(m)) else {
+            return Ok(());
+        };
+        self.add("master ")?;
+        self.add_name(&master.name)?;
+        self.add(": quorum ")?;
+        self.add_number(u64::from(master.quorum))?;
+        self.add(", elected by ")?;
+        self.add_number(u64::from(conf.roster().need(number)))?;
+        self.add(" of ")?;
+        self.add_number(conf.roster().sentinels().len() as u64)?;
+        if let Some(settings) = conf.settings(number) {
+            self.add(", down after ")?;
+            self.add_number(settings.after_ms)?;
+            self.add(" ms")?;
+        }
+        self.add("\n")
+    }
+
+    /// Adds the data nodes of a master, which are numbered from there on; the number of the next one.
+    fn add_nodes(&mut self, conf: &Conf, m: usize, number: u64) -> Result<u64, NoMemory> {
+        let Some(master) = conf.roster().masters().get(m) else {
+            return Ok(number);
+        };
+        let mut next = number;
+        for addr in master.nodes() {
+            self.add("node d")?;
+            self.add_number(next)?;
+            self.add(": ")?;
+            self.add_addr(*addr)?;
+            self.add_role(conf, m, *addr)?;
+            next = next.saturating_add(1);
+        }
+        Ok(next)
+    }
+
+    /// Ends the line of a data node with its role.
+    fn add_role(&mut self, conf: &Conf, m: usize, addr: Addr) -> Result<(), NoMemory> {
+        match conf.kept().masters.as_slice().get(m) {
+            Some(kept) if kept.card.addr == addr => {
+                self.add(", the master since epoch ")?;
+                self.add_number(kept.card.epoch)?;
+                self.add("\n")
+            }
+            _ => self.add(", a replica\n"),
+        }
+    }
+
+    /// Adds in what each file differs from the first one.
+    fn add_differences(
+        &mut self,
+        first: &NamedConf<'_>,
+        files: &[NamedConf<'_>],
+    ) -> Result<(), NoMemory> {
+        for file in files {
+            if let Some(difference) = difference_of(&first.conf, &file.conf) {
+                self.refused = true;
+                self.add(first.name)?;
+                self.add(" and ")?;
+                self.add(file.name)?;
+                self.add(" differ in ")?;
+                self.add_difference(difference)?;
+            }
+        }
+        Ok(())
+    }
+
+    /// Ends the line of two files with that in which they differ.
+    fn add_difference(&mut self, difference: Difference) -> Result<(), NoMemory> {
+        match difference {
+            Difference::Sentinels => self.add("the Sentinels\n"),
+            Difference::Masters => self.add("the masters\n"),
+            Difference::Nodes(name) => self.add_of("the data nodes of ", &name),
+            Difference::Quorum(name) => self.add_of("the quorum of ", &name),
+            Difference::Start(name) => self.add_of("the address or the epoch of ", &name),
+        }
+    }
+
+    /// Ends a line with something of a master.
+    fn add_of(&mut self, what: &str, name: &Name) -> Result<(), NoMemory> {
+        self.add(what)?;
+        self.add_name(name)?;
+        self.add("\n")
+    }
+
+    /// Adds whether the group would run.
+    fn add_verdict(&mut self) -> Result<(), NoMemory> {
+        if self.refused {
+            self.add("these files are refused: they are not those of one group\n")
+        } else {
+            self.add("these files are those of one group\n")
+        }
+    }
+}

@@ -1,0 +1,144 @@
+//! A Sentinel that threads share, with the seats that are known to be of it.
+
+ghost use Rattle.std.specs.Prelude.{◌≡◌, [], OnOk};
+ghost use Rattle.std.specs.List.{AllByRecursion};
+ghost use Rattle.boxed_nodes.specs.Sendable.{IsSendableOutput};
+ghost use Rattle.sentinel_rules.specs.Facts.{IsWithinEvent};
+
+use crate::group_state::GroupState;
+use crate::notes::note_all;
+use ballot_law::{Event, Input};
+use log::Log;
+use port_sessions::{ServeFault, Session};
+use sentinel_cell::{ActFault, Seat, SharedSentinel};
+use sentinel_conf::ConfStore;
+use sentinel_outbox::Outbox;
+use sentinel_rules::law_outputs_are_within;
+use std::alloc::Global;
+use std::marker::{Brand, PhantomData};
+use std::sync::Wait;
+
+/// Which Sentinel it is. Only proofs read it.
+pub trait Which {
+    ghost use Rattle.atomic_table.specs.Seated.{TableId};
+
+    ghost cell: { TableId };
+}
+
+impl Which for Brand {
+    ghost use Rattle.std.specs.Prelude.{[]};
+
+    ghost cell = { record { words = 0; slots = 0; views_name = 0; atom = 0; block = 0; offset = 0; slot_names = [] } };
+}
+
+/// A Sentinel of the group, which its threads share.
+#[derive(Drop)]
+pub struct Member<J: Which, S: ConfStore> {
+    cell: SharedSentinel<S>,
+    masters: u16,
+    of: PhantomData<J>,
+    ghost is: { cell.id ≡ J.cell },
+}
+
+/// A thread's seat of that Sentinel, with the thread's own room for outputs.
+#[derive(Drop)]
+pub struct ThreadSeat<J: Which> {
+    seat: Seat,
+    outbox: Outbox,
+    of: PhantomData<J>,
+    ghost is: { seat.cell ≡ J.cell },
+    ghost held: { outbox.held ≡ [] },
+}
+
+/// A seat with room for outputs that is made as it is needed.
+fn with_outbox<J: Which>(alloc: Global, seat: Seat) -> ThreadSeat<J>
+    requires { seat.cell ≡ J.cell }
+{
+    ThreadSeat {
+        seat,
+        outbox: Outbox::new(alloc),
+        of: PhantomData,
+    }
+}
+
+impl<J: Which, S: ConfStore> Member<J, S> {
+    /// The Sentinel with its first seat.
+    pub fn with_seat(
+        alloc: Global,
+        cell: SharedSentinel<S>,
+        seat: Seat,
+    ) -> (Member<J, S>, ThreadSeat<J>)
+        requires { (cell.id ≡ J.cell) × (seat.cell ≡ J.cell) }
+    {
+        let masters = cell.roster().masters().len().min(u16::MAX as usize) as u16;
+        let member = Member {
+            cell,
+            masters,
+            of: PhantomData,
+        };
+        (member, with_outbox(alloc, seat))
+    }
+
+    /// How many masters it watches.
+    pub fn masters(&self) -> u16 {
+        self.masters
+    }
+
+    /// A second seat beside this one; None where no share is left, and then the seat is gone.
+    pub fn split(
+        &self,
+        alloc: Global,
+        seat: ThreadSeat<J>,
+    ) -> Option<(ThreadSeat<J>, ThreadSeat<J>)> {
+        let (one, two) = self.cell.split(seat.seat).ok()?;
+        Some((with_outbox(alloc, one), with_outbox(alloc, two)))
+    }
+
+    /// One input. The outbox shows what the Sentinel says, once it is stored; at a fault it says nothing.
+    fn turn<R: Wait>(
+        &self,
+        rt: &R,
+        seat: &mut ThreadSeat<J>,
+        input: &Input,
+    ) -> Result<(), ActFault>
+        requires { IsWithinEvent input.now.event }
+        ensures { OnOk result (AllByRecursion IsSendableOutput seat.new.outbox.shown) }
+    {
+        law_outputs_are_within();
+        seat.outbox.clear();
+        match self.cell.act(rt, &mut seat.seat, input, &mut seat.outbox) {
+            Ok(_) => Ok(()),
+            Err(fault) => Err(fault),
+        }
+    }
+
+    /// One input at a reading of the clock in milliseconds. What the Sentinel says, once it is stored, goes to its links, and what it notes to
+    /// the log. At a fault it says nothing.
+    pub fn carry_out<R: Wait + Log>(
+        &self,
+        rt: &R,
+        seat: &mut ThreadSeat<J>,
+        group: &GroupState,
+        now: u64,
+        event: Event,
+    ) -> Result<(), ActFault>
+        requires { IsWithinEvent event }
+    {
+        self.turn(rt, seat, &Input { now, event })?;
+        group.links.send_all(rt, seat.outbox.outputs());
+        note_all(rt, self.cell.roster(), seat.outbox.outputs());
+        Ok(())
+    }
+
+    /// Hands a session the next piece of its stream, at a reading of the clock in milliseconds.
+    pub fn receive<R: Wait>(
+        &self,
+        rt: &R,
+        seat: &mut ThreadSeat<J>,
+        session: &mut Session,
+        now: u64,
+        piece: &[u8],
+    ) -> Result<(), ServeFault> {
+        session.received(rt, &self.cell, &mut seat.seat, now, piece)
+    }
+}

@@ -1,0 +1,103 @@
+//! What the threads of a Sentinel do until the group ends.
+
+use crate::clock::millis_of;
+use crate::group_state::GroupState;
+use crate::member::{Member, ThreadSeat, Which};
+use ballot_law::Event;
+use crossbeam_channel::{Receiver, RecvTimeoutError};
+use group_links::Letter;
+use log::{Log, warn};
+use sentinel_cell::ActFault;
+use sentinel_conf::ConfStore;
+use std::rt::Clock;
+use std::sync::Wait;
+use std::sync::atomic::{AtomicU64, Ordering};
+use std::thread;
+use std::time::Duration;
+
+/// How long a timer sleeps between two ticks of a master, in milliseconds.
+const TICK_MS: u64 = 100;
+
+/// How long a link waits for a message before it looks whether the group ends, in milliseconds.
+const LINK_MS: u64 = 50;
+
+/// Whether the Sentinel goes on after this. A refused store halts it, and a want of memory loses the input alone.
+fn goes_on<R: Log>(rt: &R, group: &GroupState, acted: Result<(), ActFault>) -> bool {
+    match acted {
+        Ok(()) | Err(ActFault::NoMemory) => true,
+        Err(ActFault::StoreRefused) => {
+            warn!(rt; "a store was refused: the Sentinel is halted");
+            group.note_halted();
+            false
+        }
+        Err(ActFault::Halted | ActFault::Spent) => {
+            group.note_halted();
+            false
+        }
+    }
+}
+
+/// Ticks each master once: whether the Sentinel goes on. The random number of a tick is the part of a second that the clock shows, in
+/// nanoseconds, which differs from tick to tick and from Sentinel to Sentinel.
+fn tick_all<J: Which, S: ConfStore, R: Wait + Clock + Log>(
+    rt: &R,
+    group: &GroupState,
+    member: &Member<J, S>,
+    seat: &mut ThreadSeat<J>,
+) -> bool {
+    for master in 0..member.masters() {
+        let elapsed = group.clock.elapsed(rt);
+        let random = u64::from(elapsed.subsec_nanos());
+        let event = Event::Tick { master, random };
+        let acted = member.carry_out(rt, seat, group, millis_of(elapsed), event);
+        if !goes_on(rt, group, acted) {
+            return false;
+        }
+    }
+    true
+}
+
+/// Ticks each master every 100 ms, until `ending` isn't 0 or the Sentinel is halted.
+pub fn run_timer<J: Which, S: ConfStore, R: Wait + Clock + Log>(
+    rt: &R,
+    group: &GroupState,
+    member: &Member<J, S>,
+    seat: &mut ThreadSeat<J>,
+    ending: &AtomicU64,
+) {
+    for _ in rt.forever() {
+        if ending.load(Ordering::SeqCst) != 0 {
+            return;
+        }
+        if !tick_all(rt, group, member, seat) {
+            return;
+        }
+        thread::sleep(rt, Duration::from_millis(TICK_MS));
+    }
+}
+
+/// Has the Sentinel take each message that comes, until `ending` isn't 0, the Sentinel is halted, or nobody is left who could send.
+pub fn run_link<J: Which, S: ConfStore, R: Wait + Clock + Log>(
+    rt: &R,
+    group: &GroupState,
+    member: &Member<J, S>,
+    seat: &mut ThreadSeat<J>,
+    letters: &Receiver<Letter>,
+    ending: &AtomicU64,
+) {
+    for _ in rt.forever() {
+        if ending.load(Ordering::SeqCst) != 0 {
+            return;
+        }
+        let letter = match letters.recv_timeout(rt, Duration::from_millis(LINK_MS)) {
+            Ok(letter) => letter,
+            Err(RecvTimeoutError::Timeout) => continue,
+            Err(RecvTimeoutError::Disconnected) => return,
+        };
+        let now = group.clock.now(rt);
+        let acted = member.carry_out(rt, seat, group, now, letter.into_event());
+        if !goes_on(rt, group, acted) {
+            return;
+        }
+    }
+}

@@ -1,0 +1,48 @@
+//! `check`: what group conf files make, before it runs.
+
+use crate::failures::{fail, fail_group};
+use crate::group_files::file_of;
+use clap::ArgMatches;
+use group_checks::{NamedConf, Report};
+use sentinel_core::ServeFault;
+use sentinel_runner::GroupFault;
+use std::io::Write;
+use std::process::ExitCode;
+
+/// What the files say. Each file that is refused is told, and then the status tells it too.
+fn confs_of<'a>(rt: HostRuntime, paths: &[&'a str]) -> Result<Vec<NamedConf<'a>>, ExitCode> {
+    let mut confs = Vec::new(rt.alloc());
+    let mut refused = None;
+    for name in paths {
+        match file_of(rt, name) {
+            Ok((conf, _)) => {
+                if confs.push(NamedConf { name, conf }).is_err() {
+                    return Err(fail(&rt, ServeFault::NoMemory));
+                }
+            }
+            Err(status) => refused = Some(status),
+        }
+    }
+    match refused {
+        Some(status) => Err(status),
+        None => Ok(confs),
+    }
+}
+
+/// Tells what group the conf files make that the words name, and with status 3 what is wrong with it.
+pub(crate) fn check(rt: HostRuntime, words: &ArgMatches) -> ExitCode {
+    let confs = match confs_of(rt, words.get_strs("conf").unwrap_or(&[])) {
+        Ok(confs) => confs,
+        Err(status) => return status,
+    };
+    let Ok(report) = Report::of(rt.alloc(), confs.as_slice()) else {
+        return fail(&rt, ServeFault::NoMemory);
+    };
+    if rt.stdout().write_all(report.text()).is_err() {
+        return fail(&rt, ServeFault::Write);
+    }
+    if report.is_refused() {
+        return fail_group(&rt, GroupFault::NotOneRoster);
+    }
+    ExitCode::SUCCESS
+}
