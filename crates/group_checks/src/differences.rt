@@ -79,7 +79,10 @@ fn difference_of_rosters(one: &Conf, other: &Conf) -> Option<Difference> {
 /// The first master that begins with different configurations.
 fn difference_of_starts(one: &Conf, other: &Conf) -> Option<Difference> {
     let masters = one.roster().masters();
-    let (some, others) = (one.kept().masters.as_slice(), other.kept().masters.as_slice());
+    let (some, others) = (
+        one.kept().masters.as_slice(),
+        other.kept().masters.as_slice(),
+    );
     for m in 0..masters.len() {
         if some.get(m)?.card != others.get(m)?.card {
             let master = &masters[m];

@@ -74,7 +74,8 @@ impl Port {
             Token(key),
             Interest::READABLE | Interest::WRITABLE,
         )?;
-        self.connections.insert(Connection::new(self.alloc, stream))?;
+        self.connections
+            .insert(Connection::new(self.alloc, stream))?;
         Ok(())
     }
 

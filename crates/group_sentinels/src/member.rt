@@ -95,12 +95,7 @@ impl<J: Which, S: ConfStore> Member<J, S> {
     }
 
     /// One input. The outbox shows what the Sentinel says, once it is stored; at a fault it says nothing.
-    fn turn<R: Wait>(
-        &self,
-        rt: &R,
-        seat: &mut ThreadSeat<J>,
-        input: &Input,
-    ) -> Result<(), ActFault>
+    fn turn<R: Wait>(&self, rt: &R, seat: &mut ThreadSeat<J>, input: &Input) -> Result<(), ActFault>
         requires { IsWithinEvent input.now.event }
         ensures { OnOk result (AllByRecursion IsSendableOutput seat.new.outbox.shown) }
     {

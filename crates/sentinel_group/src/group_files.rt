@@ -16,7 +16,10 @@ pub(crate) struct GroupFiles {
 }
 
 /// The file at the path as a store, and what it says. A file that is refused is told, and the status tells it too.
-pub(crate) fn file_of(rt: HostRuntime, path: &str) -> Result<(Conf, FileStore<HostRuntime>), ExitCode>
+pub(crate) fn file_of(
+    rt: HostRuntime,
+    path: &str,
+) -> Result<(Conf, FileStore<HostRuntime>), ExitCode>
     ensures { IfOk result (λ r. r.1 ≡ 0) }
 {
     let Ok(mut store) = FileStore::at(rt, rt.alloc(), path) else {

@@ -12,8 +12,8 @@ use std::io::Input;
 use std::net::Net;
 use std::process::ExitCode;
 use std::rt::Clock;
-use std::sync::atomic::AtomicU64;
 use std::sync::Wait;
+use std::sync::atomic::AtomicU64;
 use std::thread::Threads;
 
 /// Which notes go to standard error: those of a group where the words ask for them, and else none.

@@ -145,7 +145,8 @@ fn follow_beside<'a, S, I: Read, R>(
     input: &mut I,
     state: &'a GroupState,
     ending: &'a AtomicU64,
-) where
+)
+where
     S: ConfStore + Drop + Send,
     R: Threads + Wait + Clock + Log + Sync,
 {

@@ -82,7 +82,8 @@ impl Orders {
     fn obey<R: Wait + Log>(&mut self, rt: &R) {
         match errand_of(self.line.as_slice(), self.nodes) {
             Some(errand) if !self.too_long => drop(self.errands.send(rt, errand)),
-            _ => warn!(rt; "a line of standard input is no order: stop d0, start d0, set d0 100 0 0"),
+            _ =>
+                warn!(rt; "a line of standard input is no order: stop d0, start d0, set d0 100 0 0"),
         }
         self.line.clear();
         self.too_long = false;
@@ -121,7 +122,12 @@ impl Orders {
     }
 
     /// Obeys each line of the input until its end, and then has the group end: `ending` is 1. A last line without LF is obeyed too.
-    pub(crate) fn follow<I: Read, R: Wait + Log>(&mut self, rt: &R, input: &mut I, ending: &AtomicU64) {
+    pub(crate) fn follow<I: Read, R: Wait + Log>(
+        &mut self,
+        rt: &R,
+        input: &mut I,
+        ending: &AtomicU64,
+    ) {
         self.read_all(rt, input);
         if !self.line.is_empty() {
             self.obey(rt);

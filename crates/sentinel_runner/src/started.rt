@@ -85,7 +85,8 @@ impl<S: ConfStore + Drop> Started<S> {
         alloc: Global,
         group: &GroupState,
         ending: &AtomicU64,
-    ) where
+    )
+    where
         S: Send,
     {
         let Started {
@@ -108,7 +109,8 @@ fn run_named<J: Which + Send + Sync, S: ConfStore + Drop + Send, R>(
     port: Port,
     letters: Receiver<Letter>,
     ending: &AtomicU64,
-) where
+)
+where
     R: Threads + Wait + Clock + Log + Sync,
     requires { (cell.id ≡ J.cell) × (seat.cell ≡ J.cell) }
 {
@@ -133,7 +135,8 @@ fn run_threads<'a, J: Which + Send + Sync, S: ConfStore + Drop + Send, R>(
     mut port: Port,
     letters: Receiver<Letter>,
     ending: &'a AtomicU64,
-) where
+)
+where
     R: Threads + Wait + Clock + Log + Sync,
 {
     thread::scope(thread::scope_env(), rt, |scope| {
