@@ -8,8 +8,8 @@ use words::{add_number, ip_text, run_id_text};
 
 /// A conf with the name of its file.
 #[derive(Drop)]
-pub struct NamedConf<'a> {
-    pub name: &'a str,
+pub struct NamedConf {
+    pub name: String,
     pub conf: Conf,
 }
 
@@ -23,7 +23,7 @@ pub struct Report {
 impl Report {
     /// What these files make, in the roster's order: each Sentinel with its file, each master with its quorum and the votes that it
     /// needs, each data node, and what is wrong. The roster is that of the first file.
-    pub fn of(alloc: Global, files: &[NamedConf<'_>]) -> Result<Report, NoMemory> {
+    pub fn of(alloc: Global, files: &[NamedConf]) -> Result<Report, NoMemory> {
         let mut report = Report {
             text: Vec::new(alloc),
             refused: false,
@@ -80,7 +80,7 @@ impl Report {
     }
 
     /// Adds each Sentinel with its files.
-    fn add_sentinels(&mut self, roster: &Roster, files: &[NamedConf<'_>]) -> Result<(), NoMemory> {
+    fn add_sentinels(&mut self, roster: &Roster, files: &[NamedConf]) -> Result<(), NoMemory> {
         let members = roster.sentinels();
         for place in 0..members.len() {
             self.add("sentinel s")?;
@@ -95,13 +95,13 @@ impl Report {
     }
 
     /// Ends the line of a Sentinel with the names of its files; it is to have one.
-    fn add_files(&mut self, place: usize, files: &[NamedConf<'_>]) -> Result<(), NoMemory> {
+    fn add_files(&mut self, place: usize, files: &[NamedConf]) -> Result<(), NoMemory> {
         let mut count: u32 = 0;
         for file in files {
             if file.conf.place() as usize == place {
                 count = count.saturating_add(1);
                 self.add(", file ")?;
-                self.add(file.name)?;
+                self.add(file.name.as_str())?;
             }
         }
         if count == 1 {
@@ -177,17 +177,13 @@ impl Report {
     }
 
     /// Adds in what each file differs from the first one.
-    fn add_differences(
-        &mut self,
-        first: &NamedConf<'_>,
-        files: &[NamedConf<'_>],
-    ) -> Result<(), NoMemory> {
+    fn add_differences(&mut self, first: &NamedConf, files: &[NamedConf]) -> Result<(), NoMemory> {
         for file in files {
             if let Some(difference) = difference_of(&first.conf, &file.conf) {
                 self.refused = true;
-                self.add(first.name)?;
+                self.add(first.name.as_str())?;
                 self.add(" and ")?;
-                self.add(file.name)?;
+                self.add(file.name.as_str())?;
                 self.add(" differ in ")?;
                 self.add_difference(difference)?;
             }

@@ -9,14 +9,23 @@ use sentinel_runner::GroupFault;
 use std::io::Write;
 use std::process::ExitCode;
 
+/// What the file at the path says, with its name. A file that is refused is told, and the status tells it too.
+fn named_conf(rt: HostRuntime, path: &str) -> Result<NamedConf, ExitCode> {
+    let (conf, _) = file_of(rt, path)?;
+    match String::from_str(rt.alloc(), path) {
+        Ok(name) => Ok(NamedConf { name, conf }),
+        Err(_) => Err(fail(&rt, ServeFault::NoMemory)),
+    }
+}
+
 /// What the files say. Each file that is refused is told, and then the status tells it too.
-fn confs_of<'a>(rt: HostRuntime, paths: &[&'a str]) -> Result<Vec<NamedConf<'a>>, ExitCode> {
+fn confs_of(rt: HostRuntime, paths: &[&str]) -> Result<Vec<NamedConf>, ExitCode> {
     let mut confs = Vec::new(rt.alloc());
     let mut refused = None;
-    for name in paths {
-        match file_of(rt, name) {
-            Ok((conf, _)) => {
-                if confs.push(NamedConf { name, conf }).is_err() {
+    for path in paths {
+        match named_conf(rt, path) {
+            Ok(conf) => {
+                if confs.push(conf).is_err() {
                     return Err(fail(&rt, ServeFault::NoMemory));
                 }
             }
