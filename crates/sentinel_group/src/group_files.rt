@@ -44,7 +44,10 @@ pub(crate) fn files_of(rt: HostRuntime, paths: &[&str]) -> Result<GroupFiles, Ex
     let mut stores = Vec::new(rt.alloc());
     for path in paths {
         let (conf, store) = file_of(rt, path)?;
-        if confs.push(conf).is_err() || stores.push(store).is_err() {
+        if confs.push(conf).is_err() {
+            return Err(fail(&rt, ServeFault::NoMemory));
+        }
+        if let Err(_) = stores.push(store) {
             return Err(fail(&rt, ServeFault::NoMemory));
         }
     }
