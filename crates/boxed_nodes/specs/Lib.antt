@@ -1,3 +1,4 @@
 pub mod Images
 pub mod Sendable
 pub mod Moves
+pub mod Turns

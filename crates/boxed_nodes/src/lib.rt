@@ -4,13 +4,18 @@
 //! the whole group a node stands for images of one Sentinel or of another node, and each call moves each of these as the model moves a
 //! node. The definitions read from below: `Images` (what a node is to the model, and what each call makes of it), `Sendable` (what may
 //! be sent and taken), `Moves` (what each call ensures).
+//!
+//! A node that isn't a Sentinel has nothing to store, so its turns are the same whatever it says: `Turn` answers the calls of `Node` by
+//! how far the node has come with its last input alone (`Turns`: the images for which such a node stands).
 #![tactic(auto)]
 
 mod calls;
 mod node;
+mod turn;
 
 pub use calls::HowStored;
 pub use node::Node;
 pub use sentinel_core::{
     NoMemory, OpenFault, Outbox, ReleaseFault, Room, StoreFault, TakeFault, Took,
 };
+pub use turn::Turn;

@@ -8,9 +8,9 @@ use Rattle.ballot_law.specs.Rosters.{Roster}
 use Rattle.ballot_law.specs.Worlds.{Pending, IsPassable}
 use Rattle.boxed_nodes.specs.Images.{Image, OfSentinel, OfOther}
 use Rattle.boxed_nodes.specs.Moves.{Taken, Takes}
-use Rattle.node_turns.specs.declared.turn.Turn.{Turn}
-use Rattle.node_turns.specs.declared.turn.Turn.TheVariants as turn
-use Rattle.node_turns.specs.Turns.{IsImageAt, shown_at}
+use Rattle.boxed_nodes.specs.declared.turn.Turn.{Turn}
+use Rattle.boxed_nodes.specs.declared.turn.Turn.TheVariants as turn
+use Rattle.boxed_nodes.specs.Turns.{IsImageAt, shown_at}
 
 taken_at : (roster : Roster) (k : ℕ) (event : Event) (held : List Output) (image : Image) → All (IsPassable (ClientAt k) event) held → IsImageAt turn.Ready image → Taken roster (ClientAt k) event image held (IsImageAt turn.Pending)
 taken_at roster k event held (OfOther o) all h = record { ready = h; after = OfOther (record { state = Pending; held = held }); moved = (all, refl); listed = tt; shows = refl }

@@ -3,8 +3,8 @@ use Rattle.std.specs.Prelude.{◌≡◌, ℕ, false}
 use Rattle.ballot_law.specs.Rosters.{Roster, master_at}
 use Rattle.client_queries.specs.declared.moves.Move.TheVariants.{Ask}
 use Rattle.client_queries.specs.Queries.{query}
-use Rattle.node_turns.specs.declared.turn.Turn.{Turn}
-use Rattle.node_turns.specs.declared.turn.Turn.TheVariants.{Ready}
+use Rattle.boxed_nodes.specs.declared.turn.Turn.{Turn}
+use Rattle.boxed_nodes.specs.declared.turn.Turn.TheVariants.{Ready}
 use Rattle.sentinel_outbox.specs.declared.room.Room.{Room}
 use Rattle.client_nodes.specs.Searches.{Search, Group, sentinel_addrs, store_addrs}
 

@@ -6,7 +6,7 @@ ghost use Rattle.ballot_law.specs.declared.messages.NodeName.TheVariants.{Client
 ghost use Rattle.sentinel_outbox.specs.Outboxes.{Fits};
 ghost use Rattle.boxed_nodes.specs.Moves.{Stays, Takes, Refuses, Stores, Releases, Stops, Starts, IsNamed, IsFresh};
 ghost use Rattle.boxed_nodes.specs.Sendable.{IsTakeable, IsSendableOutput, IsHeldBy};
-ghost use Rattle.node_turns.specs.Turns.{shown_at};
+ghost use Rattle.boxed_nodes.specs.Turns.{shown_at};
 ghost use Rattle.client_nodes.specs.Searches.{said, sent_to, sentinel_asked, after_event};
 ghost use Rattle.client_nodes.specs.Clients.{fresh_client, room_of_client, IsSameClient};
 
@@ -14,10 +14,9 @@ use crate::group::Group;
 use crate::search::Search;
 use ballot_law::{Addr, Body, Card, Event, Input, KeptText, Message, NoMemory, NodeName, Roster};
 use boxed_nodes::{
-    HowStored, Node, OpenFault, Outbox, ReleaseFault, Room, StoreFault, TakeFault, Took,
+    HowStored, Node, OpenFault, Outbox, ReleaseFault, Room, StoreFault, TakeFault, Took, Turn,
 };
 use client_queries::Move;
-use node_turns::Turn;
 use sentinel_conf::Conf;
 use std::alloc::Global;
 use std::marker::Model;
@@ -119,7 +118,7 @@ impl ClientNode {
 
 impl Node for ClientNode {
     ghost use Rattle.ballot_law.specs.declared.messages.NodeName.TheVariants.{ClientAt};
-    ghost use Rattle.node_turns.specs.Turns.{shown_at};
+    ghost use Rattle.boxed_nodes.specs.Turns.{shown_at};
     ghost use Rattle.client_nodes.specs.Clients.{room_of_client};
 
     ghost name = { λ node. ClientAt node.number };

@@ -5,8 +5,8 @@ use Rattle.ballot_law.specs.declared.addresses.Addr.{Addr}
 use Rattle.ballot_law.specs.Ballots.{card_of}
 use Rattle.ballot_law.specs.Orders.{same_addr}
 use Rattle.ballot_law.specs.Rosters.{Roster, master_at, no_addr}
-use Rattle.node_turns.specs.declared.turn.Turn.{Turn}
-use Rattle.node_turns.specs.declared.turn.Turn.TheVariants.{Ready}
+use Rattle.boxed_nodes.specs.declared.turn.Turn.{Turn}
+use Rattle.boxed_nodes.specs.declared.turn.Turn.TheVariants.{Ready}
 use Rattle.sentinel_conf.specs.Meaning.{ConfPlan}
 use Rattle.sentinel_outbox.specs.declared.room.Room.{Room}
 use Rattle.sentinel_rules.specs.Plans.{NodePlace, node_numbered}

@@ -6,7 +6,7 @@ ghost use Rattle.ballot_law.specs.declared.messages.NodeName.TheVariants.{StoreA
 ghost use Rattle.sentinel_outbox.specs.Outboxes.{Fits};
 ghost use Rattle.boxed_nodes.specs.Moves.{Stays, Takes, Refuses, Stores, Releases, Stops, Starts, IsNamed, IsFresh};
 ghost use Rattle.boxed_nodes.specs.Sendable.{IsTakeable, IsSendableOutput, IsHeldBy};
-ghost use Rattle.node_turns.specs.Turns.{shown_at};
+ghost use Rattle.boxed_nodes.specs.Turns.{shown_at};
 ghost use Rattle.data_nodes.specs.Nodes.{node_of, IsIn, room_of, IsSameNode};
 ghost use Rattle.data_nodes.specs.Servers.{changed_by, said};
 
@@ -15,9 +15,8 @@ use crate::saying::say;
 use crate::server::Server;
 use ballot_law::{Addr, Card, Input, KeptText, NodeName, Roster};
 use boxed_nodes::{
-    HowStored, Node, OpenFault, Outbox, ReleaseFault, Room, StoreFault, TakeFault, Took,
+    HowStored, Node, OpenFault, Outbox, ReleaseFault, Room, StoreFault, TakeFault, Took, Turn,
 };
-use node_turns::Turn;
 use sentinel_conf::Conf;
 use std::marker::Model;
 
@@ -81,7 +80,7 @@ impl DataNode {
 
 impl Node for DataNode {
     ghost use Rattle.ballot_law.specs.declared.messages.NodeName.TheVariants.{StoreAt};
-    ghost use Rattle.node_turns.specs.Turns.{shown_at};
+    ghost use Rattle.boxed_nodes.specs.Turns.{shown_at};
     ghost use Rattle.data_nodes.specs.Nodes.{IsIn, room_of};
 
     ghost name = { λ node. StoreAt node.number };

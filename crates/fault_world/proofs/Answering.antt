@@ -14,7 +14,7 @@ use Rattle.ballot_law.specs.Ballots.{card_of}
 use Rattle.ballot_law.specs.Worlds.{World, Sentinel, State, Ready, Pending, Stored, Halted, Stopped, sentinel_at, stores_of, card_after, Steps, Answers}
 use Rattle.boxed_nodes.specs.Images.{Image, OfSentinel, OfOther, HasStored, image_at, is_stopped, last_stored, card_shown}
 use Rattle.boxed_nodes.specs.Moves.{Shows, ShowsCard}
-use Rattle.world_members.specs.Groups.{IsShown}
+use Rattle.world_members.specs.Standing.{IsShown}
 use Rattle.world_reports.specs.declared.entry.Entry.{Entry}
 use Rattle.world_reports.specs.Told.{entry_of_said}
 use Rattle.fault_world.specs.News.{news_of}

@@ -22,7 +22,7 @@ use Rattle.boxed_nodes.specs.declared.calls.HowStored.TheVariants as how
 use Rattle.boxed_nodes.specs.Images.{Image, image_at, how_left, held_of, state_of}
 use Rattle.boxed_nodes.specs.Moves.{Stops, Stays, wins_told, Shows, IsWonIn}
 use Rattle.boxed_nodes.specs.Sendable.{IsSendable, IsSendableOutput, IsHeldBy, AreListed}
-use Rattle.world_members.specs.Groups.{IsShown, IsReached, Stands}
+use Rattle.world_members.specs.Standing.{IsShown, IsReached, Stands}
 use Rattle.world_members.specs.Seats.{IsSeat, SeatTakes, SeatStores, SeatReleases, SeatStarts}
 use Rattle.world_reports.specs.declared.entry.Entry.{Entry}
 use Rattle.world_reports.specs.Told.{entry_of_election, entry_of_said}

@@ -4,7 +4,7 @@ use Rattle.ballot_law.specs.declared.steps.Step.{Step}
 use Rattle.ballot_law.specs.Rosters.{Roster}
 use Rattle.ballot_law.specs.Worlds.{World, StepOf, JoinedBy}
 use Rattle.ballot_law.specs.Law.{HasOneLeader, HasOneAddress, IsSafeStep}
-use Rattle.world_members.specs.Groups.{IsReached}
+use Rattle.world_members.specs.Standing.{IsReached}
 use Rattle.world_reports.specs.declared.entry.Entry.{Entry}
 use Rattle.fault_world.specs.Runs.{Ran}
 

@@ -6,9 +6,9 @@ ghost use Rattle.boxed_nodes.specs.Images.{how_left};
 ghost use Rattle.boxed_nodes.specs.Sendable.{IsTakeable};
 ghost use Rattle.scenarios.specs.Within.{IsWithinStep};
 ghost use Rattle.boxed_nodes.specs.Moves.{IsFresh};
-ghost use Rattle.world_members.specs.Groups.{IsShown, IsReached, Stands};
-ghost use Rattle.world_starts.specs.Groups.{IsGroupOf, BeginAlike};
-ghost use Rattle.world_starts.specs.Refusals.{IsRefusal};
+ghost use Rattle.world_members.specs.Standing.{IsShown, IsReached, Stands};
+ghost use Rattle.world_members.specs.Groups.{IsGroupOf, BeginAlike};
+ghost use Rattle.world_members.specs.Refusals.{IsRefusal};
 ghost use Rattle.fault_world.specs.Laws.{RunsSafely};
 ghost use Rattle.world_members.specs.Seats.{IsSeat};
 ghost use Rattle.world_reports.specs.declared.entry.Entry.{Entry};
@@ -24,9 +24,8 @@ use ballot_law::{
 };
 use deliveries::event_of;
 use std::alloc::Global;
-use world_members::{HowStored, Member, Node};
+use world_members::{HowStored, Member, Node, WorldFault, members_of};
 use world_reports::Report;
-use world_starts::{WorldFault, members_of};
 
 /// The place of the member with this name.
 fn place_of(members: &Vec<Member>, node: NodeName) -> Option<usize>

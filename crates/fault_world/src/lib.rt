@@ -15,6 +15,5 @@ mod telling;
 pub use ballot_law::{Message, NodeName, Roster, Step};
 pub use fault_world::FaultWorld;
 pub use faults::RunFault;
-pub use world_members::Node;
+pub use world_members::{Node, WorldFault};
 pub use world_reports::{Entry, Report};
-pub use world_starts::WorldFault;

@@ -5,7 +5,7 @@ use Rattle.ballot_law.specs.Rosters.{Roster}
 use Rattle.ballot_law.specs.Worlds.{World, StepOf, JoinedBy}
 use Rattle.ballot_law.specs.Law.{HasOneLeader, HasOneAddress, IsSafeStep}
 use Rattle.scenarios.specs.Scenarios.{scenario}
-use Rattle.world_members.specs.Groups.{IsReached}
+use Rattle.world_members.specs.Standing.{IsReached}
 use Rattle.world_reports.specs.declared.entry.Entry.{Entry}
 use Rattle.world_reports.specs.Told.{report_text}
 use Rattle.fault_world.specs.Runs.{Ran}

@@ -4,7 +4,7 @@ ghost use Rattle.std.specs.Prelude.{◌≡◌, ◌++◌, ◌∷◌, [], All, OnO
 ghost use Rattle.conf_lines.specs.Faults.{no_memory};
 ghost use Rattle.sentinel_conf.specs.Reading.{conf_of_bytes};
 ghost use Rattle.boxed_nodes.specs.Moves.{IsFresh};
-ghost use Rattle.world_members.specs.Groups.{IsShown, Stands};
+ghost use Rattle.world_members.specs.Standing.{IsShown, Stands};
 ghost use Rattle.world_members.specs.Seats.{IsSeat};
 ghost use Rattle.scenario_replay.specs.Playing.{IsTold};
 ghost use Rattle.scenario_replay.specs.Refusals.{IsScenarioFault, IsConfFault};

@@ -1,6 +1,6 @@
 //! Traces: a scenario with what each of its lines caused.
 
-ghost use Rattle.world_members.specs.Groups.{IsShown, Stands};
+ghost use Rattle.world_members.specs.Standing.{IsShown, Stands};
 ghost use Rattle.world_members.specs.Seats.{IsSeat};
 
 use crate::faults::ReplayFault;

@@ -1,0 +1,5 @@
+mod Searching
+mod Loops
+mod Names
+mod Beginning
+mod Standing

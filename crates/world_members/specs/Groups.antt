@@ -1,37 +1,69 @@
--- The world of the model for which the members of a group stand.
-use Rattle.std.specs.Prelude.{◌≡◌, ℕ, Some, List, length, slice_get}
-use Rattle.std.specs.List.{AllByRecursion}
-use Rattle.ballot_law.specs.declared.messages.Message.{Message}
+-- Which nodes are the group of a roster, and whether its Sentinels begin with the same configurations.
+use Rattle.std.specs.Prelude.{◌≡◌, ◌≢◌, ℕ, ◌<◌, Some, List, All, length, slice_get}
+use Rattle.std.specs.List.{sum_by}
 use Rattle.ballot_law.specs.declared.messages.NodeName.{NodeName}
-use Rattle.ballot_law.specs.declared.steps.Step.{Step}
-use Rattle.ballot_law.specs.Rosters.{Roster, size, HasDistinctIds, HasDistinctNames}
-use Rattle.ballot_law.specs.Worlds.{World, IsNode, Run}
-use Rattle.ballot_law.specs.Law.{IsStart}
-use Rattle.boxed_nodes.specs.Images.{Image, image_at}
-use Rattle.boxed_nodes.specs.Sendable.{IsSendable}
+use Rattle.ballot_law.specs.declared.messages.NodeName.TheVariants.{SentinelAt, StoreAt, ClientAt, PortAt}
+use Rattle.ballot_law.specs.Rosters.{Roster, size}
+use Rattle.boxed_nodes.specs.Images.{Image, card_shown}
+use Rattle.boxed_nodes.specs.Moves.{Shows}
 
--- the members of a roster's group, each with its name and the images that it stands for, and these messages stand for a world: it has
--- the roster's Sentinels, its nodes are the members, each once, and each member stands for its image there; the messages are all that
--- were released, and each may be sent; no two masters have one name
-pub record IsShown {M : Type 0} (name : M → NodeName) (seat : M → Roster → Image → Type 0) (roster : Roster) (members : List M) (messages : List Message) (w : World) : Type 0 where
-  pub each : (k : ℕ) (m : M) → slice_get members k ≡ Some m → IsNode w (name m) × seat m roster (image_at w (name m))
-  pub apart : (j k : ℕ) (m n : M) → slice_get members j ≡ Some m → slice_get members k ≡ Some n → name m ≡ name n → j ≡ k
-  pub all : (node : NodeName) → IsNode w node → (k : ℕ) × (m : M) × (slice_get members k ≡ Some m) × (name m ≡ node)
-  pub sentinels : length w.sentinels ≡ size roster
-  pub names : HasDistinctNames roster
-  pub messages_are : w.messages ≡ messages
-  pub sendable : AllByRecursion IsSendable messages
+-- the data nodes of all masters
+abbrev pub store_count : Roster → ℕ
+store_count roster = sum_by (λ master. length master.nodes) roster.masters
 
--- some steps lead from a start to the world, in the group of a roster whose Sentinels have different run ids
-pub record IsReached (roster : Roster) (w : World) : Type 0 where
-  pub distinct : HasDistinctIds roster
-  pub start : World
-  pub begins : IsStart roster start
-  pub steps : List Step
-  pub run : Run roster steps start w
+-- a Sentinel or a data node of the roster, or a client
+abbrev pub IsPlaced : Roster → NodeName → Type 0
+IsPlaced roster (SentinelAt i) = i < size roster
+IsPlaced roster (StoreAt k) = k < store_count roster
+IsPlaced roster (ClientAt k) = Unit {0}
+IsPlaced roster (PortAt k) = ⊥
 
--- the group stands for a world that was reached
-pub record Stands (roster : Roster) (shown : World → Type 0) : Type 0 where
-  pub world : World
-  pub reached : IsReached roster world
-  pub shows : shown world
+-- one of the nodes has the name
+abbrev pub HasNamed : {N : Type 0} → (N → NodeName) → List N → NodeName → Type 0
+HasNamed {N} name nodes wanted = (k : ℕ) × (n : N) × (slice_get nodes k ≡ Some n) × (name n ≡ wanted)
+
+-- no node that stands earlier has the name of the one at this place
+abbrev pub IsFirstNamed : {N : Type 0} → (N → NodeName) → List N → ℕ → Type 0
+IsFirstNamed {N} name nodes place =
+    (j : ℕ) (m n : N) → j < place → slice_get nodes j ≡ Some m → slice_get nodes place ≡ Some n → name m ≢ name n
+
+-- no two nodes have one name
+abbrev pub AreApart : {N : Type 0} → (N → NodeName) → List N → Type 0
+AreApart {N} name nodes =
+    (j k : ℕ) (m n : N) → slice_get nodes j ≡ Some m → slice_get nodes k ≡ Some n → name m ≡ name n → j ≡ k
+
+-- the nodes of a kind, up to this number, are there
+abbrev pub HasAllBelow : {N : Type 0} → (N → NodeName) → List N → (ℕ → NodeName) → ℕ → Type 0
+HasAllBelow name nodes numbered count = (i : ℕ) → i < count → HasNamed name nodes (numbered i)
+
+-- each Sentinel and each data node of the roster once, and clients of different names; each knows the roster
+pub record IsGroupOf {N : Type 0} (name : N → NodeName) (knows : N → Type 0) (roster : Roster) (nodes : List N) : Type 0 where
+  pub placed : All (λ n. IsPlaced roster (name n)) nodes
+  pub known : All knows nodes
+  pub apart : AreApart name nodes
+  pub sentinels : HasAllBelow name nodes SentinelAt (size roster)
+  pub stores : HasAllBelow name nodes StoreAt (store_count roster)
+
+abbrev pub IsSentinelName : NodeName → Type 0
+IsSentinelName (SentinelAt i) = Unit {0}
+IsSentinelName name = ⊥
+
+-- two nodes tell the same configuration of each master
+abbrev pub HaveSameCards : Roster → (one other : Image → Type 0) → Type 0
+HaveSameCards roster one other =
+    (m : ℕ) → m < length roster.masters → (x y : Image) → one x → other y → card_shown x m ≡ card_shown y m
+
+-- each Sentinel tells the same as the node at this place
+abbrev pub IsAlike : {N : Type 0} → (N → NodeName) → (N → Shows) → Roster → List N → ℕ → Type 0
+IsAlike {N} name shows roster nodes place =
+    (k : ℕ) (m n : N) → slice_get nodes place ≡ Some m → slice_get nodes k ≡ Some n → IsSentinelName (name n) → HaveSameCards roster (shows m roster) (shows n roster)
+
+-- if the node at this place is a Sentinel, each Sentinel tells the same as it
+abbrev pub IsMatched : {N : Type 0} → (N → NodeName) → (N → Shows) → Roster → List N → ℕ → Type 0
+IsMatched {N} name shows roster nodes place =
+    (m : N) → slice_get nodes place ≡ Some m → IsSentinelName (name m) → IsAlike name shows roster nodes place
+
+-- each two Sentinels tell the same
+abbrev pub BeginAlike : {N : Type 0} → (N → NodeName) → (N → Shows) → Roster → List N → Type 0
+BeginAlike {N} name shows roster nodes =
+    (j k : ℕ) (m n : N) → slice_get nodes j ≡ Some m → slice_get nodes k ≡ Some n → IsSentinelName (name m) → IsSentinelName (name n) → HaveSameCards roster (shows m roster) (shows n roster)

@@ -1,2 +1,5 @@
 pub mod Seats
+pub mod Standing
 pub mod Groups
+pub mod NewMembers
+pub mod Refusals

@@ -1,5 +1,5 @@
 use Rattle.std.proofs.Common.{length}
-use Rattle.world_members.specs.Groups.{IsShown, Stands}
+use Rattle.world_members.specs.Standing.{IsShown, Stands}
 use Rattle.world_members.specs.Seats.{IsSeat}
 use Rattle.scenario_replay.proofs.traces.trace.Given as goal
 

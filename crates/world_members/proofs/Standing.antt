@@ -1,0 +1,126 @@
+-- The members that are made of a group's nodes stand for the world with which it begins.
+use Rattle.std.proofs.Common.{◌≡◌, ℕ, ◌<◌, Bool, false, Option, Some, None, List, [], map, slice_get, refl, sym, ◌∙◌, ap, subst}
+use Rattle.std.specs.Prelude.{All, option_map}
+use Rattle.std.specs.List.{AllByRecursion}
+use Rattle.std.proofs.lemmas.Option.{none-some, same_Some, slice_get-map}
+use Rattle.std.proofs.lemmas.List.FromFn.{length-map-range_with_len}
+use Rattle.ballot_law.specs.declared.messages.NodeName.{NodeName}
+use Rattle.ballot_law.specs.declared.messages.NodeName.TheVariants.{SentinelAt, StoreAt, ClientAt, PortAt}
+use Rattle.ballot_law.specs.declared.messages.Output.{Output}
+use Rattle.ballot_law.specs.Rosters.{Roster, HasDistinctIds, HasDistinctNames}
+use Rattle.ballot_law.specs.Worlds.{World, Ready, IsNode}
+use Rattle.ballot_law.specs.Law.{IsStart}
+use Rattle.boxed_nodes.specs.Images.{Image, OfSentinel, OfOther, image_at, state_of, held_of, is_stopped, IsFreshImage}
+use Rattle.boxed_nodes.specs.Moves.{Shows, ShowsKind, IsFresh}
+use Rattle.boxed_nodes.specs.Sendable.{IsHeldBy, AreListed, IsSendableOutput}
+use Rattle.world_members.specs.Seats.{IsSeat}
+use Rattle.world_members.specs.Standing.{IsShown, Stands}
+use Rattle.world_members.specs.Groups.{IsGroupOf, BeginAlike, IsPlaced}
+use Rattle.world_members.specs.NewMembers.{IsNewMember}
+use Rattle.world_members.proofs.Beginning.{Begun, beginning, named_here, seated, starts}
+use Rattle.world_members.proofs.Searching.{each_from_all}
+
+-- a fresh image is ready and holds nothing
+fresh_ready : (roster : Roster) (image : Image) → IsFreshImage roster image → (state_of image ≡ Ready) × (held_of image ≡ [])
+fresh_ready roster (OfSentinel s) f = (ap (λ x. x.state) f.0, ap (λ x. x.held) f.0)
+fresh_ready roster (OfOther o) f = (ap (λ x. x.state) f, ap (λ x. x.held) f)
+
+holds_nothing : (name : NodeName) → IsHeldBy name []
+holds_nothing (SentinelAt i) = tt
+holds_nothing (StoreAt k) = tt
+holds_nothing (ClientAt k) = tt
+holds_nothing (PortAt k) = tt
+
+lists_nothing : (roster : Roster) (name : NodeName) → AreListed roster name []
+lists_nothing roster (SentinelAt i) = tt
+lists_nothing roster (StoreAt k) = tt
+lists_nothing roster (ClientAt k) = tt
+lists_nothing roster (PortAt k) = tt
+
+seat_of : (name own : NodeName) (shows : Shows) (held : List Output) (stopped : Bool) (roster : Roster) (image : Image) → IsNewMember name own held stopped → IsFreshImage roster image → shows roster image → IsSeat name own shows held stopped roster image
+seat_of name own shows held stopped roster image new fresh shown =
+    let ready = fresh_ready roster image fresh in
+    record {
+      goes_by = new.goes_by;
+      shows_it = shown;
+      held_is = ready.1 ∙ sym new.holds;
+      sendable = subst (AllByRecursion IsSendableOutput) (sym new.holds) tt;
+      held_by = subst (IsHeldBy name) (sym new.holds) (holds_nothing name);
+      listed = subst (AreListed roster name) (sym new.holds) (lists_nothing roster name);
+      told = new.runs ∙ sym (ap is_stopped ready.0);
+      quiet = λ _. new.holds;
+    }
+
+-- what each node of a group begins with
+pub begun_of : {N : Type 0} (name : N → NodeName) (knows : N → Roster → Type 0) (shows : N → Shows) (roster : Roster) (nodes : List N)
+    → All (λ n. ShowsKind (name n) (shows n)) nodes → All (λ n. IsFresh (knows n) (shows n)) nodes → All (λ n. knows n roster) nodes
+    → (k : ℕ) (n : N) → slice_get nodes k ≡ Some n → Begun roster (name n) (shows n roster)
+begun_of name knows shows roster nodes kinds fresh known k n at' =
+    let f = (each_from_all (λ n. IsFresh (knows n) (shows n)) nodes fresh k n at').each roster (each_from_all (λ n. knows n roster) nodes known k n at') in
+    record { image = f.0; fresh = f.1; kind = (each_from_all (λ n. ShowsKind (name n) (shows n)) nodes kinds k n at').each roster f.0 f.2; seats = f.2 }
+
+some_of : {M N : Type 0} (f : M → N) (o : Option M) (n : N) → option_map f o ≡ Some n → (m : M) × (o ≡ Some m) × (f m ≡ n)
+some_of f None n e = absurd (none-some n e)
+some_of f (Some m) n e = (m, refl, same_Some (f m) n e)
+
+module _ {M N : Type 0} (roster : Roster) (nodes : List N) (members : List M) (node : M → N) (own : M → NodeName) (held : M → List Output) (stopped : M → Bool) (name : N → NodeName) (knows : N → Roster → Type 0) (shows : N → Shows) where
+  -- the members are those of the nodes, in their order
+  pub record AreMadeOf : Type 0 where
+    pub nodes_are : map node members ≡ nodes
+    pub each : All (λ m. IsNewMember (own m) (name (node m)) (held m) (stopped m)) members
+
+  node_at : AreMadeOf → (k : ℕ) (m : M) → slice_get members k ≡ Some m → slice_get nodes k ≡ Some (node m)
+  node_at made k m e = ap (λ ns. slice_get ns k) (sym made.nodes_are) ∙ slice_get-map node members k ∙ ap (option_map node) e
+
+  member_at : AreMadeOf → (k : ℕ) (n : N) → slice_get nodes k ≡ Some n → (m : M) × (slice_get members k ≡ Some m) × (node m ≡ n)
+  member_at made k n e = some_of node (slice_get members k) n (sym (slice_get-map node members k) ∙ ap (λ ns. slice_get ns k) made.nodes_are ∙ e)
+
+  made_at : AreMadeOf → (k : ℕ) (m : M) → slice_get members k ≡ Some m → IsNewMember (own m) (name (node m)) (held m) (stopped m)
+  made_at made k m e = each_from_all (λ m. IsNewMember (own m) (name (node m)) (held m) (stopped m)) members made.each k m e
+
+  pub stands : HasDistinctIds roster → HasDistinctNames roster → All (λ n. ShowsKind (name n) (shows n)) nodes → All (λ n. IsFresh (knows n) (shows n)) nodes → IsGroupOf name (λ n. knows n roster) roster nodes → BeginAlike name shows roster nodes → AreMadeOf
+      → Stands roster (IsShown own (λ m. IsSeat (own m) (name (node m)) (shows (node m)) (held m) (stopped m)) roster members [])
+  stands distinct names kinds fresh group alike made =
+      record {
+        world = w;
+        reached = record { distinct = distinct; start = w; begins = start; steps = []; run = refl };
+        shows = record {
+          each = each;
+          apart = λ j k m n e f same. group.apart j k (node m) (node n) (node_at made j m e) (node_at made k n f) ((made_at made j m e).goes_by ∙ same ∙ sym (made_at made k n f).goes_by);
+          all = all;
+          sentinels = start.count;
+          names = names;
+          messages_are = refl;
+          sendable = tt;
+        };
+      }
+    where
+      seat : N → Roster → Image → Type 0
+      seat n = shows n
+
+      begun : (k : ℕ) (n : N) → slice_get nodes k ≡ Some n → Begun roster (name n) (seat n roster)
+      begun = begun_of name knows shows roster nodes kinds fresh group.known
+
+      w : World
+      w = beginning name seat roster nodes begun
+
+      start : IsStart roster w
+      start = starts name seat roster nodes begun group.sentinels group.stores
+          (λ j k m n e f s t master less. alike j k m n e f s t master less (begun j m e).image (begun k n f).image (begun j m e).seats (begun k n f).seats)
+
+      each : (k : ℕ) (m : M) → slice_get members k ≡ Some m → IsNode w (own m) × IsSeat (own m) (name (node m)) (shows (node m)) (held m) (stopped m) roster (image_at w (own m))
+      each k m e =
+          let made_of = made_at made k m e in
+          let placed = each_from_all (λ n. IsPlaced roster (name n)) nodes group.placed k (node m) (node_at made k m e) in
+          let s = seated name seat roster nodes begun group.sentinels group.stores group.apart k (node m) (node_at made k m e) placed in (
+            subst (λ x. IsNode w x) made_of.goes_by s.0,
+            seat_of (own m) (name (node m)) (shows (node m)) (held m) (stopped m) roster (image_at w (own m)) made_of
+                (subst (λ x. IsFreshImage roster (image_at w x)) made_of.goes_by s.2)
+                (subst (λ x. shows (node m) roster (image_at w x)) made_of.goes_by s.1),
+          )
+
+      all : (x : NodeName) → IsNode w x → (k : ℕ) × (m : M) × (slice_get members k ≡ Some m) × (own m ≡ x)
+      all x is =
+          let found = named_here name seat roster nodes begun group.sentinels group.stores x is in
+          let member = member_at made found.0 found.1 found.2 in
+          (found.0, member.0, member.1, sym (made_at made found.0 member.0 member.1).goes_by ∙ ap name member.2 ∙ found.3)

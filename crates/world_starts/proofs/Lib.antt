@@ -1,5 +1,0 @@
-mod Searching
-mod Loops
-mod Names
-mod Beginning
-mod Standing
