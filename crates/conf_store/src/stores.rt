@@ -1,7 +1,7 @@
 //! Where a file is kept.
 
 ghost use Rattle.std.specs.Prelude.{◌≡◌, ◌+◌, ◌-◌, ◌^◌, ◌<◌, ◌⊎◌, Bool, ℕ, List, Option, None, Some, OnOk, OnErr, IsErr, IsErrOf, IfSome, IfOk, IfErr, IsOk, is_ok, true, length, ◌≤◌, if◌then◌else◌};
-ghost use Rattle.conf_store.specs.Stores.{Outcome, outcome_of};
+ghost use Rattle.conf_store.specs.Stores.{Outcome, outcome_of, refusal_left};
 
 use crate::FileText;
 use ballot_law::NoMemory;
@@ -64,12 +64,21 @@ pub trait ConfStore {
         ensures { result ≡ failure_count self.now };
 }
 
-/// A store in memory, which a test can have refuse the next replacement.
+/// A refusal that a store in memory was asked for.
+#[derive(Clone, Copy)]
+pub(crate) struct Refusal {
+    /// How many replacements are served before it.
+    passes: u32,
+    /// Which text stands behind it.
+    new: bool,
+}
+
+/// A store in memory, which a test can have refuse the next replacement, or one after so many that are served.
 #[derive(Drop)]
 pub struct MemoryStore {
     text: Vec<u8>,
     failed: u64,
-    refusal: Option<bool>,
+    refusal: Option<Refusal>,
 }
 
 impl Model for MemoryStore {
@@ -124,9 +133,34 @@ impl MemoryStore {
 
     /// Has the next `replace` answer `StoreRefused`; then the new text stands if `new`, and else the old one.
     pub fn refuse_next(&mut self, new: bool)
-        ensures { self.new ≡ record self.old { refusal = Some new } }
+        ensures { self.new
+            ≡ record self.old { refusal = Some (record { passes = 0; new = new }) } }
     {
-        self.refusal = Some(new);
+        self.refuse_after(0, new);
+    }
+
+    /// Has `passes` calls of `replace` be served and the next one answer `StoreRefused`; then the new text stands if `new`, and else
+    /// the old one. The calls behind it are served again. One refusal is asked for at a time: this takes the place of one that was
+    /// asked for before and hasn't come. A call that want of memory refuses on the way isn't served, and doesn't count.
+    pub fn refuse_after(&mut self, passes: u32, new: bool)
+        ensures { self.new
+            ≡ record self.old { refusal = Some (record { passes = passes; new = new }) } }
+    {
+        self.refusal = Some(Refusal { passes, new });
+    }
+
+    /// Counts a replacement that was served.
+    fn count_served(&mut self)
+        ensures { self.new
+            ≡ record self.old { refusal = refusal_left self.old.refusal true } }
+    {
+        self.refusal = match self.refusal {
+            None | Some(Refusal { passes: 0, .. }) => None,
+            Some(refusal) => Some(Refusal {
+                passes: refusal.passes - 1,
+                new: refusal.new,
+            }),
+        };
     }
 
     /// Puts this text in place of the one that is held, with no memory taken where there is room for it; without memory that one
@@ -171,17 +205,19 @@ impl ConfStore for MemoryStore {
         ensures stored { OnOk result (self.new.text ≡ text.now) }
         ensures counted { self.new.failed
             ≡ (if is_ok result then self.old.failed else self.old.failed + 1) }
-        // A refusal that was asked for comes, and is used up.
-        ensures asked { IfSome self.old.refusal (λ new. IsErr result) }
-        ensures used_up { self.new.refusal ≡ None }
+        // A refusal that was asked for comes once so many calls were served, and is used up.
+        ensures asked { IfSome self.old.refusal
+            (λ refusal. refusal.passes ≡ 0 → IsErr result) }
+        ensures used_up { self.new.refusal ≡ refusal_left self.old.refusal (is_ok result) }
         // The new text stands behind a refusal only where that was asked for.
         ensures refused { OnErr result ((self.new.text ≡ self.old.text)
-            ⊎ ((self.old.refusal ≡ Some true) × (self.new.text ≡ text.now))) }
+            ⊎ ((self.old.refusal ≡ Some (record { passes = 0; new = true }))
+            × (self.new.text ≡ text.now))) }
         ensures known { IfSome (outcome_of self.old text.now)
             (λ known. (is_ok result ≡ known.is_stored) × (self.new.text ≡ known.text)) }
     {
         match self.refusal {
-            Some(new) => {
+            Some(Refusal { passes: 0, new }) => {
                 self.refusal = None;
                 self.failed += 1;
                 if new {
@@ -189,11 +225,12 @@ impl ConfStore for MemoryStore {
                 }
                 Err(StoreRefused)
             }
-            None => {
+            _ => {
                 if self.put(text).is_err() {
                     self.failed += 1;
                     return Err(StoreRefused);
                 }
+                self.count_served();
                 Ok(())
             }
         }

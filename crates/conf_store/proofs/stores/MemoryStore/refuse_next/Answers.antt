@@ -1,6 +1,4 @@
-use Rattle.std.proofs.Common.{Some, ap}
-use Rattle.conf_store.specs.Stores.{Stored}
 use Rattle.conf_store.proofs.stores.MemoryStore.refuse_next.Goals as goal
 
 pub returns : goal.returns
-returns c = ap (λ (store : Stored). let new : Stored = record store { refusal = Some c.args.new } in new) c.self.view_is
+returns c = c.refuse_after.ensures
