@@ -10,6 +10,7 @@ use crate::spare::{Spare, larger_than};
 use ballot_law::{Message, NoMemory, Output, Shown};
 use std::alloc::Global;
 use std::marker::Model;
+use std::mem;
 
 /// The outputs of a node: those that may be seen, and those of the last input, held back until what they rest on is
 /// stored.
@@ -228,7 +229,8 @@ impl Outbox {
     }
 
     /// Moves what is held to the end of what is shown, in order, for a Sentinel that has stored what it rests on: a Sentinel's `release`
-    /// is the only caller, besides `show_held`. No memory is taken.
+    /// is the only caller, besides `show_held`. Where nothing is shown yet and both lists have as much room, as those of a port do, they
+    /// change places, and no output is moved. No memory is taken.
     pub fn show_stored(&mut self)
         ensures { self.new ≡ record self.old {
           shown = self.old.shown ++ self.old.held;
@@ -236,7 +238,11 @@ impl Outbox {
           shown_room = self.old.shown_room - length self.old.held;
         } }
     {
-        move_all(&mut self.held, &mut self.shown);
+        if self.shown.is_empty() && self.shown.capacity() == self.held.capacity() {
+            mem::swap(&mut self.shown, &mut self.held);
+        } else {
+            move_all(&mut self.held, &mut self.shown);
+        }
     }
 
     /// Hands out the buffer for the text of an answer, empty and with all its room, of which nothing is left here until
