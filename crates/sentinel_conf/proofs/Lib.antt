@@ -1,5 +1,6 @@
 pub mod WorkedFiles
 pub mod RoomLemmas
+pub mod FixedLemmas
 pub mod Fitting
 pub mod ReadSteps
 pub mod RosterAgain

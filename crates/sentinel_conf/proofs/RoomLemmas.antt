@@ -2,7 +2,7 @@
 use Rattle.std.proofs.Common.{◌≡◌, ℕ, suc, min, Bool, true, if◌then◌else◌, ◌-◌, ◌≤◌, List, [], ◌∷◌, ◌++◌, length, take, drop, get_or, refl, ap, sym, ◌∙◌, arith, append_assoc, append-nil}
 use Rattle.std.proofs.lemmas.List.{take_all}
 use Rattle.std.specs.Prelude.{map, filter}
-use Rattle.std.specs.List.{flat_map, zip}
+use Rattle.std.specs.List.{flat_map}
 use Rattle.bounded_list.specs.BoundedLists.{bounded as bounded_to}
 use Rattle.bounded_list.proofs.Bounded.{bounded_more, added_fits}
 use Rattle.conf_lines.specs.declared.lines.StateLine.{StateLine}
@@ -86,48 +86,6 @@ pub kept_and_states : (texts : List (List ℕ)) (states : List StateLine) → fl
 kept_and_states [] states = refl
 kept_and_states (text ∷ texts) states =
     ap (λ t. ended text ++ t) (kept_and_states texts states) ∙ sym (append_assoc (ended text) (flat_map ended texts) (text_of states))
-
--- the text of three lines and of two lists of lines
-pub three_and_two : (a b c : StateLine) (ds es : List StateLine) (out one two three four five : List ℕ)
-    → one ≡ bounded (out ++ ended (spelled a)) → two ≡ bounded (one ++ ended (spelled b)) → three ≡ bounded (two ++ ended (spelled c))
-    → bounded four ≡ bounded (three ++ text_of ds) → bounded five ≡ bounded (four ++ text_of es)
-    → bounded five ≡ bounded (out ++ text_of (a ∷ b ∷ c ∷ (ds ++ es)))
-three_and_two a b c ds es out one two three four five e f g h i =
-    let lists = room_join three four five (text_of ds) (text_of es) h i ∙ ap (λ t. bounded (three ++ t)) (sym (text_of-append ds es)) in
-    let third = room_join two three five (ended (spelled c)) (text_of (ds ++ es)) (room_of two three (ended (spelled c)) g) lists in
-    let second = room_join one two five (ended (spelled b)) (text_of (c ∷ (ds ++ es))) (room_of one two (ended (spelled b)) f) third in
-    room_join out one five (ended (spelled a)) (text_of (b ∷ c ∷ (ds ++ es))) (room_of out one (ended (spelled a)) e) second
-
--- the lines of one master more
-pub masters_more : {A B : Type 0} (f : A × B → List StateLine) (whole out new : List ℕ) (ms : List A) (ks : List B) (m : A) (d : B) → 1 ≤ length ms → m ≡ get_or ms 0 m → 1 ≤ length ks
-    → bounded new ≡ bounded (out ++ text_of (f (m, get_or ks 0 d)))
-    → bounded whole ≡ bounded (out ++ text_of (flat_map f (zip ms ks)))
-    → bounded whole ≡ bounded (new ++ text_of (flat_map f (zip (take (length ms - 1) (drop 1 ms)) (take (length ks - 1) (drop 1 ks)))))
-masters_more f whole out new [] ks m d h e i n w = absurd (omega arith)
-masters_more f whole out new (x ∷ xs) [] m d h e i n w = absurd (omega arith)
-masters_more f whole out new (x ∷ xs) (k ∷ ks) m d h e i n w =
-    let more = take (length (x ∷ xs) - 1) xs in
-    let others = take (length (k ∷ ks) - 1) ks in
-    let first : more ≡ xs = take_all (length (x ∷ xs) - 1) xs (let l : length (x ∷ xs) ≡ suc (length xs) = refl in omega arith) in
-    let second : others ≡ ks = take_all (length (k ∷ ks) - 1) ks (let l : length (k ∷ ks) ≡ suc (length ks) = refl in omega arith) in
-    let rest = text_of (flat_map f (zip xs ks)) in
-    w
-    ∙ ap (λ t. bounded (out ++ t)) (text_of-append (f (x, k)) (flat_map f (zip xs ks)))
-    ∙ ap (λ t. bounded (out ++ (text_of (f (t, k)) ++ rest))) (sym e)
-    ∙ ap bounded (sym (append_assoc out (text_of (f (m, k))) rest))
-    ∙ sym (bounded-bounded (out ++ text_of (f (m, k))) rest)
-    ∙ ap (λ t. bounded (t ++ rest)) (sym n)
-    ∙ bounded-bounded new rest
-    ∙ ap (λ t. bounded (new ++ text_of (flat_map f (zip t ks)))) (sym first)
-    ∙ ap (λ t. bounded (new ++ text_of (flat_map f (zip more t)))) (sym second)
-
-pub file_text : (out kept one two three four : List ℕ) (a b : StateLine) (cs : List StateLine)
-    → one ≡ bounded (out ++ kept) → two ≡ bounded (one ++ ended (spelled a)) → three ≡ bounded (two ++ ended (spelled b)) → bounded four ≡ bounded (three ++ text_of cs)
-    → bounded four ≡ bounded (out ++ (kept ++ text_of (a ∷ b ∷ cs)))
-file_text out kept one two three four a b cs e f g h =
-    let second = room_join two three four (ended (spelled b)) (text_of cs) (room_of two three (ended (spelled b)) g) h in
-    let first = room_join one two four (ended (spelled a)) (text_of (b ∷ cs)) (room_of one two (ended (spelled a)) f) second in
-    room_join out one four kept (text_of (a ∷ b ∷ cs)) (room_of out one kept e) first
 
 pub text_from_empty : (text whole start : List ℕ) → start ≡ [] → bounded text ≡ text → bounded text ≡ bounded (start ++ whole) → text ≡ bounded whole
 text_from_empty text whole start s w h = sym w ∙ h ∙ ap (λ t. bounded (t ++ whole)) s

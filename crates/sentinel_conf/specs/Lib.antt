@@ -1,5 +1,6 @@
 pub mod Room
 pub mod Meaning
 pub mod Rewritten
+pub mod Fixed
 pub mod Reading
 pub mod Facts

@@ -14,6 +14,7 @@
 mod conf;
 mod conf_text;
 mod file_lines;
+mod fixed_lines;
 mod laws;
 mod meaning;
 mod members;

@@ -10,6 +10,7 @@ ghost use Rattle.ballot_law.specs.declared.rosters.RosterFault.TheVariants.{NoMe
 ghost use Rattle.conf_lines.specs.declared.faults.ConfKind.TheVariants.{TooLong};
 ghost use Rattle.ballot_law.specs.Cuts.{lines};
 ghost use Rattle.sentinel_conf.specs.Room.{bounded};
+ghost use Rattle.sentinel_conf.specs.Fixed.{IsFixedText};
 ghost use Rattle.sentinel_conf.specs.Meaning.{names_of, plan_of, conf_of, kept_of};
 ghost use Rattle.conf_lines.specs.Values.{name_of};
 ghost use Rattle.sentinel_conf.specs.Rewritten.{rewritten, longest, at_last_epoch};
@@ -19,6 +20,7 @@ ghost use Rattle.conf_lines.specs.Faults.{no_memory, fault_at};
 
 use crate::conf_text::ConfText;
 use crate::file_lines::{FileLines, check_names, read_lines};
+use crate::fixed_lines::FixedLines;
 use crate::meaning::{
     all_settings_of, greatest_epoch, kept_masters_of, masters_of, members_of, my_id, names_given,
     own_addr, own_port,
@@ -42,6 +44,7 @@ pub struct Parts {
     port: u16,
     settings: Vec<Settings>,
     kept: Kept,
+    fixed: FixedLines,
 }
 
 impl Model for Parts {
@@ -49,6 +52,7 @@ impl Model for Parts {
     ghost use Rattle.std.specs.List.{flat_map};
     ghost use Rattle.ballot_law.specs.Cuts.{lines};
     ghost use Rattle.conf_lines.specs.Words.{ended};
+    ghost use Rattle.sentinel_conf.specs.Fixed.{IsFixedText};
     ghost use Rattle.sentinel_conf.specs.Meaning.{ConfPlan};
 
     ghost Value = { ConfPlan };
@@ -62,12 +66,13 @@ impl Model for Parts {
       kept = parts.kept;
     } };
 
-    ghost invariant = { λ parts. parts.kept_lines.items
-        ≡ flat_map ended (lines parts.kept_lines.items) };
+    ghost invariant = { λ parts. (parts.kept_lines.items
+        ≡ flat_map ended (lines parts.kept_lines.items))
+        × IsFixedText parts.id parts.roster parts.fixed };
 }
 
 impl Parts {
-    /// These parts. The lines are each ended by LF.
+    /// These parts. The lines are each ended by LF, and the fixed ones are those of the run id and the roster.
     pub fn new(
         kept_lines: Vec<u8>,
         roster: Roster,
@@ -75,8 +80,10 @@ impl Parts {
         port: u16,
         settings: Vec<Settings>,
         kept: Kept,
+        fixed: FixedLines,
     ) -> Parts
-        requires { kept_lines.items ≡ flat_map ended (lines kept_lines.items) }
+        requires lines { kept_lines.items ≡ flat_map ended (lines kept_lines.items) }
+        requires fixed { IsFixedText id roster fixed }
         ensures { result ≡ record {
           kept_lines = lines kept_lines.items;
           roster = roster;
@@ -93,6 +100,7 @@ impl Parts {
             port,
             settings,
             kept,
+            fixed,
         }
     }
 
@@ -146,7 +154,7 @@ impl Parts {
         add_file(
             out,
             &self.kept_lines,
-            self.id,
+            &self.fixed,
             &self.roster,
             current,
             masters,
@@ -209,6 +217,17 @@ fn kept_of(alloc: Global, states: &[StateLine], names: &[Name]) -> Result<Kept, 
     })
 }
 
+/// The lines that the roster fixes.
+fn fixed_of(alloc: Global, id: RunId, roster: &Roster) -> Result<FixedLines, ConfFault>
+    ensures ok { IfOk result (IsFixedText id roster.now) }
+    ensures memory { IfErr result (λ fault. fault ≡ no_memory) }
+{
+    let Ok(mut text) = ConfText::new(alloc) else {
+        return Err(ConfFault::of_file(ConfKind::NoMemory));
+    };
+    Ok(FixedLines::new(alloc, id, roster, &mut text)?)
+}
+
 /// The parts of a file with these lines and this run id.
 fn assembled(
     alloc: Global,
@@ -233,7 +252,8 @@ fn assembled(
     let kept = kept_of(alloc, &file.states, &names)?;
     let settings = all_settings_of(alloc, &file.settings, &names)?;
     let port = own_port(&file.settings);
-    Ok(Parts::new(file.kept, roster, id, port, settings, kept))
+    let fixed = fixed_of(alloc, id, &roster)?;
+    Ok(Parts::new(file.kept, roster, id, port, settings, kept, fixed))
 }
 
 /// What these bytes say, or the first fault but for those of the size.

@@ -1,16 +1,17 @@
 //! The lines of a rewritten file.
 
 ghost use Rattle.std.specs.Prelude.{◌≡◌, ◌∷◌, ◌++◌, decimal};
-ghost use Rattle.std.specs.List.{flat_map, zip};
-ghost use Rattle.conf_lines.specs.declared.lines.StateLine.TheVariants.{MyId, CurrentEpoch};
+ghost use Rattle.conf_lines.specs.declared.lines.StateLine.TheVariants.{CurrentEpoch};
 ghost use Rattle.ballot_law.specs.Words.{ip_text, id_text};
 ghost use Rattle.conf_lines.specs.Lines.{spelled};
-ghost use Rattle.sentinel_conf.specs.Rewritten.{text_of, replica_states, sentinel_states, master_lines};
+ghost use Rattle.sentinel_conf.specs.Rewritten.{text_of, replica_states, sentinel_states};
+ghost use Rattle.sentinel_conf.specs.Fixed.{with_fixed, all_with_fixed};
 ghost use Rattle.conf_lines.specs.Words.{ended};
 ghost use Rattle.sentinel_conf.specs.Room.{bounded};
 
 use crate::conf_text::ConfText;
-use ballot_law::{Addr, KeptMaster, Member, Name, Roster, RunId, Watched};
+use crate::fixed_lines::FixedLines;
+use ballot_law::{Addr, KeptMaster, Member, Name, Roster, RunId, Text, Watched};
 use conf_lines::StateLine;
 use itoa::Buffer;
 use words::{ip_text, run_id_text};
@@ -156,16 +157,10 @@ pub fn add_sentinels(out: &mut ConfText, name: &Name, id: RunId, members: &[Memb
     }
 }
 
-/// Adds the state lines of one master, but for the Sentinel with this run id.
-fn add_master(
-    out: &mut ConfText,
-    id: RunId,
-    members: &[Member],
-    master: &Watched,
-    kept: &KeptMaster,
-)
+/// Adds the state lines of one master, of which those of the other Sentinels are spelled already.
+fn add_master(out: &mut ConfText, master: &Watched, kept: &KeptMaster, sentinels: &Text)
     ensures { bounded out.new
-        ≡ bounded (out.old ++ text_of (master_lines id members.now (master.now, kept.now))) }
+        ≡ bounded (out.old ++ with_fixed (master.now, (kept.now, sentinels.now))) }
 {
     let name = master.name;
     let addr = kept.card.addr;
@@ -176,29 +171,28 @@ fn add_master(
     let epoch = kept.voted;
     add_state(out, &StateLine::LeaderEpoch { name, epoch });
     add_replicas(out, &name, master.nodes(), addr);
-    add_sentinels(out, &name, id, members);
+    out.add(sentinels.as_slice());
 }
 
 /// Adds the state lines of each master.
-fn add_masters(
-    out: &mut ConfText,
-    id: RunId,
-    members: &[Member],
-    masters: &[Watched],
-    kept: &[KeptMaster],
-)
-    ensures { bounded out.new ≡ bounded (out.old
-        ++ text_of (flat_map (master_lines id members.now) (zip masters.now kept.now))) }
+fn add_masters(out: &mut ConfText, masters: &[Watched], kept: &[KeptMaster], sentinels: &[Text])
+    ensures { bounded out.new
+        ≡ bounded (out.old ++ all_with_fixed masters.now kept.now sentinels.now) }
 {
     let mut rest = masters;
     let mut held = kept;
+    let mut fixed = sentinels;
     while let [master, more @ ..] = rest {
         let [first, others @ ..] = held else {
             return;
         };
-        add_master(out, id, members, master, first);
+        let [lines, behind @ ..] = fixed else {
+            return;
+        };
+        add_master(out, master, first, lines);
         rest = more;
         held = others;
+        fixed = behind;
     }
 }
 
@@ -206,17 +200,17 @@ fn add_masters(
 pub fn add_file(
     out: &mut ConfText,
     kept_lines: &[u8],
-    id: RunId,
+    fixed: &FixedLines,
     roster: &Roster,
     current: u64,
     masters: &[KeptMaster],
 )
-    ensures { bounded out.new ≡ bounded (out.old ++ (kept_lines.now ++ text_of (MyId id
-        ∷ CurrentEpoch current
-        ∷ flat_map (master_lines id roster.now.sentinels) (zip roster.now.masters masters.now)))) }
+    ensures { bounded out.new ≡ bounded (out.old ++ (kept_lines.now ++ (fixed.now.own
+        ++ (ended (spelled (CurrentEpoch current))
+        ++ all_with_fixed roster.now.masters masters.now fixed.now.sentinels)))) }
 {
     out.add(kept_lines);
-    add_state(out, &StateLine::MyId(id));
+    out.add(fixed.own());
     add_state(out, &StateLine::CurrentEpoch(current));
-    add_masters(out, id, roster.sentinels(), roster.masters(), masters);
+    add_masters(out, roster.masters(), masters, fixed.sentinels());
 }

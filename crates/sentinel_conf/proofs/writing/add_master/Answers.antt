@@ -2,10 +2,11 @@ use Rattle.std.proofs.Common.{◌≡◌, ◌++◌, ap, ◌∙◌}
 use Rattle.ballot_law.specs.Rosters.{MasterPlan}
 use Rattle.conf_lines.specs.declared.lines.StateLine.TheVariants.{Monitor, ConfigEpoch, LeaderEpoch}
 use Rattle.conf_lines.specs.Lines.{spelled}
-use Rattle.sentinel_conf.specs.Rewritten.{text_of, replica_states, sentinel_states}
 use Rattle.conf_lines.specs.Words.{ended}
+use Rattle.sentinel_conf.specs.Rewritten.{text_of, replica_states}
 use Rattle.sentinel_conf.specs.Room.{bounded}
-use Rattle.sentinel_conf.proofs.RoomLemmas.{three_and_two}
+use Rattle.sentinel_conf.proofs.FixedLemmas.{three_and_text}
+use Rattle.sentinel_conf.proofs.RoomLemmas.{room_of}
 use Rattle.sentinel_conf.proofs.writing.add_master.Goals as goal
 
 pub returns : goal.returns
@@ -18,11 +19,11 @@ returns c =
     let two = c.add_state-2.new.out in
     let three = c.add_state-3.new.out in
     let four = c.add_replicas.new.out in
-    let members = c.args.members.now in
+    let fixed = c.args.sentinels.now in
     let name : i.name ≡ m.name = ap (λ (t : MasterPlan). t.name) c.master.view_is in
     let quorum : i.quorum ≡ m.quorum = ap (λ (t : MasterPlan). t.quorum) c.master.view_is in
-    three_and_two (Monitor m.name at m.quorum) (ConfigEpoch m.name c.args.kept.now.card.epoch) (LeaderEpoch m.name c.args.kept.now.voted)
-    (replica_states m.name at m.nodes) (sentinel_states m.name c.args.id members) out one two three four c.add_sentinels.new.out
+    three_and_text (Monitor m.name at m.quorum) (ConfigEpoch m.name c.args.kept.now.card.epoch) (LeaderEpoch m.name c.args.kept.now.voted)
+    (replica_states m.name at m.nodes) fixed out one two three four c.add.new.self
     (c.add_state.ensures
     ∙ ap (λ n. bounded (out ++ ended (spelled (Monitor n at i.quorum)))) name
     ∙ ap (λ q. bounded (out ++ ended (spelled (Monitor m.name at q)))) quorum)
@@ -31,4 +32,4 @@ returns c =
     (c.add_replicas.ensures
     ∙ ap (λ n. bounded (three ++ text_of (replica_states n at c.nodes.result.now))) name
     ∙ ap (λ ns. bounded (three ++ text_of (replica_states m.name at ns))) c.nodes.ensures)
-    (c.add_sentinels.ensures ∙ ap (λ n. bounded (four ++ text_of (sentinel_states n c.args.id members))) name)
+    (room_of four c.add.new.self fixed (c.add.ensures ∙ ap (λ t. bounded (four ++ t)) c.as_slice.ensures))

@@ -4,6 +4,7 @@ use Rattle.sentinel_conf.specs.Meaning.{ConfPlan}
 use Rattle.ballot_law.specs.Cuts.{lines}
 use Rattle.sentinel_conf.specs.Rewritten.{text_of, state_lines, rewritten}
 use Rattle.sentinel_conf.specs.Room.{bounded}
+use Rattle.sentinel_conf.proofs.FixedLemmas.{fixed_file}
 use Rattle.sentinel_conf.proofs.RoomLemmas.{kept_and_states}
 use Rattle.sentinel_conf.proofs.reading.Parts.write.Goals as goal
 
@@ -16,5 +17,6 @@ returns c =
     let states = state_lines seen kept in
     subst (λ t. bounded c.add_file.new.out ≡ bounded (out ++ rewritten t kept)) c.self.view_is
     (c.add_file.ensures
-    ∙ ap (λ t. bounded (out ++ (t ++ text_of states))) (c.deref.ensures.value ∙ c.self.invariant)
+    ∙ fixed_file i.id i.roster i.fixed out c.deref.result.now c.args.current c.args.masters.now c.self.invariant.1
+    ∙ ap (λ t. bounded (out ++ (t ++ text_of states))) (c.deref.ensures.value ∙ c.self.invariant.0)
     ∙ ap (λ t. bounded (out ++ t)) (sym (kept_and_states (lines i.kept_lines.items) states)))
