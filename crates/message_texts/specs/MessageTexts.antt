@@ -1,5 +1,5 @@
 -- The bytes of a message on the wire: commands are arrays of bulk strings, replies are RESP2 values.
-use Rattle.std.specs.Prelude.{◌≤◌, ℕ, pos, Bool, true, false, List, [], ◌∷◌, codes, decimal, Option, Some, None}
+use Rattle.std.specs.Prelude.{◌≤◌, ℕ, pos, Bool, true, false, List, [], ◌∷◌, ◌++◌, codes, decimal, Option, Some, None}
 use Rattle.ballot_law.specs.declared.addresses.Addr.{Addr}
 use Rattle.ballot_law.specs.declared.addresses.RunId.{RunId}
 use Rattle.ballot_law.specs.declared.cards.Shown.{Shown}
@@ -11,7 +11,7 @@ use Rattle.ballot_law.specs.Words.{ip_text}
 use Rattle.node_texts.specs.Infos.{info_text, IsInfo}
 use Rattle.node_texts.specs.Roles.{role_frame, IsRole}
 use Rattle.resp2.specs.Commands.{bulks, ask_frame, candidate_text}
-use Rattle.resp2_frames.specs.Frame.{Frame, simple, fault, int, bulk, items, null_items, no_frames, frame, spelling, IsLine}
+use Rattle.resp2_frames.specs.Frame.{Frame, simple, fault, int, bulk, items, null_items, no_frames, frame, spelling, line_end, IsLine}
 
 -- an array of bulk strings
 abbrev pub words_frame : List (List ℕ) → Frame
@@ -25,6 +25,10 @@ down_number false = 0
 abbrev pub answer_frame : Bool → Option RunId → ℕ → Frame
 answer_frame down leader epoch =
     items (frame (int (pos (down_number down))) (frame (bulk (candidate_text leader)) (frame (int (pos epoch)) no_frames)))
+
+-- the bytes of such an answer up to the candidate
+abbrev pub answer_front : Bool → List ℕ
+answer_front down = 42 ∷ ((decimal 3 ++ line_end) ++ spelling (int (pos (down_number down))))
 
 abbrev pub ping_frame : Bool → List ℕ → Frame
 ping_frame true text = fault text
@@ -75,3 +79,10 @@ IsWritable (Publish hello) = IsHello hello
 IsWritable (HelloText hello) = IsHello hello
 IsWritable (RoleText role) = IsRole role
 IsWritable _ = Unit {0}
+
+-- the answers of a port that are written with no value made of them
+abbrev pub IsStraight : Body → Type 0
+IsStraight (Answer master addr down leader epoch) = Unit {0}
+IsStraight (PingText is_error text) = Unit {0}
+IsStraight (AddressAnswer shown) = Unit {0}
+IsStraight _ = ⊥

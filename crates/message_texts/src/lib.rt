@@ -4,6 +4,7 @@
 #![tactic(auto)]
 
 mod messages;
+mod straight;
 
 pub use messages::message_text;
 pub use resp2::{NoMemory, OutText};

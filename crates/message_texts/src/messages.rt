@@ -1,7 +1,6 @@
 //! Messages as the bytes that stand on the wire.
 
-ghost use Rattle.std.specs.Prelude.{◌≡◌, ◌≤◌, ◌∷◌, ◌++◌, [], codes, decimal, OnOk, OnErr, IfOk};
-ghost use Rattle.ballot_law.specs.declared.cards.TheConstants.{MAX_EPOCH};
+ghost use Rattle.std.specs.Prelude.{◌≡◌, ◌∷◌, ◌++◌, [], codes, decimal, OnOk, OnErr, IfOk};
 ghost use Rattle.ballot_law.specs.Hellos.{IsHello, hello_text};
 ghost use Rattle.ballot_law.specs.Words.{ip_text};
 ghost use Rattle.node_texts.specs.Infos.{IsInfo, info_text};
@@ -9,9 +8,10 @@ ghost use Rattle.node_texts.specs.Roles.{IsRole, role_frame};
 ghost use Rattle.resp2.specs.Commands.{ask_frame, candidate_text};
 ghost use Rattle.resp2_frames.specs.Frame as frames;
 ghost use Rattle.resp2_frames.specs.Frame.{view, spelling};
-ghost use Rattle.message_texts.specs.MessageTexts.{words_frame, answer_frame, ping_frame, hello_channel, replica_of_frame, address_frame, message_bytes, IsWritable};
+ghost use Rattle.message_texts.specs.MessageTexts.{words_frame, hello_channel, replica_of_frame, message_bytes, IsWritable};
 
-use ballot_law::{Addr, Body, Hello, Info, Message, Name, Role, RunId, Shown};
+use crate::straight::add_straight;
+use ballot_law::{Addr, Body, Hello, Info, Message, Name, Role, RunId};
 use node_texts::{write_hello, write_info, write_role};
 use resp2::{NoMemory, OutText, Text, Value, write_value};
 use std::alloc::Global;
@@ -76,31 +76,6 @@ fn ask(
     ]?))
 }
 
-/// The answer to that question.
-fn answer(alloc: Global, down: bool, leader: Option<RunId>, epoch: u64) -> Result<Value, NoMemory>
-    requires { epoch ≤ MAX_EPOCH }
-    ensures { IfOk result (λ value. view value ≡ answer_frame down leader epoch) }
-{
-    let leader = candidate(alloc, leader)?;
-    Ok(Value::Items(vec![in alloc;
-        Value::Int(i64::from(down)),
-        leader,
-        Value::Int(epoch as i64),
-    ]?))
-}
-
-/// The answer to a PING.
-fn ping_answer(alloc: Global, is_error: bool, text: &[u8]) -> Result<Value, NoMemory>
-    ensures { IfOk result (λ value. view value ≡ ping_frame is_error text.now) }
-{
-    let text = Text::from_slice(alloc, text)?;
-    if is_error {
-        Ok(Value::Fault(text))
-    } else {
-        Ok(Value::Simple(text))
-    }
-}
-
 /// The answer to an INFO.
 fn info_answer(alloc: Global, info: &Info) -> Result<Value, NoMemory>
     requires { IsInfo info.now }
@@ -153,19 +128,6 @@ fn address_ask(alloc: Global, name: &Name) -> Result<Value, NoMemory>
     ]?))
 }
 
-/// The answer to that question.
-fn address_answer(alloc: Global, shown: Option<Shown>) -> Result<Value, NoMemory>
-    ensures { IfOk result (λ value. view value ≡ address_frame shown) }
-{
-    match shown {
-        Some(shown) => Ok(Value::Items(vec![in alloc;
-            ip(alloc, shown.card.addr.ip)?,
-            number(alloc, u64::from(shown.card.addr.port))?,
-        ]?)),
-        None => Ok(Value::NullItems),
-    }
-}
-
 /// Adds the answer to a ROLE.
 fn add_role(role: &Role, text: &mut OutText) -> Result<(), NoMemory>
     requires { IsRole role.now }
@@ -192,24 +154,16 @@ pub fn message_text(alloc: Global, message: &Message, text: &mut OutText) -> Res
             candidate,
             ..
         } => write_value(&ask(alloc, *addr, *epoch, *candidate)?, text),
-        Body::Answer {
-            down,
-            leader,
-            epoch,
-            ..
-        } => write_value(&answer(alloc, *down, *leader, *epoch)?, text),
+        Body::Answer { .. } => add_straight(&message.body, text),
         Body::Ping => write_value(&command(alloc, b"PING")?, text),
-        Body::PingText {
-            is_error,
-            text: line,
-        } => write_value(&ping_answer(alloc, *is_error, line.as_slice())?, text),
+        Body::PingText { .. } => add_straight(&message.body, text),
         Body::InfoAsk => write_value(&command(alloc, b"INFO")?, text),
         Body::InfoText(info) => write_value(&info_answer(alloc, info)?, text),
         Body::Publish(hello) => write_value(&hello_array(alloc, b"PUBLISH", hello)?, text),
         Body::HelloText(hello) => write_value(&hello_array(alloc, b"message", hello)?, text),
         Body::ReplicaOf(addr) => write_value(&replica_of(alloc, *addr)?, text),
         Body::AddressAsk(name) => write_value(&address_ask(alloc, name)?, text),
-        Body::AddressAnswer(shown) => write_value(&address_answer(alloc, *shown)?, text),
+        Body::AddressAnswer(_) => add_straight(&message.body, text),
         Body::PortReply { text: bytes, .. } => text.add(bytes.as_slice()),
         Body::RoleAsk => write_value(&command(alloc, b"ROLE")?, text),
         Body::RoleText(role) => add_role(role, text),
