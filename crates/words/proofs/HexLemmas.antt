@@ -1,7 +1,7 @@
 -- Hex digits, read one at a time.
-use Rattle.std.proofs.Common.{◌≡◌, ℕ, zero, suc, ◌+◌, ◌*◌, ◌/◌, ◌%◌, ◌^◌, ◌≤◌, ◌<◌, Bool, true, false, ◌&&◌, List, [], ◌∷◌, ◌++◌, append_assoc, append-nil, refl, ap, sym, ◌∙◌, arith, Option, Some, None}
+use Rattle.std.proofs.Common.{◌≡◌, ℕ, zero, suc, ◌+◌, ◌*◌, ◌/◌, ◌%◌, ◌^◌, ◌≤◌, ◌<◌, Bool, true, false, ◌&&◌, List, [], ◌∷◌, ◌++◌, length, get_or, append_assoc, append-nil, refl, ap, sym, ◌∙◌, arith, Option, Some, None}
 use Rattle.std.specs.List.{list_all}
-use Rattle.std.proofs.Math.Nat.{pow-le-pow_right}
+use Rattle.std.proofs.Math.Nat.{pow-le-pow_right, pow-suc, add-mul, add_assoc, mul_assoc, mul_comm}
 use Rattle.ballot_law.specs.Words.{some_if, is_hex, hex_value, hex_on, hex, hex_digit}
 use Rattle.ballot_law.proofs.WordLemmas.{some_if-some}
 
@@ -25,9 +25,51 @@ hex_more n c d bs e =
 pub hex_stops : (n c : ℕ) (bs : List ℕ) → None ≡ some_if (is_hex c) (hex_value c) → hex_tail n (c ∷ bs) ≡ None
 hex_stops n c bs e = ap (λ t. some_if (t && list_all is_hex bs) (hex_on (n * 16 + hex_value c) bs)) (none_test (is_hex c) (hex_value c) (sym e))
 
--- below 32 digits there is room for one more in 128 bits
-pub hex_room : (i : ℕ) → i < 32 → 16 ^ i ≤ 16 ^ 31
-hex_room i h = pow-le-pow_right {n = 16} (omega arith) {i = i} {j = 31} (omega arith)
+-- below 16 digits there is room for one more in 64 bits
+pub hex_room : (i : ℕ) → i < 16 → 16 ^ i ≤ 16 ^ 15
+hex_room i h = pow-le-pow_right {n = 16} (omega arith) {i = i} {j = 15} (omega arith)
+
+-- digits behind a number
+hex_on-behind : (n : ℕ) (bs : List ℕ) → hex_on n bs ≡ n * 16 ^ length bs + hex_on 0 bs
+hex_on-behind n [] = omega arith
+hex_on-behind n (b ∷ bs) =
+    let v = hex_value b in
+    let p = 16 ^ length bs in
+    let rest = hex_on 0 bs in
+    let none : 0 * 16 + v ≡ v = omega arith in
+    let place : n * 16 ^ suc (length bs) ≡ n * 16 * p = ap (λ t. n * t) (pow-suc 16 (length bs) ∙ mul_comm p 16) ∙ sym (mul_assoc n 16 p) in
+    hex_on-behind (n * 16 + v) bs
+    ∙ ap (λ t. t + rest) (add-mul (n * 16) v p)
+    ∙ add_assoc (n * 16 * p) (v * p) rest
+    ∙ ap (λ t. t + (v * p + rest)) (sym place)
+    ∙ ap (λ t. n * 16 ^ suc (length bs) + t) (sym (ap (λ t. hex_on t bs) none ∙ hex_on-behind v bs))
+
+hex_on-append : (n : ℕ) (xs ys : List ℕ) → hex_on n (xs ++ ys) ≡ hex_on (hex_on n xs) ys
+hex_on-append n [] ys = refl
+hex_on-append n (x ∷ xs) ys = hex_on-append (n * 16 + hex_value x) xs ys
+
+pub digit_text : (d : ℕ) → d < 16 → get_or (48 ∷ 49 ∷ 50 ∷ 51 ∷ 52 ∷ 53 ∷ 54 ∷ 55 ∷ 56 ∷ 57 ∷ 97 ∷ 98 ∷ 99 ∷ 100 ∷ 101 ∷ 102 ∷ []) d 0 ≡ hex_digit d
+digit_text zero h = refl
+digit_text (suc zero) h = refl
+digit_text (suc (suc zero)) h = refl
+digit_text (suc (suc (suc zero))) h = refl
+digit_text (suc (suc (suc (suc zero)))) h = refl
+digit_text (suc (suc (suc (suc (suc zero))))) h = refl
+digit_text (suc (suc (suc (suc (suc (suc zero)))))) h = refl
+digit_text (suc (suc (suc (suc (suc (suc (suc zero))))))) h = refl
+digit_text (suc (suc (suc (suc (suc (suc (suc (suc zero)))))))) h = refl
+digit_text (suc (suc (suc (suc (suc (suc (suc (suc (suc zero))))))))) h = refl
+digit_text (suc (suc (suc (suc (suc (suc (suc (suc (suc (suc zero)))))))))) h = refl
+digit_text (suc (suc (suc (suc (suc (suc (suc (suc (suc (suc (suc zero))))))))))) h = refl
+digit_text (suc (suc (suc (suc (suc (suc (suc (suc (suc (suc (suc (suc zero)))))))))))) h = refl
+digit_text (suc (suc (suc (suc (suc (suc (suc (suc (suc (suc (suc (suc (suc zero))))))))))))) h = refl
+digit_text (suc (suc (suc (suc (suc (suc (suc (suc (suc (suc (suc (suc (suc (suc zero)))))))))))))) h = refl
+digit_text (suc (suc (suc (suc (suc (suc (suc (suc (suc (suc (suc (suc (suc (suc (suc zero))))))))))))))) h = refl
+digit_text (suc (suc (suc (suc (suc (suc (suc (suc (suc (suc (suc (suc (suc (suc (suc (suc d)))))))))))))))) h = absurd (omega arith)
+
+-- 32 digits are twice 16
+pub hex_halves : (xs ys : List ℕ) → length ys ≡ 16 → hex_on 0 (xs ++ ys) ≡ hex_on 0 xs * 2 ^ 64 + hex_on 0 ys
+hex_halves xs ys h = hex_on-append 0 xs ys ∙ hex_on-behind (hex_on 0 xs) ys ∙ ap (λ k. hex_on 0 xs * 16 ^ k + hex_on 0 ys) h
 
 -- ---- eight digits at a time
 

@@ -14,6 +14,9 @@ pub const RUN_ID_LENGTH: usize = 40;
 /// How many of its digits stand in the high part.
 const HIGH_LENGTH: usize = 32;
 
+/// How many numbers 16 hex digits spell.
+const SIXTEEN_DIGITS: u128 = 0x1_0000_0000_0000_0000;
+
 /// The value of a lower case hex digit.
 fn hex_digit_of(byte: u8) -> Option<u8>
     ensures value { result ≡ some_if (is_hex byte) (hex_value byte) }
@@ -26,17 +29,29 @@ fn hex_digit_of(byte: u8) -> Option<u8>
     }
 }
 
-/// The number of lower case hex digits.
-fn hex_of(digits: &[u8]) -> Option<u128>
-    requires { length digits.now ≤ 32 }
+/// The number of at most 16 lower case hex digits.
+fn hex_of(digits: &[u8]) -> Option<u64>
+    requires { length digits.now ≤ 16 }
     ensures value { result ≡ some_if (list_all is_hex digits.now) (hex_on 0 digits.now) }
     ensures range { IfSome result (λ number. number < 16 ^ length digits.now) }
 {
-    let mut number: u128 = 0;
+    let mut number: u64 = 0;
     for digit in digits {
-        number = number * 16 + u128::from(hex_digit_of(*digit)?);
+        number = number * 16 + u64::from(hex_digit_of(*digit)?);
     }
     Some(number)
+}
+
+/// The number of 32 lower case hex digits.
+#[tactic(auto, using(crate::proofs::HexLemmas::hex_halves))]
+fn high_of(digits: &[u8]) -> Option<u128>
+    requires { length digits.now ≡ 32 }
+    ensures { result ≡ some_if (list_all is_hex digits.now) (hex_on 0 digits.now) }
+{
+    let (front, back) = digits.split_at(HIGH_LENGTH / 2);
+    let front = hex_of(front)?;
+    let back = hex_of(back)?;
+    Some(u128::from(front) * SIXTEEN_DIGITS + u128::from(back))
 }
 
 /// The run id that is spelled so: 40 lower case hex digits.
@@ -47,21 +62,20 @@ pub fn run_id_of(bytes: &[u8]) -> Option<RunId>
         return None;
     }
     let (high, low) = bytes.split_at(HIGH_LENGTH);
-    let hi = hex_of(high)?;
+    let hi = high_of(high)?;
     let lo = hex_of(low)?;
     Some(RunId { hi, lo: lo as u32 })
 }
+
+/// The lower case hex digits, each at its value.
+const HEX_DIGITS: [u8; 16] = *b"0123456789abcdef";
 
 /// A lower case hex digit.
 fn hex_digit(digit: u8) -> u8
     requires { digit < 16 }
     ensures { result ≡ hex_digit digit }
 {
-    if digit < 10 {
-        b'0' + digit
-    } else {
-        b'a' - 10 + digit
-    }
+    HEX_DIGITS[digit as usize]
 }
 
 /// The last hex digit of a number.

@@ -1,5 +1,5 @@
-use Rattle.std.proofs.Common.{rules}
+use Rattle.words.proofs.HexLemmas.{digit_text}
 use Rattle.words.proofs.run_ids.hex_digit.Goals as goal
 
-pub returns-else-digit-lt10 : goal.returns-else-digit-lt10
-returns-else-digit-lt10 c = search rules
+pub returns : goal.returns
+returns c = digit_text c.args.digit c.requires
