@@ -2,3 +2,5 @@ pub mod Canonical
 pub mod Counts
 pub mod AskFrames
 pub mod Asks
+pub mod Found
+pub mod Streams

@@ -1,5 +1,5 @@
 //! The commands of a Sentinel's port, as values.
-ghost use Rattle.std.specs.Prelude.{◌≡◌, IfOk};
+ghost use Rattle.std.specs.Prelude.{◌≡◌, ◌∷◌, [], IfOk};
 ghost use Rattle.ballot_law.specs.Words.{name, lower};
 ghost use Rattle.resp2.specs.Commands as commands;
 ghost use Rattle.resp2_frames.specs.Frame as frames;
@@ -83,6 +83,27 @@ fn candidate_of(word: &[u8]) -> Option<Option<RunId>>
     run_id_of(word).map(Some)
 }
 
+/// The command of `SENTINEL IS-MASTER-DOWN-BY-ADDR` and these four words.
+pub(crate) fn question_of(
+    ip: &[u8],
+    port: &[u8],
+    epoch: &[u8],
+    id: &[u8],
+) -> Result<Command, CommandFault>
+    ensures within { IfOk result commands.IsWithin }
+    ensures command { result
+        ≡ commands.is_master_down_by_addr (ip.now ∷ port.now ∷ epoch.now ∷ id.now ∷ []) }
+{
+    let addr = canonical_address_of(ip, port).ok_or(CommandFault::BadAddress)?;
+    let epoch = canonical_number_of(epoch, 0, MAX_EPOCH).ok_or(CommandFault::BadEpoch)?;
+    let candidate = candidate_of(id).ok_or(CommandFault::BadRunId)?;
+    Ok(Command::IsMasterDownByAddr {
+        addr,
+        epoch,
+        candidate,
+    })
+}
+
 /// The command of `SENTINEL IS-MASTER-DOWN-BY-ADDR` and these words.
 fn is_master_down_by_addr(args: &[Value]) -> Result<Command, CommandFault>
     ensures within { IfOk result commands.IsWithin }
@@ -91,18 +112,11 @@ fn is_master_down_by_addr(args: &[Value]) -> Result<Command, CommandFault>
     let [ip, port, epoch, id] = args else {
         return Err(CommandFault::WrongArguments);
     };
-    let addr = canonical_address_of(word_of(ip), word_of(port)).ok_or(CommandFault::BadAddress)?;
-    let epoch = canonical_number_of(word_of(epoch), 0, MAX_EPOCH).ok_or(CommandFault::BadEpoch)?;
-    let candidate = candidate_of(word_of(id)).ok_or(CommandFault::BadRunId)?;
-    Ok(Command::IsMasterDownByAddr {
-        addr,
-        epoch,
-        candidate,
-    })
+    question_of(word_of(ip), word_of(port), word_of(epoch), word_of(id))
 }
 
 /// The name that the word is, or none where it can't be one.
-fn name_of(word: &[u8]) -> Option<Name>
+pub(crate) fn name_of(word: &[u8]) -> Option<Name>
     ensures { result ≡ name word.now }
 {
     Name::from_slice(word)

@@ -1,14 +1,18 @@
 //! The commands of a Sentinel's port: which a value of the Redis serialization protocol (RESP2) spells.
 //!
-//! `command_of` tells what a value asks of a Sentinel. The values themselves, their reader and their writer are those of
-//! `resp2_frames`, which this crate passes on. The commands and their faults stand in docs/RESP2.md.
+//! `command_of` tells what a value asks of a Sentinel, and `next_command` reads what the next value of a stream asks. The values
+//! themselves, their reader and their writer are those of `resp2_frames`, which this crate passes on. The commands and their
+//! faults stand in docs/RESP2.md.
 #![tactic(auto)]
 
+mod asked;
 mod command;
+mod command_stream;
 mod laws;
 
 pub use ballot_law::{Command, NoMemory, Text};
 pub use command::{CommandFault, command_of};
+pub use command_stream::next_command;
 pub use laws::law_ask_is_read_again;
 pub use resp2_frames::{
     ByteSink, FrameFault, Frames, OutText, Unread, Value, law_fault_and_value_stay, law_faults,

@@ -1,5 +1,5 @@
 -- A reader over a stream that comes in pieces: what it holds, what it answers, and which values a stream has.
-use Rattle.std.specs.Prelude.{◌≡◌, ℕ, List, ◌++◌, length, ◌⊎◌, Option, Some, None, Result, Ok, Err}
+use Rattle.std.specs.Prelude.{◌≡◌, ℕ, List, [], ◌++◌, length, ◌⊎◌, Option, Some, None, Result, Ok, Err}
 use Rattle.std.specs.List.{flat_map, AllByRecursion}
 use Rattle.resp2_frames.specs.declared.fault.FrameFault.{FrameFault}
 use Rattle.resp2_frames.specs.declared.fault.FrameFault.TheVariants.{NoMemory}
@@ -15,6 +15,11 @@ pub data Held : Type 0 where
 abbrev pub held_of : Option FrameFault → List ℕ → Held
 held_of None bytes = reading bytes
 held_of (Some f) bytes = ended f
+
+-- the bytes that came and were not given yet; none behind a fault
+abbrev pub bytes_in : Held → List ℕ
+bytes_in (reading bytes) = bytes
+bytes_in (ended fault) = []
 
 -- what `feed` answers: the piece is added, or memory was refused and nothing changed; an ended reader answers its fault
 abbrev pub Feeds : {X : Type 0} → Held → List ℕ → Result X FrameFault → Held → Type 0

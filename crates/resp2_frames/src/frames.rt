@@ -5,7 +5,7 @@ ghost use Rattle.resp2_frames.specs.declared.value.Value.{Value};
 ghost use Rattle.resp2_frames.specs.Frame.{Frame, view, spelling, IsFrame};
 ghost use Rattle.resp2_frames.specs.Place.{Stands, Searched};
 ghost use Rattle.resp2_frames.specs.Reading.{Gives, frame_at};
-ghost use Rattle.resp2_frames.specs.Stream.{Held, held_of, reading, Feeds, Answers};
+ghost use Rattle.resp2_frames.specs.Stream.{Held, held_of, reading, bytes_in, Feeds, Answers};
 
 use crate::fault::{FrameFault, Stopped, Unread};
 use crate::place::{DEEPEST, Place};
@@ -124,6 +124,27 @@ impl Frames {
         self.take_first()
     }
 
+    /// The bytes that came and weren't given yet; none once a fault was answered.
+    pub fn held(&self) -> &[u8]
+        ensures { result.now ≡ bytes_in self.now }
+    {
+        if self.fault.is_some() {
+            return &[];
+        }
+        self.bytes.as_slice()
+    }
+
+    /// Takes away the first `passed` bytes of those held, for a caller that read them where they stand: the next value begins behind them. No
+    /// memory is taken.
+    pub fn skip(&mut self, passed: usize)
+        requires open { self.old ≡ reading (bytes_in self.old) }
+        requires within { passed ≤ length (bytes_in self.old) }
+        ensures { self.new ≡ reading (drop passed (bytes_in self.old)) }
+    {
+        self.bytes.advance(passed);
+        self.place = Place::new();
+    }
+
     /// Reads an incomplete value on where its reading stood, and the whole value once none of its parts is missing.
     fn take_first(&mut self) -> Result<Option<Value>, FrameFault>
         ensures { Answers view self.old result self.new }
@@ -139,6 +160,9 @@ impl Frames {
     {
         if let Some(fault) = self.fault {
             return Err(fault);
+        }
+        if self.bytes.is_empty() {
+            return Ok(None);
         }
         match frame_of(*self.bytes.allocator(), self.bytes.as_slice()) {
             Ok((value, count)) => {

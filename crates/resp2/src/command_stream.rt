@@ -1,0 +1,45 @@
+//! Reads commands from a stream that comes in pieces.
+ghost use Rattle.std.specs.Prelude.{◌≡◌, ◌<◌, ◌≤◌, OnOk, IfOk, IfSome};
+ghost use Rattle.resp2.specs.Asked.{Asks};
+ghost use Rattle.resp2.specs.Commands.{IsWithin};
+ghost use Rattle.resp2_frames.specs.Stream.{held_size};
+
+use crate::asked::asked_of;
+use crate::command::{CommandFault, command_of};
+use ballot_law::Command;
+use resp2_frames::{FrameFault, Frames};
+
+/// Takes the first whole value out of the bytes that came, as the command that it spells or the reason why it is none; `None` where more bytes
+/// are needed. It answers what `Frames::next` and then `command_of` would, and leaves what `next` would leave.
+///
+/// A command that comes nearly always is read where its bytes stand, with no value made of it and no memory taken: PING, a question for the address of a
+/// master, and the question whether a master is down, each in capitals or in small letters. All else is read as a value first.
+///
+/// `NoMemory` leaves the reader unchanged. Any other fault is one of the bytes: the values before it were given, and every later call answers
+/// it again.
+pub fn next_command(
+    frames: &mut Frames,
+) -> Result<Option<Result<Command, CommandFault>>, FrameFault>
+    ensures exact { Asks frames.old result frames.new }
+    ensures within { IfOk result (λ given. IfSome given (λ asked. IfOk asked IsWithin)) }
+    // With each value fewer bytes are held.
+    ensures fewer { IfOk result (λ given. IfSome given (λ asked. held_size frames.new < held_size frames.old)) }
+    ensures no_more { OnOk result (held_size frames.new ≤ held_size frames.old) }
+{
+    take_command(frames)
+}
+
+fn take_command(frames: &mut Frames) -> Result<Option<Result<Command, CommandFault>>, FrameFault>
+    ensures exact { Asks frames.old result frames.new }
+    ensures within { IfOk result (λ given. IfSome given (λ asked. IfOk asked IsWithin)) }
+{
+    if let Some((asked, count)) = asked_of(frames.held()) {
+        frames.skip(count);
+        return Ok(Some(asked));
+    }
+    match frames.next() {
+        Ok(Some(value)) => Ok(Some(command_of(&value))),
+        Ok(None) => Ok(None),
+        Err(fault) => Err(fault),
+    }
+}
