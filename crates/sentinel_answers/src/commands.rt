@@ -15,7 +15,7 @@ use crate::rows::{
 use ballot_law::{Addr, Body, Command, Name, RunId, ShortText, Shown, ShownList};
 use port_answers::AnswerText;
 use sentinel_plan::Plan;
-use sentinel_state::State;
+use sentinel_state::Core;
 
 /// What a command asks about one master.
 #[derive(Clone, Copy)]
@@ -64,10 +64,10 @@ fn no_such_master(text: AnswerText, shown: Vec<Shown>) -> Body
 
 /// The answer to a command that needs no text: PING, `SENTINEL IS-MASTER-DOWN-BY-ADDR`, which may give a vote, and
 /// `SENTINEL GET-MASTER-ADDR-BY-NAME`. For the others there is none, and nothing changes.
-pub fn answer_plainly(plan: &Plan, state: &mut State, now: u64, command: &Command) -> Option<Body>
+pub fn answer_plainly(plan: &Plan, core: &mut Core, now: u64, command: &Command) -> Option<Body>
     ensures plain { IsSome result ↔ (is_plain command.now ≡ true) }
-    ensures state { state.new ≡ (commanded plan.now (clock now) command.now state.old).core }
-    ensures body { IfSome result (λ body. body ≡ (commanded plan.now (clock now) command.now state.old).body) }
+    ensures core { core.new ≡ (commanded plan.now (clock now) command.now core.old).core }
+    ensures body { IfSome result (λ body. body ≡ (commanded plan.now (clock now) command.now core.old).body) }
 {
     match *command {
         Command::Ping => Some(pong()),
@@ -75,9 +75,9 @@ pub fn answer_plainly(plan: &Plan, state: &mut State, now: u64, command: &Comman
             addr,
             epoch,
             candidate,
-        } => Some(answer_down(plan, state, now, addr, epoch, candidate)),
+        } => Some(answer_down(plan, core, now, addr, epoch, candidate)),
         Command::GetMasterAddrByName(name) => {
-            Some(Body::AddressAnswer(shown_by_name(plan, state, name)))
+            Some(Body::AddressAnswer(shown_by_name(plan, core, name)))
         }
         Command::Masters
         | Command::Master(_)
@@ -93,7 +93,7 @@ pub fn answer_plainly(plan: &Plan, state: &mut State, now: u64, command: &Comman
 /// answer. No memory is taken.
 pub fn answer_by_text(
     plan: &Plan,
-    state: &State,
+    core: &Core,
     now: u64,
     command: &Command,
     text: Vec<u8>,
@@ -103,16 +103,16 @@ pub fn answer_by_text(
     requires list { 16 ≤ vec_capacity shown }
     requires empty { (text.items ≡ []) × (shown.items ≡ []) }
     requires kind { is_plain command.now ≡ false }
-    ensures body { result ≡ (commanded plan.now (clock now) command.now state.now).body }
-    ensures state { (commanded plan.now (clock now) command.now state.now).core ≡ state.now }
+    ensures body { result ≡ (commanded plan.now (clock now) command.now core.now).body }
+    ensures core { (commanded plan.now (clock now) command.now core.now).core ≡ core.now }
 {
     let text = AnswerText::from_vec(text);
     match *command {
-        Command::Masters => answer_masters(plan, state, now, text, shown),
-        Command::Master(name) => answer_about(plan, state, now, name, Asked::Whole, text, shown),
+        Command::Masters => answer_masters(plan, core, now, text, shown),
+        Command::Master(name) => answer_about(plan, core, now, name, Asked::Whole, text, shown),
         Command::Replicas(name) => answer_about(
             plan,
-            state,
+            core,
             now,
             name,
             Asked::Replicas,
@@ -121,7 +121,7 @@ pub fn answer_by_text(
         ),
         Command::Sentinels(name) => answer_about(
             plan,
-            state,
+            core,
             now,
             name,
             Asked::Sentinels,
@@ -129,7 +129,7 @@ pub fn answer_by_text(
             shown,
         ),
         Command::MyId => answer_id(plan, text, shown),
-        Command::CkQuorum(name) => answer_about(plan, state, now, name, Asked::Quorum, text, shown),
+        Command::CkQuorum(name) => answer_about(plan, core, now, name, Asked::Quorum, text, shown),
         Command::FlushConfig => answer_done(text, shown),
         Command::Ping | Command::IsMasterDownByAddr { .. } | Command::GetMasterAddrByName(_) =>
             unreachable!(),
@@ -139,16 +139,16 @@ pub fn answer_by_text(
 /// Whether the master at the address is down, and the vote that a candidate asks for.
 fn answer_down(
     plan: &Plan,
-    state: &mut State,
+    core: &mut Core,
     now: u64,
     addr: Addr,
     epoch: u64,
     candidate: Option<RunId>,
 ) -> Body
-    ensures state { state.new ≡ (asked_of plan.now (clock now) addr epoch candidate (master_with_card state.old.kept.masters addr) state.old).core }
-    ensures body { result ≡ (asked_of plan.now (clock now) addr epoch candidate (master_with_card state.old.kept.masters addr) state.old).body }
+    ensures core { core.new ≡ (asked_of plan.now (clock now) addr epoch candidate (master_with_card core.old.kept.masters addr) core.old).core }
+    ensures body { result ≡ (asked_of plan.now (clock now) addr epoch candidate (master_with_card core.old.kept.masters addr) core.old).body }
 {
-    let Some(master) = state.master_with_card(addr) else {
+    let Some(master) = core.master_with_card(addr) else {
         return Body::Answer {
             master: plan.listing(addr).unwrap_or(0),
             addr,
@@ -157,7 +157,7 @@ fn answer_down(
             epoch: 0,
         };
     };
-    let down = state.is_master_down(plan, master, now) && !state.is_tilted();
+    let down = core.is_master_down(plan, master, now) && !core.is_tilted();
     let Some(candidate) = candidate else {
         return Body::Answer {
             master,
@@ -167,42 +167,42 @@ fn answer_down(
             epoch: 0,
         };
     };
-    state.ask_vote(plan, master, now, epoch, candidate);
+    core.ask_vote(plan, master, now, epoch, candidate);
     Body::Answer {
         master,
         addr,
         down,
-        leader: state.leader(master),
-        epoch: state.voted(master),
+        leader: core.leader(master),
+        epoch: core.voted(master),
     }
 }
 
 /// The configuration of the master with this name.
-fn shown_by_name(plan: &Plan, state: &State, name: Option<Name>) -> Option<Shown>
-    ensures { result ≡ address_of state.now (named plan.now name) }
+fn shown_by_name(plan: &Plan, core: &Core, name: Option<Name>) -> Option<Shown>
+    ensures { result ≡ address_of core.now (named plan.now name) }
 {
     match plan.named(name) {
-        Some(master) => Some(shown_card(state, master)),
+        Some(master) => Some(shown_card(core, master)),
         None => None,
     }
 }
 
-fn answer_masters(plan: &Plan, state: &State, now: u64, text: AnswerText, shown: Vec<Shown>) -> Body
+fn answer_masters(plan: &Plan, core: &Core, now: u64, text: AnswerText, shown: Vec<Shown>) -> Body
     requires text { text ≡ [] }
     requires room { 16 ≤ vec_capacity shown }
     requires list { shown.items ≡ [] }
-    ensures { result ≡ reply state.now (all_masters plan.now) (masters_frame (map (master_row plan.now state.now (clock now)) (all_masters plan.now))) }
+    ensures { result ≡ reply core.now (all_masters plan.now) (masters_frame (map (master_row plan.now core.now (clock now)) (all_masters plan.now))) }
 {
     let mut text = text;
-    add_masters(plan, state, now, &mut text);
-    reply(text, shown_masters(plan, state, shown))
+    add_masters(plan, core, now, &mut text);
+    reply(text, shown_masters(plan, core, shown))
 }
 
 /// The answer to what is asked about the master with this name.
 #[tactic(auto, using(crate::proofs::AnswerRows::master_whole))]
 fn answer_about(
     plan: &Plan,
-    state: &State,
+    core: &Core,
     now: u64,
     name: Option<Name>,
     asked: Asked,
@@ -212,7 +212,7 @@ fn answer_about(
     requires text { text ≡ [] }
     requires room { 16 ≤ vec_capacity shown }
     requires list { shown.items ≡ [] }
-    ensures { result ≡ about state.now (named plan.now name) (answer_about plan.now state.now (clock now) asked) }
+    ensures { result ≡ about core.now (named plan.now name) (answer_about plan.now core.now (clock now) asked) }
 {
     let Some(m) = plan.named(name) else {
         return no_such_master(text, shown);
@@ -221,20 +221,20 @@ fn answer_about(
     let mut shown = shown;
     match asked {
         Asked::Whole => {
-            text.add_master(&master_row(plan, state, now, m));
-            shown.push_reserved(shown_card(state, m));
+            text.add_master(&master_row(plan, core, now, m));
+            shown.push_reserved(shown_card(core, m));
             reply(text, shown)
         }
         Asked::Replicas => {
-            add_replicas(plan, state, now, m, &mut text);
+            add_replicas(plan, core, now, m, &mut text);
             reply(text, shown)
         }
         Asked::Sentinels => {
-            add_sentinels(plan, state, now, &mut text);
+            add_sentinels(plan, core, now, &mut text);
             reply(text, shown)
         }
         Asked::Quorum => {
-            add_quorum(plan, state, now, m, &mut text);
+            add_quorum(plan, core, now, m, &mut text);
             reply(text, shown)
         }
     }

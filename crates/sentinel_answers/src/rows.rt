@@ -16,7 +16,7 @@ use ballot_law::{Addr, Member, RunId, Shown};
 use port_answers::{AnswerText, MasterRow, ReplicaRow, SentinelRow};
 use sentinel_plan::Plan;
 use sentinel_rules::ASSUMED_INFO;
-use sentinel_state::State;
+use sentinel_state::Core;
 
 /// The number of places, the one left out not counted.
 #[tactic(auto, using(crate::proofs::AnswerRows::but_within, crate::proofs::AnswerRows::but_without))]
@@ -30,29 +30,30 @@ fn count_but(one: usize, count: usize) -> usize
 }
 
 /// A master's configuration, as an answer shows it.
-pub(crate) fn shown_card(state: &State, master: u16) -> Shown
-    ensures { result ≡ shown_of state.now master }
+pub(crate) fn shown_card(core: &Core, master: u16) -> Shown
+    ensures { result ≡ shown_of core.now master }
 {
     Shown {
         master,
-        card: state.card(master),
+        card: core.card(master),
     }
 }
 
 /// What an answer says of a master.
-pub(crate) fn master_row(plan: &Plan, state: &State, now: u64, m: u16) -> MasterRow
+pub(crate) fn master_row(plan: &Plan, core: &Core, now: u64, m: u16) -> MasterRow
     requires { m < master_count plan.now }
-    ensures value { result ≡ master_row plan.now state.now (clock now) m }
+    ensures value { result ≡ master_row plan.now core.now (clock now) m }
     ensures fits { IsMasterRow result }
 {
-    let card = state.card(m);
+    let card = core.card(m);
     let settings = plan.settings(m);
+    let down = core.is_master_down(plan, m, now);
     MasterRow {
         name: plan.name(m),
         addr: card.addr,
-        down: state.is_master_down(plan, m, now),
-        odown: state.is_odown(plan, m, now),
-        failing_over: state.is_failing_over(m),
+        down,
+        odown: core.is_odown(plan, m, now, down),
+        failing_over: core.is_failing_over(m),
         replicas: (plan.node_count(m) as u64).saturating_sub(1),
         others: u64::from(plan.group_size()).saturating_sub(1),
         quorum: plan.quorum(m),
@@ -64,54 +65,54 @@ pub(crate) fn master_row(plan: &Plan, state: &State, now: u64, m: u16) -> Master
 }
 
 /// What an answer says of a data node; `card_at` is the place of the node that the configuration names.
-fn replica_row(plan: &Plan, state: &State, now: u64, m: u16, card_at: usize, k: usize) -> ReplicaRow
-    requires { card_at ≡ card_place plan.now state.now m }
-    ensures value { result ≡ replica_row plan.now state.now (clock now) m k }
+fn replica_row(plan: &Plan, core: &Core, now: u64, m: u16, card_at: usize, k: usize) -> ReplicaRow
+    requires { card_at ≡ card_place plan.now core.now m }
+    ensures value { result ≡ replica_row plan.now core.now (clock now) m k }
     ensures fits { IsReplicaRow result }
 {
-    let info = state.info(m, k).unwrap_or(ASSUMED_INFO);
+    let info = core.info(m, k).unwrap_or(ASSUMED_INFO);
     ReplicaRow {
         addr: plan.addr_at(m, k),
-        down: state.is_node_down(plan, m, now, card_at, k),
+        down: core.is_node_down(plan, m, now, card_at, k),
         priority: info.priority,
         offset: info.offset,
     }
 }
 
 /// What an answer says of a Sentinel.
-fn sentinel_row(plan: &Plan, state: &State, now: u64, place: usize) -> SentinelRow
-    ensures value { result ≡ sentinel_row plan.now state.now (clock now) place }
+fn sentinel_row(plan: &Plan, core: &Core, now: u64, place: usize) -> SentinelRow
+    ensures value { result ≡ sentinel_row plan.now core.now (clock now) place }
     ensures fits { IsPlace result.addr }
 {
     let Member { id, addr } = plan.member(place);
     SentinelRow {
         id,
         addr,
-        down: state.is_peer_down(plan, now, place),
+        down: core.is_peer_down(plan, now, place),
     }
 }
 
 /// Writes all masters.
-pub(crate) fn add_masters(plan: &Plan, state: &State, now: u64, text: &mut AnswerText)
+pub(crate) fn add_masters(plan: &Plan, core: &Core, now: u64, text: &mut AnswerText)
     requires { text.old ≡ [] }
-    ensures { text.new ≡ spelling (masters_frame (map (master_row plan.now state.now (clock now)) (all_masters plan.now))) }
+    ensures { text.new ≡ spelling (masters_frame (map (master_row plan.now core.now (clock now)) (all_masters plan.now))) }
 {
     let count = plan.master_count();
     text.add_count(u64::from(count));
     for m in 0..count {
-        text.add_master(&master_row(plan, state, now, m));
+        text.add_master(&master_row(plan, core, now, m));
     }
 }
 
 /// The configurations of all masters.
-pub(crate) fn shown_masters(plan: &Plan, state: &State, shown: Vec<Shown>) -> Vec<Shown>
+pub(crate) fn shown_masters(plan: &Plan, core: &Core, shown: Vec<Shown>) -> Vec<Shown>
     requires room { 16 ≤ vec_capacity shown }
     requires empty { shown.items ≡ [] }
-    ensures { result.items ≡ map (shown_of state.now) (all_masters plan.now) }
+    ensures { result.items ≡ map (shown_of core.now) (all_masters plan.now) }
 {
     let mut shown = shown;
     for m in 0..plan.master_count() {
-        shown.push_reserved(shown_card(state, m));
+        shown.push_reserved(shown_card(core, m));
     }
     shown
 }
@@ -120,18 +121,18 @@ pub(crate) fn shown_masters(plan: &Plan, state: &State, shown: Vec<Shown>) -> Ve
 #[tactic(auto, using(crate::proofs::AnswerRows::same_text))]
 fn add_replica_but(
     plan: &Plan,
-    state: &State,
+    core: &Core,
     now: u64,
     m: u16,
     card_at: usize,
     k: usize,
     text: &mut AnswerText,
 )
-    requires { card_at ≡ card_place plan.now state.now m }
-    ensures value { text.new ≡ bounded (text.old ++ (if k == card_at then [] else spelling (replica_frame (replica_row plan.now state.now (clock now) m k)))) }
-    ensures fits { IsReplicaRow (replica_row plan.now state.now (clock now) m k) }
+    requires { card_at ≡ card_place plan.now core.now m }
+    ensures value { text.new ≡ bounded (text.old ++ (if k == card_at then [] else spelling (replica_frame (replica_row plan.now core.now (clock now) m k)))) }
+    ensures fits { IsReplicaRow (replica_row plan.now core.now (clock now) m k) }
 {
-    let row = replica_row(plan, state, now, m, card_at, k);
+    let row = replica_row(plan, core, now, m, card_at, k);
     if k == card_at {
         let _whole = text.as_slice();
         return;
@@ -140,15 +141,15 @@ fn add_replica_but(
 }
 
 /// Writes each node of a master but that of its configuration.
-pub(crate) fn add_replicas(plan: &Plan, state: &State, now: u64, m: u16, text: &mut AnswerText)
+pub(crate) fn add_replicas(plan: &Plan, core: &Core, now: u64, m: u16, text: &mut AnswerText)
     requires { text.old ≡ [] }
-    ensures { text.new ≡ spelling (replicas_frame (replica_rows plan.now state.now (clock now) m)) }
+    ensures { text.new ≡ spelling (replicas_frame (replica_rows plan.now core.now (clock now) m)) }
 {
-    let own = state.card_place(plan, m);
+    let own = core.card_place(plan, m);
     let count = plan.node_count(m);
     text.add_count(count_but(own, count) as u64);
     for k in 0..count {
-        add_replica_but(plan, state, now, m, own, k, text);
+        add_replica_but(plan, core, now, m, own, k, text);
     }
 }
 
@@ -156,16 +157,16 @@ pub(crate) fn add_replicas(plan: &Plan, state: &State, now: u64, m: u16, text: &
 #[tactic(auto, using(crate::proofs::AnswerRows::same_text))]
 fn add_sentinel_but(
     plan: &Plan,
-    state: &State,
+    core: &Core,
     now: u64,
     one: usize,
     place: usize,
     text: &mut AnswerText,
 )
-    ensures value { text.new ≡ bounded (text.old ++ (if place == one then [] else spelling (sentinel_frame (sentinel_row plan.now state.now (clock now) place)))) }
-    ensures fits { IsPlace (sentinel_row plan.now state.now (clock now) place).addr }
+    ensures value { text.new ≡ bounded (text.old ++ (if place == one then [] else spelling (sentinel_frame (sentinel_row plan.now core.now (clock now) place)))) }
+    ensures fits { IsPlace (sentinel_row plan.now core.now (clock now) place).addr }
 {
-    let row = sentinel_row(plan, state, now, place);
+    let row = sentinel_row(plan, core, now, place);
     if place == one {
         let _whole = text.as_slice();
         return;
@@ -174,35 +175,35 @@ fn add_sentinel_but(
 }
 
 /// Writes each other Sentinel.
-pub(crate) fn add_sentinels(plan: &Plan, state: &State, now: u64, text: &mut AnswerText)
+pub(crate) fn add_sentinels(plan: &Plan, core: &Core, now: u64, text: &mut AnswerText)
     requires { text.old ≡ [] }
-    ensures { text.new ≡ spelling (sentinels_frame (sentinel_rows plan.now state.now (clock now))) }
+    ensures { text.new ≡ spelling (sentinels_frame (sentinel_rows plan.now core.now (clock now))) }
 {
     let own = plan.place() as usize;
     let count = plan.group_size() as usize;
     text.add_count(count_but(own, count) as u64);
     for place in 0..count {
-        add_sentinel_but(plan, state, now, own, place, text);
+        add_sentinel_but(plan, core, now, own, place, text);
     }
 }
 
 /// Whether a Sentinel can take part: this one, and each other one that isn't down.
-fn is_usable(plan: &Plan, state: &State, now: u64, place: u16) -> bool
-    ensures { result ≡ is_usable plan.now state.now (clock now) place }
+fn is_usable(plan: &Plan, core: &Core, now: u64, place: u16) -> bool
+    ensures { result ≡ is_usable plan.now core.now (clock now) place }
 {
     if place == plan.place() {
         return true;
     }
-    !state.is_peer_down(plan, now, place as usize)
+    !core.is_peer_down(plan, now, place as usize)
 }
 
 /// How many Sentinels can take part.
-fn usable_count(plan: &Plan, state: &State, now: u64) -> u64
-    ensures { result ≡ usable_count plan.now state.now (clock now) }
+fn usable_count(plan: &Plan, core: &Core, now: u64) -> u64
+    ensures { result ≡ usable_count plan.now core.now (clock now) }
 {
     let mut count = 0;
     for place in 0..plan.group_size() {
-        if is_usable(plan, state, now, place) {
+        if is_usable(plan, core, now, place) {
             count += 1;
         }
     }
@@ -211,12 +212,12 @@ fn usable_count(plan: &Plan, state: &State, now: u64) -> u64
 
 /// Writes whether enough Sentinels can take part for a failover of the master.
 #[tactic(auto, using(crate::proofs::AnswerRows::reached_whole, crate::proofs::AnswerRows::lost_whole))]
-pub(crate) fn add_quorum(plan: &Plan, state: &State, now: u64, m: u16, text: &mut AnswerText)
+pub(crate) fn add_quorum(plan: &Plan, core: &Core, now: u64, m: u16, text: &mut AnswerText)
     requires known { m < master_count plan.now }
     requires empty { text.old ≡ [] }
-    ensures { text.new ≡ spelling (quorum_frame plan.now state.now (clock now) m) }
+    ensures { text.new ≡ spelling (quorum_frame plan.now core.now (clock now) m) }
 {
-    let usable = usable_count(plan, state, now);
+    let usable = usable_count(plan, core, now);
     if u64::from(plan.need(m)) <= usable {
         text.add_quorum_reached(usable);
     } else {

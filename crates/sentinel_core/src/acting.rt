@@ -1,6 +1,6 @@
 //! What an input does, and what it puts out.
 
-ghost use Rattle.std.specs.Prelude.{◌≡◌, ◌≤◌, ◌<◌, ◌++◌, [], length, map, false};
+ghost use Rattle.std.specs.Prelude.{◌≡◌, ◌≤◌, ◌<◌, length, map, false};
 ghost use Rattle.std.specs.List.{AllByRecursion};
 ghost use Rattle.ballot_law.specs.Clocks.{clock};
 ghost use Rattle.sentinel_outbox.specs.Outboxes.{Fits, room_of_sentinel};
@@ -14,7 +14,7 @@ ghost use Rattle.sentinel_rules.specs.Named.{IsNamed};
 ghost use Rattle.sentinel_rules.specs.Parts.{output_of, send, hello_of_master};
 ghost use Rattle.sentinel_rules.specs.Plans.{master_count, node_named};
 ghost use Rattle.sentinel_rules.specs.Takes.{next, next_at, part_of, answer_to};
-ghost use Rattle.watched_nodes.specs.Room.{bounded};
+ghost use Rattle.sentinel_state.specs.Parts.{with_part};
 
 use crate::former::Former;
 use ballot_law::{Body, Command, Event, Hello, Input, Message, NodeName, Note, Output};
@@ -26,9 +26,8 @@ use sentinel_plan::Plan;
 use sentinel_rules::{
     Frame, law_hellos_name_masters, law_inputs_change_one_card, law_inputs_keep_sound,
 };
-use sentinel_state::State;
+use sentinel_state::{Core, State};
 use sentinel_ticks::tick;
-use watched_nodes::FrameList;
 
 /// A message of this Sentinel.
 fn send(plan: &Plan, target: NodeName, body: Body) -> Output
@@ -42,29 +41,29 @@ fn send(plan: &Plan, target: NodeName, body: Body) -> Output
 }
 
 /// The hello of a master, with what is kept now.
-fn hello_of(plan: &Plan, state: &State, m: u16) -> Hello
+fn hello_of(plan: &Plan, core: &Core, m: u16) -> Hello
     requires { m < master_count plan.now }
-    ensures { result ≡ hello_of_master plan.now state.now m }
+    ensures { result ≡ hello_of_master plan.now core.now m }
 {
     Hello {
         addr: plan.addr(),
         id: plan.me(),
-        current: state.kept().current,
+        current: core.kept().current,
         master: plan.name(m),
-        card: state.card(m),
+        card: core.card(m),
     }
 }
 
 /// What a frame shows now.
-fn output_of(plan: &Plan, state: &State, frame: Frame) -> Output
+fn output_of(plan: &Plan, core: &Core, frame: Frame) -> Output
     requires { IsNamed plan.now frame }
-    ensures { result ≡ output_of plan.now state.now frame }
+    ensures { result ≡ output_of plan.now core.now frame }
 {
     match frame {
         Frame::PingTo(target) => send(plan, target, Body::Ping),
         Frame::InfoTo(target) => send(plan, target, Body::InfoAsk),
         Frame::HelloTo { target, master } => {
-            send(plan, target, Body::Publish(hello_of(plan, state, master)))
+            send(plan, target, Body::Publish(hello_of(plan, core, master)))
         }
         Frame::AskTo {
             place,
@@ -73,49 +72,50 @@ fn output_of(plan: &Plan, state: &State, frame: Frame) -> Output
         } => {
             let ask = Body::Ask {
                 master,
-                addr: state.card(master).addr,
-                epoch: state.kept().current,
+                addr: core.card(master).addr,
+                epoch: core.kept().current,
                 candidate,
             };
             send(plan, NodeName::SentinelAt(place), ask)
         }
         Frame::PromoteTo(target) => send(plan, target, Body::ReplicaOf(None)),
         Frame::FollowTo { target, master } => {
-            send(plan, target, Body::ReplicaOf(Some(state.card(master).addr)))
+            send(plan, target, Body::ReplicaOf(Some(core.card(master).addr)))
         }
         Frame::NoteOf { master, old } => Output::Tell(Note {
             master,
             old,
-            card: state.card(master),
+            card: core.card(master),
         }),
     }
 }
 
 /// The answer to a command, in the outbox's buffers where it needs them.
-fn answer(plan: &Plan, state: &mut State, now: u64, command: &Command, outbox: &mut Outbox) -> Body
+fn answer(state: &mut State, now: u64, command: &Command, outbox: &mut Outbox) -> Body
     requires text { 65536 ≤ outbox.old.text_room }
     requires list { 16 ≤ outbox.old.list_room }
-    ensures state { state.new ≡ (commanded plan.now (clock now) command.now state.old).core }
-    ensures body { result ≡ (commanded plan.now (clock now) command.now state.old).body }
+    ensures state { state.new
+        ≡ record state.old { core = (commanded state.old.plan (clock now) command.now state.old.core).core } }
+    ensures body { result ≡ (commanded state.old.plan (clock now) command.now state.old.core).body }
     ensures held { outbox.new.held ≡ outbox.old.held }
     ensures shown { outbox.new.shown ≡ outbox.old.shown }
     ensures held_room { outbox.new.held_room ≡ outbox.old.held_room }
     ensures shown_room { outbox.new.shown_room ≡ outbox.old.shown_room }
 {
-    if let Some(body) = answer_plainly(plan, state, now, command) {
+    if let Some(body) = answer_plainly(&state.plan, &mut state.core, now, command) {
         return body;
     }
     let text = outbox.take_text();
     let shown = outbox.take_list();
-    answer_by_text(plan, state, now, command, text, shown)
+    answer_by_text(&state.plan, &state.core, now, command, text, shown)
 }
 
 /// The master whose entry a command may change: that of a question, which may be a request for a vote.
-fn asked_about(command: &Command, state: &State) -> Option<u16>
-    ensures { result ≡ asked_about command.now state.now.kept }
+fn asked_about(command: &Command, core: &Core) -> Option<u16>
+    ensures { result ≡ asked_about command.now core.now.kept }
 {
     match *command {
-        Command::IsMasterDownByAddr { addr, .. } => state.master_with_card(addr),
+        Command::IsMasterDownByAddr { addr, .. } => core.master_with_card(addr),
         _ => None,
     }
 }
@@ -139,28 +139,26 @@ fn told_of(plan: &Plan, hello: &Result<Hello, TextFault>) -> Option<u16>
 }
 
 /// Has the state take an event that is no command, and answers what it may overwrite of what is kept.
-fn hear(plan: &Plan, state: &mut State, frames: &mut FrameList, now: u64, event: &Event) -> Former
-    ensures former { result ≡ former_of state.old.kept (concerned plan.now event.now state.old.kept) }
-    ensures state { state.new ≡ (part_of plan.now (clock now) event.now state.old).core }
-    ensures frames { frames.new
-        ≡ bounded (frames.old ++ (part_of plan.now (clock now) event.now state.old).frames) }
+fn hear(state: &mut State, now: u64, event: &Event) -> Former
+    ensures former { result ≡ former_of state.old.core.kept (concerned state.old.plan event.now state.old.core.kept) }
+    ensures state { state.new ≡ with_part state.old (part_of state.old.plan (clock now) event.now state.old.core) }
 {
-    let _whole = frames.as_slice();
+    let kept = state.core.kept();
     match event {
         Event::Tick { master, random } => {
-            let former = Former::of(state.kept(), Some(*master));
-            tick(state, plan, *master, *random, now, frames);
+            let former = Former::of(kept, Some(*master));
+            tick(state, *master, *random, now);
             former
         }
         Event::InfoRead { node, text } => {
-            let former = Former::of(state.kept(), listed_by(plan, *node));
-            take_info(state, plan, *node, now, read_info(text.as_slice()), frames);
+            let former = Former::of(kept, listed_by(&state.plan, *node));
+            take_info(state, *node, now, read_info(text.as_slice()));
             former
         }
         Event::HelloRead { text } => {
             let hello = read_hello(text.as_slice());
-            let former = Former::of(state.kept(), told_of(plan, &hello));
-            take_hello(state, plan, now, hello, frames);
+            let former = Former::of(kept, told_of(&state.plan, &hello));
+            take_hello(state, now, hello);
             former
         }
         Event::Answered {
@@ -171,26 +169,23 @@ fn hear(plan: &Plan, state: &mut State, frames: &mut FrameList, now: u64, event:
             leader,
             epoch,
         } => {
-            let former = Former::of(state.kept(), None);
-            hear_answer(
-                state, plan, *voter, *master, now, *addr, *down, *leader, *epoch,
-            );
+            let former = Former::of(kept, None);
+            hear_answer(state, *voter, *master, now, *addr, *down, *leader, *epoch);
             former
         }
         Event::Pinged { node, reply } => {
-            let former = Former::of(state.kept(), None);
-            hear_pong(state, plan, *node, now, *reply);
+            let former = Former::of(kept, None);
+            hear_pong(state, *node, now, *reply);
             former
         }
-        Event::Command { command, .. } => Former::of(state.kept(), asked_about(command, state)),
-        Event::Become { .. } => Former::of(state.kept(), None),
-        Event::Handed(_) => Former::of(state.kept(), None),
+        Event::Command { command, .. } => Former::of(kept, asked_about(command, &state.core)),
+        Event::Become { .. } => Former::of(kept, None),
+        Event::Handed(_) => Former::of(kept, None),
     }
 }
 
 /// Holds the answer to a command, and answers what it may overwrite of what is kept.
 fn hold_answer(
-    plan: &Plan,
     state: &mut State,
     now: u64,
     sender: NodeName,
@@ -198,106 +193,98 @@ fn hold_answer(
     outbox: &mut Outbox,
 ) -> Former
     requires { Fits outbox.old room_of_sentinel }
-    ensures former { result ≡ former_of state.old.kept (asked_about command.now state.old.kept) }
-    ensures state { state.new ≡ (answer_to plan.now sender (commanded plan.now (clock now) command.now state.old)).core }
-    ensures held { outbox.new.held ≡ (answer_to plan.now sender (commanded plan.now (clock now) command.now state.old)).outputs }
+    ensures former { result ≡ former_of state.old.core.kept (asked_about command.now state.old.core.kept) }
+    ensures plan { state.new.plan ≡ state.old.plan }
+    ensures core { state.new.core
+        ≡ (answer_to state.old.plan sender (commanded state.old.plan (clock now) command.now state.old.core)).core }
+    ensures held { outbox.new.held
+        ≡ (answer_to state.old.plan sender (commanded state.old.plan (clock now) command.now state.old.core)).outputs }
     ensures shown { outbox.new.shown ≡ outbox.old.shown }
     ensures room { length outbox.new.held ≤ outbox.new.shown_room }
 {
-    let former = Former::of(state.kept(), asked_about(command, state));
-    let body = answer(plan, state, now, command, outbox);
-    outbox.hold_output(send(plan, sender, body));
+    let former = Former::of(state.core.kept(), asked_about(command, &state.core));
+    let body = answer(state, now, command, outbox);
+    outbox.hold_output(send(&state.plan, sender, body));
     former
 }
 
 /// Holds what each frame shows now.
-fn hold_frames(plan: &Plan, state: &State, frames: &[Frame], outbox: &mut Outbox)
-    requires named { AllByRecursion (IsNamed plan.now) frames.now }
+fn hold_frames(state: &State, outbox: &mut Outbox)
+    requires named { AllByRecursion (IsNamed state.now.plan) state.now.frames }
     requires fits { Fits outbox.old room_of_sentinel }
-    requires few { length frames.now ≤ 1536 }
-    ensures held { outbox.new.held ≡ map (output_of plan.now state.now) frames.now }
+    requires few { length state.now.frames ≤ 1536 }
+    ensures held { outbox.new.held ≡ map (output_of state.now.plan state.now.core) state.now.frames }
     ensures shown { outbox.new.shown ≡ outbox.old.shown }
     ensures room { length outbox.new.held ≤ outbox.new.shown_room }
 {
-    let mut left = frames;
+    let mut left = state.frames.as_slice();
     while let [frame, more @ ..] = left {
-        outbox.hold_output(output_of(plan, state, *frame));
+        outbox.hold_output(output_of(&state.plan, &state.core, *frame));
         left = more;
     }
 }
 
 /// What an event does that is no command, and what it may overwrite of what is kept.
-fn act_on_news(
-    plan: &Plan,
-    state: &mut State,
-    frames: &mut FrameList,
-    input: &Input,
-    outbox: &mut Outbox,
-) -> Former
+fn act_on_news(state: &mut State, input: &Input, outbox: &mut Outbox) -> Former
     requires kind { is_command input.now.event ≡ false }
-    requires few { length (part_of plan.now (clock input.now.now) input.now.event state.old).frames ≤ 1536 }
+    requires few { length (part_of state.old.plan (clock input.now.now) input.now.event state.old.core).frames ≤ 1536 }
     requires fits { Fits outbox.old room_of_sentinel }
-    ensures former { result ≡ former_of state.old.kept (concerned plan.now input.entry.now.event state.old.kept) }
-    ensures state { state.new ≡ (next_at plan.now (clock input.entry.now.now) input.entry.now.event state.old).core }
+    ensures former { result
+        ≡ former_of state.old.core.kept (concerned state.old.plan input.entry.now.event state.old.core.kept) }
+    ensures plan { state.new.plan ≡ state.old.plan }
+    ensures core { state.new.core
+        ≡ (next_at state.old.plan (clock input.entry.now.now) input.entry.now.event state.old.core).core }
     ensures held { outbox.new.held
-        ≡ (next_at plan.now (clock input.entry.now.now) input.entry.now.event state.old).outputs }
+        ≡ (next_at state.old.plan (clock input.entry.now.now) input.entry.now.event state.old.core).outputs }
     ensures shown { outbox.new.shown ≡ outbox.old.shown }
     ensures room { length outbox.new.held ≤ outbox.new.shown_room }
 {
     law_hellos_name_masters();
-    frames.clear();
-    let former = hear(plan, state, frames, input.now, &input.event);
-    hold_frames(plan, state, frames.as_slice(), outbox);
+    state.frames.clear();
+    let former = hear(state, input.now, &input.event);
+    hold_frames(state, outbox);
     former
 }
 
 /// What an event does that may be a command, and what it may overwrite of what is kept.
-fn act_on(
-    plan: &Plan,
-    state: &mut State,
-    frames: &mut FrameList,
-    input: &Input,
-    outbox: &mut Outbox,
-) -> Former
-    requires few { length (part_of plan.now (clock input.now.now) input.now.event state.old).frames ≤ 1536 }
+fn act_on(state: &mut State, input: &Input, outbox: &mut Outbox) -> Former
+    requires few { length (part_of state.old.plan (clock input.now.now) input.now.event state.old.core).frames ≤ 1536 }
     requires fits { Fits outbox.old room_of_sentinel }
-    ensures former { result ≡ former_of state.old.kept (concerned plan.now input.entry.now.event state.old.kept) }
-    ensures state { state.new ≡ (next_at plan.now (clock input.entry.now.now) input.entry.now.event state.old).core }
+    ensures former { result
+        ≡ former_of state.old.core.kept (concerned state.old.plan input.entry.now.event state.old.core.kept) }
+    ensures plan { state.new.plan ≡ state.old.plan }
+    ensures core { state.new.core
+        ≡ (next_at state.old.plan (clock input.entry.now.now) input.entry.now.event state.old.core).core }
     ensures held { outbox.new.held
-        ≡ (next_at plan.now (clock input.entry.now.now) input.entry.now.event state.old).outputs }
+        ≡ (next_at state.old.plan (clock input.entry.now.now) input.entry.now.event state.old.core).outputs }
     ensures shown { outbox.new.shown ≡ outbox.old.shown }
     ensures room { length outbox.new.held ≤ outbox.new.shown_room }
 {
     match &input.event {
         Event::Command { sender, command } => {
-            hold_answer(plan, state, input.now, *sender, command, outbox)
+            hold_answer(state, input.now, *sender, command, outbox)
         }
-        _ => act_on_news(plan, state, frames, input, outbox),
+        _ => act_on_news(state, input, outbox),
     }
 }
 
 /// What an input does: the state after it, and its outputs, held in the outbox. It answers what the input overwrote of what is kept.
-pub(crate) fn act(
-    plan: &Plan,
-    state: &mut State,
-    frames: &mut FrameList,
-    input: &Input,
-    outbox: &mut Outbox,
-) -> Former
-    requires plan { IsSoundPlan plan.now }
-    requires sound { IsSound plan.now state.old }
+pub(crate) fn act(state: &mut State, input: &Input, outbox: &mut Outbox) -> Former
+    requires plan { IsSoundPlan state.old.plan }
+    requires sound { IsSound state.old.plan state.old.core }
     requires within { IsWithinEvent input.now.event }
     requires fits { Fits outbox.old room_of_sentinel }
-    ensures state { state.new ≡ (next plan.now state.old input.entry.now.now input.entry.now.event).core }
-    ensures held { outbox.new.held ≡ (next plan.now state.old input.entry.now.now input.entry.now.event).outputs }
+    ensures plan { state.new.plan ≡ state.old.plan }
+    ensures core { state.new.core ≡ (next state.old.plan state.old.core input.entry.now.now input.entry.now.event).core }
+    ensures held { outbox.new.held ≡ (next state.old.plan state.old.core input.entry.now.now input.entry.now.event).outputs }
     ensures shown { outbox.new.shown ≡ outbox.old.shown }
     ensures room { length outbox.new.held ≤ outbox.new.shown_room }
-    ensures sound_after { IsSound plan.now state.new }
-    ensures ahead { IsAhead state.old → IsAhead state.new }
-    ensures former { put_back state.new.kept result ≡ state.old.kept }
+    ensures sound_after { IsSound state.new.plan state.new.core }
+    ensures ahead { IsAhead state.old.core → IsAhead state.new.core }
+    ensures former { put_back state.new.core.kept result ≡ state.old.core.kept }
 {
     law_inputs_keep_sound();
     law_inputs_change_one_card();
-    state.forget_win();
-    act_on(plan, state, frames, input, outbox)
+    state.core.forget_win();
+    act_on(state, input, outbox)
 }

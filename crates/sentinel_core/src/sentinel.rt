@@ -24,7 +24,7 @@ use sentinel_rules::{
     law_ignored_inputs_change_nothing, law_inputs_are_steps, law_inputs_change_one_card,
     law_opening_is_sound,
 };
-use sentinel_state::State;
+use sentinel_state::{Core, State};
 use std::alloc::Global;
 use std::marker::Model;
 use watched_nodes::FrameList;
@@ -43,12 +43,10 @@ pub struct Took {
 /// (documentation of Redis Sentinel, "Sentinel persistent state"). Only `open` takes memory.
 #[derive(Drop)]
 pub struct Sentinel {
-    plan: Plan,
     state: State,
     former: Former,
     phase: Phase,
     change: Option<u16>,
-    frames: FrameList,
     file: ConfText,
     alloc: Global,
 }
@@ -60,17 +58,17 @@ impl Model for Sentinel {
     ghost Value = { Whole };
 
     ghost view = { λ sentinel. record {
-      plan = sentinel.plan;
-      core = sentinel.state;
-      stored = put_back sentinel.state.kept sentinel.former;
+      plan = sentinel.state.plan;
+      core = sentinel.state.core;
+      stored = put_back sentinel.state.core.kept sentinel.former;
       phase = sentinel.phase;
       change = sentinel.change;
     } };
 
     ghost invariant = { λ sentinel. IsWhole (record {
-      plan = sentinel.plan;
-      core = sentinel.state;
-      stored = put_back sentinel.state.kept sentinel.former;
+      plan = sentinel.state.plan;
+      core = sentinel.state.core;
+      stored = put_back sentinel.state.core.kept sentinel.former;
       phase = sentinel.phase;
       change = sentinel.change;
     }) };
@@ -102,20 +100,19 @@ impl Sentinel {
             return Err(OpenFault::NoMemory);
         };
         let plan = Plan::new(conf);
-        let Ok(state) = State::open(alloc, &plan, now) else {
+        let Ok(core) = Core::open(alloc, &plan, now) else {
             return Err(OpenFault::NoMemory);
         };
         let Ok(frames) = FrameList::with_room(alloc) else {
             return Err(OpenFault::NoMemory);
         };
-        let former = Former::of(state.kept(), None);
+        let former = Former::of(core.kept(), None);
+        let state = State { plan, core, frames };
         Ok(Sentinel {
-            plan,
             state,
             former,
             phase: Phase::Ready,
             change: None,
-            frames,
             file,
             alloc,
         })
@@ -145,14 +142,14 @@ impl Sentinel {
     pub fn roster(&self) -> &Roster
         ensures { result.now ≡ roster_of self.now.plan }
     {
-        self.plan.roster()
+        self.state.plan.roster()
     }
 
     /// Its own place in the roster, which is that of its run id among those of all Sentinels.
     pub fn place(&self) -> u16
         ensures { result ≡ self.now.plan.place }
     {
-        self.plan.place()
+        self.state.plan.place()
     }
 
     /// Whether it was stopped.
@@ -175,7 +172,7 @@ impl Sentinel {
         ensures some { IfSome result (λ card. (m < length self.now.stored.masters) × (card ≡ card_of self.now.stored m)) }
         ensures none { IfNone result (length self.now.stored.masters ≤ m) }
     {
-        self.former.card(self.state.kept(), m)
+        self.former.card(self.state.core.kept(), m)
     }
 
     /// The master and the epoch of the election that the last input brought this Sentinel.
@@ -183,7 +180,7 @@ impl Sentinel {
         ensures won { IfSome result (λ won. self.now.core.won ≡ Some (record { master = won.0; epoch = won.1 })) }
         ensures none { IfNone result (self.now.core.won ≡ None) }
     {
-        let win = self.state.won()?;
+        let win = self.state.core.won()?;
         Some((win.master, win.epoch))
     }
 
@@ -261,9 +258,9 @@ impl Sentinel {
         self.check_taking(outbox)?;
         law_inputs_are_steps();
         law_ignored_inputs_change_nothing();
-        self.former = act(&self.plan, &mut self.state, &mut self.frames, input, outbox);
-        let changed = self.former.is_changed(self.state.kept());
-        self.change = self.former.changed_card(self.state.kept());
+        self.former = act(&mut self.state, input, outbox);
+        let changed = self.former.is_changed(self.state.core.kept());
+        self.change = self.former.changed_card(self.state.core.kept());
         self.phase = Phase::Pending {
             must_store: changed || is_flush(&input.event),
         };
@@ -300,13 +297,17 @@ impl Sentinel {
             return Err(StoreFault::Nothing);
         };
         if must_store {
-            rewrite_into(self.plan.conf(), self.state.kept(), &mut self.file);
+            rewrite_into(
+                self.state.plan.conf(),
+                self.state.core.kept(),
+                &mut self.file,
+            );
             if store.replace(self.file.as_slice()).is_err() {
                 self.phase = Phase::Halted;
                 return Err(StoreFault::Refused);
             }
         }
-        self.former = Former::of(self.state.kept(), None);
+        self.former = Former::of(self.state.core.kept(), None);
         self.phase = Phase::Stored;
         Ok(())
     }

@@ -1,8 +1,6 @@
 -- How many masters a file holds, and which master a search finds.
-use Rattle.std.proofs.Common.{◌≡◌, ◌≢◌, ℕ, suc, ◌<◌, ◌≤◌, Option, Some, None, List, [], ◌∷◌, length, IfSome, IfNone, refl, ap, sym, subst, ◌∙◌, arith}
+use Rattle.std.proofs.Common.{◌≡◌, suc, ◌≤◌, List, [], ◌∷◌, length, refl, ap, arith}
 use Rattle.std.specs.List.{AllZip}
-use Rattle.ballot_law.specs.Rosters.{Roster, master_at, master_named, HasDistinctNames}
-use Rattle.ballot_law.proofs.RosterLemmas.{number_of_name, no_number_of_name}
 use Rattle.sentinel_conf.specs.Facts.{IsSoundConf}
 use Rattle.sentinel_conf.specs.Meaning.{ConfPlan}
 

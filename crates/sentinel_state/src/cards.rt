@@ -5,8 +5,8 @@ ghost use Rattle.ballot_law.specs.Clocks.{clock};
 ghost use Rattle.sentinel_rules.specs.News.{at_same_address, at_new_address};
 ghost use Rattle.sentinel_rules.specs.States.{master_of, with_master};
 
+use crate::cores::Core;
 use crate::masters::Master;
-use crate::state::State;
 use watched_nodes::{greet_soon, move_all};
 
 impl Master {
@@ -26,7 +26,7 @@ impl Master {
     }
 }
 
-impl State {
+impl Core {
     /// A master's configuration changed, the address stayed.
     pub fn stay(&mut self, m: u16)
         ensures { self.new ≡ with_master self.old m (at_same_address (master_of self.old m)) }

@@ -10,8 +10,8 @@ ghost use Rattle.failover_states.specs.Table.{turned};
 ghost use Rattle.sentinel_rules.specs.States.{failover_of, with_failover};
 ghost use Rattle.sentinel_rules.specs.Ticks.{campaign_epoch};
 
+use crate::cores::Core;
 use crate::masters::Master;
-use crate::state::State;
 use failover_states::{Act, Facts, State as Stage};
 
 impl Master {
@@ -42,7 +42,7 @@ impl Master {
     }
 }
 
-impl State {
+impl Core {
     /// How far the failover of a master has come.
     pub fn stage(&self, m: u16) -> Stage
         ensures { result ≡ (failover_of self.now m).state }

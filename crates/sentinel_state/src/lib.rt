@@ -1,15 +1,18 @@
-//! What a Sentinel keeps while it runs: `State`, with the calls that read it and those that set a part of it.
+//! A Sentinel at work: `State` is its plan, what it keeps (`Core`), and what the input in hand has put out so far.
 //!
-//! Nothing here takes memory but the opening. Each call's contract is an equation with the definitions of `sentinel_rules`. What an input
-//! does with it stands in `sentinel_ticks`, `sentinel_news` and `sentinel_answers`.
+//! `Core` has the calls that read what is kept and those that set a part of it. Nothing here takes memory but the opening. Each call's
+//! contract is an equation with the definitions of `sentinel_rules`. What an input does stands in `sentinel_ticks`, `sentinel_news` and
+//! `sentinel_answers`: each part of it is a call on the `State` with one clause, `state.new ≡ with_part state.old ..`.
 #![tactic(auto)]
 
 mod cards;
+mod cores;
 mod failovers;
 mod masters;
 mod reports;
 mod sending;
-mod state;
+mod states;
 mod votes;
 
-pub use state::State;
+pub use cores::Core;
+pub use states::State;

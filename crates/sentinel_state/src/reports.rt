@@ -5,10 +5,10 @@ ghost use Rattle.ballot_law.specs.Clocks.{clock};
 ghost use Rattle.sentinel_rules.specs.News.{reported};
 ghost use Rattle.sentinel_rules.specs.States.{master_of, with_master};
 
-use crate::state::State;
+use crate::cores::Core;
 use ballot_law::Addr;
 
-impl State {
+impl Core {
     /// Records what the Sentinel at a place says of a master, where it speaks of the address that the configuration has.
     pub fn hear_report(&mut self, voter: u16, m: u16, now: u64, addr: Addr, down: bool)
         ensures { self.new ≡ reported voter m (clock now) addr down self.old }

@@ -1,42 +1,32 @@
 //! What is due is sent to the nodes that are kept.
 
-ghost use Rattle.std.specs.Prelude.{◌≡◌, ◌++◌, Some};
+ghost use Rattle.std.specs.Prelude.{◌≡◌, Some};
 ghost use Rattle.ballot_law.specs.Clocks.{clock};
-ghost use Rattle.watched_nodes.specs.Room.{bounded};
+ghost use Rattle.watched_nodes.specs.Room.{added};
 ghost use Rattle.sentinel_rules.specs.Parts.{changed_from, frames_from};
-ghost use Rattle.sentinel_rules.specs.States.{master_of, with_master};
-ghost use Rattle.sentinel_rules.specs.Ticks.{node_after, node_frames, nodes_part, peers_part, sending_of};
+ghost use Rattle.sentinel_rules.specs.States.{card_place, master_of, with_master};
+ghost use Rattle.sentinel_rules.specs.Ticks.{node_after, node_frames, nodes_part, sending_of};
 
+use crate::cores::Core;
 use crate::masters::Master;
-use crate::state::State;
 use ballot_law::clock_of;
 use sentinel_plan::Plan;
-use watched_nodes::{FrameList, Sending, ping_period, send_each_node, send_each_peer};
+use watched_nodes::{FrameList, Sending, ping_period, send_each_node};
 
 impl Master {
     /// Sends each of its nodes what is due.
     fn send(&mut self, plan: &Plan, m: u16, sending: Sending, frames: &mut FrameList)
         ensures nodes { self.new ≡ record self.old { nodes = changed_from (node_after sending) 0 self.old.nodes } }
-        ensures frames { frames.new ≡ bounded (frames.old ++ frames_from (node_frames plan.now m sending) 0 self.old.nodes) }
+        ensures frames { frames.new ≡ added frames.old (frames_from (node_frames plan.now m sending) 0 self.old.nodes) }
     {
         send_each_node(&mut self.nodes, plan, m, sending, frames);
     }
 }
 
-impl State {
-    /// Sends each other Sentinel its PING where it is due, with the tick of the first master alone.
-    pub fn send_peers(&mut self, plan: &Plan, m: u16, now: u64, frames: &mut FrameList)
-        ensures state { self.new ≡ (peers_part plan.now m (clock now) self.old).core }
-        ensures frames { frames.new ≡ bounded (frames.old ++ (peers_part plan.now m (clock now) self.old).frames) }
-    {
-        let _whole = frames.as_slice();
-        if m == 0 {
-            send_each_peer(&mut self.peers, plan, clock_of(now), frames);
-        }
-    }
-
-    /// What decides which messages to a master's nodes are due.
-    fn sending(&self, plan: &Plan, m: u16, now: u64) -> Sending
+impl Core {
+    /// What decides which messages to a master's nodes are due; `card_at` is the place of the node that the configuration names.
+    fn sending(&self, plan: &Plan, m: u16, now: u64, card_at: usize) -> Sending
+        requires { card_at ≡ card_place plan.now self.now m }
         ensures { result ≡ sending_of plan.now self.now m (clock now) }
     {
         let odown = match self.masters.get(m as usize) {
@@ -46,18 +36,25 @@ impl State {
         Sending {
             now: clock_of(now),
             ping_ms: ping_period(plan, m),
-            card_place: self.card_place(plan, m),
+            card_place: card_at,
             is_busy: odown || self.is_failing_over(m),
         }
     }
 
-    /// Sends each data node of a master what is due, by address: PING, INFO, a hello. Nothing where there is no such master.
-    pub fn send_nodes(&mut self, plan: &Plan, m: u16, now: u64, frames: &mut FrameList)
-        ensures state { self.new ≡ (nodes_part plan.now m (clock now) self.old).core }
-        ensures frames { frames.new ≡ bounded (frames.old ++ (nodes_part plan.now m (clock now) self.old).frames) }
+    /// Sends each data node of a master what is due; `card_at` is the place of the node that the configuration names.
+    pub(crate) fn send_nodes(
+        &mut self,
+        plan: &Plan,
+        m: u16,
+        now: u64,
+        card_at: usize,
+        frames: &mut FrameList,
+    )
+        requires { card_at ≡ card_place plan.now self.old m }
+        ensures core { self.new ≡ (nodes_part plan.now m (clock now) self.old).core }
+        ensures frames { frames.new ≡ added frames.old (nodes_part plan.now m (clock now) self.old).frames }
     {
-        let _whole = frames.as_slice();
-        let sending = self.sending(plan, m, now);
+        let sending = self.sending(plan, m, now, card_at);
         if let Some(master) = self.masters.get_mut(m as usize) {
             master.send(plan, m, sending, frames);
         }

@@ -7,13 +7,13 @@ ghost use Rattle.sentinel_rules.specs.News.{vote_heard};
 ghost use Rattle.sentinel_rules.specs.Ticks.{with_vote, pick_of, count_of};
 ghost use Rattle.sentinel_rules.specs.Votes.{book_of, with_book, mark_for, requested};
 
-use crate::state::State;
+use crate::cores::Core;
 use ballot_law::{RunId, clock_of};
 use failover_states::SPREAD_MS;
 use sentinel_plan::Plan;
 use vote_book::VoteBook;
 
-impl State {
+impl Core {
     /// A candidate's request for the vote of an epoch: the vote is given where none was in this epoch or a later one and the
     /// epoch hasn't passed; else the current epoch is raised at most. A vote for another Sentinel puts the own failover off.
     pub fn ask_vote(&mut self, plan: &Plan, m: u16, now: u64, epoch: u64, candidate: RunId)

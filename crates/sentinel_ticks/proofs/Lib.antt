@@ -3,3 +3,4 @@ pub mod FewBest
 pub mod Looking
 pub mod Openings
 pub mod PartSteps
+pub mod Sights

@@ -1,6 +1,6 @@
 -- Where a failover starts, an epoch is left for its campaign.
-use Rattle.std.proofs.Common.{◌≡◌, ℕ, ◌*◌, Bool, true, false, Option, Some, None, refl, sym, ap, subst}
-use Rattle.std.specs.Prelude.{◌&&◌, is_some, not}
+use Rattle.std.proofs.Common.{◌≡◌, ℕ, ◌*◌, Bool, true, false, Option, None, sym, ap, subst}
+use Rattle.std.specs.Prelude.{is_some, not}
 use Rattle.failover_states.specs.declared.states.State.{State}
 use Rattle.failover_states.specs.declared.states.State.TheVariants.{Idle}
 use Rattle.failover_states.specs.declared.states.Row.{Row}

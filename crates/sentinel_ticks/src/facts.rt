@@ -1,6 +1,6 @@
 //! What a turn of a master's failover looks at: the best replica, which nodes are down, and the votes of its campaign.
 
-ghost use Rattle.std.specs.Prelude.{◌≡◌, ◌≤◌, [], None, IfSome, if◌then◌else◌, length, take, unwrap_or};
+ghost use Rattle.std.specs.Prelude.{◌≡◌, ◌≤◌, [], None, IfSome, if◌then◌else◌, length, take};
 ghost use Rattle.ballot_law.specs.Clocks.{clock};
 ghost use Rattle.sentinel_rules.specs.Plans.{me, nodes_of};
 ghost use Rattle.sentinel_rules.specs.States.{card_place, is_node_down};
@@ -10,7 +10,6 @@ ghost use Rattle.sentinel_ticks.specs.Rows.{looks_at_votes, looks_at_best, looks
 use ballot_law::{Addr, RunId, clock_of};
 use failover_states::State as Stage;
 use replica_choice::{Candidate, Limits, choose};
-use sentinel_plan::Plan;
 use sentinel_state::State;
 use std::marker::Model;
 use watched_nodes::Node;
@@ -89,27 +88,21 @@ impl DownPlaces {
 }
 
 /// What is known of the node at a place as a replica to choose; the node of the configuration, at `card_at`, is none.
-fn candidate(state: &State, plan: &Plan, m: u16, now: u64, card_at: usize, k: usize) -> Candidate
-    requires { card_at ≡ card_place plan.now state.now m }
-    ensures { result ≡ candidate_of plan.now state.now m (clock now) k }
+fn candidate(state: &State, m: u16, now: u64, card_at: usize, k: usize) -> Candidate
+    requires { card_at ≡ card_place state.now.plan state.now.core m }
+    ensures { result ≡ candidate_of state.now.plan state.now.core m (clock now) k }
 {
-    let sdown = k == card_at || state.is_node_down(plan, m, now, card_at, k);
-    match state.kept_node(m, k) {
+    let sdown = k == card_at || state.core.is_node_down(&state.plan, m, now, card_at, k);
+    match state.core.kept_node(m, k) {
         Some(node) => node.candidate(sdown),
         None => Node::new(0).candidate(sdown),
     }
 }
 
 /// Each node of a master as a replica to choose, by its place.
-fn candidates(
-    state: &State,
-    plan: &Plan,
-    m: u16,
-    now: u64,
-    card_at: usize,
-) -> [Candidate; NODES_MAX]
-    requires { card_at ≡ card_place plan.now state.now m }
-    ensures { take (length (nodes_of plan.now m)) result ≡ candidates_of plan.now state.now m (clock now) }
+fn candidates(state: &State, m: u16, now: u64, card_at: usize) -> [Candidate; NODES_MAX]
+    requires { card_at ≡ card_place state.now.plan state.now.core m }
+    ensures { take (length (nodes_of state.now.plan m)) result ≡ candidates_of state.now.plan state.now.core m (clock now) }
 {
     let none = Candidate {
         sdown: true,
@@ -121,66 +114,68 @@ fn candidates(
         id: None,
     };
     let mut candidates = [none; NODES_MAX];
-    for k in 0..plan.nodes(m).len() {
-        candidates[k] = candidate(state, plan, m, now, card_at, k);
+    for k in 0..state.plan.nodes(m).len() {
+        candidates[k] = candidate(state, m, now, card_at, k);
     }
     candidates
 }
 
 /// For how long the master has been down, beside its setting.
-fn limits(state: &State, plan: &Plan, m: u16, now: u64, card_at: usize) -> Limits
-    requires { card_at ≡ card_place plan.now state.now m }
-    ensures { result ≡ limits_of plan.now state.now m (clock now) }
+fn limits(state: &State, m: u16, now: u64, card_at: usize) -> Limits
+    requires { card_at ≡ card_place state.now.plan state.now.core m }
+    ensures { result ≡ limits_of state.now.plan state.now.core m (clock now) }
 {
-    let since = state.node_down_since(plan, m, now, card_at, card_at);
+    let since = state
+        .core
+        .node_down_since(&state.plan, m, now, card_at, card_at);
     Limits {
-        after_ms: plan.settings(m).after_ms,
+        after_ms: state.plan.settings(m).after_ms,
         master_down_ms: down_for(since, clock_of(now)),
     }
 }
 
 /// The best replica of a master to take its place, by its place and its address; none where no replica may.
-fn best(state: &State, plan: &Plan, m: u16, now: u64) -> Option<(u16, Addr)>
-    ensures { result ≡ best_of plan.now state.now m (clock now) }
+fn best(state: &State, m: u16, now: u64) -> Option<(u16, Addr)>
+    ensures { result ≡ best_of state.now.plan state.now.core m (clock now) }
 {
-    let nodes = plan.nodes(m);
-    let card_at = state.card_place(plan, m);
-    let candidates = candidates(state, plan, m, now, card_at);
-    let limits = limits(state, plan, m, now, card_at);
+    let nodes = state.plan.nodes(m);
+    let card_at = state.core.card_place(&state.plan, m);
+    let candidates = candidates(state, m, now, card_at);
+    let limits = limits(state, m, now, card_at);
     let place = choose(&candidates[..nodes.len()], clock_of(now), limits)?;
     Some((place as u16, nodes[place]))
 }
 
 /// Whether each data node of a master is subjectively down, by its place.
-fn down_places(state: &State, plan: &Plan, m: u16, now: u64) -> DownPlaces
-    ensures { result ≡ at_places (is_node_down plan.now state.now m (clock now)) 0 (length (nodes_of plan.now m)) }
+fn down_places(state: &State, m: u16, now: u64) -> DownPlaces
+    ensures { result ≡ at_places (is_node_down state.now.plan state.now.core m (clock now)) 0 (length (nodes_of state.now.plan m)) }
 {
-    let card_at = state.card_place(plan, m);
+    let card_at = state.core.card_place(&state.plan, m);
     let mut down = [false; NODES_MAX];
-    let count = plan.nodes(m).len();
+    let count = state.plan.nodes(m).len();
     for k in 0..count {
-        down[k] = state.is_node_down(plan, m, now, card_at, k);
+        down[k] = state.core.is_node_down(&state.plan, m, now, card_at, k);
     }
     DownPlaces { down, count }
 }
 
 /// The pick of the votes heard, where the rows of this state look at it.
-pub(crate) fn pick_for(state: &State, plan: &Plan, m: u16, epoch: u64, stage: Stage) -> RunId
-    ensures { result ≡ (if looks_at_votes stage then pick_of plan.now state.now m epoch else me plan.now) }
+pub(crate) fn pick_for(state: &State, m: u16, epoch: u64, stage: Stage) -> RunId
+    ensures { result ≡ (if looks_at_votes stage then pick_of state.now.plan state.now.core m epoch else me state.now.plan) }
 {
     if looks_at_votes(stage) {
-        state.pick(plan, m, epoch)
+        state.core.pick(&state.plan, m, epoch)
     } else {
-        plan.me()
+        state.plan.me()
     }
 }
 
 /// How many votes heard are for this Sentinel, where the rows of this state look at it.
-pub(crate) fn count_for(state: &State, plan: &Plan, m: u16, epoch: u64, stage: Stage) -> u32
-    ensures { result ≡ (if looks_at_votes stage then count_of plan.now state.now m epoch else 0) }
+pub(crate) fn count_for(state: &State, m: u16, epoch: u64, stage: Stage) -> u32
+    ensures { result ≡ (if looks_at_votes stage then count_of state.now.plan state.now.core m epoch else 0) }
 {
     if looks_at_votes(stage) {
-        state.count(plan, m, epoch)
+        state.core.count(&state.plan, m, epoch)
     } else {
         0
     }
@@ -188,47 +183,35 @@ pub(crate) fn count_for(state: &State, plan: &Plan, m: u16, epoch: u64, stage: S
 
 /// The best replica, where the rows of this state look at it.
 #[tactic(auto, using(crate::proofs::FewBest::best_few))]
-pub(crate) fn best_for(
-    state: &State,
-    plan: &Plan,
-    m: u16,
-    now: u64,
-    stage: Stage,
-) -> Option<(u16, Addr)>
-    ensures value { result ≡ (if looks_at_best stage then best_of plan.now state.now m (clock now) else None) }
+pub(crate) fn best_for(state: &State, m: u16, now: u64, stage: Stage) -> Option<(u16, Addr)>
+    ensures value { result ≡ (if looks_at_best stage then best_of state.now.plan state.now.core m (clock now) else None) }
     ensures few { IfSome result (λ best. best.0 ≤ 256) }
 {
-    let _few = plan.nodes(m);
+    let _few = state.plan.nodes(m);
     if looks_at_best(stage) {
-        best(state, plan, m, now)
+        best(state, m, now)
     } else {
         None
     }
 }
 
 /// The place of the node that the configuration names, where the rows of this state look at it.
-pub(crate) fn card_place_for(state: &State, plan: &Plan, m: u16, stage: Stage) -> u16
-    ensures { result ≡ (if looks_at_nodes stage then card_place plan.now state.now m else 0) }
+pub(crate) fn card_place_for(state: &State, m: u16, stage: Stage) -> u16
+    ensures { result ≡ (if looks_at_nodes stage then card_place state.now.plan state.now.core m else 0) }
 {
     if looks_at_nodes(stage) {
-        state.card_place(plan, m) as u16
+        state.core.card_place(&state.plan, m) as u16
     } else {
         0
     }
 }
 
 /// Which data nodes are subjectively down, where the rows of this state look at it.
-pub(crate) fn down_for_rows(
-    state: &State,
-    plan: &Plan,
-    m: u16,
-    now: u64,
-    stage: Stage,
-) -> DownPlaces
-    ensures { result ≡ (if looks_at_nodes stage then at_places (is_node_down plan.now state.now m (clock now)) 0 (length (nodes_of plan.now m)) else []) }
+pub(crate) fn down_for_rows(state: &State, m: u16, now: u64, stage: Stage) -> DownPlaces
+    ensures { result ≡ (if looks_at_nodes stage then at_places (is_node_down state.now.plan state.now.core m (clock now)) 0 (length (nodes_of state.now.plan m)) else []) }
 {
     if looks_at_nodes(stage) {
-        down_places(state, plan, m, now)
+        down_places(state, m, now)
     } else {
         DownPlaces::none()
     }

@@ -1,10 +1,10 @@
 //! What is due to be sent: PINGs to the other Sentinels; PINGs, INFO and hellos to the data nodes.
 
-ghost use Rattle.std.specs.Prelude.{◌≡◌, ◌≤◌, ◌++◌, length};
+ghost use Rattle.std.specs.Prelude.{◌≡◌, ◌≤◌, length};
 ghost use Rattle.ballot_law.specs.Clocks.{clock};
 ghost use Rattle.sentinel_rules.specs.Parts.{changed_from, frames_from};
 ghost use Rattle.sentinel_rules.specs.Ticks.{is_due, sent_at, ping_period, is_peer_due, peer_after, peer_frames, had_link_down, is_ping_due, is_info_due, is_hello_due, node_after, node_frames};
-ghost use Rattle.watched_nodes.specs.Room.{bounded};
+ghost use Rattle.watched_nodes.specs.Room.{added};
 
 use crate::frame_list::FrameList;
 use crate::nodes::Node;
@@ -50,7 +50,7 @@ impl Peer {
     fn send(&mut self, plan: &Plan, now: u64, place: usize, frames: &mut FrameList)
         requires { place ≤ 64 }
         ensures peer { self.new ≡ peer_after plan.now now place self.old }
-        ensures frames { frames.new ≡ bounded (frames.old ++ peer_frames plan.now now place self.old) }
+        ensures frames { frames.new ≡ added frames.old (peer_frames plan.now now place self.old) }
     {
         let due = self.is_ping_due(plan, now, place);
         frames.push_if(due, Frame::PingTo(NodeName::SentinelAt(place as u16)));
@@ -62,9 +62,8 @@ impl Peer {
 pub fn send_each_peer(peers: &mut [Peer], plan: &Plan, now: u64, frames: &mut FrameList)
     requires { length peers.old ≤ 64 }
     ensures peers { peers.new ≡ changed_from (peer_after plan.now now) 0 peers.old }
-    ensures frames { frames.new ≡ bounded (frames.old ++ frames_from (peer_frames plan.now now) 0 peers.old) }
+    ensures frames { frames.new ≡ added frames.old (frames_from (peer_frames plan.now now) 0 peers.old) }
 {
-    let _whole = frames.as_slice();
     for place in 0..peers.len() {
         peers[place].send(plan, now, place, frames);
     }
@@ -139,13 +138,12 @@ impl Node {
     }
 
     /// Sends the node at a place of a master what is due: PING, INFO, hello.
-    #[tactic(auto, using(crate::proofs::RoomLemmas::bounded_both, crate::proofs::RoomLemmas::bounded_none))]
+    #[tactic(auto, using(crate::proofs::RoomLemmas::added_both))]
     fn send(&mut self, plan: &Plan, m: u16, sending: Sending, k: usize, frames: &mut FrameList)
         requires { k ≤ 256 }
         ensures node { self.new ≡ node_after sending k self.old }
-        ensures frames { frames.new ≡ bounded (frames.old ++ node_frames plan.now m sending k self.old) }
+        ensures frames { frames.new ≡ added frames.old (node_frames plan.now m sending k self.old) }
     {
-        let _whole = frames.as_slice();
         let ping = self.is_ping_due(sending);
         let info = self.is_info_due(sending, k);
         let hello = self.is_hello_due(sending);
@@ -178,9 +176,8 @@ pub fn send_each_node(
 )
     requires { length nodes.old ≤ 256 }
     ensures nodes { nodes.new ≡ changed_from (node_after sending) 0 nodes.old }
-    ensures frames { frames.new ≡ bounded (frames.old ++ frames_from (node_frames plan.now m sending) 0 nodes.old) }
+    ensures frames { frames.new ≡ added frames.old (frames_from (node_frames plan.now m sending) 0 nodes.old) }
 {
-    let _whole = frames.as_slice();
     for k in 0..nodes.len() {
         nodes[k].send(plan, m, sending, k, frames);
     }

@@ -9,7 +9,7 @@ use sentinel_answers::{answer_by_text, answer_plainly};
 use sentinel_conf::read;
 use sentinel_plan::Plan;
 use sentinel_rules::Frame;
-use sentinel_state::State;
+use sentinel_state::{Core, State};
 use sentinel_ticks::tick;
 use std::alloc::Global;
 use std::marker::Model;
@@ -52,9 +52,7 @@ pub(crate) type Said = (u16, bool, Option<RunId>, u64);
 /// made.
 #[derive(Drop)]
 pub(crate) struct LoneState {
-    plan: Plan,
     state: State,
-    frames: FrameList,
 }
 
 impl Model for LoneState {
@@ -69,47 +67,38 @@ impl LoneState {
     /// Opens it with this file, at this reading of its clock.
     pub(crate) fn open(alloc: Global, file: &str, now: u64) -> Result<LoneState, Fail> {
         let plan = Plan::new(read(alloc, file.as_bytes())?);
-        let state = State::open(alloc, &plan, now)?;
+        let core = Core::open(alloc, &plan, now)?;
         let frames = FrameList::with_room(alloc)?;
         Ok(LoneState {
-            plan,
-            state,
-            frames,
+            state: State { plan, core, frames },
         })
     }
 
     /// A tick of the master with this number, whose random number is 0.
     pub(crate) fn tick(&mut self, master: u16, now: u64) {
-        self.frames.clear();
-        tick(
-            &mut self.state,
-            &self.plan,
-            master,
-            0,
-            now,
-            &mut self.frames,
-        );
+        self.state.frames.clear();
+        tick(&mut self.state, master, 0, now);
     }
 
     /// Whether the last tick put out these frames and no others.
     pub(crate) fn put_out(&self, frames: &[Frame]) -> bool {
-        self.frames.as_slice() == frames
+        self.state.frames.as_slice() == frames
     }
 
     /// The current epoch that the file is to hold.
     pub(crate) fn current(&self) -> u64 {
-        self.state.kept().current
+        self.state.core.kept().current
     }
 
     /// The epoch of the last vote for a master that the file is to hold.
     pub(crate) fn voted(&self, master: usize) -> Option<u64> {
-        let kept = self.state.kept().masters.as_slice().get(master)?;
+        let kept = self.state.core.kept().masters.as_slice().get(master)?;
         Some(kept.voted)
     }
 
     /// Whether the last input brought this election.
     pub(crate) fn won(&self, win: Option<Win>) -> bool {
-        self.state.won() == win
+        self.state.core.won() == win
     }
 
     /// Whether the command's answer has these lines, as RESP2, and shows these configurations.
@@ -125,7 +114,14 @@ impl LoneState {
     {
         let text = Vec::with_capacity(alloc, 65_536)?;
         let shown = Vec::with_capacity(alloc, 16)?;
-        let body = answer_by_text(&self.plan, &self.state, now, command, text, shown);
+        let body = answer_by_text(
+            &self.state.plan,
+            &self.state.core,
+            now,
+            command,
+            text,
+            shown,
+        );
         let Body::PortReply { shown, text } = body else {
             return Ok(false);
         };
@@ -135,8 +131,8 @@ impl LoneState {
     /// The configuration that the answer to the command shows; none where it is another answer.
     pub(crate) fn address(&mut self, now: u64, command: &Command) -> Option<Shown> {
         let Some(Body::AddressAnswer(shown)) = answer_plainly(
-            &self.plan,
-            &mut self.state,
+            &self.state.plan,
+            &mut self.state.core,
             now,
             command,
         ) else {
@@ -166,7 +162,7 @@ impl LoneState {
                 leader,
                 epoch,
             },
-        ) = answer_plainly(&self.plan, &mut self.state, now, &command)
+        ) = answer_plainly(&self.state.plan, &mut self.state.core, now, &command)
         else {
             return None;
         };

@@ -10,7 +10,7 @@ use Rattle.sentinel_answers.proofs.rows.add_masters.Goals as goal
 
 pub loop-m-preserved : goal.loop-m-preserved
 loop-m-preserved c =
-    let row_of = master_row c.args.plan.now c.args.state.now (clock c.args.now) in
+    let row_of = master_row c.args.plan.now c.args.core.now (clock c.args.now) in
     let m = c.loop-m.m in
     record {
       written =
@@ -21,9 +21,9 @@ loop-m-preserved c =
 
 pub returns : goal.returns
 returns c =
-    let row_of = master_row c.args.plan.now c.args.state.now (clock c.args.now) in
+    let row_of = master_row c.args.plan.now c.args.core.now (clock c.args.now) in
     let n = c.master_count-count.result in
     let end : c.loop-m.m ≡ n = omega (arith, c.loop-m.auto.m-end, c.loop-m-test.false) in
-    masters_whole c.args.plan.now c.args.state.now (clock c.args.now) n c.loop-m.text c.master_count-count.ensures.value c.master_count-count.ensures.few
+    masters_whole c.args.plan.now c.args.core.now (clock c.args.now) n c.loop-m.text c.master_count-count.ensures.value c.master_count-count.ensures.few
     (λ k h. c.loop-m.invariant.fits k (omega (arith, h, end)))
     (subst (λ (k : ℕ). c.loop-m.text ≡ bounded (header n ++ text_below (λ m. spelling (master_frame (row_of m))) k)) end c.loop-m.invariant.written)

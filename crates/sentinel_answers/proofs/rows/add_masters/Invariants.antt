@@ -11,6 +11,6 @@ use Rattle.sentinel_answers.proofs.rows.add_masters.Given as goal
 abbrev pub invariant-loop-m : goal.invariant-loop-m
 invariant-loop-m l =
     record {
-      written : l.text ≡ bounded (header l.count ++ text_below (λ m. spelling (master_frame (master_row l.plan l.state (clock l.now) m))) l.m);
-      fits : (m : ℕ) → m < l.m → IsMasterRow (master_row l.plan l.state (clock l.now) m);
+      written : l.text ≡ bounded (header l.count ++ text_below (λ m. spelling (master_frame (master_row l.plan l.core (clock l.now) m))) l.m);
+      fits : (m : ℕ) → m < l.m → IsMasterRow (master_row l.plan l.core (clock l.now) m);
     }

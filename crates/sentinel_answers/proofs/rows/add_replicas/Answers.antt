@@ -10,7 +10,7 @@ use Rattle.sentinel_answers.proofs.rows.add_replicas.Goals as goal
 
 pub loop-k-preserved : goal.loop-k-preserved
 loop-k-preserved c =
-    let row_of = replica_row c.args.plan.now c.args.state.now (clock c.args.now) c.args.m in
+    let row_of = replica_row c.args.plan.now c.args.core.now (clock c.args.now) c.args.m in
     let own = c.card_place-own.result in
     let n = c.node_count-count.result in
     let k = c.loop-k.k in
@@ -23,10 +23,10 @@ loop-k-preserved c =
 
 pub returns : goal.returns
 returns c =
-    let row_of = replica_row c.args.plan.now c.args.state.now (clock c.args.now) c.args.m in
+    let row_of = replica_row c.args.plan.now c.args.core.now (clock c.args.now) c.args.m in
     let own = c.card_place-own.result in
     let n = c.node_count-count.result in
     let end : c.loop-k.k ≡ n = omega (arith, c.loop-k.auto.k-end, c.loop-k-test.false) in
-    replicas_whole c.args.plan.now c.args.state.now (clock c.args.now) c.args.m own n c.loop-k.text c.card_place-own.ensures.value c.node_count-count.ensures.value
+    replicas_whole c.args.plan.now c.args.core.now (clock c.args.now) c.args.m own n c.loop-k.text c.card_place-own.ensures.value c.node_count-count.ensures.value
     c.node_count-count.ensures.few (λ k h. c.loop-k.invariant.fits k (omega (arith, h, end)))
     (subst (λ (k : ℕ). c.loop-k.text ≡ bounded (header (length (places_but own 0 n)) ++ text_below (text_but own (λ k. spelling (replica_frame (row_of k)))) k)) end c.loop-k.invariant.written)

@@ -10,7 +10,7 @@ use Rattle.sentinel_answers.proofs.rows.add_sentinels.Goals as goal
 
 pub loop-place-preserved : goal.loop-place-preserved
 loop-place-preserved c =
-    let row_of = sentinel_row c.args.plan.now c.args.state.now (clock c.args.now) in
+    let row_of = sentinel_row c.args.plan.now c.args.core.now (clock c.args.now) in
     let own = c.place-own.result in
     let n = c.group_size-count.result in
     let place = c.loop-place.place in
@@ -23,10 +23,10 @@ loop-place-preserved c =
 
 pub returns : goal.returns
 returns c =
-    let row_of = sentinel_row c.args.plan.now c.args.state.now (clock c.args.now) in
+    let row_of = sentinel_row c.args.plan.now c.args.core.now (clock c.args.now) in
     let own = c.place-own.result in
     let n = c.group_size-count.result in
     let end : c.loop-place.place ≡ n = omega (arith, c.loop-place.auto.place-end, c.loop-place-test.false) in
-    sentinels_whole c.args.plan.now c.args.state.now (clock c.args.now) own n c.loop-place.text c.place-own.ensures c.group_size-count.ensures.value
+    sentinels_whole c.args.plan.now c.args.core.now (clock c.args.now) own n c.loop-place.text c.place-own.ensures c.group_size-count.ensures.value
     c.group_size-count.ensures.few (λ k h. c.loop-place.invariant.fits k (omega (arith, h, end)))
     (subst (λ (k : ℕ). c.loop-place.text ≡ bounded (header (length (places_but own 0 n)) ++ text_below (text_but own (λ k. spelling (sentinel_frame (row_of k)))) k)) end c.loop-place.invariant.written)

@@ -6,7 +6,7 @@ use Rattle.sentinel_answers.proofs.rows.shown_masters.Goals as goal
 
 pub loop-m-preserved : goal.loop-m-preserved
 loop-m-preserved c =
-    let shown = shown_of c.args.state.now in
+    let shown = shown_of c.args.core.now in
     let m = c.loop-m.m in
     record {
       value =

@@ -6,7 +6,7 @@ use Rattle.sentinel_answers.proofs.rows.shown_masters.Given as goal
 abbrev pub invariant-loop-m : goal.invariant-loop-m
 invariant-loop-m l =
     record {
-      value : l.shown.items ≡ map (shown_of l.state) (numbers_from 0 l.m);
+      value : l.shown.items ≡ map (shown_of l.core) (numbers_from 0 l.m);
       len : vec_len l.shown ≡ l.m;
       room : 16 ≤ vec_capacity l.shown;
     }

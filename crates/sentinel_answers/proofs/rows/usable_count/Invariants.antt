@@ -8,5 +8,5 @@ abbrev pub invariant-loop-place : goal.invariant-loop-place
 invariant-loop-place l =
     record {
       few : l.count ≤ l.place;
-      counted : l.count ≡ count_below (is_usable l.plan l.state (clock l.now)) l.place;
+      counted : l.count ≡ count_below (is_usable l.plan l.core (clock l.now)) l.place;
     }

@@ -6,8 +6,8 @@ use Rattle.sentinel_core.proofs.acting.hold_frames.Given as goal
 
 abbrev pub invariant-loop-left : goal.invariant-loop-left
 invariant-loop-left l =
-    (l.outbox.held ++ map (output_of l.plan l.state) l.left ≡ map (output_of l.plan l.state) l.frames)
-    × AllByRecursion (IsNamed l.plan) l.left
+    (l.outbox.held ++ map (output_of l.state.plan l.state.core) l.left ≡ map (output_of l.state.plan l.state.core) l.state.frames)
+    × AllByRecursion (IsNamed l.state.plan) l.left
     × (length l.outbox.held + length l.left ≤ 1536)
     × (1536 ≤ l.outbox.held_room)
     × (1536 ≤ l.outbox.shown_room)

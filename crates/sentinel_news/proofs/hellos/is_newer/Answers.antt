@@ -11,4 +11,4 @@ pub returns-then-card : goal.returns-then-card
 returns-then-card c =
     let epoch = c.args.card.epoch in
     let below = ap (λ (kept : Card). nat_lt kept.epoch epoch) (sym c.card.ensures) ∙ lt-ltb c.card.result.epoch epoch c.if-card.true in
-    c.has_node.ensures ∙ ap (λ b. b && list_any (same_addr c.args.card.addr) (nodes_of c.args.plan.now c.args.m)) (sym below)
+    c.has_node.ensures ∙ ap (λ b. b && list_any (same_addr c.args.card.addr) (nodes_of c.args.state.now.plan c.args.m)) (sym below)

@@ -7,7 +7,7 @@ use Rattle.sentinel_ticks.proofs.facts.down_places.Goals as goal
 
 pub loop-k-preserved : goal.loop-k-preserved
 loop-k-preserved c =
-    let down = is_node_down c.args.plan.now c.args.state.now c.args.m (clock c.args.now) in
+    let down = is_node_down c.args.state.now.plan c.args.state.now.core c.args.m (clock c.args.now) in
     let lt : c.loop-k.k < length c.loop-k.down = omega arith in
     record {
       long = simp length-set c.loop-k.invariant.long;

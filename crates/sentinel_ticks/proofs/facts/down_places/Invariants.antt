@@ -8,5 +8,5 @@ abbrev pub invariant-loop-k : goal.invariant-loop-k
 invariant-loop-k l =
     record {
       long : length l.down ≡ 256;
-      filled : take l.k l.down ≡ at_places (is_node_down l.plan l.state l.m (clock l.now)) 0 l.k;
+      filled : take l.k l.down ≡ at_places (is_node_down l.state.plan l.state.core l.m (clock l.now)) 0 l.k;
     }

@@ -14,4 +14,4 @@ as_looked f all some e = ap (turned f) e ∙ turned_looked f all
 
 pub returns-clause-turn : goal.returns-clause-turn
 returns-clause-turn c =
-    as_looked (failover_of c.args.state.now c.args.m) (known_of c.args.plan.now c.args.state.now c.args.m (clock c.args.now) c.args.odown) _ (search rules)
+    as_looked (failover_of c.args.state.now.core c.args.m) (known_of c.args.state.now.plan c.args.state.now.core c.args.m (clock c.args.now) c.args.odown) _ (search rules)

@@ -1,6 +1,6 @@
 use Rattle.std.proofs.Common.{◌<◌, length, arith}
 use Rattle.sentinel_rules.specs.Ticks.{node_after, node_frames}
-use Rattle.watched_nodes.proofs.PlaceLoops.{changed_more, frames_more_set, whole_more}
+use Rattle.watched_nodes.proofs.PlaceLoops.{changed_more, frames_more_set}
 use Rattle.watched_nodes.proofs.sending.send_each_node.Goals as goal
 
 pub loop-k-preserved : goal.loop-k-preserved
@@ -14,5 +14,4 @@ loop-k-preserved c =
     record {
       nodes = changed_more change held _ k old c.send.new.self lt c.send.ensures.node c.loop-k.invariant.nodes;
       frames = frames_more_set puts held _ _ _ k old c.send.new.self lt c.send.ensures.frames c.loop-k.invariant.frames;
-      whole = whole_more _ _ c.send.ensures.frames;
     }

@@ -1,7 +1,7 @@
 use Rattle.std.proofs.Common.{◌≡◌, ◌++◌, take, drop}
 use Rattle.sentinel_rules.specs.Parts.{changed_from, frames_from}
 use Rattle.sentinel_rules.specs.Ticks.{node_after, node_frames}
-use Rattle.watched_nodes.specs.Room.{bounded}
+use Rattle.watched_nodes.specs.Room.{added}
 use Rattle.watched_nodes.proofs.sending.send_each_node.Given as goal
 
 abbrev pub invariant-loop-k : goal.invariant-loop-k
@@ -10,6 +10,5 @@ invariant-loop-k l =
     let puts = node_frames l.plan l.m l.sending in
     record {
       nodes : take l.k l.nodes ++ changed_from change l.k (drop l.k l.nodes) ≡ changed_from change 0 l.initial.nodes;
-      frames : bounded (l.frames ++ frames_from puts l.k (drop l.k l.nodes)) ≡ bounded (l.initial.frames ++ frames_from puts 0 l.initial.nodes);
-      whole : bounded l.frames ≡ l.frames;
+      frames : added l.frames (frames_from puts l.k (drop l.k l.nodes)) ≡ added l.initial.frames (frames_from puts 0 l.initial.nodes);
     }

@@ -1,6 +1,6 @@
 use Rattle.std.proofs.Common.{◌<◌, length, arith}
 use Rattle.sentinel_rules.specs.Ticks.{peer_after, peer_frames}
-use Rattle.watched_nodes.proofs.PlaceLoops.{changed_more, frames_more_set, whole_more}
+use Rattle.watched_nodes.proofs.PlaceLoops.{changed_more, frames_more_set}
 use Rattle.watched_nodes.proofs.sending.send_each_peer.Goals as goal
 
 pub loop-place-preserved : goal.loop-place-preserved
@@ -14,5 +14,4 @@ loop-place-preserved c =
     record {
       peers = changed_more change held _ place old c.send.new.self lt c.send.ensures.peer c.loop-place.invariant.peers;
       frames = frames_more_set puts held _ _ _ place old c.send.new.self lt c.send.ensures.frames c.loop-place.invariant.frames;
-      whole = whole_more _ _ c.send.ensures.frames;
     }

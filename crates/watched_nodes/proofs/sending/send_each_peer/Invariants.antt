@@ -1,7 +1,7 @@
 use Rattle.std.proofs.Common.{◌≡◌, ◌++◌, take, drop}
 use Rattle.sentinel_rules.specs.Parts.{changed_from, frames_from}
 use Rattle.sentinel_rules.specs.Ticks.{peer_after, peer_frames}
-use Rattle.watched_nodes.specs.Room.{bounded}
+use Rattle.watched_nodes.specs.Room.{added}
 use Rattle.watched_nodes.proofs.sending.send_each_peer.Given as goal
 
 abbrev pub invariant-loop-place : goal.invariant-loop-place
@@ -10,6 +10,5 @@ invariant-loop-place l =
     let puts = peer_frames l.plan l.now in
     record {
       peers : take l.place l.peers ++ changed_from change l.place (drop l.place l.peers) ≡ changed_from change 0 l.initial.peers;
-      frames : bounded (l.frames ++ frames_from puts l.place (drop l.place l.peers)) ≡ bounded (l.initial.frames ++ frames_from puts 0 l.initial.peers);
-      whole : bounded l.frames ≡ l.frames;
+      frames : added l.frames (frames_from puts l.place (drop l.place l.peers)) ≡ added l.initial.frames (frames_from puts 0 l.initial.peers);
     }

@@ -21,7 +21,7 @@ use watched_nodes::{Node, Peer};
 /// What a Sentinel keeps while it runs: what its file is to hold, and what it heard, found and sent since its start, which a stop
 /// loses.
 #[derive(Drop)]
-pub struct State {
+pub struct Core {
     pub(crate) kept: Kept,
     pub(crate) masters: Vec<Master>,
     pub(crate) peers: Vec<Peer>,
@@ -30,23 +30,23 @@ pub struct State {
     pub(crate) won: Option<Win>,
 }
 
-impl Model for State {
+impl Model for Core {
     ghost use Rattle.std.specs.Prelude.{◌≤◌, length};
-    ghost use Rattle.sentinel_rules.specs.States.{Core};
+    ghost use Rattle.sentinel_rules.specs.States.{Core as Keeping};
 
-    ghost Value = { Core };
+    ghost Value = { Keeping };
 
-    ghost view = { λ state. record {
-      kept = state.kept;
-      masters = state.masters.items;
-      peers = state.peers.items;
-      clock = state.clock;
-      random = state.random;
-      won = state.won;
+    ghost view = { λ core. record {
+      kept = core.kept;
+      masters = core.masters.items;
+      peers = core.peers.items;
+      clock = core.clock;
+      random = core.random;
+      won = core.won;
     } };
 
-    ghost invariant = { λ state. (length state.masters.items ≤ 16)
-        × ((length state.peers.items ≤ 64) × (length state.kept.masters ≤ 16)) };
+    ghost invariant = { λ core. (length core.masters.items ≤ 16)
+        × ((length core.peers.items ≤ 64) × (length core.kept.masters ≤ 16)) };
 }
 
 /// Each master of the plan, of which nothing was heard yet.
@@ -110,14 +110,14 @@ fn card_position(masters: &[KeptMaster], addr: Addr) -> Option<usize>
         .position(|master| addr.is_same(&master.card.addr))
 }
 
-impl State {
+impl Core {
     /// What a Sentinel keeps at its start: what its file holds, and nothing else. The only error is want of memory.
-    pub fn open(alloc: Global, plan: &Plan, now: u64) -> Result<State, NoMemory>
-        ensures { IfOk result (λ state. state ≡ opened plan.now now) }
+    pub fn open(alloc: Global, plan: &Plan, now: u64) -> Result<Core, NoMemory>
+        ensures { IfOk result (λ core. core ≡ opened plan.now now) }
     {
         let masters = opened_masters(alloc, plan, now)?;
         let kept = opened_kept(alloc, plan)?;
-        Ok(State {
+        Ok(Core {
             kept,
             masters,
             peers: vec![in alloc; Peer::new(now); plan.group_size() as usize]?,
@@ -241,12 +241,12 @@ impl State {
             .is_sdown(now, plan.settings(0).after_ms, false)
     }
 
-    /// Whether a master is objectively down: this Sentinel and enough of the others found it down.
-    pub fn is_odown(&self, plan: &Plan, m: u16, now: u64) -> bool
-        requires { m < master_count plan.now }
+    /// Whether a master is objectively down: this Sentinel, as `own` says, and enough of the others found it down.
+    pub fn is_odown(&self, plan: &Plan, m: u16, now: u64, own: bool) -> bool
+        requires known { m < master_count plan.now }
+        requires own { own ≡ is_master_down plan.now self.now m (clock now) }
         ensures { result ≡ is_odown_at plan.now self.now m (clock now) }
     {
-        let own = self.is_master_down(plan, m, now);
         match self.masters.get(m as usize) {
             Some(master) => is_odown(own, &master.reports, now, plan.quorum(m)),
             None => own && plan.quorum(m) <= 1,

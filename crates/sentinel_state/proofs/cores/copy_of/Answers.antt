@@ -1,7 +1,7 @@
 use Rattle.std.proofs.Common.{◌≡◌, List, ap, ◌∙◌}
 use Rattle.ballot_law.specs.declared.cards.Kept.{Kept}
 use Rattle.ballot_law.specs.declared.cards.KeptMaster.{KeptMaster}
-use Rattle.sentinel_state.proofs.state.copy_of.Goals as goal
+use Rattle.sentinel_state.proofs.cores.copy_of.Goals as goal
 
 pub returns : goal.returns
 returns c =

@@ -1,5 +1,5 @@
 use Rattle.std.proofs.Common.{◌≡◌, ◌≤◌, length, vec_len, arith}
-use Rattle.sentinel_state.proofs.state.State.open.Goals as goal
+use Rattle.sentinel_state.proofs.cores.Core.open.Goals as goal
 
 pub invariant_of-result : goal.invariant_of-result
 invariant_of-result c =

@@ -4,7 +4,7 @@ use Rattle.ballot_law.specs.Clocks.{clock}
 use Rattle.ballot_law.specs.Rosters.{MasterPlan}
 use Rattle.sentinel_rules.specs.Plans.{roster_of, group_size}
 use Rattle.sentinel_rules.specs.States.{new_master}
-use Rattle.sentinel_state.proofs.state.opened_masters.Given as goal
+use Rattle.sentinel_state.proofs.cores.opened_masters.Given as goal
 
 abbrev pub invariant-loop-m : goal.invariant-loop-m
 invariant-loop-m l =
