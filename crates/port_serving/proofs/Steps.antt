@@ -6,11 +6,15 @@ use Rattle.ballot_law.specs.declared.cards.Kept.{Kept}
 use Rattle.resp2_frames.specs.declared.fault.FrameFault.{FrameFault}
 use Rattle.resp2_frames.specs.declared.fault.FrameFault.TheVariants.{BadKind, BadLength, BadNumber, MissingEnd, TooLong, TooDeep, TooMany, NoMemory}
 use Rattle.resp2_frames.specs.declared.fault.Unread.TheVariants.{NeedsMore}
-use Rattle.resp2_frames.specs.declared.value.Value.{Value}
-use Rattle.resp2_frames.specs.Frame.{Frame, view, spelling, simple, fault, int, bulk, null_bulk, items, null_items}
+use Rattle.resp2_frames.specs.Frame.{Frame}
 use Rattle.resp2_frames.specs.Reading.{frame_at}
-use Rattle.resp2_frames.specs.Stream.{Held, reading, ended, Feeds, Answers, Parts, Splits, SoFar, held_size}
-use Rattle.resp2_frames.proofs.Drains.{fault_drains, value_drains, end_drains, fed_so_far, nothing_waits}
+use Rattle.resp2_frames.specs.Stream.{Held, reading, ended, Feeds, Parts, Splits, SoFar}
+use Rattle.resp2_frames.proofs.Drains.{fed_so_far, nothing_waits}
+use Rattle.resp2.proofs.Streams.{fault_asked, value_asked, end_asked}
+use Rattle.resp2.specs.Asked.{Asks}
+use Rattle.resp2.specs.Commands.{command_of}
+use Rattle.resp2.specs.declared.command.CommandFault.{CommandFault}
+use Rattle.ballot_law.specs.declared.commands.Command.{Command}
 use Rattle.resp2_frames.proofs.Streams.{parts_longer}
 use Rattle.std.specs.Prelude.{OnOk, IfErr, is_err, false}
 use Rattle.std.specs.Io.KnownBytes.{Appends, Consumes, Keeps}
@@ -18,25 +22,8 @@ use Rattle.sentinel_rules.specs.Plans.{Plan}
 use Rattle.sentinel_rules.specs.States.{Core}
 use Rattle.port_serving.specs.declared.fault.ServeFault.{ServeFault}
 use Rattle.port_serving.specs.declared.fault.ServeFault.TheVariants.{Frame as FaultyFrame, Read, Write, Halted, NoMemory as NoMemoryLeft}
-use Rattle.port_serving.specs.Serving.{replied, answers_to, core_after, last_line, Holds, HoldsAfter, IsLeft, IsServed, IsRefused, IsCut, IsCutAtRefusal, IsAnswered, IsIdle, IsFaulted, IsStuck, IsRefusal, EndsWith, Breaks, Steps, Takes, Waits, of_frame}
+use Rattle.port_serving.specs.Serving.{replied, replied_to, answers_to, core_after, last_line, Holds, HoldsAfter, IsLeft, IsServed, IsRefused, IsCut, IsCutAtRefusal, IsAnswered, IsIdle, IsFaulted, IsStuck, IsRefusal, EndsWith, Breaks, Steps, Takes, Waits, of_frame}
 use Rattle.port_serving.proofs.KnownBytes.{appends_twice, appends_nothing, consumes_twice}
-
--- ---- how much is held
-
-spelling_some : (f : Frame) → 0 < length (spelling f)
-spelling_some (simple text) = omega arith
-spelling_some (fault text) = omega arith
-spelling_some (int n) = omega arith
-spelling_some (bulk bytes) = omega arith
-spelling_some null_bulk = omega arith
-spelling_some (items fs) = omega arith
-spelling_some null_items = omega arith
-
-pub less_held : (f : Frame) (held after : Held) (rest : List ℕ) → held ≡ reading (spelling f ++ rest) → after ≡ reading rest → held_size after < held_size held
-less_held f held after rest h a =
-    let before : held_size held ≡ length (spelling f ++ rest) = ap held_size h in
-    let now : held_size after ≡ length rest = ap held_size a in
-    omega (arith, before, now, length-append (spelling f) rest, spelling_some f)
 
 -- ---- reading
 
@@ -85,29 +72,35 @@ module _ (plan : Plan) (now : ℕ) (first : Core) (before : Option (List ℕ)) w
       answers-push plan now first values value
       ∙ ap (λ (c : Core). answers_to plan now first values ++ (replied plan now c value).bytes) (sym same)
 
-  pub value_answered : (input written : List ℕ) (held : Held) (core : Core) (text : List ℕ) (answers : ℕ) (stored : Option (List ℕ)) (value : Value) (after : Held)
-      → IsAnswered plan now first before input written held core text answers stored → Answers view held (Ok (Some value)) after → (later : Option (List ℕ))
-      → Holds plan.conf first.kept before (replied plan now core (view value)).core.kept later
-      → IsAnswered plan now first before input written after (replied plan now core (view value)).core (text ++ (replied plan now core (view value)).bytes) (answers + 1) later
-  value_answered input written held core text answers stored value after a given later h =
-      let next = value_drains input a.values held value after (so_far input written held core text answers stored a) given in
-      let bytes : List ℕ = (replied plan now core (view value)).bytes in
+  core_asked : (core : Core) (asked : Result Command CommandFault) (f : Frame) → asked ≡ command_of f → (replied_to plan now core asked).core ≡ (replied plan now core f).core
+  core_asked core asked f e = ap (λ k. (replied_to plan now core k).core) e
+
+  bytes_asked : (core : Core) (asked : Result Command CommandFault) (f : Frame) → asked ≡ command_of f → (replied_to plan now core asked).bytes ≡ (replied plan now core f).bytes
+  bytes_asked core asked f e = ap (λ k. (replied_to plan now core k).bytes) e
+
+  pub value_answered : (input written : List ℕ) (held : Held) (core : Core) (text : List ℕ) (answers : ℕ) (stored : Option (List ℕ)) (asked : Result Command CommandFault) (after : Held)
+      → IsAnswered plan now first before input written held core text answers stored → Asks held (Ok (Some asked)) after → (later : Option (List ℕ))
+      → Holds plan.conf first.kept before (replied_to plan now core asked).core.kept later
+      → IsAnswered plan now first before input written after (replied_to plan now core asked).core (text ++ (replied_to plan now core asked).bytes) (answers + 1) later
+  value_answered input written held core text answers stored asked after a given later h =
+      let next = value_asked input a.values held asked after (so_far input written held core text answers stored a) given in
+      let bytes : List ℕ = (replied plan now core given.0).bytes in
       record {
-        values = a.values ++ view value ∷ [];
+        values = a.values ++ given.0 ∷ [];
         rest = next.0;
         held_is = next.1;
         parts = next.2;
-        core_is = core_next a.values core (view value) a.core_is;
-        text_is = sym (append_assoc written text bytes) ∙ ap (λ t. t ++ bytes) a.text_is ∙ sym (answers_next a.values core (view value) a.core_is);
-        answers_is = ap (λ n. n + 1) a.answers_is ∙ sym (length-append a.values (view value ∷ []));
+        core_is = core_asked core asked given.0 given.2 ∙ core_next a.values core given.0 a.core_is;
+        text_is = ap (λ b. written ++ (text ++ b)) (bytes_asked core asked given.0 given.2) ∙ sym (append_assoc written text bytes) ∙ ap (λ t. t ++ bytes) a.text_is ∙ sym (answers_next a.values core given.0 a.core_is);
+        answers_is = ap (λ n. n + 1) a.answers_is ∙ sym (length-append a.values (given.0 ∷ []));
         stored_is = h;
       }
 
   pub none_answered : (input written : List ℕ) (held : Held) (core : Core) (text : List ℕ) (answers : ℕ) (stored : Option (List ℕ)) (after : Held)
-      → IsAnswered plan now first before input written held core text answers stored → Answers {V = Value} view held (Ok None) after
+      → IsAnswered plan now first before input written held core text answers stored → Asks held (Ok None) after
       → IsAnswered plan now first before input written after core text answers stored × Waits after
   none_answered input written held core text answers stored after a given =
-      let next = end_drains input a.values held after (so_far input written held core text answers stored a) given in (
+      let next = end_asked input a.values held after (so_far input written held core text answers stored a) given in (
         record { values = a.values; rest = next.0; held_is = next.1; parts = next.2; core_is = a.core_is; text_is = a.text_is; answers_is = a.answers_is; stored_is = a.stored_is },
         (λ rest is. let same : rest ≡ next.0 = let e = next.1 in cc in ap frame_at same ∙ next.3),
       )
@@ -140,12 +133,12 @@ module _ (plan : Plan) (now : ℕ) (first : Core) (before : Option (List ℕ)) w
   }
 
   -- the value that couldn't be answered was taken, or it wasn't; the store holds what is kept before it or behind it
-  stuck : (input written : List ℕ) (held : Held) (core : Core) (text : List ℕ) (answers : ℕ) (stored : Option (List ℕ)) (value : Value) (after : Held) (later : Option (List ℕ)) (text2 : List ℕ) (core2 : Core)
-      → IsAnswered plan now first before input written held core text answers stored → Answers view held (Ok (Some value)) after → text2 ≡ text
-      → (core2 ≡ core) ⊎ (core2 ≡ (replied plan now core (view value)).core)
+  stuck : (input written : List ℕ) (held : Held) (core : Core) (text : List ℕ) (answers : ℕ) (stored : Option (List ℕ)) (asked : Result Command CommandFault) (after : Held) (later : Option (List ℕ)) (text2 : List ℕ) (core2 : Core)
+      → IsAnswered plan now first before input written held core text answers stored → Asks held (Ok (Some asked)) after → text2 ≡ text
+      → (core2 ≡ core) ⊎ (core2 ≡ (replied_to plan now core asked).core)
       → Holds plan.conf first.kept before core.kept later ⊎ Holds plan.conf first.kept before core2.kept later
       → IsStuck plan now first before input written text2 core2 later
-  stuck input written held core text answers stored value after later text2 core2 a given same (inl old) h =
+  stuck input written held core text answers stored asked after later text2 core2 a given same (inl old) h =
       let here : Holds plan.conf first.kept before core.kept later = elim h [
         | inl before_it ↦ before_it
         | inr behind ↦ subst (λ (c : Core). Holds plan.conf first.kept before c.kept later) old behind
@@ -158,12 +151,12 @@ module _ (plan : Plan) (now : ℕ) (first : Core) (before : Option (List ℕ)) w
         text_is = ap (λ t. written ++ t) same ∙ a.text_is;
         left = left_here a.values core2 later (old ∙ a.core_is) (held_after a.values core later a.core_is here);
       }
-  stuck input written held core text answers stored value after later text2 core2 a given same (inr new) h =
-      let next = value_drains input a.values held value after (so_far input written held core text answers stored a) given in
-      let behind_it : core2 ≡ core_after plan now first (a.values ++ view value ∷ []) = new ∙ core_next a.values core (view value) a.core_is in
+  stuck input written held core text answers stored asked after later text2 core2 a given same (inr new) h =
+      let next = value_asked input a.values held asked after (so_far input written held core text answers stored a) given in
+      let behind_it : core2 ≡ core_after plan now first (a.values ++ given.0 ∷ []) = new ∙ core_asked core asked given.0 given.2 ∙ core_next a.values core given.0 a.core_is in
       record {
         values = a.values;
-        more = view value ∷ [];
+        more = given.0 ∷ [];
         rest = next.0;
         parts = next.2;
         text_is = ap (λ t. written ++ t) same ∙ a.text_is;
@@ -172,7 +165,7 @@ module _ (plan : Plan) (now : ℕ) (first : Core) (before : Option (List ℕ)) w
           core_is = behind_it;
           held = elim h [
             | inl before_it ↦ inl (held_after a.values core later a.core_is before_it)
-            | inr behind ↦ inr (held_after (a.values ++ view value ∷ []) core2 later behind_it behind)
+            | inr behind ↦ inr (held_after (a.values ++ given.0 ∷ []) core2 later behind_it behind)
           ];
         };
       }
@@ -186,14 +179,14 @@ module _ (plan : Plan) (now : ℕ) (first : Core) (before : Option (List ℕ)) w
   breaks_stuck input written text core stored Halted e a = a
   breaks_stuck input written text core stored NoMemoryLeft e a = a
 
-  pub breaks_answer : (input written : List ℕ) (held : Held) (core : Core) (text : List ℕ) (answers : ℕ) (stored : Option (List ℕ)) (value : Value) (after : Held) (later : Option (List ℕ)) (text2 : List ℕ) (core2 : Core)
+  pub breaks_answer : (input written : List ℕ) (held : Held) (core : Core) (text : List ℕ) (answers : ℕ) (stored : Option (List ℕ)) (asked : Result Command CommandFault) (after : Held) (later : Option (List ℕ)) (text2 : List ℕ) (core2 : Core)
       (why : ServeFault) → (why ≡ Halted) ⊎ (why ≡ NoMemoryLeft)
-      → IsAnswered plan now first before input written held core text answers stored → Answers view held (Ok (Some value)) after → text2 ≡ text
-      → (core2 ≡ core) ⊎ (core2 ≡ (replied plan now core (view value)).core)
+      → IsAnswered plan now first before input written held core text answers stored → Asks held (Ok (Some asked)) after → text2 ≡ text
+      → (core2 ≡ core) ⊎ (core2 ≡ (replied_to plan now core asked).core)
       → Holds plan.conf first.kept before core.kept later ⊎ Holds plan.conf first.kept before core2.kept later
       → Breaks plan now first before input written why text2 core2 later
-  breaks_answer input written held core text answers stored value after later text2 core2 why which a given same cores h =
-      breaks_stuck input written text2 core2 later why which (stuck input written held core text answers stored value after later text2 core2 a given same cores h)
+  breaks_answer input written held core text answers stored asked after later text2 core2 why which a given same cores h =
+      breaks_stuck input written text2 core2 later why which (stuck input written held core text answers stored asked after later text2 core2 a given same cores h)
 
   breaks_frame_by : (input written text : List ℕ) (core : Core) (stored : Option (List ℕ)) (f : FrameFault) → IsStuck plan now first before input written text core stored
       → (f ≡ NoMemory) ⊎ IsFaulted plan now first before input written f text core stored → Breaks plan now first before input written (of_frame f) text core stored
@@ -214,11 +207,11 @@ module _ (plan : Plan) (now : ℕ) (first : Core) (before : Option (List ℕ)) w
   breaks_frame_by input written text core stored TooMany s (inr a) = a
 
   pub breaks_frame : (input written : List ℕ) (held : Held) (core : Core) (text : List ℕ) (answers : ℕ) (stored : Option (List ℕ)) (f : FrameFault) (after : Held)
-      → IsAnswered plan now first before input written held core text answers stored → Answers {V = Value} view held (Err f) after
+      → IsAnswered plan now first before input written held core text answers stored → Asks held (Err f) after
       → Breaks plan now first before input written (of_frame f) text core stored
   breaks_frame input written held core text answers stored f after a given =
       breaks_frame_by input written text core stored f (stuck_here input written held core text answers stored a)
-      (elim (fault_drains input a.values held f after (so_far input written held core text answers stored a) given) [
+      (elim (fault_asked input a.values held f after (so_far input written held core text answers stored a) given) [
         | inl none ↦ inl none
         | inr shows ↦ inr (record { values = a.values; splits = shows; text_is = a.text_is; core_is = a.core_is; stored_is = held_after a.values core stored a.core_is a.stored_is })
       ])

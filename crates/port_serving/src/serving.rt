@@ -4,19 +4,21 @@ ghost use Rattle.std.specs.Prelude.{◌≡◌, ◌≤◌, ◌<◌, ◌+◌, ◌-
 ghost use Rattle.std.specs.Io.KnownBytes.{Consumes, Appends, IsAtEnd};
 ghost use Rattle.ballot_law.specs.declared.cards.Kept.{Kept};
 ghost use Rattle.port_answers.specs.Answers.{command_fault};
-ghost use Rattle.resp2_frames.specs.Frame.{view, spelling};
+ghost use Rattle.resp2.specs.Commands.{IsWithin};
+ghost use Rattle.resp2_frames.specs.Frame.{spelling};
 ghost use Rattle.resp2_frames.specs.Stream.{held_size, reading};
+ghost use Rattle.sentinel_outbox.specs.Outboxes.{Fits, room_of_sentinel};
 ghost use Rattle.sentinel_rules.specs.Plans.{Plan};
 ghost use Rattle.sentinel_rules.specs.States.{Core};
-ghost use Rattle.port_serving.specs.Serving.{Holds, EndsWith, IsAnswered, IsIdle, IsFaulted, Breaks, IsRefusal, Steps, Drains, Takes, of_frame, phase_of, phase_after, replied};
+ghost use Rattle.port_serving.specs.Serving.{Holds, EndsWith, IsAnswered, IsIdle, IsFaulted, Breaks, IsRefusal, Steps, Drains, Takes, of_frame, phase_of, phase_after, replied_to};
 
 use crate::fault::ServeFault;
 use crate::port_sentinel::PortSentinel;
 use crate::streams::write_whole;
-use ballot_law::{Event, Input, NodeName, Output};
+use ballot_law::{Command, Event, Input, NodeName, Output};
 use message_texts::message_text;
 use port_answers::AnswerText;
-use resp2::{CommandFault, FrameFault, Frames, OutText, Value, command_of};
+use resp2::{CommandFault, FrameFault, Frames, OutText, next_command};
 use sentinel_conf::ConfStore;
 use sentinel_outbox::{Outbox, Phase, Room};
 use std::alloc::Global;
@@ -77,6 +79,24 @@ fn add_fault(alloc: Global, fault: CommandFault, text: &mut OutText) -> Result<(
     }
 }
 
+/// Empties the outbox, and makes room in it for the outputs of any one input: nearly always it has that room.
+fn make_room(outbox: &mut Outbox) -> Result<(), ServeFault>
+    ensures shown { OnOk result (outbox.new.shown ≡ []) }
+    ensures fits { OnOk result (Fits outbox.new room_of_sentinel) }
+    ensures fault { IfErr result (λ fault. fault ≡ ServeFault.NoMemory) }
+{
+    let room = Room::of_sentinel();
+    outbox.clear();
+    if outbox.fits(&room) {
+        return Ok(());
+    }
+    outbox.drop_held();
+    match outbox.reserve(&room) {
+        Ok(()) => Ok(()),
+        Err(_) => Err(ServeFault::NoMemory),
+    }
+}
+
 impl Connection {
     fn new(alloc: Global, now: u64) -> Connection
         ensures clock { result.clock ≡ now }
@@ -94,14 +114,16 @@ impl Connection {
         }
     }
 
-    /// Answers one value at the end of the text, once what the answer rests on is stored.
+    /// Answers one value, by the command that it spells or the reason why it is none, at the end of the text, once what the answer rests
+    /// on is stored.
     fn answer<N: PortSentinel, S: ConfStore>(
         &mut self,
         sentinel: &mut N,
-        value: &Value,
+        asked: Result<Command, CommandFault>,
         store: &mut S,
     ) -> Result<(), ServeFault>
         requires room { self.old.answers < 2 ^ 64 - 1 }
+        requires within { IfOk asked IsWithin }
         requires ready { N.phase sentinel.old ≡ Phase.Ready }
         requires failures { S.failure_count store.old < 2 ^ 64 - 1 }
         ensures clock { self.new.clock ≡ self.old.clock }
@@ -109,11 +131,11 @@ impl Connection {
         ensures plan { N.plan sentinel.new ≡ N.plan sentinel.old }
         ensures core { OnErr result ((N.core sentinel.new ≡ N.core sentinel.old)
             ⊎ (N.core sentinel.new
-            ≡ (replied (N.plan sentinel.old) self.old.clock (N.core sentinel.old) (view value.now)).core)) }
+            ≡ (replied_to (N.plan sentinel.old) self.old.clock (N.core sentinel.old) asked).core)) }
         ensures taken { OnOk result (N.core sentinel.new
-            ≡ (replied (N.plan sentinel.old) self.old.clock (N.core sentinel.old) (view value.now)).core) }
+            ≡ (replied_to (N.plan sentinel.old) self.old.clock (N.core sentinel.old) asked).core) }
         ensures answered { OnOk result (self.new.text ≡ self.old.text
-            ++ (replied (N.plan sentinel.old) self.old.clock (N.core sentinel.old) (view value.now)).bytes) }
+            ++ (replied_to (N.plan sentinel.old) self.old.clock (N.core sentinel.old) asked).bytes) }
         ensures answers { OnOk result (self.new.answers ≡ self.old.answers + 1) }
         ensures text { OnErr result (self.new.text ≡ self.old.text) }
         ensures phase { N.phase sentinel.new ≡ phase_after result }
@@ -129,7 +151,7 @@ impl Connection {
             Holds (N.plan sentinel.old).conf first before (N.core sentinel.old).kept (S.held store.new)
             ⊎ Holds (N.plan sentinel.old).conf first before (N.core sentinel.new).kept (S.held store.new)) }
     {
-        let command = match command_of(value) {
+        let command = match asked {
             Ok(command) => command,
             Err(fault) => {
                 add_fault(self.alloc, fault, &mut self.text)?;
@@ -137,11 +159,7 @@ impl Connection {
                 return Ok(());
             }
         };
-        self.outbox.drop_held();
-        self.outbox.clear();
-        if self.outbox.reserve(&Room::of_sentinel()).is_err() {
-            return Err(ServeFault::NoMemory);
-        }
+        make_room(&mut self.outbox)?;
         let sender = NodeName::PortAt(0);
         let input = Input {
             now: self.clock,
@@ -183,12 +201,12 @@ impl Connection {
             Steps (N.plan sentinel.old) self.old.clock first before input written result
             self.new.frames (N.core sentinel.new) self.new.text self.new.answers (S.held store.new) }
     {
-        let value = match self.frames.next() {
-            Ok(Some(value)) => value,
+        let asked = match next_command(&mut self.frames) {
+            Ok(Some(asked)) => asked,
             Ok(None) => return Ok(false),
             Err(fault) => return Err(of_frame(fault)),
         };
-        match self.answer(sentinel, &value, store) {
+        match self.answer(sentinel, asked, store) {
             Ok(()) => Ok(true),
             Err(fault) => Err(fault),
         }
