@@ -10,10 +10,12 @@ mod fault_world;
 mod faults;
 mod names;
 mod sending;
+mod stops;
 mod telling;
 
-pub use ballot_law::{Message, NodeName, Roster, Step};
+pub use ballot_law::{KeptText, Message, NodeName, Roster, Step};
 pub use fault_world::FaultWorld;
 pub use faults::RunFault;
+pub use stops::with_stop;
 pub use world_members::{Node, WorldFault};
 pub use world_reports::{Entry, Report};
