@@ -1,6 +1,6 @@
 //! In what two conf files differ that are to be of one group.
 
-use ballot_law::{Addr, Member, Name, Watched};
+use ballot_law::{Name, Watched};
 use sentinel_conf::Conf;
 
 /// In what two files differ; a master is told by its name in the first one. The first difference is told, in this order.
@@ -18,38 +18,12 @@ pub enum Difference {
     Start(Name),
 }
 
-/// Whether two lists of Sentinels are one.
-fn are_same_members(some: &[Member], others: &[Member]) -> bool {
-    if some.len() != others.len() {
-        return false;
-    }
-    for place in 0..some.len() {
-        if some[place] != others[place] {
-            return false;
-        }
-    }
-    true
-}
-
-/// Whether two lists of addresses are one.
-fn are_same_nodes(some: &[Addr], others: &[Addr]) -> bool {
-    if some.len() != others.len() {
-        return false;
-    }
-    for place in 0..some.len() {
-        if some[place] != others[place] {
-            return false;
-        }
-    }
-    true
-}
-
 /// In what two masters at one place differ.
 fn difference_of_masters(one: &Watched, other: &Watched) -> Option<Difference> {
     if !one.name.is_same(other.name) {
         return Some(Difference::Masters);
     }
-    if !are_same_nodes(one.nodes(), other.nodes()) {
+    if one.nodes() != other.nodes() {
         return Some(Difference::Nodes(one.name));
     }
     if one.quorum != other.quorum {
@@ -61,7 +35,7 @@ fn difference_of_masters(one: &Watched, other: &Watched) -> Option<Difference> {
 /// In what two rosters differ.
 fn difference_of_rosters(one: &Conf, other: &Conf) -> Option<Difference> {
     let (some, others) = (one.roster().masters(), other.roster().masters());
-    if !are_same_members(one.roster().sentinels(), other.roster().sentinels()) {
+    if one.roster().sentinels() != other.roster().sentinels() {
         return Some(Difference::Sentinels);
     }
     if some.len() != others.len() {
