@@ -1,5 +1,5 @@
 use Rattle.std.proofs.Common.{rules}
-use Rattle.node_turns.proofs.turn.Turn.stop.Goals as goal
+use Rattle.boxed_nodes.proofs.turn.Turn.stop.Goals as goal
 
 pub returns : goal.returns
 returns c = search rules

@@ -1,5 +1,5 @@
 use Rattle.std.proofs.Common.{rules}
-use Rattle.node_turns.proofs.turn.Turn.store.Goals as goal
+use Rattle.boxed_nodes.proofs.turn.Turn.store.Goals as goal
 
 pub returns-in-Pending : goal.returns-in-Pending
 returns-in-Pending c = search rules
