@@ -1,4 +1,5 @@
 use Rattle.std.proofs.Common.{◌≡◌, ◌+◌, ◌≤◌, ◌∷◌, length, Ok, ap, sym, ◌∙◌, ⊎_elim, arith}
+use Rattle.std.proofs.lemmas.Grind.{common_steps}
 use Rattle.ballot_law.specs.Cuts.{lines}
 use Rattle.scenarios.specs.Scenarios.{behind, line_of, steps_from}
 use Rattle.scenarios.specs.Read.{steps_of}
@@ -19,3 +20,6 @@ loop-rest-preserved c =
       within = c.in_ok-add-in-Ok.ensures.within;
       counted = let shorter = c.split_line.ensures.shorter in let left = c.loop-rest.invariant.counted in omega (arith, shorter, left);
     }
+
+pub loop-rest-init : goal.loop-rest-init
+loop-rest-init c = grind (arith, common_steps)
