@@ -100,6 +100,18 @@ impl Outbox {
         }
     }
 
+    /// Whether there is the room for the outputs of one input, in addition to what is held and shown.
+    fn has_room(&self, room: &Room) -> bool
+        ensures { IsTrue result ↔ HasRoom self.now room.now }
+    {
+        let outputs = room.outputs as usize;
+        let held = self.held.len();
+        outputs <= self.held.capacity() - held
+            && outputs <= self.shown.capacity() - self.shown.len() - held
+            && room.text as usize <= self.spare.text_room()
+            && room.shown as usize <= self.spare.list_room()
+    }
+
     /// Makes the room for the outputs of one input, in addition to what is held and shown. This is the only call that
     /// takes memory, and it takes none where there is enough room.
     ///
@@ -113,6 +125,9 @@ impl Outbox {
         ensures enough { HasRoom self.old room.now → IsOk result }
         ensures refused { OnErr result (self.new ≡ self.old) }
     {
+        if self.has_room(room) {
+            return Ok(());
+        }
         let outputs = room.outputs as usize;
         let Some(to_show) = self.held.len().checked_add(outputs) else {
             return Err(NoMemory);
