@@ -7,8 +7,8 @@ ghost use Rattle.boxed_nodes.specs.Moves.{Stays, Refuses, Stores, Releases, Stop
 ghost use Rattle.boxed_nodes.specs.declared.turn.Turn.TheVariants.{Ready, Pending};
 ghost use Rattle.boxed_nodes.specs.Turns.{shown_at};
 
-use ballot_law::KeptText;
 use crate::calls::HowStored;
+use ballot_law::KeptText;
 use sentinel_core::{Outbox, ReleaseFault, Room, StoreFault, TakeFault};
 
 /// How far the last input has come.
