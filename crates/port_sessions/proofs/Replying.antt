@@ -75,16 +75,3 @@ module _ (start : World) (now : ℕ) where
   pub line_written : {X : Type 0} (v : View) (fault : CommandFault) (answer : Result X ServeFault) (text : List ℕ) → OnOk answer (text ≡ spelling (command_fault fault))
       → IfErr answer (λ fault. fault ≡ OutOfMemory) → Ends start now v (Err fault) answer text v
   line_written v fault answer text ok err = wrote v (Err fault) answer text (spelling (command_fault fault)) v ok err (refl, refl)
-
--- a command that isn't a question for an address
-pub other_takes_turn : (command : Command) → ((name : Option (List ℕ)) → command ≡ GetMasterAddrByName name → ⊥) → takes_turn command ≡ true
-other_takes_turn Ping other = refl
-other_takes_turn (IsMasterDownByAddr addr epoch candidate) other = refl
-other_takes_turn (GetMasterAddrByName name) other = absurd (other name refl)
-other_takes_turn Masters other = refl
-other_takes_turn (Master name) other = refl
-other_takes_turn (Replicas name) other = refl
-other_takes_turn (Sentinels name) other = refl
-other_takes_turn MyId other = refl
-other_takes_turn (CkQuorum name) other = refl
-other_takes_turn FlushConfig other = refl

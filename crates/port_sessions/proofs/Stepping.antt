@@ -8,13 +8,15 @@ use Rattle.port_serving.specs.Serving.{last_line}
 use Rattle.resp2.specs.Commands.{command_of}
 use Rattle.resp2_frames.specs.declared.fault.FrameFault.{FrameFault}
 use Rattle.resp2_frames.specs.declared.fault.FrameFault.TheVariants.{NoMemory}
-use Rattle.resp2_frames.specs.declared.value.Value.{Value}
-use Rattle.resp2_frames.specs.Frame.{Frame, view}
-use Rattle.resp2_frames.specs.Stream.{Held, reading, ended, Feeds, Answers, Splits}
-use Rattle.resp2_frames.proofs.Drains.{fault_drains, value_drains, end_drains}
+use Rattle.resp2_frames.specs.Frame.{Frame}
+use Rattle.resp2_frames.specs.Stream.{Held, reading, ended, bytes_in, Feeds, Splits}
+use Rattle.resp2.proofs.Streams.{fault_asked, value_asked, end_asked}
+use Rattle.resp2.specs.Asked.{Asks}
+use Rattle.resp2.specs.declared.command.CommandFault.{CommandFault}
+use Rattle.ballot_law.specs.declared.commands.Command.{Command}
 use Rattle.sentinel_cell.specs.declared.view.View.{View}
 use Rattle.sentinel_cell.specs.Histories.{World}
-use Rattle.port_sessions.specs.Talks.{Replies, AnswersTo, IsAnswered, IsRefused, IsCut, Breaks, Receives, bytes_in}
+use Rattle.port_sessions.specs.Talks.{Replies, AnswersTo, IsAnswered, IsRefused, IsCut, IsHaltedAt, Breaks, Receives}
 use Rattle.port_sessions.specs.OnTheWay.{Fails, IsOnTheWay, IsDone, Steps, Drains, Refuses}
 
 module _ (start : World) (now : ℕ) where
@@ -26,24 +28,24 @@ module _ (start : World) (now : ℕ) where
       (a.0, a.1, a.2 ++ more, ap (λ (t : List ℕ). t ++ more) a.3 ∙ append_assoc a.1 a.2 more, a.4, answers-push a.0 xs a.2 m value more w a.5 r)
 
   -- a value was answered
-  pub value_answered : (stream : List ℕ) (v : View) (held : Held) (bytes : List ℕ) (m : View) (value : Value) (after : Held) (more : List ℕ) (w : View)
-      → IsOnTheWay start now stream v held bytes m → Answers view held (Ok (Some value)) after → Replies start now m (command_of (view value)) more w
+  pub value_answered : (stream : List ℕ) (v : View) (held : Held) (bytes : List ℕ) (m : View) (asked : Result Command CommandFault) (after : Held) (more : List ℕ) (w : View)
+      → IsOnTheWay start now stream v held bytes m → Asks held (Ok (Some asked)) after → Replies start now m asked more w
       → IsOnTheWay start now stream v after (bytes ++ more) w
-  value_answered stream v held bytes m value after more w a given r =
-      let next = value_drains stream a.values held value after (a.rest, a.held_is, a.parts) given in
+  value_answered stream v held bytes m asked after more w a given r =
+      let next = value_asked stream a.values held asked after (a.rest, a.held_is, a.parts) given in
       record {
-        values = a.values ++ view value ∷ [];
+        values = a.values ++ given.0 ∷ [];
         rest = next.0;
         held_is = next.1;
         parts = next.2;
-        answers = answers-push v a.values bytes m (view value) more w a.answers r;
+        answers = answers-push v a.values bytes m given.0 more w a.answers (subst (λ (k : Result Command CommandFault). Replies start now m k more w) given.2 r);
       }
 
   -- no whole value is left
   pub none_left : (stream : List ℕ) (v : View) (held : Held) (bytes : List ℕ) (m : View) (after : Held)
-      → IsOnTheWay start now stream v held bytes m → Answers {V = Value} view held (Ok None) after → IsDone start now stream v after bytes m
+      → IsOnTheWay start now stream v held bytes m → Asks held (Ok None) after → IsDone start now stream v after bytes m
   none_left stream v held bytes m after a given =
-      let next = end_drains stream a.values held after (a.rest, a.held_is, a.parts) given in
+      let next = end_asked stream a.values held after (a.rest, a.held_is, a.parts) given in
       (next.0, next.1, record { values = a.values; splits = (next.0, next.2, (refl, next.3)); answers = a.answers })
 
   -- a growth was refused before the next value was carried out
@@ -58,44 +60,58 @@ module _ (start : World) (now : ℕ) where
 
   -- a fault shows behind the values that were answered
   pub refused : (stream : List ℕ) (v : View) (held : Held) (bytes : List ℕ) (m : View) (fault : FrameFault) (after : Held) (line : List ℕ) (why : ServeFault)
-      → IsOnTheWay start now stream v held bytes m → Answers {V = Value} view held (Err fault) after → Refuses fault line why
+      → IsOnTheWay start now stream v held bytes m → Asks held (Err fault) after → Refuses fault line why
       → Breaks start now stream v why (bytes ++ line) m
   refused stream v held bytes m fault after line why a given (inl memory) =
       subst (λ (f : ServeFault). Breaks start now stream v f (bytes ++ line) m) (sym memory.0)
       (subst (λ (t : List ℕ). IsCut start now stream v t m) (sym (append-nil bytes) ∙ ap (λ (t : List ℕ). bytes ++ t) (sym memory.1)) (cut_here stream v held bytes m a))
   refused stream v held bytes m fault after line why a given (inr shows) =
       subst (λ (f : ServeFault). Breaks start now stream v f (bytes ++ line) m) (sym shows.1)
-      (faulty stream v held bytes m fault line a shows.0 shows.2 (fault_drains stream a.values held fault after (a.rest, a.held_is, a.parts) given))
+      (faulty stream v held bytes m fault line a shows.0 shows.2 (fault_asked stream a.values held fault after (a.rest, a.held_is, a.parts) given))
 
   -- the answer to a value could not be given
-  pub unanswered : (stream : List ℕ) (v : View) (held : Held) (bytes : List ℕ) (m : View) (value : Value) (after : Held) (w : View) (why : ServeFault)
-      → IsOnTheWay start now stream v held bytes m → Answers view held (Ok (Some value)) after → Fails start now m (command_of (view value)) why w
+  pub unanswered : (stream : List ℕ) (v : View) (held : Held) (bytes : List ℕ) (m : View) (asked : Result Command CommandFault) (after : Held) (w : View) (why : ServeFault)
+      → IsOnTheWay start now stream v held bytes m → Asks held (Ok (Some asked)) after → Fails start now m asked why w
       → Breaks start now stream v why bytes w
-  unanswered stream v held bytes m value after w Refused a given ends =
-      let next = value_drains stream a.values held value after (a.rest, a.held_is, a.parts) given in
-      record { values = a.values; value = view value; rest = next.0; parts = next.2; middle = m; answers = a.answers; halted = ends }
-  unanswered stream v held bytes m value after w OutOfMemory a given (inl same) =
+  unanswered stream v held bytes m asked after w Refused a given ends =
+      let next = value_asked stream a.values held asked after (a.rest, a.held_is, a.parts) given in
+      record {
+        values = a.values;
+        value = given.0;
+        rest = next.0;
+        parts = next.2;
+        middle = m;
+        answers = a.answers;
+        halted = subst (λ (k : Result Command CommandFault). IsHaltedAt start now m k w) given.2 ends;
+      }
+  unanswered stream v held bytes m asked after w OutOfMemory a given (inl same) =
       record { values = a.values; rest = a.rest; parts = a.parts; middle = m; answers = a.answers; left = inl same }
-  unanswered stream v held bytes m value after w OutOfMemory a given (inr lost) =
-      let next = value_drains stream a.values held value after (a.rest, a.held_is, a.parts) given in
+  unanswered stream v held bytes m asked after w OutOfMemory a given (inr lost) =
+      let next = value_asked stream a.values held asked after (a.rest, a.held_is, a.parts) given in
       record {
         values = a.values;
         rest = a.rest;
         parts = a.parts;
         middle = m;
         answers = a.answers;
-        left = inr (record { value = view value; rest = next.0; parts = next.2; bytes = lost.0; reply = lost.1 });
+        left = inr (record {
+          value = given.0;
+          rest = next.0;
+          parts = next.2;
+          bytes = lost.0;
+          reply = subst (λ (k : Result Command CommandFault). Replies start now m k lost.0 w) given.2 lost.1;
+        });
       }
-  unanswered stream v held bytes m value after w Read a given ends = absurd ends
-  unanswered stream v held bytes m value after w Write a given ends = absurd ends
-  unanswered stream v held bytes m value after w (FaultyFrame f) a given ends = absurd ends
+  unanswered stream v held bytes m asked after w Read a given ends = absurd ends
+  unanswered stream v held bytes m asked after w Write a given ends = absurd ends
+  unanswered stream v held bytes m asked after w (FaultyFrame f) a given ends = absurd ends
 
   -- the answer to a value had no room among those that aren't sent yet
-  pub not_put_out : (stream : List ℕ) (v : View) (held : Held) (bytes : List ℕ) (m : View) (value : Value) (after : Held) (text : List ℕ) (w : View) (why : ServeFault)
-      → why ≡ OutOfMemory → IsOnTheWay start now stream v held bytes m → Answers view held (Ok (Some value)) after
-      → Replies start now m (command_of (view value)) text w → Breaks start now stream v why bytes w
-  not_put_out stream v held bytes m value after text w why is a given r =
-      subst (λ (f : ServeFault). Breaks start now stream v f bytes w) (sym is) (unanswered stream v held bytes m value after w OutOfMemory a given (inr (text, r)))
+  pub not_put_out : (stream : List ℕ) (v : View) (held : Held) (bytes : List ℕ) (m : View) (asked : Result Command CommandFault) (after : Held) (text : List ℕ) (w : View) (why : ServeFault)
+      → why ≡ OutOfMemory → IsOnTheWay start now stream v held bytes m → Asks held (Ok (Some asked)) after
+      → Replies start now m asked text w → Breaks start now stream v why bytes w
+  not_put_out stream v held bytes m asked after text w why is a given r =
+      subst (λ (f : ServeFault). Breaks start now stream v f bytes w) (sym is) (unanswered stream v held bytes m asked after w OutOfMemory a given (inr (text, r)))
 
   -- ---- a whole piece
 

@@ -19,7 +19,7 @@ use Rattle.resp2.specs.declared.command.CommandFault.{CommandFault}
 use Rattle.resp2.specs.Commands.{command_of}
 use Rattle.resp2_frames.specs.declared.fault.FrameFault.{FrameFault}
 use Rattle.resp2_frames.specs.Frame.{Frame, spelling}
-use Rattle.resp2_frames.specs.Stream.{Held, reading, ended, Parts, Splits}
+use Rattle.resp2_frames.specs.Stream.{reading, ended, Parts, Splits}
 use Rattle.sentinel_cell.specs.declared.entry.Outcome.TheVariants.{Stored}
 use Rattle.sentinel_cell.specs.declared.fault.ActFault.{ActFault}
 use Rattle.sentinel_cell.specs.declared.fault.ActFault.TheVariants.{NoMemory}
@@ -34,10 +34,6 @@ pub record Talk : Type 0 where
   pub held : List ℕ
   pub unsent : List ℕ
   pub ended : Option ServeFault
-
-abbrev pub bytes_in : Held → List ℕ
-bytes_in (reading bytes) = bytes
-bytes_in (ended fault) = []
 
 -- ---- one answer
 

@@ -1,15 +1,15 @@
 //! What came from a client and what goes to it.
 
 ghost use Rattle.std.specs.Prelude.{◌≡◌, ◌≤◌, ◌<◌, ◌++◌, ℕ, List, [], OnOk, OnErr, IfOk, IfErr, IsTrue, length, drop};
-ghost use Rattle.resp2_frames.specs.Stream.{reading, held_size};
+ghost use Rattle.resp2_frames.specs.Stream.{reading, held_size, bytes_in};
 ghost use Rattle.sentinel_cell.specs.declared.view.View.{View};
-ghost use Rattle.port_sessions.specs.Talks.{Receives, bytes_in};
+ghost use Rattle.port_sessions.specs.Talks.{Receives};
 ghost use Rattle.port_sessions.specs.OnTheWay.{IsOnTheWay, Steps, Drains, Refuses};
 
 use crate::responder::Responder;
 use bytes::BytesMut;
 use port_serving::ServeFault;
-use resp2::{FrameFault, Frames};
+use resp2::{FrameFault, Frames, next_command};
 use sentinel_cell::{Seat, SharedSentinel};
 use sentinel_conf::ConfStore;
 use std::alloc::Global;
@@ -105,12 +105,12 @@ impl Exchange {
             → (more : List ℕ) × (self.new.unsent.items ≡ before ++ more)
             × Steps cell.now.start now stream v result self.new.frames more seat.new.view }
     {
-        let value = match self.frames.next() {
-            Ok(Some(value)) => value,
+        let asked = match next_command(&mut self.frames) {
+            Ok(Some(asked)) => asked,
             Ok(None) => return Ok(false),
             Err(fault) => return Err(self.refuse(fault)),
         };
-        if let Err(fault) = self.responder.answer(rt, cell, seat, now, &value) {
+        if let Err(fault) = self.responder.answer(rt, cell, seat, now, asked) {
             return Err(fault);
         }
         match self.put_out() {

@@ -1,12 +1,12 @@
 //! The answer to one value.
 
-ghost use Rattle.std.specs.Prelude.{◌≡◌, ◌<◌, ℕ, [], None, Ok, Err, true, IfSome, OnOk, IfErr, IsErr};
+ghost use Rattle.std.specs.Prelude.{◌≡◌, ◌<◌, ℕ, [], None, Ok, Err, true, IfSome, OnOk, IfOk, IfErr, IsErr};
 ghost use Rattle.ballot_law.specs.declared.messages.Body.TheVariants.{AddressAnswer};
 ghost use Rattle.message_texts.specs.MessageTexts.{message_bytes, IsWritable};
 ghost use Rattle.port_answers.specs.Answers.{command_fault};
 ghost use Rattle.port_serving.specs.Serving.{last_line};
-ghost use Rattle.resp2.specs.Commands.{command_of, IsWithin};
-ghost use Rattle.resp2_frames.specs.Frame.{view, spelling};
+ghost use Rattle.resp2.specs.Commands.{IsWithin};
+ghost use Rattle.resp2_frames.specs.Frame.{spelling};
 ghost use Rattle.sentinel_rules.specs.Answers.{named};
 ghost use Rattle.sentinel_rules.specs.Plans.{master_count};
 ghost use Rattle.port_sessions.specs.Talks.{IsTold, takes_turn};
@@ -16,7 +16,7 @@ use ballot_law::{Body, Card, Command, Event, Input, Message, Name, NodeName, Out
 use message_texts::message_text;
 use port_answers::AnswerText;
 use port_serving::ServeFault;
-use resp2::{CommandFault, OutText, Value, command_of};
+use resp2::{CommandFault, OutText};
 use sentinel_cell::{ActFault, Seat, SharedSentinel};
 use sentinel_conf::ConfStore;
 use sentinel_outbox::Outbox;
@@ -223,20 +223,21 @@ impl Responder {
         write_message(self.alloc, message, &mut self.text)
     }
 
-    /// The answer to a value: what it asks for, or the line of its fault where it is no command.
+    /// The answer to a value, by the command that it spells or the reason why it is none: what it asks for, or the line of its fault.
     pub(crate) fn answer<S: ConfStore, R: Wait>(
         &mut self,
         rt: &R,
         cell: &SharedSentinel<S>,
         seat: &mut Seat,
         now: u64,
-        value: &Value,
+        asked: Result<Command, CommandFault>,
     ) -> Result<(), ServeFault>
+        requires within { IfOk asked IsWithin }
         requires own { seat.old.cell ≡ cell.now.id }
         ensures own { seat.new.cell ≡ seat.old.cell }
-        ensures answered { Ends cell.now.start now seat.old.view (command_of (view value.now)) result self.new.text seat.new.view }
+        ensures answered { Ends cell.now.start now seat.old.view asked result self.new.text seat.new.view }
     {
-        match command_of(value) {
+        match asked {
             Ok(Command::GetMasterAddrByName(name)) => self.answer_address(cell, seat, name),
             Ok(command) => self.answer_in_turn(rt, cell, seat, now, command),
             Err(fault) => self.answer_fault(fault),

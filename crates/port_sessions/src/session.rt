@@ -21,8 +21,8 @@ pub struct Session {
 
 impl Model for Session {
     ghost use Rattle.std.specs.Prelude.{◌≡◌};
-    ghost use Rattle.resp2_frames.specs.Stream.{reading};
-    ghost use Rattle.port_sessions.specs.Talks.{Talk, bytes_in};
+    ghost use Rattle.resp2_frames.specs.Stream.{reading, bytes_in};
+    ghost use Rattle.port_sessions.specs.Talks.{Talk};
 
     ghost Value = { Talk };
 

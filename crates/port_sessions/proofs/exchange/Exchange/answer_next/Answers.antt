@@ -6,7 +6,7 @@ pub returns-in-Err-answer-clause-answered : goal.returns-in-Err-answer-clause-an
 returns-in-Err-answer-clause-answered g c = λ stream before bytes v is a. (
   bytes,
   is,
-  unanswered c.args.cell.now.start c.args.now stream v c.args.self.now.frames bytes c.args.seat.now.view c.in-Ok-Some.value c.next.new.self
+  unanswered c.args.cell.now.start c.args.now stream v c.args.self.now.frames bytes c.args.seat.now.view c.in-Ok-Some.asked c.next_command.new.frames
       c.answer.new.seat.view c.in-Err-answer.fault a (rw c.in-Ok-Some.field-0-is at c.in-Ok-Some.ensures.exact) c.in-Err-answer.ensures.answered,
 )
 
@@ -16,14 +16,14 @@ returns-in-Ok-clause-answered g c = λ stream before bytes v is a.
       bytes ++ text,
       c.in-Ok.ensures.ok ∙ ap (λ (t : List ℕ). t ++ text) is ∙ append_assoc before bytes text,
       rw c.put_out.ensures.frames
-          (value_answered c.args.cell.now.start c.args.now stream v c.args.self.now.frames bytes c.args.seat.now.view c.in-Ok-Some.value c.next.new.self text c.answer.new.seat.view a
+          (value_answered c.args.cell.now.start c.args.now stream v c.args.self.now.frames bytes c.args.seat.now.view c.in-Ok-Some.asked c.next_command.new.frames text c.answer.new.seat.view a
           (rw c.in-Ok-Some.field-0-is at c.in-Ok-Some.ensures.exact) c.in_default.ensures.answered),
     )
 
-pub returns-clause-answered : goal.returns-clause-answered
-returns-clause-answered g c = λ stream before bytes v is a. (
+pub returns-in-Err-put_out-clause-answered : goal.returns-in-Err-put_out-clause-answered
+returns-in-Err-put_out-clause-answered g c = λ stream before bytes v is a. (
   bytes,
   c.in-Err-put_out.ensures.err ∙ is,
-  not_put_out c.args.cell.now.start c.args.now stream v c.args.self.now.frames bytes c.args.seat.now.view c.in-Ok-Some.value c.next.new.self
+  not_put_out c.args.cell.now.start c.args.now stream v c.args.self.now.frames bytes c.args.seat.now.view c.in-Ok-Some.asked c.next_command.new.frames
       c.answer.new.self.text c.answer.new.seat.view c.in-Err-put_out.fault c.in-Err-put_out.ensures.fault a (rw c.in-Ok-Some.field-0-is at c.in-Ok-Some.ensures.exact) c.in_default.ensures.answered,
 )

@@ -1,6 +1,6 @@
 use Rattle.std.proofs.Common.{◌++◌, ◌∙◌, [], sym}
 use Rattle.std.proofs.lemmas.List.{append-nil}
-use Rattle.port_sessions.specs.Talks.{bytes_in}
+use Rattle.resp2_frames.specs.Stream.{bytes_in}
 use Rattle.port_sessions.proofs.Stepping.{begun, still_open, was_received}
 use Rattle.port_sessions.proofs.exchange.Exchange.take_piece.Goals as goal
 
