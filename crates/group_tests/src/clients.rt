@@ -1,0 +1,45 @@
+//! A client of a port.
+
+use std::io::{self, Read, Write};
+use std::net::{Ipv4Addr, Net, SocketAddr, TcpStream};
+
+/// The question for the address of the master.
+pub(crate) const ADDRESS: &[u8] =
+    b"*3\r\n$8\r\nSENTINEL\r\n$23\r\nGET-MASTER-ADDR-BY-NAME\r\n$8\r\nmymaster\r\n";
+
+/// What it is answered before a failover, and behind that what an array of too many items is.
+pub(crate) const ADDRESS_AND_FAULT: [u8; 50] =
+    *b"*2\r\n$9\r\n127.0.0.1\r\n$4\r\n6379\r\n-ERR Protocol error\r\n";
+
+/// A connection to a port of this machine.
+pub(crate) fn connected<R: Net>(rt: &R, port: u16) -> io::Result<R::Stream> {
+    TcpStream::connect(rt, SocketAddr::from((Ipv4Addr::LOCALHOST, port)))
+}
+
+/// The commands whose answers show which nodes are down.
+pub(crate) const SENTINELS: &[u8] =
+    b"*3\r\n$8\r\nSENTINEL\r\n$9\r\nSENTINELS\r\n$8\r\nmymaster\r\n";
+
+pub(crate) const MASTER: &[u8] = b"*3\r\n$8\r\nSENTINEL\r\n$6\r\nMASTER\r\n$8\r\nmymaster\r\n";
+
+pub(crate) const REPLICAS: &[u8] = b"*3\r\n$8\r\nSENTINEL\r\n$8\r\nREPLICAS\r\n$8\r\nmymaster\r\n";
+
+/// Whether the answer to a command shows a node that is down.
+pub(crate) fn shows_down<T: Read + Write>(stream: &mut T, command: &[u8]) -> io::Result<bool> {
+    stream.write_all(command)?;
+    let mut answer = [0u8; 8192];
+    let count = stream.read(&mut answer)?;
+    Ok(
+        std::str::from_utf8(&answer[..count])
+            .unwrap_or("")
+            .contains("s_down"),
+    )
+}
+
+/// The request for a vote of this epoch, by the Sentinel `dddd..`.
+pub(crate) const VOTE: &[u8] = b"*6\r\n$8\r\nSENTINEL\r\n$22\r\nIS-MASTER-DOWN-BY-ADDR\r\n\
+$9\r\n127.0.0.1\r\n$4\r\n6379\r\n$1\r\n7\r\n$40\r\ndddddddddddddddddddddddddddddddddddddddd\r\n";
+
+/// What it is answered by a Sentinel that finds no master down and has not voted yet.
+pub(crate) const VOTED: [u8; 59] =
+    *b"*3\r\n:0\r\n$40\r\ndddddddddddddddddddddddddddddddddddddddd\r\n:7\r\n";

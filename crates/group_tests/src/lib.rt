@@ -1,0 +1,18 @@
+//! Tests of a group that runs: what a client of a port is answered, which confs are no group, that its Sentinels talk, and that they don't
+//! wait for one another's stores.
+#![tactic(auto)]
+
+#[cfg(test)]
+mod clients;
+#[cfg(test)]
+mod confs;
+#[cfg(test)]
+mod groups;
+#[cfg(test)]
+mod ports;
+#[cfg(test)]
+mod stores_held;
+#[cfg(test)]
+mod talks;
+#[cfg(test)]
+mod told_files;

@@ -1,0 +1,154 @@
+//! The Sentinels of a group talk to each other and to the data nodes.
+
+ghost use Rattle.std.specs.Prelude.{◌≡◌, All, IfSome};
+
+use crate::clients::{MASTER, REPLICAS, SENTINELS, connected, shows_down};
+use crate::confs::{Paired, both_of, free_port};
+use crate::told_files::{MOST_LOOKS, Told, ToldFile, wait_for};
+use log::Log;
+use sentinel_runner::{Group, GroupFault};
+use std::alloc::Global;
+use std::io::{self, Read, Write};
+use std::rt::Clock;
+use std::sync::Wait;
+use std::sync::atomic::{AtomicU64, Ordering};
+use std::test::Fail;
+use std::thread::{self, Threads};
+use std::time::Duration;
+
+/// What was seen of a group.
+#[derive(Clone, Copy, Debug, PartialEq, Eq)]
+struct Seen {
+    /// The first Sentinel's file got an epoch that only a hello brings.
+    heard: bool,
+    /// The second one's got a vote that only a question brings.
+    asked: bool,
+    /// Of Sentinels, the master and replicas: a node was down, and wasn't later.
+    replied: (bool, bool, bool),
+}
+
+/// Waits for an answer that shows a node that is down, or one that doesn't.
+fn waits_for<R: Clock, T: Read + Write>(
+    rt: &R,
+    stream: &mut T,
+    command: &[u8],
+    down: bool,
+) -> io::Result<bool> {
+    for _ in 0..MOST_LOOKS {
+        if shows_down(stream, command)? == down {
+            return Ok(true);
+        }
+        thread::sleep(rt, Duration::from_millis(1));
+    }
+    Ok(false)
+}
+
+/// Waits until a node is down, and then until it isn't.
+fn comes_back<R: Clock, T: Read + Write>(
+    rt: &R,
+    stream: &mut T,
+    command: &[u8],
+) -> io::Result<bool> {
+    Ok(waits_for(rt, stream, command, true)? && waits_for(rt, stream, command, false)?)
+}
+
+/// Looks at a group by the files of its Sentinels, and by a client of the first one.
+fn look<R: Clock, T: Read + Write>(
+    rt: &R,
+    stream: &mut T,
+    first: &Told,
+    second: &Told,
+) -> io::Result<Seen> {
+    Ok(Seen {
+        heard: wait_for(rt, &first.current, 5),
+        asked: wait_for(rt, &second.voted, 5),
+        replied: (
+            comes_back(rt, stream, SENTINELS)?,
+            comes_back(rt, stream, MASTER)?,
+            comes_back(rt, stream, REPLICAS)?,
+        ),
+    })
+}
+
+/// Runs a group while it is looked at.
+fn look_beside<'a, R: Threads + Wait + Clock + Log + Sync, T: Read + Write + Drop + Send>(
+    rt: &'a R,
+    group: Group<ToldFile<'a, R>>,
+    mut stream: T,
+    first: &'a Told,
+    second: &'a Told,
+) -> (io::Result<Seen>, Result<(), GroupFault>) {
+    let ending = AtomicU64::new(0);
+    thread::join(
+        rt,
+        || {
+            let seen = look(rt, &mut stream, first, second);
+            ending.store(1, Ordering::SeqCst);
+            seen
+        },
+        || group.run(rt, &ending),
+    )
+}
+
+/// The files of two Sentinels.
+fn files<'a, R: Clock>(
+    alloc: Global,
+    first: &'a Told,
+    second: &'a Told,
+) -> Option<Vec<ToldFile<'a, R>>>
+    ensures { IfSome result (λ files. All (λ file. file.file.failed ≡ 0) files.items) }
+{
+    let mut files = Vec::new(alloc);
+    files
+        .push(ToldFile::telling(alloc, first, None).ok()?)
+        .ok()?;
+    files
+        .push(ToldFile::telling(alloc, second, None).ok()?)
+        .ok()?;
+    Some(files)
+}
+
+#[test]
+fn group_talks(rt: HostRuntime) -> Result<(), Fail> {
+    let alloc = rt.alloc();
+    let (port, other_port) = (free_port(&rt)?, free_port(&rt)?);
+    let one = Paired {
+        id: "aaaaaaaaaaaaaaaaaaaaaaaaaaaaaaaaaaaaaaaa",
+        other: "bbbbbbbbbbbbbbbbbbbbbbbbbbbbbbbbbbbbbbbb",
+        port,
+        other_port,
+        quorum: 1,
+        after_ms: 50,
+        epoch: 0,
+    };
+    let other = Paired {
+        id: one.other,
+        other: one.id,
+        port: other_port,
+        other_port: port,
+        after_ms: 4_294_967_295,
+        epoch: 5,
+        ..one
+    };
+    let confs = both_of(
+        alloc,
+        one.text(alloc)?.as_str(),
+        other.text(alloc)?.as_str(),
+    )
+    .ok_or("no confs")?;
+    let (first, second) = (Told::new(), Told::new());
+    let stores = files(alloc, &first, &second).ok_or("no files")?;
+    let Ok(group) = Group::open(&rt, alloc, confs, stores) else {
+        return Err(Fail::from("no group"));
+    };
+    let stream = connected(&rt, port)?;
+    let (seen, ended) = look_beside(&rt, group, stream, &first, &second);
+    let wanted = Seen {
+        heard: true,
+        asked: true,
+        replied: (true, true, true),
+    };
+    assert_eq!(rt; seen?, wanted);
+    assert_eq!(rt; ended, Ok(()));
+    Ok(())
+}
