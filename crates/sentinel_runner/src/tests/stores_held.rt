@@ -2,11 +2,11 @@
 
 ghost use Rattle.std.specs.Prelude.{◌≡◌, All, IfSome};
 
-use crate::clients::{VOTE, VOTED, connected};
-use crate::confs::{Paired, both_of, free_port};
-use crate::told_files::{Told, ToldFile};
+use crate::tests::clients::{VOTE, VOTED, connected};
+use crate::tests::confs::{Paired, both_of, free_port};
+use crate::tests::told_files::{Told, ToldFile};
+use crate::{Group, GroupFault};
 use log::Log;
-use sentinel_runner::{Group, GroupFault};
 use std::alloc::Global;
 use std::io::{self, Read, Write};
 use std::rt::Clock;

@@ -2,11 +2,11 @@
 
 ghost use Rattle.std.specs.Prelude.{◌≡◌, All, IfSome};
 
-use crate::clients::{MASTER, REPLICAS, SENTINELS, connected, shows_down};
-use crate::confs::{Paired, both_of, free_port};
-use crate::told_files::{MOST_LOOKS, Told, ToldFile, wait_for};
+use crate::tests::clients::{MASTER, REPLICAS, SENTINELS, connected, shows_down};
+use crate::tests::confs::{Paired, both_of, free_port};
+use crate::tests::told_files::{MOST_LOOKS, Told, ToldFile, wait_for};
+use crate::{Group, GroupFault};
 use log::Log;
-use sentinel_runner::{Group, GroupFault};
 use std::alloc::Global;
 use std::io::{self, Read, Write};
 use std::rt::Clock;

@@ -2,9 +2,9 @@
 
 ghost use Rattle.std.specs.Prelude.{◌≡◌, All, IfSome};
 
-use crate::confs::{Paired, both_of, free_port, text_of_one};
+use crate::tests::confs::{Paired, both_of, free_port, text_of_one};
+use crate::{GroupFault, run_group};
 use sentinel_conf::{Conf, MemoryStore, read};
-use sentinel_runner::{GroupFault, run_group};
 use std::alloc::Global;
 use std::sync::atomic::AtomicU64;
 use std::test::Fail;
