@@ -1,0 +1,23 @@
+use Rattle.std.proofs.Common.{rules}
+use Rattle.sentinel_cell.proofs.shared.SharedSentinel.join.Goals as goal
+
+pub invariant_of-result : goal.invariant_of-result
+invariant_of-result c = search rules
+
+pub returns-clause-fronts : goal.returns-clause-fronts
+returns-clause-fronts c = search rules
+
+pub returns-clause-calls : goal.returns-clause-calls
+returns-clause-calls c = search rules
+
+pub returns-clause-numbers : goal.returns-clause-numbers
+returns-clause-numbers c = search rules
+
+pub returns-clause-answers : goal.returns-clause-answers
+returns-clause-answers c = search rules
+
+pub returns-clause-given : goal.returns-clause-given
+returns-clause-given c = search rules
+
+pub returns-clause-share : goal.returns-clause-share
+returns-clause-share c = search rules
