@@ -11,7 +11,7 @@ use std::rt::Clock;
 use std::sync::Wait;
 
 /// How many bytes one read asks for.
-const PIECE: usize = 16_384;
+pub(crate) const PIECE: usize = 16_384;
 
 /// How many reads a connection makes before the next one has its turn.
 const READS_MAX: u32 = 16;
@@ -33,8 +33,10 @@ pub(crate) enum Fate {
 /// What became of one read.
 #[derive(Clone, Copy, PartialEq, Eq)]
 enum Heard {
-    /// A piece was taken in.
+    /// A piece was taken in, and more may wait.
     Piece,
+    /// A piece was taken in that was all there was to read.
+    LastPiece,
     /// There is nothing to read now.
     Nothing,
     /// No more is read: the client ended its stream, or the session ended.
@@ -43,11 +45,13 @@ enum Heard {
     Broken,
 }
 
-/// A client's connection with its session.
+/// A client's connection with its session. `half` is whether its client has ended its stream or broken off, as the system told: then the end is
+/// still to be read behind the last piece.
 #[derive(Drop)]
 pub(crate) struct Connection {
     stream: TcpStream,
     session: Session,
+    half: bool,
     ends: bool,
     goes_on: bool,
 }
@@ -58,27 +62,34 @@ impl Connection {
         Connection {
             stream,
             session: Session::new(alloc),
+            half: false,
             ends: false,
             goes_on: false,
         }
     }
 
-    /// Reads one piece, and has the session answer it.
+    /// The client has ended its stream, or broken off.
+    pub(crate) fn note_half(&mut self) {
+        self.half = true;
+    }
+
+    /// Reads one piece into the room, and has the session answer it. A piece that leaves room was the last, unless the stream has ended.
     fn hear<J: Which, S: ConfStore, R: Wait + Clock>(
         &mut self,
         rt: &R,
         group: &GroupState,
         member: &Member<J, S>,
         seat: &mut ThreadSeat<J>,
+        room: &mut [u8; PIECE],
     ) -> Heard {
-        let mut piece = [0u8; PIECE];
-        let count = match self.stream.read(&mut piece) {
+        let count = match self.stream.read(room) {
             Ok(0) => return Heard::End,
             Ok(count) => count,
             Err(error) => return heard_of(error.kind()),
         };
         let now = group.clock.now(rt);
-        match member.receive(rt, seat, &mut self.session, now, &piece[..count]) {
+        match member.receive(rt, seat, &mut self.session, now, &room[..count]) {
+            Ok(()) if count < PIECE && !self.half => Heard::LastPiece,
             Ok(()) => Heard::Piece,
             Err(ServeFault::Halted) => {
                 group.note_halted();
@@ -124,6 +135,15 @@ impl Connection {
         Fate::Waits
     }
 
+    /// Sends what can be sent. There is nothing more to read.
+    fn last_piece_taken(&mut self) -> Fate {
+        if self.send() {
+            self.fate(false)
+        } else {
+            Fate::Closes
+        }
+    }
+
     /// Whether it is read on: not once it ends, and not while too much is unsent.
     fn may_read(&self) -> bool {
         !self.ends && self.session.unsent().len() < UNSENT_MAX
@@ -136,6 +156,7 @@ impl Connection {
         group: &GroupState,
         member: &Member<J, S>,
         seat: &mut ThreadSeat<J>,
+        room: &mut [u8; PIECE],
     ) -> Fate {
         for _ in 0..READS_MAX {
             if !self.send() {
@@ -144,8 +165,9 @@ impl Connection {
             if !self.may_read() {
                 return self.fate(false);
             }
-            match self.hear(rt, group, member, seat) {
+            match self.hear(rt, group, member, seat, room) {
                 Heard::Piece => {}
+                Heard::LastPiece => return self.last_piece_taken(),
                 Heard::Nothing => return self.fate(false),
                 Heard::End => self.ends = true,
                 Heard::Broken => return Fate::Closes,

@@ -1,6 +1,6 @@
 //! A port with its connections.
 
-use crate::connection::{Connection, Fate};
+use crate::connection::{Connection, Fate, PIECE};
 use group_sentinels::{GroupState, Member, ThreadSeat, Which};
 use mio::net::{TcpListener, TcpStream};
 use mio::{Events, Interest, Poll, Token};
@@ -26,12 +26,13 @@ const EVENTS: usize = 256;
 /// How long a port waits before it looks whether the group ends, in milliseconds.
 const WAIT_MS: u64 = 100;
 
-/// A listening port with its connections.
+/// A listening port with its connections, and the room into which all of them are read.
 #[derive(Drop)]
 pub struct Port {
     poll: Poll,
     listener: TcpListener,
     connections: Slab<Connection>,
+    room: [u8; PIECE],
     busy: bool,
     alloc: Global,
 }
@@ -48,6 +49,7 @@ impl Port {
             poll,
             listener,
             connections: Slab::new(alloc),
+            room: [0; PIECE],
             busy: false,
             alloc,
         })
@@ -91,10 +93,17 @@ impl Port {
         let Some(connection) = self.connections.get_mut(key) else {
             return;
         };
-        let fate = connection.turn(rt, group, member, seat);
+        let fate = connection.turn(rt, group, member, seat, &mut self.room);
         self.busy |= fate == Fate::GoesOn;
         if fate == Fate::Closes {
             drop(self.connections.try_remove(key));
+        }
+    }
+
+    /// Notes that a connection's client has ended its stream, or broken off.
+    fn note_half(&mut self, key: usize) {
+        if let Some(connection) = self.connections.get_mut(key) {
+            connection.note_half();
         }
     }
 
@@ -156,9 +165,12 @@ impl Port {
             let token = event.token();
             if token == LISTENER {
                 self.accept_all();
-            } else {
-                self.serve_one(rt, group, member, seat, token.0);
+                continue;
             }
+            if event.is_read_closed() || event.is_error() {
+                self.note_half(token.0);
+            }
+            self.serve_one(rt, group, member, seat, token.0);
         }
     }
 
