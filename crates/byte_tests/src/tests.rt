@@ -8,6 +8,7 @@ mod conf_stores;
 mod frames;
 mod hellos;
 mod infos;
+mod refused_memory;
 mod reports;
 mod roles;
 mod scenario_lines;

@@ -5,5 +5,6 @@ mod client_searches;
 mod down_states;
 mod failover_turns;
 mod names_and_texts;
+mod refused_memory;
 mod rosters_in_order;
 mod votes_and_elections;

@@ -20,7 +20,7 @@ sentinel known-sentinel mymaster 127.0.0.1 26380 bbbbbbbbbbbbbbbbbbbbbbbbbbbbbbb
 sentinel myid aaaaaaaaaaaaaaaaaaaaaaaaaaaaaaaaaaaaaaaa";
 
 /// The same with the epochs and the address of a failover, as it is rewritten.
-const GROUP_ONE_AFTER_FAILOVER: &str = "# group one\n\
+pub(super) const GROUP_ONE_AFTER_FAILOVER: &str = "# group one\n\
 port 26379\n\
 bind 127.0.0.1\n\
 sentinel auth-pass mymaster secret\n\

@@ -129,3 +129,16 @@ fn each_prefix_of_an_info_is_read_or_refused_by_name(rt: HostRuntime) {
         assert!(rt; matches!(answer, Ok(_) | Err(TextFault::BadField(2..=8))));
     }
 }
+
+/// Where memory is refused the text must be as it was, and the same write must then go well.
+#[test]
+fn refused_memory_leaves_the_text_without_an_info(rt: HostRuntime) -> Result<(), Fail> {
+    let mut text = OutText::new(rt.alloc());
+    if let Err(fault) = write_info(&TOLD, &mut text) {
+        assert!(rt; fault == TextFault::NoMemory);
+        assert!(rt; text.as_slice().is_empty());
+        write_info(&TOLD, &mut text)?;
+    }
+    assert!(rt; read_info(text.as_slice())? == TOLD);
+    Ok(())
+}
