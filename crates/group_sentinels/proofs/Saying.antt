@@ -1,5 +1,5 @@
 -- What a turn of a shared Sentinel shows may be sent.
-use Rattle.std.proofs.Common.{◌≡◌, List, [], ◌∷◌, ◌++◌, sym, ap, ◌∙◌, subst, drop, length}
+use Rattle.std.proofs.Common.{◌≡◌, List, [], ◌∷◌, ◌++◌, sym, ap, subst, drop, length}
 use Rattle.std.specs.List.{AllByRecursion}
 use Rattle.ballot_law.specs.declared.events.Input.{Input}
 use Rattle.ballot_law.specs.declared.messages.Output.{Output}
@@ -11,11 +11,9 @@ use Rattle.sentinel_nodes.proofs.Sending.{outputs_sendable}
 use Rattle.sentinel_cell.specs.declared.entry.Entry.{Entry}
 use Rattle.sentinel_cell.specs.declared.entry.Outcome.{Outcome}
 use Rattle.sentinel_cell.specs.declared.entry.Outcome.TheVariants.{Stored}
-use Rattle.sentinel_cell.specs.declared.fault.ActFault.{ActFault}
-use Rattle.sentinel_cell.specs.declared.fault.Reply.{Reply}
 use Rattle.sentinel_cell.specs.declared.view.View.{View}
 use Rattle.sentinel_cell.specs.Histories.{World, IsGood, IsOutcome, IsStep, IsLegal, after_outcome, replay, next_of}
-use Rattle.sentinel_cell.specs.Standing.{Acted, Adds}
+use Rattle.sentinel_cell.specs.Standing.{Adds}
 use Rattle.sentinel_cell.proofs.Acts.{first_steps, last_step}
 use Rattle.sentinel_cell.proofs.Cards.{good_after, good_replay}
 

@@ -5,8 +5,11 @@
 
 mod clock;
 mod group_state;
+mod lookout;
 mod member;
+mod named;
 mod notes;
+mod rows;
 mod workers;
 
 pub use clock::GroupClock;

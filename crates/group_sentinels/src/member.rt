@@ -7,8 +7,9 @@ ghost use Rattle.sentinel_rules.specs.Facts.{IsWithinEvent};
 
 use crate::group_state::GroupState;
 use crate::notes::note_all;
-use ballot_law::{Event, Input};
-use log::Log;
+use ballot_law::{Addr, Body, Command, Event, Input, Name, NodeName, Output, Roster};
+use log::kv::With;
+use log::{Level, Log, Span, log_enabled};
 use port_sessions::{ServeFault, Session};
 use sentinel_cell::{ActFault, Seat, SharedSentinel};
 use sentinel_conf::ConfStore;
@@ -36,6 +37,7 @@ impl Which for Brand {
 pub struct Member<J: Which, S: ConfStore> {
     cell: SharedSentinel<S>,
     masters: u16,
+    port: u16,
     of: PhantomData<J>,
     ghost is: { cell.id ≡ J.cell },
 }
@@ -61,12 +63,20 @@ fn with_outbox<J: Which>(alloc: Global, seat: Seat) -> ThreadSeat<J>
     }
 }
 
+impl<J: Which> ThreadSeat<J> {
+    /// What the last input gave.
+    pub(crate) fn outputs(&self) -> &[Output] {
+        self.outbox.outputs()
+    }
+}
+
 impl<J: Which, S: ConfStore> Member<J, S> {
-    /// The Sentinel with its first seat.
+    /// The Sentinel whose clients come to this port, with its first seat.
     pub fn with_seat(
         alloc: Global,
         cell: SharedSentinel<S>,
         seat: Seat,
+        port: u16,
     ) -> (Member<J, S>, ThreadSeat<J>)
         requires { (cell.id ≡ J.cell) × (seat.cell ≡ J.cell) }
     {
@@ -74,6 +84,7 @@ impl<J: Which, S: ConfStore> Member<J, S> {
         let member = Member {
             cell,
             masters,
+            port,
             of: PhantomData,
         };
         (member, with_outbox(alloc, seat))
@@ -119,10 +130,53 @@ impl<J: Which, S: ConfStore> Member<J, S> {
     ) -> Result<(), ActFault>
         requires { IsWithinEvent event }
     {
-        self.turn(rt, seat, &Input { now, event })?;
-        group.links.send_all(rt, seat.outbox.outputs());
-        note_all(rt, self.cell.roster(), seat.outbox.outputs());
+        let input = Input { now, event };
+        self.turn(rt, seat, &input)?;
+        let outputs = seat.outbox.outputs();
+        group.links.send_all(rt, outputs);
+        if log_enabled!(rt; Level::Info) {
+            note_all(&self.noting(rt), self.roster(), &input.event, outputs);
+        }
         Ok(())
+    }
+
+    /// Where its notes go: each names the Sentinel's port.
+    pub(crate) fn noting<'a, R: Log>(&self, rt: &'a R) -> Span<'a, &'a R, With<'a, (), u16>> {
+        rt.span("sentinel").with("port", self.port)
+    }
+
+    /// The Sentinels and the masters of the group.
+    pub(crate) fn roster(&self) -> &Roster {
+        self.cell.roster()
+    }
+
+    /// The name of the master with this number.
+    pub(crate) fn name_of(&self, master: u16) -> Option<Name> {
+        Some(self.cell.roster().masters().get(master as usize)?.name)
+    }
+
+    /// The stored configuration of the master with this number: its epoch and its address.
+    pub(crate) fn address(&self, seat: &mut ThreadSeat<J>, master: u16) -> Option<(u64, Addr)> {
+        self.cell.address(&mut seat.seat, master)
+    }
+
+    /// What the Sentinel answers to a command; none at a fault.
+    pub(crate) fn ask<'a, R: Wait>(
+        &self,
+        rt: &R,
+        seat: &'a mut ThreadSeat<J>,
+        now: u64,
+        command: Command,
+    ) -> Option<&'a Body>
+        requires { IsWithinEvent (Event.Command (NodeName.PortAt 0) command) }
+    {
+        let sender = NodeName::PortAt(0);
+        let event = Event::Command { sender, command };
+        self.turn(rt, seat, &Input { now, event }).ok()?;
+        match seat.outbox.outputs().first() {
+            Some(Output::Send(message)) => Some(&message.body),
+            _ => None,
+        }
     }
 
     /// Hands a session the next piece of its stream, at a reading of the clock in milliseconds.

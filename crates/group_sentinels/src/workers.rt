@@ -2,13 +2,15 @@
 
 use crate::clock::millis_of;
 use crate::group_state::GroupState;
+use crate::lookout::Lookout;
 use crate::member::{Member, ThreadSeat, Which};
 use ballot_law::Event;
 use crossbeam_channel::{Receiver, RecvTimeoutError};
 use group_links::Letter;
-use log::{Log, warn};
+use log::{Level, Log, log_enabled, warn};
 use sentinel_cell::ActFault;
 use sentinel_conf::ConfStore;
+use std::alloc::Global;
 use std::rt::Clock;
 use std::sync::Wait;
 use std::sync::atomic::{AtomicU64, Ordering};
@@ -44,32 +46,39 @@ fn tick_all<J: Which, S: ConfStore, R: Wait + Clock + Log>(
     group: &GroupState,
     member: &Member<J, S>,
     seat: &mut ThreadSeat<J>,
+    lookout: &mut Lookout,
 ) -> bool {
     for master in 0..member.masters() {
         let elapsed = group.clock.elapsed(rt);
-        let random = u64::from(elapsed.subsec_nanos());
+        let (now, random) = (millis_of(elapsed), u64::from(elapsed.subsec_nanos()));
         let event = Event::Tick { master, random };
-        let acted = member.carry_out(rt, seat, group, millis_of(elapsed), event);
+        let acted = member.carry_out(rt, seat, group, now, event);
+        let ticked = acted.is_ok();
         if !goes_on(rt, group, acted) {
             return false;
+        }
+        if ticked && log_enabled!(rt; Level::Info) {
+            lookout.look(&member.noting(rt), member, seat, now, master);
         }
     }
     true
 }
 
-/// Ticks each master every 100 ms, until `ending` isn't 0 or the Sentinel is halted.
+/// Ticks each master every 100 ms and has the lookout note what became different, until `ending` isn't 0 or the Sentinel is halted.
 pub fn run_timer<J: Which, S: ConfStore, R: Wait + Clock + Log>(
     rt: &R,
+    alloc: Global,
     group: &GroupState,
     member: &Member<J, S>,
     seat: &mut ThreadSeat<J>,
     ending: &AtomicU64,
 ) {
+    let mut lookout = Lookout::new(alloc, member.masters());
     for _ in rt.forever() {
         if ending.load(Ordering::SeqCst) != 0 {
             return;
         }
-        if !tick_all(rt, group, member, seat) {
+        if !tick_all(rt, group, member, seat, &mut lookout) {
             return;
         }
         thread::sleep(rt, Duration::from_millis(TICK_MS));

@@ -24,12 +24,13 @@ use std::thread::{self, Threads};
 /// How many threads use a Sentinel: its timer, its link and its port.
 const SEATS: u64 = 3;
 
-/// A Sentinel that is open, with its port and the end of its channel.
+/// A Sentinel that is open, with its port, that port's number, and the end of its channel.
 #[derive(Drop)]
 pub(crate) struct Started<S: ConfStore> {
     cell: SharedSentinel<S>,
     seat: Seat,
     port: Port,
+    number: u16,
     letters: Receiver<Letter>,
     ghost own: { seat.cell ≡ cell.id },
 }
@@ -74,6 +75,7 @@ impl<S: ConfStore + Drop> Started<S> {
             cell,
             seat,
             port,
+            number,
             letters,
         })
     }
@@ -93,9 +95,10 @@ impl<S: ConfStore + Drop> Started<S> {
             cell,
             seat,
             port,
+            number,
             letters,
         } = self;
-        run_named::<Brand, S, R>(rt, alloc, group, cell, seat, port, letters, ending);
+        run_named::<Brand, S, R>(rt, alloc, group, cell, seat, port, number, letters, ending);
     }
 }
 
@@ -107,6 +110,7 @@ fn run_named<J: Which + Send + Sync, S: ConfStore + Drop + Send, R>(
     cell: SharedSentinel<S>,
     seat: Seat,
     port: Port,
+    number: u16,
     letters: Receiver<Letter>,
     ending: &AtomicU64,
 )
@@ -114,19 +118,22 @@ where
     R: Threads + Wait + Clock + Log + Sync,
     requires { (cell.id ≡ J.cell) × (seat.cell ≡ J.cell) }
 {
-    let (member, seat) = Member::<J, S>::with_seat(alloc, cell, seat);
+    let (member, seat) = Member::<J, S>::with_seat(alloc, cell, seat, number);
     let Some((first, timer)) = member.split(alloc, seat) else {
         return;
     };
     let Some((own, link)) = member.split(alloc, first) else {
         return;
     };
-    run_threads(rt, group, &member, own, timer, link, port, letters, ending);
+    run_threads(
+        rt, alloc, group, &member, own, timer, link, port, letters, ending,
+    );
 }
 
 /// Starts the timer and the link, and serves the port.
 fn run_threads<'a, J: Which + Send + Sync, S: ConfStore + Drop + Send, R>(
     rt: &'a R,
+    alloc: Global,
     group: &'a GroupState,
     member: &'a Member<J, S>,
     mut own: ThreadSeat<J>,
@@ -141,7 +148,7 @@ where
 {
     thread::scope(thread::scope_env(), rt, |scope| {
         let mut refused = scope
-            .spawn(move || run_timer(rt, group, member, &mut timer, ending))
+            .spawn(move || run_timer(rt, alloc, group, member, &mut timer, ending))
             .is_err();
         refused |= scope
             .spawn(move || run_link(rt, group, member, &mut link, &letters, ending))

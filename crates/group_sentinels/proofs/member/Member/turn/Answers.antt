@@ -1,4 +1,3 @@
-use Rattle.std.proofs.Common.{◌≡◌, []}
 use Rattle.group_sentinels.proofs.Saying.{shown_sendable}
 use Rattle.group_sentinels.proofs.member.Member.turn.Goals as goal
 

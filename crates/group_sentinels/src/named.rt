@@ -1,0 +1,90 @@
+//! How notes name masters, data nodes and Sentinels.
+
+use ballot_law::{Addr, Roster, RunId};
+use std::fmt;
+use std::net::Ipv4Addr;
+use std::str::from_utf8;
+
+/// A master with its address, as `mymaster 127.0.0.1 6379`.
+#[derive(Clone, Copy)]
+pub(crate) struct NamedMaster<'a> {
+    name: &'a str,
+    ip: Ipv4Addr,
+    port: u16,
+}
+
+impl<'a> NamedMaster<'a> {
+    /// The master with this number at an address; none where the roster hasn't as many.
+    pub(crate) fn of(roster: &'a Roster, master: u16, addr: Addr) -> Option<NamedMaster<'a>> {
+        let watched = roster.masters().get(master as usize)?;
+        Some(NamedMaster {
+            name: from_utf8(watched.name.as_slice()).unwrap_or("?"),
+            ip: Ipv4Addr::from(addr.ip),
+            port: addr.port,
+        })
+    }
+}
+
+impl fmt::Display for NamedMaster<'_> {
+    fn fmt<W: fmt::Write>(&self, f: &mut fmt::Formatter<W>) -> fmt::Result {
+        write!(f, "{} {} {}", self.name, self.ip, self.port)
+    }
+}
+
+/// A data node, as `127.0.0.1:6380 127.0.0.1 6380`.
+#[derive(Clone, Copy)]
+pub(crate) struct NamedNode {
+    ip: Ipv4Addr,
+    port: u16,
+}
+
+impl NamedNode {
+    /// The node at an address.
+    pub(crate) fn at(addr: Addr) -> NamedNode {
+        NamedNode {
+            ip: Ipv4Addr::from(addr.ip),
+            port: addr.port,
+        }
+    }
+
+    /// Its ip.
+    pub(crate) fn ip(&self) -> Ipv4Addr {
+        self.ip
+    }
+
+    /// Its port.
+    pub(crate) fn port(&self) -> u16 {
+        self.port
+    }
+}
+
+impl fmt::Display for NamedNode {
+    fn fmt<W: fmt::Write>(&self, f: &mut fmt::Formatter<W>) -> fmt::Result {
+        let (ip, port) = (self.ip, self.port);
+        write!(f, "{ip}:{port} {ip} {port}")
+    }
+}
+
+/// A run id, as 40 hex digits.
+#[derive(Clone, Copy)]
+pub(crate) struct NamedId(pub(crate) RunId);
+
+impl fmt::Display for NamedId {
+    fn fmt<W: fmt::Write>(&self, f: &mut fmt::Formatter<W>) -> fmt::Result {
+        write!(f, "{:032x}{:08x}", self.0.hi, self.0.lo)
+    }
+}
+
+/// The data node with this number, and the number of its master.
+pub(crate) fn node_numbered(roster: &Roster, number: u16) -> Option<(u16, Addr)> {
+    let mut left = number as usize;
+    let masters = roster.masters();
+    for master in 0..masters.len() {
+        let nodes = masters[master].nodes();
+        if let Some(addr) = nodes.get(left) {
+            return Some((u16::try_from(master).ok()?, *addr));
+        }
+        left = left.saturating_sub(nodes.len());
+    }
+    None
+}
