@@ -10,5 +10,7 @@ mod seats;
 mod story;
 mod traces;
 
+pub use fault_world::{KeptText, Step};
 pub use faults::ReplayFault;
-pub use story::{Printed, Story};
+pub use scenarios::read_scenario;
+pub use story::{Printed, Stop, Story};

@@ -16,7 +16,7 @@ use ballot_law::NoMemory;
 use boxed_nodes::Node;
 use client_nodes::ClientNode;
 use data_nodes::DataNode;
-use fault_world::FaultWorld;
+use fault_world::{FaultWorld, KeptText, with_stop};
 use resp2_frames::OutText;
 use scenarios::{ScenarioFault, read_scenario};
 use sentinel_conf::{Conf, ConfFault, ConfKind, read};
@@ -30,6 +30,21 @@ pub enum Printed {
     Report,
     /// The scenario, with what each line caused.
     Trace,
+    /// The lines of the elections and advertisements of the story with a stop in it.
+    Stopped(Stop),
+}
+
+/// A stop and a start that a story doesn't have.
+#[derive(Clone, Copy, Debug, PartialEq, Eq)]
+pub struct Stop {
+    /// Behind how many of the story's steps it comes; behind the last one where there are fewer.
+    pub behind: usize,
+    /// Which Sentinel is stopped.
+    pub sentinel: u16,
+    /// Which text a stop within a take leaves in its file.
+    pub kept: KeptText,
+    /// The reading of its clock at the start.
+    pub now: u64,
 }
 
 /// A scenario with the files of its Sentinels.
@@ -71,6 +86,25 @@ fn tell(alloc: Global, world: &mut FaultWorld, scenario: &[u8]) -> Result<OutTex
     let mut text = OutText::new(alloc);
     report.lines(&mut text)?;
     Ok(text)
+}
+
+/// Plays the scenario with a stop in it in the world, and gives the lines of the elections and advertisements that it brings.
+fn tell_stopped(
+    alloc: Global,
+    world: &mut FaultWorld,
+    scenario: &[u8],
+    stop: Stop,
+) -> Result<OutText, ReplayFault>
+    requires { Stands world.old.roster
+        (IsShown (λ m. m.name) (λ m. IsSeat m.name (name (m.node.vtable, m.node.value)) (shows (m.node.vtable, m.node.value)) m.outbox.held m.stopped) world.old.roster world.old.members.items world.old.messages.items) }
+{
+    let told = read_scenario(alloc, scenario)?;
+    let behind = stop.behind.min(told.len());
+    let steps = with_stop(alloc, &told, behind, stop.sentinel, stop.kept, stop.now)?;
+    let report = world.run(&steps)?;
+    let mut lines = OutText::new(alloc);
+    report.lines(&mut lines)?;
+    Ok(lines)
 }
 
 impl Story {
@@ -148,6 +182,7 @@ impl Story {
         match printed {
             Printed::Report => tell(self.alloc, &mut world, &self.text),
             Printed::Trace => trace(self.alloc, &mut world, &self.text),
+            Printed::Stopped(stop) => tell_stopped(self.alloc, &mut world, &self.text, stop),
         }
     }
 }

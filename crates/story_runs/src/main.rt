@@ -1,11 +1,17 @@
 //! Plays the stories that its words name, and says of each whether it prints the lines that stand beside it, and whether its trace, played
 //! as a story, prints them too. Where a trace stands beside it, its own trace has to be that one.
 //!
-//! A word is the path of a story's files without their endings. The Sentinels of a story are the conf files of its folder.
+//! A word is the path of a story's files without their endings. The Sentinels of a story are the conf files of its folder. Behind the word
+//! `stops:` each story is run again and again, with each Sentinel stopped and started behind each of its steps, and leaving the old text of
+//! its file and the new one. It says how many runs these were, and how often they broke the laws of a group.
 #![tactic(auto)]
 
+mod laws;
+mod stops;
+
+use crate::stops::{Stopped, stop_behind_each};
 use resp2_frames::OutText;
-use scenario_replay::{Printed, Story};
+use scenario_replay::{Printed, Story, read_scenario};
 use std::{env, fs, io};
 
 /// The names that the conf files of a folder have, as many as there are.
@@ -19,14 +25,22 @@ fn bytes_of(rt: &HostRuntime, path: &str, ending: &str) -> Option<Vec<u8>> {
     fs::read(rt, path.as_str()).ok()
 }
 
-/// What a story of these bytes prints, over the Sentinels of the folder.
-fn printed(rt: &HostRuntime, folder: &str, story: Vec<u8>, what: Printed) -> Option<OutText> {
-    let mut story = Story::new(rt.alloc(), story).ok()?;
+/// A story of these bytes, with the Sentinels of the folder, and how many these are.
+fn story_of(rt: &HostRuntime, folder: &str, text: Vec<u8>) -> Option<(Story, u16)> {
+    let mut story = Story::new(rt.alloc(), text).ok()?;
+    let mut sentinels: u16 = 0;
     for conf in CONFS {
         if let Some(file) = bytes_of(rt, folder, conf) {
             story.add_conf(file).ok()?;
+            sentinels = sentinels.saturating_add(1);
         }
     }
+    Some((story, sentinels))
+}
+
+/// What a story of these bytes prints, over the Sentinels of the folder.
+fn printed(rt: &HostRuntime, folder: &str, story: Vec<u8>, what: Printed) -> Option<OutText> {
+    let (story, _) = story_of(rt, folder, story)?;
     story.play(what).ok()
 }
 
@@ -56,12 +70,57 @@ fn is_as_told(rt: &HostRuntime, path: &str) -> Option<bool> {
     Some(is_traced && is_told && again.as_slice() == expected.as_slice())
 }
 
+/// What comes of the story at this path with stops in it; none where it can't be played.
+fn stopped_at(rt: &HostRuntime, path: &str) -> Option<Stopped> {
+    let (folder, _) = path.rsplit_once('/')?;
+    let expected = bytes_of(rt, path, ".expected")?;
+    let text = bytes_of(rt, path, ".scenario")?;
+    let steps = read_scenario(rt.alloc(), text.as_slice()).ok()?;
+    let (story, sentinels) = story_of(rt, folder, text)?;
+    let all = stop_behind_each(rt.alloc(), &story, &steps, sentinels, &expected);
+    Some(all)
+}
+
+/// Says what came of the runs of a story with stops in it.
+fn tell_stopped(rt: &HostRuntime, path: &str, stopped: &Stopped) -> io::Result<()> {
+    println!(rt;
+        "{path} with a stop behind each of {} steps:",
+        stopped.steps
+    )?;
+    println!(rt; "  runs: {}, refused: {}", stopped.runs, stopped.refused)?;
+    println!(rt;
+        "  another end where the stop comes last: {}",
+        stopped.others
+    )?;
+    println!(rt;
+        "  elections in an epoch that had one: {}",
+        stopped.breaches.elections
+    )?;
+    println!(rt;
+        "  addresses of an epoch that had another: {}",
+        stopped.breaches.addresses
+    )?;
+    println!(rt; "  epochs that fell: {}", stopped.breaches.fallen)?;
+    println!(rt; "  lines that tell nothing: {}", stopped.breaches.unread)
+}
+
 fn main(rt: HostRuntime) -> io::Result<()> {
+    let mut is_stopped = false;
     for path in env::args(&rt)?.skip(1) {
-        match is_as_told(&rt, path.as_str()) {
-            Some(true) => println!(rt; "{path}")?,
-            Some(false) => println!(rt; "{path} tells something else")?,
-            None => println!(rt; "{path} can't be played")?,
+        let path = path.as_str();
+        if path == "stops:" {
+            is_stopped = true;
+        } else if is_stopped {
+            match stopped_at(&rt, path) {
+                Some(stopped) => tell_stopped(&rt, path, &stopped)?,
+                None => println!(rt; "{path} can't be played")?,
+            }
+        } else {
+            match is_as_told(&rt, path) {
+                Some(true) => println!(rt; "{path}")?,
+                Some(false) => println!(rt; "{path} tells something else")?,
+                None => println!(rt; "{path} can't be played")?,
+            }
         }
     }
     Ok(())

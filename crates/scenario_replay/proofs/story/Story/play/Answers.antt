@@ -19,3 +19,7 @@ tell-requires c =
 pub trace-requires : goal.trace-requires
 trace-requires c =
     stands_in c.in_ok-roster.roster c.in-Ok-new.world.roster c.in-Ok-new.world.members.items c.in-Ok-new.world.messages.items c.in-Ok-new.ensures.roster _ _ c.in-Ok-new.ensures.stands
+
+pub tell_stopped-requires : goal.tell_stopped-requires
+tell_stopped-requires c =
+    stands_in c.in_ok-roster.roster c.in-Ok-new.world.roster c.in-Ok-new.world.members.items c.in-Ok-new.world.messages.items c.in-Ok-new.ensures.roster _ _ c.in-Ok-new.ensures.stands
