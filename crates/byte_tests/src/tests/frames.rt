@@ -37,7 +37,7 @@ fn bulk(alloc: Global, bytes: &[u8]) -> Result<Value, NoMemory> {
 }
 
 /// Four asks for a vote, in epochs 1, 1, 2 and 1.
-pub(super) const ASKS: &str =
+const ASKS: &str =
     "*6\r\n$8\r\nSENTINEL\r\n$22\r\nIS-MASTER-DOWN-BY-ADDR\r\n$9\r\n127.0.0.1\r\n$4\r\n6379\r\n$1\r\n1\r\n$40\r\naaaaaaaaaaaaaaaaaaaaaaaaaaaaaaaaaaaaaaaa\r\n\
 *6\r\n$8\r\nSENTINEL\r\n$22\r\nIS-MASTER-DOWN-BY-ADDR\r\n$9\r\n127.0.0.1\r\n$4\r\n6379\r\n$1\r\n1\r\n$40\r\nbbbbbbbbbbbbbbbbbbbbbbbbbbbbbbbbbbbbbbbb\r\n\
 *6\r\n$8\r\nSENTINEL\r\n$22\r\nIS-MASTER-DOWN-BY-ADDR\r\n$9\r\n127.0.0.1\r\n$4\r\n6379\r\n$1\r\n2\r\n$40\r\nbbbbbbbbbbbbbbbbbbbbbbbbbbbbbbbbbbbbbbbb\r\n\
