@@ -1,6 +1,6 @@
 -- A run of three Sentinels: one asks for votes, another votes for it, it wins, chooses and enacts; a data node passes
 -- its hello on, and the third Sentinel takes the card, is stopped within the store, starts again and shows it.
-use Rattle.std.proofs.Common.{◌≡◌, ℕ, zero, suc, ◌+◌, ◌<◌, ◌≤◌, true, Some, List, [], ◌∷◌, get_or, length, refl, sym, ap, subst, ◌∙◌, inl, inr, arith, lit<, lit≤}
+use Rattle.std.proofs.Common.{◌≡◌, ℕ, zero, suc, ◌+◌, ◌<◌, ◌≤◌, true, Some, None, List, [], ◌∷◌, get_or, length, refl, sym, ap, subst, ◌∙◌, inl, inr, arith, lit<, lit≤}
 use Rattle.std.specs.Prelude.{All, IfSome}
 use Rattle.std.proofs.lemmas.List.Elements.{All-nil, All-cons}
 use Rattle.ballot_law.specs.declared.addresses.Addr.{Addr}
@@ -23,7 +23,7 @@ use Rattle.ballot_law.specs.RosterFaults.{IsRoster}
 use Rattle.ballot_law.specs.Names.{IsNameByte}
 use Rattle.ballot_law.specs.Hellos.{IsHello, hello_text}
 use Rattle.ballot_law.specs.Messages.{Vote, passed_on, hello_handed}
-use Rattle.ballot_law.specs.Ballots.{Raise, Open, Cast, Hear, Win_at, Choose, Enact, Adopt, ShowsCard, card_of, voted_of, candidate_of}
+use Rattle.ballot_law.specs.Ballots.{Raise, Open, Cast, Hear, Win_at, Choose, Enact, Adopt, ShowsCard, kept_of, card_of, voted_of, candidate_of}
 use Rattle.ballot_law.specs.Worlds.{Ready, Sentinel, World, sentinel_at, Choice, IsChoice, started, after_stop, after_answer, IsPassable, Run}
 use Rattle.ballot_law.specs.Law.{IsWellFormed, IsFreshOther, IsStart, FailoverHappens}
 use Rattle.ballot_law.proofs.Scripts.{choose, take_as, store_as, release_as, start_as, other_takes, other_stores, other_speaks, message, event_from, becomes, IsCard, held_none, held_one}
@@ -45,7 +45,7 @@ roster =
     }
 
 abbrev file : Kept
-file = record { current = 0; masters = (record { card = record { epoch = 0; addr = addr 6379 }; voted = 0 }) ∷ [] }
+file = record { current = 0; masters = (record { card = record { epoch = 0; addr = addr 6379 }; voted = 0; candidate = None }) ∷ [] }
 
 abbrev begin : World
 begin =
@@ -308,7 +308,8 @@ starts =
       stores = All-cons IsFreshOther (record { state = Ready; held = [] }) [] (inl refl, refl) (All-nil IsFreshOther);
       clients = All-nil (λ client. IfSome client IsFreshOther);
       messages = refl;
-      votes = refl;
+      votes = λ v x. let l : x.0 < 0 = x.1 in absurd (omega arith);
+      all_votes = λ v x. absurd (no_candidate v.voter v.master x.place x.candidate);
       elected = refl;
       said = refl;
     }
@@ -322,6 +323,13 @@ starts =
     node_is : (i : ℕ) → i < 3 → sentinel_at begin i ≡ started roster (sentinel_at begin i).file
     node_is i l = node_same i l ∙ sym (ap (λ (s : Sentinel). started roster s.file) (node_same i l))
 
+    none_of : (m : ℕ) (c : RunId) → (kept_of file m).candidate ≡ Some c → ⊥
+    none_of zero c e = cc
+    none_of (suc m) c e = cc
+
+    no_candidate : (i m : ℕ) {c : RunId} → i < 3 → (kept_of (sentinel_at begin i).file m).candidate ≡ Some c → ⊥
+    no_candidate i m {c} l e = none_of m c (subst (λ (s : Sentinel). (kept_of s.file m).candidate ≡ Some c) (node_same i l) e)
+
     first_only : (P : ℕ → Type 0) → P 0 → (m : ℕ) → m < 1 → P m
     first_only P p zero l = p
     first_only P p (suc m) l = absurd (omega arith)
@@ -333,6 +341,7 @@ starts =
           cards = first_only (λ m. (card_of file m).epoch ≤ file.current) (lit≤ tt);
           votes = first_only (λ m. voted_of file m ≤ file.current) (lit≤ tt);
           addresses = first_only (λ m. HasNode roster m (card_of file m).addr) refl;
+          candidates = first_only (λ m. voted_of file m ≡ 0 → (kept_of file m).candidate ≡ None) (λ _. refl);
         }
 
 -- the members are in order, and no fault fits them

@@ -73,7 +73,7 @@ pub record MasterOk (t : Group) (h : History) (i m current : ℕ) (kept : KeptMa
   pub card : CardOk t h m kept.card
   pub card_bound : kept.card.epoch ≤ current
   pub heard : All (Contains h.votes) opened.heard
-  pub candidate : (c : RunId) → opened.candidate ≡ Some c → Voted h i m kept.voted c
+  pub candidate : (c : RunId) → kept.candidate ≡ Some c → Voted h i m kept.voted c
   pub campaign : CampaignOk t h i m current kept.card opened.campaign
 
 -- all that h has is in h2

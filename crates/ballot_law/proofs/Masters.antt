@@ -16,8 +16,8 @@ use Rattle.ballot_law.proofs.History.{Pick, History, Group, pick, Voted, Picked,
 -- One master
 
 -- another open part
-pub reopened : (t : Group) (h : History) (i m current : ℕ) (kept : KeptMaster) (opened opened2 : OpenMaster) → MasterOk t h i m current kept opened → All (Contains h.votes) opened2.heard → ((c : RunId) → opened2.candidate ≡ Some c → Voted h i m kept.voted c) → CampaignOk t h i m current kept.card opened2.campaign → MasterOk t h i m current kept opened2
-reopened t h i m current kept opened opened2 ok heard candidate campaign =
+pub reopened : (t : Group) (h : History) (i m current : ℕ) (kept : KeptMaster) (opened opened2 : OpenMaster) → MasterOk t h i m current kept opened → All (Contains h.votes) opened2.heard → CampaignOk t h i m current kept.card opened2.campaign → MasterOk t h i m current kept opened2
+reopened t h i m current kept opened opened2 ok heard campaign =
     record {
       one_vote = ok.one_vote;
       vote_bound = ok.vote_bound;
@@ -26,22 +26,22 @@ reopened t h i m current kept opened opened2 ok heard candidate campaign =
       card = ok.card;
       card_bound = ok.card_bound;
       heard = heard;
-      candidate = candidate;
+      candidate = ok.candidate;
       campaign = campaign;
     }
 
 -- without the open part
 pub MasterOk-closed : (t : Group) (h : History) (i m current : ℕ) (kept : KeptMaster) (opened : OpenMaster) → MasterOk t h i m current kept opened → MasterOk t h i m current kept empty
-MasterOk-closed t h i m current kept opened ok = reopened t h i m current kept opened empty ok (All-nil (Contains h.votes)) (λ c x. absurd (cc)) tt
+MasterOk-closed t h i m current kept opened ok = reopened t h i m current kept opened empty ok (All-nil (Contains h.votes)) tt
 
 -- another campaign
 pub campaigned : (t : Group) (h : History) (i m current : ℕ) (kept : KeptMaster) (opened : OpenMaster) (campaign : Campaign) → MasterOk t h i m current kept opened → CampaignOk t h i m current kept.card campaign → MasterOk t h i m current kept (record opened { campaign = campaign })
 campaigned t h i m current kept opened campaign ok new =
-    reopened t h i m current kept opened (record opened { campaign = campaign }) ok ok.heard ok.candidate new
+    reopened t h i m current kept opened (record opened { campaign = campaign }) ok ok.heard new
 
 -- another card
-pub carded : (t : Group) (h : History) (i m current : ℕ) (kept : KeptMaster) (opened opened2 : OpenMaster) (card : Card) → MasterOk t h i m current kept opened → CardOk t h m card → card.epoch ≤ current → All (Contains h.votes) opened2.heard → ((c : RunId) → opened2.candidate ≡ Some c → Voted h i m kept.voted c) → CampaignOk t h i m current card opened2.campaign → MasterOk t h i m current (record kept { card = card }) opened2
-carded t h i m current kept opened opened2 card ok new bound heard candidate campaign =
+pub carded : (t : Group) (h : History) (i m current : ℕ) (kept : KeptMaster) (opened opened2 : OpenMaster) (card : Card) → MasterOk t h i m current kept opened → CardOk t h m card → card.epoch ≤ current → All (Contains h.votes) opened2.heard → CampaignOk t h i m current card opened2.campaign → MasterOk t h i m current (record kept { card = card }) opened2
+carded t h i m current kept opened opened2 card ok new bound heard campaign =
     record {
       one_vote = ok.one_vote;
       vote_bound = ok.vote_bound;
@@ -50,7 +50,7 @@ carded t h i m current kept opened opened2 card ok new bound heard candidate cam
       card = new;
       card_bound = bound;
       heard = heard;
-      candidate = candidate;
+      candidate = ok.candidate;
       campaign = campaign;
     }
 
@@ -129,7 +129,7 @@ one_more_pick h i m e a none one e2 x y (inl p) (inr q) = absurd (none x (subst 
 one_more_pick h i m e a none one e2 x y (inr p) (inl q) = absurd (none y (subst (λ (k : ℕ). Picked h i m k y) (sym p.0) q))
 one_more_pick h i m e a none one e2 x y (inr p) (inr q) = sym p.1 ∙ q.1
 
-pub cast_kept : (t : Group) (h : History) (i m current e : ℕ) (c : RunId) (kept : KeptMaster) (opened : OpenMaster) → kept.voted < e → MasterOk t h i m current kept opened → MasterOk t (with_vote h (vote i m e c)) i m current (record kept { voted = e }) (record opened { candidate = Some c })
+pub cast_kept : (t : Group) (h : History) (i m current e : ℕ) (c : RunId) (kept : KeptMaster) (opened : OpenMaster) → kept.voted < e → MasterOk t h i m current kept opened → MasterOk t (with_vote h (vote i m e c)) i m current (record kept { voted = e; candidate = Some c }) opened
 cast_kept t h i m current e c kept opened l ok =
     let h2 : History = with_vote h (vote i m e c) in
     let w : Within h h2 = Within-vote h (vote i m e c) in

@@ -1,8 +1,10 @@
 -- The run of `specs/Refusals.antt`: what each take chooses, and the worlds between.
-use Rattle.std.proofs.Common.{◌≡◌, ℕ, zero, suc, ◌-◌, ◌<◌, ◌≤◌, true, false, Option, Some, None, List, [], ◌∷◌, ◌++◌, length, refl, sym, ap, ◌∙◌, inl, inr, ⊎_elim, arith, lit<, lit≤}
-use Rattle.std.specs.Prelude.{◌≢◌, ◌⊎◌, ◌↔◌, All, IfSome, codes, replicate}
+use Rattle.std.proofs.Common.{◌≡◌, ℕ, zero, suc, ◌-◌, ◌<◌, ◌≤◌, true, false, Option, Some, None, List, [], ◌∷◌, ◌++◌, length, refl, sym, ap, subst, ◌∙◌, inl, inr, ⊎_elim, arith, lit<, lit≤}
+use Rattle.std.specs.Prelude.{◌≢◌, ◌⊎◌, ◌↔◌, All, Contains, IfSome, codes, replicate, unwrap_or}
 use Rattle.std.proofs.lemmas.List.Elements.{All-nil, All-cons}
+use Rattle.ballot_law.specs.declared.addresses.RunId.{RunId}
 use Rattle.ballot_law.specs.declared.cards.Kept.{Kept}
+use Rattle.ballot_law.specs.declared.cards.KeptMaster.{KeptMaster}
 use Rattle.ballot_law.specs.declared.cards.TheConstants.{MAX_EPOCH}
 use Rattle.ballot_law.specs.declared.cards.Shown.{Shown}
 use Rattle.ballot_law.specs.declared.commands.Command.TheVariants.{Masters, FlushConfig}
@@ -18,10 +20,10 @@ use Rattle.ballot_law.specs.declared.steps.KeptText.TheVariants.{Old, New}
 use Rattle.ballot_law.specs.declared.steps.Step.{Step}
 use Rattle.ballot_law.specs.Rosters.{HasNode, master_at}
 use Rattle.ballot_law.specs.RosterFaults.{IsRoster}
-use Rattle.ballot_law.specs.Messages.{published, passed_on}
-use Rattle.ballot_law.specs.Ballots.{Ballot, Open, Cast, Win_at, Choose, Enact, card_of, voted_of}
+use Rattle.ballot_law.specs.Messages.{Vote, published, passed_on}
+use Rattle.ballot_law.specs.Ballots.{Ballot, Open, Cast, Win_at, Choose, Enact, vote, kept_of, card_of, voted_of}
 use Rattle.ballot_law.specs.Worlds.{Ready, Stopped, Other, World, sentinel_at, IsFlush, Choice, IsChoice, IsPassable, after_refused, after_stop, after_answer, stores_of, started, Run}
-use Rattle.ballot_law.specs.Law.{IsWellFormed, IsFresh, IsFreshOther, IsStart}
+use Rattle.ballot_law.specs.Law.{IsWellFormed, IsFiled, IsFresh, IsFreshOther, IsStart}
 use Rattle.ballot_law.specs.Refusals.{addr, own_id, roster, first_card, second_card, first_file, begin, me, pong, question, others_speak, asked, refused_old, refused_new, elected, flushed, steps, IsEnd, RefusalsHappen}
 use Rattle.ballot_law.proofs.Runs.{steps_join}
 use Rattle.ballot_law.proofs.Scripts.{choose, take_as, store_as, release_as, start_as, other_takes, other_stores, other_releases, message, event_from, becomes, IsCard, held_none, held_one, right_cards}
@@ -424,6 +426,7 @@ formed =
       cards = both (λ m. (card_of first_file m).epoch ≤ first_file.current) (lit≤ tt) (lit≤ tt);
       votes = both (λ m. voted_of first_file m ≤ first_file.current) (lit≤ tt) (lit≤ tt);
       addresses = both (λ m. HasNode roster m (card_of first_file m).addr) refl refl;
+      candidates = both (λ m. voted_of first_file m ≡ 0 → (kept_of first_file m).candidate ≡ None) (λ _. refl) (λ e. absurd (omega arith));
     }
 
 same_card : (i j m : ℕ) → i < 1 → j < 1 → card_of (sentinel_at begin i).file m ≡ card_of (sentinel_at begin j).file m
@@ -439,6 +442,33 @@ none_before zero clients fresh = fresh
 none_before (suc n) clients fresh =
     All-cons IsFreshClient None (replicate n None ++ clients) tt (none_before n clients fresh)
 
+-- the only vote that the file tells
+filed : Vote
+filed = vote 0 1 5 own_id
+
+are_filed : (v : Vote) → Contains begin.votes v → IsFiled begin v
+are_filed v (zero, l, same) = subst (IsFiled begin) same (record { place = lit< tt; voted = refl; candidate = refl })
+are_filed v (suc k, l, same) = absurd (omega arith)
+
+filed_are : (v : Vote) → IsFiled begin v → Contains begin.votes v
+filed_are v is_filed = of_voter v.voter v.master refl refl is_filed.place is_filed.voted is_filed.candidate
+  where
+    told_by : ℕ → ℕ → KeptMaster
+    told_by i m = kept_of (sentinel_at begin i).file m
+
+    of_voter : (i m : ℕ) → i ≡ v.voter → m ≡ v.master → i < 1 → (told_by i m).voted ≡ v.epoch → (told_by i m).candidate ≡ Some v.candidate → Contains begin.votes v
+    of_voter zero zero e f l voted candidate = absurd (cc)
+    of_voter zero (suc zero) e f l voted candidate = (
+      0,
+      lit< tt,
+      ap (λ (i : ℕ). vote i 1 5 own_id) e
+      ∙ ap (λ (m : ℕ). vote v.voter m 5 own_id) f
+      ∙ ap (λ (n : ℕ). vote v.voter v.master n own_id) voted
+      ∙ ap (λ (c : Option RunId). vote v.voter v.master v.epoch (unwrap_or c own_id)) candidate,
+    )
+    of_voter zero (suc (suc m)) e f l voted candidate = absurd (cc)
+    of_voter (suc i) m e f l voted candidate = absurd (omega arith)
+
 starts : IsStart roster begin
 starts =
     record {
@@ -451,7 +481,8 @@ starts =
       clients = none_before 5 (Some (record { state = Ready; held = [] }) ∷ [])
           (All-cons IsFreshClient (Some (record { state = Ready; held = [] })) [] (inl refl, refl) (All-nil IsFreshClient));
       messages = refl;
-      votes = refl;
+      votes = are_filed;
+      all_votes = filed_are;
       elected = refl;
       said = refl;
     }

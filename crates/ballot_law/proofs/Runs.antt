@@ -10,7 +10,7 @@ use Rattle.std.proofs.lemmas.List.{get_or_past, map-append}
 use Rattle.std.proofs.lemmas.List.Elements.{All-nil, All-head, All-tail, All-contains, All-get_or}
 use Rattle.ballot_law.specs.declared.cards.Card.{Card}
 use Rattle.ballot_law.specs.Rosters.{Roster, size, id_of, need, HasDistinctIds}
-use Rattle.ballot_law.specs.Ballots.{no_kept, card_of}
+use Rattle.ballot_law.specs.Ballots.{no_kept, kept_of, card_of, voted_of, vote}
 use Rattle.ballot_law.specs.declared.cards.Kept.{Kept}
 use Rattle.ballot_law.specs.declared.cards.KeptMaster.{KeptMaster}
 use Rattle.ballot_law.specs.Worlds.{Ready, Stopped, Sentinel, Other, World, no_sentinel, no_other, sentinel_at, started, Move, StepOf, Joined, JoinedBy}
@@ -48,14 +48,17 @@ file_at_start roster w i begins place =
       kept_length = (begins.files i place).masters;
       each = λ m.
           record {
-            one_vote = λ e c d x y. absurd (no_member w.votes (record { voter = i; master = m; epoch = e; candidate = c }) begins.votes x);
-            vote_bound = λ e c x. absurd (no_member w.votes (record { voter = i; master = m; epoch = e; candidate = c }) begins.votes x);
+            one_vote = λ e c d x y.
+              let a : (kept_of file m).candidate ≡ Some c = (begins.votes (vote i m e c) x).candidate in
+              let b : (kept_of file m).candidate ≡ Some d = (begins.votes (vote i m e d) y).candidate in
+              cc;
+            vote_bound = λ e c x. let s : voted_of file m ≡ e = (begins.votes (vote i m e c) x).voted in omega arith;
             one_pick = λ e a b x y. absurd (no_member [] (record { sentinel = i; master = m; epoch = e; choice = a }) refl x);
             pick_bound = λ e a x. absurd (no_member [] (record { sentinel = i; master = m; epoch = e; choice = a }) refl x);
             card = inl (begins.same_cards i 0 m place (omega arith));
             card_bound = bound_at roster file m (begins.files i place) (cases_lt m (length roster.masters));
             heard = All-nil (Contains w.votes);
-            candidate = λ c e. absurd (cc);
+            candidate = λ c e. begins.all_votes (vote i m (voted_of file m) c) (record { place = subst (λ (n : ℕ). i < n) (sym begins.count) place; voted = refl; candidate = e });
             campaign = tt;
           };
     }

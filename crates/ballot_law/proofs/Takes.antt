@@ -122,7 +122,6 @@ hears t g i file parts picks v m e c ok inside cast =
     draft_changed t g i file parts picks m parts.kept.current (kept_of parts.kept m) (record (open_of parts m) { heard = (open_of parts m).heard ++ vote v m e c ∷ [] }) ok inside (omega arith) (omega arith)
     (reopened t h i m parts.kept.current (kept_of parts.kept m) (open_of parts m) (record (open_of parts m) { heard = (open_of parts m).heard ++ vote v m e c ∷ [] }) here
     (All-push (Contains h.votes) (open_of parts m).heard (vote v m e c) here.heard ((Within-grown g parts.casts picks).votes (vote v m e c) cast))
-    here.candidate
     here.campaign)
 
 has_voted : (t : Group) (g : History) (i : ℕ) (parts : Parts) (picks : List Pick) (m e v : ℕ) → Here t g i parts picks m → HasVoted t.roster i parts m e v → Voted (grown g parts.casts picks) v m e (id_of t.roster i)
@@ -163,8 +162,8 @@ casts_now t g i file parts picks m e c ok inside l =
     let v : Vote = vote i m e c in
     let path : with_vote h v ≡ grown g (parts.casts ++ v ∷ []) picks = cast_path g parts.casts picks v in
     let here : Here t g i parts picks m = (ok.sound).each m in
-    let km : KeptMaster = record (kept_of parts.kept m) { voted = e } in
-    let om : OpenMaster = record (open_of parts m) { candidate = Some c } in
+    let km : KeptMaster = record (kept_of parts.kept m) { voted = e; candidate = Some c } in
+    let om : OpenMaster = open_of parts m in
     record {
       casts_by = All-push (λ (u : Vote). u.voter ≡ i) parts.casts v ok.casts_by refl;
       picks_by = ok.picks_by;
@@ -197,7 +196,7 @@ enacts t g i file parts picks m e a place ok inside chosen =
     let is_chosen : IsChosen t h m card i = record { place = place; picked = way.1; backed = way.2; above = (way.0).above } in
     let way2 : IsUnderWay t m parts.kept.current card e = record { above = (way.0).above; not_below = omega arith; bound = (way.0).bound } in
     draft_changed t g i file parts picks m parts.kept.current (record (kept_of parts.kept m) { card = card }) (open_of parts m) ok inside (omega arith) (way.0).not_below
-    (carded t h i m parts.kept.current (kept_of parts.kept m) (open_of parts m) (open_of parts m) card here (inr (i, is_chosen)) (way.0).bound here.heard here.candidate
+    (carded t h i m parts.kept.current (kept_of parts.kept m) (open_of parts m) (open_of parts m) card here (inr (i, is_chosen)) (way.0).bound here.heard
     (subst (CampaignOk t h i m parts.kept.current card) (sym chosen) (way2, way.1, way.2)))
 
 adopts : (t : Group) (g : History) (i : ℕ) (file : Kept) (parts : Parts) (picks : List Pick) (m : ℕ) (card : Card) → DraftOk t g i file parts picks → m < length t.roster.masters → CardOk t g m card → (card_of parts.kept m).epoch < card.epoch → DraftOk t g i file (after i parts (Adopt m card)) picks
@@ -211,7 +210,6 @@ adopts t g i file parts picks m card ok inside right l =
     (CardOk-grows t g h m card (Within-grown g parts.casts picks) right)
     (omega arith)
     here.heard
-    here.candidate
     tt)
 
 -- the bytes have one hello, so the card that an event shows is that of a published one

@@ -23,7 +23,6 @@ pub data Campaign : Type 0 where
 -- what a stop makes a Sentinel lose of a master: the votes heard, the candidate of the voted epoch, the campaign
 pub record OpenMaster : Type 0 where
   pub heard : List Vote
-  pub candidate : Option RunId
   pub campaign : Campaign
 
 -- what the file is to hold and what it doesn't, with the votes cast and the wins of the last take
@@ -37,10 +36,10 @@ abbrev pub no_card : Card
 no_card = record { epoch = 0; addr = no_addr }
 
 abbrev pub no_kept : KeptMaster
-no_kept = record { card = no_card; voted = 0 }
+no_kept = record { card = no_card; voted = 0; candidate = None }
 
 abbrev pub empty : OpenMaster
-empty = record { heard = []; candidate = None; campaign = Idle }
+empty = record { heard = []; campaign = Idle }
 
 abbrev pub kept_of : Kept → ℕ → KeptMaster
 kept_of kept m = slice_index_or kept.masters m no_kept
@@ -55,7 +54,7 @@ abbrev pub open_of : Parts → ℕ → OpenMaster
 open_of parts m = slice_index_or parts.masters m empty
 
 abbrev pub candidate_of : Parts → ℕ → Option RunId
-candidate_of parts m = (open_of parts m).candidate
+candidate_of parts m = (kept_of parts.kept m).candidate
 
 abbrev pub campaign_of : Parts → ℕ → Campaign
 campaign_of parts m = (open_of parts m).campaign
@@ -144,7 +143,7 @@ after i parts (Raise e) = record parts { kept = record { current = e; masters = 
 after i parts (Open m) = with_campaign parts (parts.kept.current + 1) m (Running (parts.kept.current + 1))
 after i parts (Cast m e c) =
     record
-    (changed parts parts.kept.current m (record (kept_of parts.kept m) { voted = e }) (record (open_of parts m) { candidate = Some c }))
+    (changed parts parts.kept.current m (record (kept_of parts.kept m) { voted = e; candidate = Some c }) (open_of parts m))
     { casts = parts.casts ++ vote i m e c ∷ [] }
 after i parts (Hear v m e c) =
     changed parts parts.kept.current m (kept_of parts.kept m) (record (open_of parts m) { heard = (open_of parts m).heard ++ vote v m e c ∷ [] })

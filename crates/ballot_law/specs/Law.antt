@@ -1,5 +1,5 @@
 -- Where runs start, and what holds of each.
-use Rattle.std.specs.Prelude.{◌≡◌, ◌≢◌, ℕ, ◌<◌, ◌≤◌, ◌⊎◌, Contains, IfSome, List, [], ◌++◌, All, length}
+use Rattle.std.specs.Prelude.{◌≡◌, ◌≢◌, ℕ, ◌<◌, ◌≤◌, ◌⊎◌, Contains, IfSome, Some, None, List, [], ◌++◌, All, length}
 use Rattle.ballot_law.specs.declared.cards.Card.{Card}
 use Rattle.ballot_law.specs.declared.cards.Kept.{Kept}
 use Rattle.ballot_law.specs.declared.records.Election.{Election}
@@ -7,7 +7,8 @@ use Rattle.ballot_law.specs.declared.records.Advertisement.{Advertisement}
 use Rattle.ballot_law.specs.declared.steps.Step.{Step}
 use Rattle.ballot_law.specs.Rosters.{Roster, HasNode, size, HasDistinctIds}
 use Rattle.ballot_law.specs.RosterFaults.{IsRoster}
-use Rattle.ballot_law.specs.Ballots.{card_of, voted_of}
+use Rattle.ballot_law.specs.Messages.{Vote}
+use Rattle.ballot_law.specs.Ballots.{kept_of, card_of, voted_of}
 use Rattle.ballot_law.specs.Worlds.{World, Sentinel, Other, Ready, Stopped, sentinel_at, started, Move, Moves, Joined, JoinedBy, Run}
 
 -- no epoch of a card or a vote is above the current one, and each card's address is in its master's list
@@ -16,6 +17,13 @@ pub record IsWellFormed (roster : Roster) (kept : Kept) : Type 0 where
   pub cards : (m : ℕ) → m < length roster.masters → (card_of kept m).epoch ≤ kept.current
   pub votes : (m : ℕ) → m < length roster.masters → voted_of kept m ≤ kept.current
   pub addresses : (m : ℕ) → m < length roster.masters → HasNode roster m (card_of kept m).addr
+  pub candidates : (m : ℕ) → m < length roster.masters → voted_of kept m ≡ 0 → (kept_of kept m).candidate ≡ None
+
+-- the file of the voter holds the vote
+pub record IsFiled (w : World) (v : Vote) : Type 0 where
+  pub place : v.voter < length w.sentinels
+  pub voted : voted_of (sentinel_at w v.voter).file v.master ≡ v.epoch
+  pub candidate : (kept_of (sentinel_at w v.voter).file v.master).candidate ≡ Some v.candidate
 
 -- ready or stopped, with nothing but its file
 abbrev pub IsFresh : Roster → Sentinel → Type 0
@@ -34,7 +42,8 @@ pub record IsStart (roster : Roster) (w : World) : Type 0 where
   pub stores : All IsFreshOther w.stores
   pub clients : All (λ client. IfSome client IsFreshOther) w.clients
   pub messages : w.messages ≡ []
-  pub votes : w.votes ≡ []
+  pub votes : (v : Vote) → Contains w.votes v → IsFiled w v
+  pub all_votes : (v : Vote) → IsFiled w v → Contains w.votes v
   pub elected : w.elected ≡ []
   pub said : w.said ≡ []
 

@@ -52,12 +52,12 @@ first_card = record { epoch = 2; addr = addr 6379 }
 abbrev pub second_card : Card
 second_card = record { epoch = 4; addr = addr 6381 }
 
--- votes were given for both masters, and two epochs are left
+-- votes were given for both masters, the first one by a file that tells no candidate, and two epochs are left
 abbrev pub first_file : Kept
 first_file =
     record {
       current = MAX_EPOCH - 2;
-      masters = (record { card = first_card; voted = 3 }) ∷ (record { card = second_card; voted = 5 }) ∷ [];
+      masters = (record { card = first_card; voted = 3; candidate = None }) ∷ (record { card = second_card; voted = 5; candidate = Some own_id }) ∷ [];
     }
 
 -- the configuration of the first master after a failover in the last epoch but one
@@ -70,8 +70,8 @@ last_file =
     record {
       current = MAX_EPOCH;
       masters =
-          (record { card = new_card; voted = MAX_EPOCH - 1 })
-          ∷ (record { card = second_card; voted = MAX_EPOCH })
+          (record { card = new_card; voted = MAX_EPOCH - 1; candidate = Some own_id })
+          ∷ (record { card = second_card; voted = MAX_EPOCH; candidate = Some own_id })
           ∷ [];
     }
 
@@ -83,7 +83,7 @@ begin =
       stores = (record { state = Stopped; held = [] }) ∷ (record { state = Ready; held = [] }) ∷ [];
       clients = replicate 5 None ++ Some (record { state = Ready; held = [] }) ∷ [];
       messages = [];
-      votes = [];
+      votes = vote 0 1 5 own_id ∷ [];
       elected = [];
       said = [];
     }
@@ -175,7 +175,7 @@ says m card = record { sentinel = 0; master = m; card = card }
 -- what the world shows at the end
 pub record IsEnd (last : World) : Type 0 where
   pub messages : Contains last.messages pong
-  pub votes : last.votes ≡ vote 0 0 (MAX_EPOCH - 1) own_id ∷ vote 0 1 MAX_EPOCH own_id ∷ []
+  pub votes : last.votes ≡ vote 0 1 5 own_id ∷ vote 0 0 (MAX_EPOCH - 1) own_id ∷ vote 0 1 MAX_EPOCH own_id ∷ []
   -- the failover whose store was refused with the new text is no election
   pub elected_are : last.elected ≡ (let e : Election = record { sentinel = 0; master = 1; epoch = MAX_EPOCH } in e) ∷ []
   -- two answers to the question, one to MASTERS, and four at moments between

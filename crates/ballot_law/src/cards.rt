@@ -2,7 +2,7 @@
 
 ghost use Rattle.std.specs.Prelude.{◌≡◌};
 
-use crate::addresses::Addr;
+use crate::addresses::{Addr, RunId};
 use std::marker::Model;
 
 /// The greatest epoch: 2^48 - 1.
@@ -68,6 +68,8 @@ pub struct KeptMaster {
     pub card: Card,
     /// The line `leader-epoch`: the epoch of the last vote for this master, 0 where none was given.
     pub voted: u64,
+    /// The line `leader-id`: the candidate of that vote.
+    pub candidate: Option<RunId>,
 }
 
 /// What a Sentinel's file holds of each master, by the master's number.
