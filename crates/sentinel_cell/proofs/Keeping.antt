@@ -4,6 +4,7 @@ use Rattle.std.specs.Prelude.{IfSome, IsOk, OnOk, is_err, Result, Ok, Err, not, 
 use Rattle.std.proofs.Math.Seq.{drop-append_seam, drop-length}
 use Rattle.std.proofs.lemmas.Bool.{eqb-true}
 use Rattle.ballot_law.specs.declared.addresses.Addr.{Addr}
+use Rattle.ballot_law.specs.declared.addresses.RunId.{RunId}
 use Rattle.ballot_law.specs.declared.cards.Kept.{Kept}
 use Rattle.ballot_law.specs.declared.cards.KeptMaster.{KeptMaster}
 use Rattle.ballot_law.specs.declared.events.Input.{Input}
@@ -22,7 +23,7 @@ use Rattle.sentinel_core.specs.Sentinels.{Whole, is_flush}
 use Rattle.sentinel_cell.specs.declared.entry.Entry.{Entry}
 use Rattle.sentinel_cell.specs.declared.entry.Outcome.TheVariants.{Stored, Refused}
 use Rattle.sentinel_cell.specs.declared.keeper.Keeper.{Keeper}
-use Rattle.sentinel_cell.specs.Histories.{World, IsStep, IsLeft, IsText, after, entry_of, next_of, must_store, text_of, same_entry, same_entries, same_kept}
+use Rattle.sentinel_cell.specs.Histories.{World, IsStep, IsLeft, IsText, after, entry_of, next_of, must_store, text_of, same_candidate, same_entry, same_entries, same_kept}
 
 -- Whether two kept parts are the same
 
@@ -33,14 +34,26 @@ both false b e = absurd (true≢false (sym e))
 same_number : (a b : ℕ) → (a == b) ≡ true → a ≡ b
 same_number a b e = eqb-true a b e
 
+candidate_true : (c d : Option RunId) → same_candidate c d ≡ true → c ≡ d
+candidate_true None None e = refl
+candidate_true None (Some d) e = absurd (true≢false (sym e))
+candidate_true (Some c) None e = absurd (true≢false (sym e))
+candidate_true (Some c) (Some d) e =
+    let one = both (c.hi == d.hi) (c.lo == d.lo) e in
+    let hi : c.hi ≡ d.hi = same_number c.hi d.hi one.0 in
+    let lo : c.lo ≡ d.lo = same_number c.lo d.lo one.1 in
+    λ i. Some (record { hi = hi i; lo = lo i })
+
 entry_true : (a b : KeptMaster) → same_entry a b ≡ true → a ≡ b
 entry_true a b e =
-    let one = both (a.card.epoch == b.card.epoch) (same_addr a.card.addr b.card.addr && (a.voted == b.voted)) e in
-    let two = both (same_addr a.card.addr b.card.addr) (a.voted == b.voted) one.1 in
+    let one = both (a.card.epoch == b.card.epoch) (same_addr a.card.addr b.card.addr && ((a.voted == b.voted) && same_candidate a.candidate b.candidate)) e in
+    let two = both (same_addr a.card.addr b.card.addr) ((a.voted == b.voted) && same_candidate a.candidate b.candidate) one.1 in
+    let three = both (a.voted == b.voted) (same_candidate a.candidate b.candidate) two.1 in
     let epoch : a.card.epoch ≡ b.card.epoch = same_number a.card.epoch b.card.epoch one.0 in
     let addr : a.card.addr ≡ b.card.addr = same_addr-equal a.card.addr b.card.addr two.0 in
-    let voted : a.voted ≡ b.voted = same_number a.voted b.voted two.1 in
-    λ i. record { card = record { epoch = epoch i; addr = addr i }; voted = voted i }
+    let voted : a.voted ≡ b.voted = same_number a.voted b.voted three.0 in
+    let candidate : a.candidate ≡ b.candidate = candidate_true a.candidate b.candidate three.1 in
+    λ i. record { card = record { epoch = epoch i; addr = addr i }; voted = voted i; candidate = candidate i }
 
 entries_true : (xs ys : List KeptMaster) → same_entries xs ys ≡ true → xs ≡ ys
 entries_true [] [] e = refl
@@ -66,12 +79,17 @@ all_true false b p q = absurd (true≢false (sym p))
 addr_same : (a : Addr) → same_addr a a ≡ true
 addr_same a = all_true (a.ip == a.ip) (a.port == a.port) (eq-eqb a.ip a.ip refl) (eq-eqb a.port a.port refl)
 
+candidate_same : (c : Option RunId) → same_candidate c c ≡ true
+candidate_same None = refl
+candidate_same (Some c) = all_true (c.hi == c.hi) (c.lo == c.lo) (eq-eqb c.hi c.hi refl) (eq-eqb c.lo c.lo refl)
+
 entries_same : (xs : List KeptMaster) → same_entries xs xs ≡ true
 entries_same [] = refl
 entries_same (x ∷ xs) =
     all_true (same_entry x x) (same_entries xs xs)
-    (all_true (x.card.epoch == x.card.epoch) (same_addr x.card.addr x.card.addr && (x.voted == x.voted)) (eq-eqb x.card.epoch x.card.epoch refl)
-    (all_true (same_addr x.card.addr x.card.addr) (x.voted == x.voted) (addr_same x.card.addr) (eq-eqb x.voted x.voted refl)))
+    (all_true (x.card.epoch == x.card.epoch) (same_addr x.card.addr x.card.addr && ((x.voted == x.voted) && same_candidate x.candidate x.candidate)) (eq-eqb x.card.epoch x.card.epoch refl)
+    (all_true (same_addr x.card.addr x.card.addr) ((x.voted == x.voted) && same_candidate x.candidate x.candidate) (addr_same x.card.addr)
+    (all_true (x.voted == x.voted) (same_candidate x.candidate x.candidate) (eq-eqb x.voted x.voted refl) (candidate_same x.candidate))))
     (entries_same xs)
 
 pub kept_same : (a b : Kept) → a ≡ b → same_kept a b ≡ true

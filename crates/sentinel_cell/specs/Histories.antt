@@ -1,5 +1,6 @@
 -- Which histories of one Sentinel are legal, and what they leave.
 use Rattle.std.specs.Prelude.{◌≡◌, ◌≢◌, ℕ, ◌-◌, ◌^◌, ◌<◌, ◌≤◌, ◌⊎◌, Bool, true, false, not, ◌||◌, ◌&&◌, ◌==◌, cond, List, [], ◌∷◌, ◌++◌, drop, Option, Some, None, IfSome}
+use Rattle.ballot_law.specs.declared.addresses.RunId.{RunId}
 use Rattle.ballot_law.specs.declared.cards.Card.{Card}
 use Rattle.ballot_law.specs.declared.cards.Kept.{Kept}
 use Rattle.ballot_law.specs.declared.cards.KeptMaster.{KeptMaster}
@@ -7,7 +8,7 @@ use Rattle.ballot_law.specs.declared.events.Event.TheVariants.{Tick}
 use Rattle.ballot_law.specs.declared.events.Input.{Input}
 use Rattle.ballot_law.specs.declared.messages.Output.{Output}
 use Rattle.ballot_law.specs.Ballots.{card_of}
-use Rattle.ballot_law.specs.Orders.{same_addr}
+use Rattle.ballot_law.specs.Orders.{same_addr, same_id}
 use Rattle.ballot_law.specs.Rosters.{no_id}
 use Rattle.sentinel_conf.specs.Rewritten.{rewritten, IsKeptPart}
 use Rattle.sentinel_rules.specs.Plans.{Plan, addr_at, master_count}
@@ -51,8 +52,16 @@ no_world = record { plan = no_plan; core = no_core; stored = no_kept_part; halte
 
 -- Whether two kept parts are the same
 
+abbrev pub same_candidate : Option RunId → Option RunId → Bool
+same_candidate None None = true
+same_candidate None (Some d) = false
+same_candidate (Some c) None = false
+same_candidate (Some c) (Some d) = same_id c d
+
 abbrev pub same_entry : KeptMaster → KeptMaster → Bool
-same_entry a b = (a.card.epoch == b.card.epoch) && (same_addr a.card.addr b.card.addr && (a.voted == b.voted))
+same_entry a b =
+    (a.card.epoch == b.card.epoch)
+    && (same_addr a.card.addr b.card.addr && ((a.voted == b.voted) && same_candidate a.candidate b.candidate))
 
 abbrev pub same_entries : List KeptMaster → List KeptMaster → Bool
 same_entries [] [] = true

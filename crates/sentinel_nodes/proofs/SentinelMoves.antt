@@ -14,7 +14,7 @@ use Rattle.ballot_law.specs.Rosters.{Roster, id_of, size}
 use Rattle.ballot_law.specs.Ballots.{Parts, Moved, restored}
 use Rattle.ballot_law.specs.Worlds.{Sentinel, State, Ready, Pending, Stored, Halted, Stopped, IsFlush, Choice, IsRightOutput, taken, stored_now, ended, ended_new, started}
 use Rattle.sentinel_conf.specs.Meaning.{ConfPlan}
-use Rattle.sentinel_conf.specs.Reading.{conf_of_bytes}
+use Rattle.sentinel_conf.specs.Reading.{FILE_MAX, conf_of_bytes}
 use Rattle.sentinel_conf.specs.Rewritten.{rewritten, IsKeptPart}
 use Rattle.sentinel_rules.specs.Plans.{Plan, roster_of}
 use Rattle.sentinel_rules.specs.States.{Core, opened}
@@ -174,7 +174,7 @@ abbrev pub AgainOf : Type 0
 AgainOf = (bytes : List ℕ) (conf : ConfPlan) (kept : Kept) → conf_of_bytes bytes ≡ Ok conf → IsKeptPart conf kept → conf_of_bytes (rewritten conf kept) ≡ Ok (record conf { kept = kept })
 
 abbrev pub SizeOf : Type 0
-SizeOf = (bytes : List ℕ) (conf : ConfPlan) (kept : Kept) → conf_of_bytes bytes ≡ Ok conf → IsKeptPart conf kept → length (rewritten conf kept) ≤ 65536
+SizeOf = (bytes : List ℕ) (conf : ConfPlan) (kept : Kept) → conf_of_bytes bytes ≡ Ok conf → IsKeptPart conf kept → length (rewritten conf kept) ≤ FILE_MAX
 
 kept_part : (conf : ConfPlan) (file kept : Kept) → IsKeptPart conf kept → IsKeptPart (record conf { kept = file }) kept
 kept_part conf file kept part = record { current = part.current; masters = part.masters }
@@ -182,7 +182,7 @@ kept_part conf file kept part = record { current = part.current; masters = part.
 read_again : AgainOf → (text : List ℕ) (conf : ConfPlan) (file kept : Kept) → conf_of_bytes text ≡ Ok (record conf { kept = file }) → IsKeptPart conf kept → conf_of_bytes (rewritten conf kept) ≡ Ok (record conf { kept = kept })
 read_again again text conf file kept read part = again text (record conf { kept = file }) kept read (kept_part conf file kept part)
 
-fits_file : SizeOf → (text : List ℕ) (conf : ConfPlan) (file kept : Kept) → conf_of_bytes text ≡ Ok (record conf { kept = file }) → IsKeptPart conf kept → length (rewritten conf kept) ≤ 65536
+fits_file : SizeOf → (text : List ℕ) (conf : ConfPlan) (file kept : Kept) → conf_of_bytes text ≡ Ok (record conf { kept = file }) → IsKeptPart conf kept → length (rewritten conf kept) ≤ FILE_MAX
 fits_file size text conf file kept read part = size text (record conf { kept = file }) kept read (kept_part conf file kept part)
 
 -- A store
@@ -197,11 +197,11 @@ pub record StoredAs (before after : Whole) (file file2 : File) (result : Result 
   pub halted : IsErrOf result store_fault.Refused → after ≡ record before { phase = phase.Halted }
   pub known : before.phase ≡ phase.Pending true → (is_ok result ≡ (outcome_of file (rewritten before.plan.conf before.core.kept)).is_stored) × (Some file2.text ≡ Some (outcome_of file (rewritten before.plan.conf before.core.kept)).text)
 
-no_over : (n : ℕ) → n ≤ 65536 → nat_lt 65536 n ≡ false
-no_over n h = le-ltb 65536 n h
+no_over : (n : ℕ) → n ≤ FILE_MAX → nat_lt FILE_MAX n ≡ false
+no_over n h = le-ltb FILE_MAX n h
 
 -- where there is room, the file answers by its refusal
-answers : (file : File) (text : List ℕ) → length text ≤ 65536 → outcome_of file text ≡ outcome_with file.refusal file.text text
+answers : (file : File) (text : List ℕ) → length text ≤ FILE_MAX → outcome_of file text ≡ outcome_with file.refusal file.text text
 answers file text h = ap (λ b. Rattle.std.proofs.Common.cond b (record { is_stored = false; text = file.text }) (outcome_with file.refusal file.text text)) (no_over (length text) h)
 
 -- a store that ends well

@@ -2,6 +2,7 @@
 -- stands then.
 use Rattle.std.specs.Prelude.{ℕ, Bool, true, false, nat_lt, if◌then◌else◌, Option, Some, None, List, length}
 use Rattle.conf_store.specs.Stores.{Outcome}
+use Rattle.sentinel_conf.specs.Reading.{FILE_MAX}
 use Rattle.boxed_nodes.specs.declared.calls.HowStored.{HowStored}
 use Rattle.boxed_nodes.specs.declared.calls.HowStored.TheVariants as how
 
@@ -23,4 +24,4 @@ outcome_with (Some true) old new = record { is_stored = false; text = new }
 -- what it answers to a text, and the text that it then holds
 abbrev pub outcome_of : File → List ℕ → Outcome
 outcome_of file text =
-    if nat_lt 65536 (length text) then record { is_stored = false; text = file.text } else outcome_with file.refusal file.text text
+    if nat_lt FILE_MAX (length text) then record { is_stored = false; text = file.text } else outcome_with file.refusal file.text text

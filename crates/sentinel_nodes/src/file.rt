@@ -1,14 +1,12 @@
 //! The file of a Sentinel in memory.
 
 ghost use Rattle.std.specs.Prelude.{◌≡◌, ◌≤◌, ◌<◌, ◌+◌, ◌^◌, ◌-◌, ℕ, Bool, List, Option, Some, None, if◌then◌else◌, ◌⊎◌, OnOk, OnErr, IfOk, is_ok, length, vec_capacity};
+ghost use Rattle.sentinel_conf.specs.Reading.{FILE_MAX};
 ghost use Rattle.sentinel_nodes.specs.Files.{File as Seen, outcome_of};
 
-use sentinel_conf::{ConfStore, FileText, LoadFault, NoMemory, StoreRefused};
+use sentinel_conf::{ConfStore, FILE_MAX, FileText, LoadFault, NoMemory, StoreRefused};
 use std::alloc::Global;
 use std::marker::Model;
-
-/// The longest text of a file.
-pub(crate) const FILE_MAX: usize = 65_536;
 
 /// A text in room that was made beforehand, so a replacement takes no memory; the next one can be refused.
 #[derive(Drop)]
@@ -20,6 +18,7 @@ pub(crate) struct File {
 
 impl Model for File {
     ghost use Rattle.std.specs.Prelude.{◌≤◌, vec_capacity};
+    ghost use Rattle.sentinel_conf.specs.Reading.{FILE_MAX};
     ghost use Rattle.sentinel_nodes.specs.Files.{File as Seen};
 
     ghost Value = { Seen };
@@ -30,7 +29,7 @@ impl Model for File {
       refusal = file.refusal;
     } };
 
-    ghost invariant = { λ file. 65536 ≤ vec_capacity file.text };
+    ghost invariant = { λ file. FILE_MAX ≤ vec_capacity file.text };
 }
 
 impl File {

@@ -17,6 +17,7 @@ use Rattle.ballot_law.specs.Rosters.{Roster, size}
 use Rattle.ballot_law.specs.Worlds.{World, Sentinel, Other, Ready, Stopped, no_sentinel, no_other, sentinel_at, other_at, client_at, started, IsNode}
 use Rattle.boxed_nodes.specs.Images.{Image, OfSentinel, OfOther, image_at, card_shown, IsFreshImage, IsOfKind}
 use Rattle.world_members.specs.Groups.{store_count, IsPlaced, HasNamed, AreApart, HasAllBelow, IsSentinelName}
+use Rattle.world_members.proofs.FiledVotes.{filed_votes, are_filed, all_filed}
 use Rattle.world_members.proofs.Names.{Search, search_for, above, client_below}
 
 -- the image with which a node begins, of which the rest is asked
@@ -95,14 +96,17 @@ module _ {N : Type 0} (name : N → NodeName) (seat : N → Roster → Image →
   kind_at : (wanted : NodeName) (o : Option Image) (c : IsChosen wanted o) → IsOfKind wanted (begun c.place c.node c.at).image
   kind_at wanted o c = subst (λ x. IsOfKind x (begun c.place c.node c.at).image) c.named (begun c.place c.node c.at).kind
 
+  abbrev sentinels_here : List Sentinel
+  sentinels_here = map (λ i. as_sentinel (chosen (SentinelAt i))) (range_with_len 0 (size roster))
+
   abbrev pub beginning : World
   beginning =
       record {
-        sentinels = map (λ i. as_sentinel (chosen (SentinelAt i))) (range_with_len 0 (size roster));
+        sentinels = sentinels_here;
         stores = map (λ k. as_other (chosen (StoreAt k))) (range_with_len 0 (store_count roster));
         clients = map (λ c. as_client (chosen (ClientAt c))) (range_with_len 0 (above name nodes));
         messages = [];
-        votes = [];
+        votes = filed_votes sentinels_here;
         elected = [];
         said = [];
       }
@@ -241,7 +245,8 @@ module _ {N : Type 0} (name : N → NodeName) (seat : N → Roster → Image →
             stores = All-from_get_or IsFreshOther beginning.stores no_other (λ k less. store_fresh k (subst (λ n. k < n) (length-map-range_with_len (λ i. as_other (chosen (StoreAt i))) 0 (store_count roster)) less));
             clients = All-from_get_or (λ client. IfSome client IsFreshOther) beginning.clients None (λ c less. client_fresh_by c (client_at beginning c) refl);
             messages = refl;
-            votes = refl;
+            votes = are_filed beginning;
+            all_votes = all_filed beginning;
             elected = refl;
             said = refl;
           }

@@ -1,5 +1,6 @@
 mod Searching
 mod Loops
 mod Names
+mod FiledVotes
 mod Beginning
 mod Standing
