@@ -157,6 +157,7 @@ sentinel current-epoch 1\n\
 sentinel monitor mymaster 127.0.0.1 6379 2\n\
 sentinel config-epoch mymaster 0\n\
 sentinel leader-epoch mymaster 1\n\
+sentinel leader-id mymaster aaaaaaaaaaaaaaaaaaaaaaaaaaaaaaaaaaaaaaaa\n\
 sentinel known-sentinel mymaster 127.0.0.1 26380 aaaaaaaaaaaaaaaaaaaaaaaaaaaaaaaaaaaaaaaa\n\
 sentinel known-sentinel mymaster 127.0.0.1 26381 bbbbbbbbbbbbbbbbbbbbbbbbbbbbbbbbbbbbbbbb\n\
 sentinel known-sentinel mymaster 127.0.0.1 26382 cccccccccccccccccccccccccccccccccccccccc\n";
