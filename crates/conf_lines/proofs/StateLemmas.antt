@@ -7,7 +7,7 @@ use Rattle.ballot_law.specs.declared.addresses.Addr.{Addr}
 use Rattle.ballot_law.specs.declared.addresses.RunId.{RunId}
 use Rattle.conf_lines.specs.declared.faults.ConfKind.TheVariants.{BadNumber, BadAddress, BadName, BadRunId}
 use Rattle.conf_lines.specs.declared.lines.StateLine.{StateLine}
-use Rattle.conf_lines.specs.declared.lines.StateLine.TheVariants.{MyId, CurrentEpoch, Monitor, ConfigEpoch, LeaderEpoch, KnownReplica, KnownSentinel}
+use Rattle.conf_lines.specs.declared.lines.StateLine.TheVariants.{MyId, CurrentEpoch, Monitor, ConfigEpoch, LeaderEpoch, LeaderId, KnownReplica, KnownSentinel}
 use Rattle.conf_lines.specs.declared.lines.Line.TheVariants as line
 use Rattle.ballot_law.specs.Words.{name, address, run_id, ip_text, id_text}
 use Rattle.conf_lines.specs.Lines.{wanted, epoch, count, line_of, line_of_words, state_words, spelled}
@@ -35,6 +35,7 @@ IsState (CurrentEpoch epoch) = epoch ≤ MAX_EPOCH
 IsState (Monitor name addr quorum) = IsName name × IsAddr addr × (quorum ≤ 4294967295)
 IsState (ConfigEpoch name epoch) = IsName name × (epoch ≤ MAX_EPOCH)
 IsState (LeaderEpoch name epoch) = IsName name × (epoch ≤ MAX_EPOCH)
+IsState (LeaderId name id) = IsName name × IsId id
 IsState (KnownReplica name addr) = IsName name × IsAddr addr
 IsState (KnownSentinel name addr id) = IsName name × IsAddr addr × IsId id
 
@@ -55,6 +56,7 @@ are_words (Monitor n a q) v =
     (word_by_test 115 (codes "entinel") refl, (word_by_test 109 (codes "onitor") refl, (word_name n n v.0, (word_ip_text a.ip v.1.ip, (word_addr a v.1, (word_decimal q (let h : q ≤ 4294967295 = v.2 in omega arith), tt))))))
 are_words (ConfigEpoch n e) v = (word_by_test 115 (codes "entinel") refl, (word_by_test 99 (codes "onfig-epoch") refl, (word_name n n v.0, (word_epoch e v.1, tt))))
 are_words (LeaderEpoch n e) v = (word_by_test 115 (codes "entinel") refl, (word_by_test 108 (codes "eader-epoch") refl, (word_name n n v.0, (word_epoch e v.1, tt))))
+are_words (LeaderId n i) v = (word_by_test 115 (codes "entinel") refl, (word_by_test 108 (codes "eader-id") refl, (word_name n n v.0, (word_id_text i v.1.hi v.1.lo, tt))))
 are_words (KnownReplica n a) v = (word_by_test 115 (codes "entinel") refl, (word_by_test 107 (codes "nown-replica") refl, (word_name n n v.0, (word_ip_text a.ip v.1.ip, (word_addr a v.1, tt)))))
 are_words (KnownSentinel n a i) v =
     (word_by_test 115 (codes "entinel") refl, (word_by_test 107 (codes "nown-sentinel") refl, (word_name n n v.0, (word_ip_text a.ip v.1.ip, (word_addr a v.1, (word_id_text i v.2.hi v.2.lo, tt))))))
@@ -81,6 +83,9 @@ words_say (ConfigEpoch n e) v =
 words_say (LeaderEpoch n e) v =
     ap (λ m. wanted BadName m (λ n. wanted BadNumber (epoch (decimal e)) (λ e. line.State (LeaderEpoch n e)))) v.0
     ∙ ap (λ m. wanted BadNumber m (λ e. line.State (LeaderEpoch n e))) (epoch-decimal e v.1)
+words_say (LeaderId n i) v =
+    ap (λ m. wanted BadName m (λ n. wanted BadRunId (run_id (id_text i)) (λ i. line.State (LeaderId n i)))) v.0
+    ∙ ap (λ m. wanted BadRunId m (λ i. line.State (LeaderId n i))) (run_id-id_text i v.1.hi v.1.lo)
 words_say (KnownReplica n a) v =
     ap (λ m. wanted BadName m (λ n. wanted BadAddress (address (ip_text a.ip) (decimal a.port)) (λ a. line.State (KnownReplica n a)))) v.0
     ∙ ap (λ m. wanted BadAddress m (λ a. line.State (KnownReplica n a))) (address-is a v.1)

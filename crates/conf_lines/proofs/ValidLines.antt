@@ -13,14 +13,14 @@ use Rattle.ballot_law.specs.declared.addresses.RunId.{RunId}
 use Rattle.ballot_law.specs.Orders.{same_bytes}
 use Rattle.conf_lines.specs.declared.faults.ConfKind.{ConfKind}
 use Rattle.conf_lines.specs.declared.faults.ConfKind.TheVariants.{BadNumber, BadAddress, BadName, BadRunId}
-use Rattle.conf_lines.specs.declared.lines.StateLine.TheVariants.{MyId, CurrentEpoch, Monitor, ConfigEpoch, LeaderEpoch, KnownReplica, KnownSentinel}
+use Rattle.conf_lines.specs.declared.lines.StateLine.TheVariants.{MyId, CurrentEpoch, Monitor, ConfigEpoch, LeaderEpoch, LeaderId, KnownReplica, KnownSentinel}
 use Rattle.conf_lines.specs.declared.lines.Setting.{Setting}
 use Rattle.conf_lines.specs.declared.lines.Setting.TheVariants.{Port, AnnounceIp, AnnouncePort, DownAfter, ParallelSyncs, FailoverTimeout}
 use Rattle.conf_lines.specs.declared.lines.Line.{Line}
 use Rattle.conf_lines.specs.declared.lines.Line.TheVariants as line
 use Rattle.conf_lines.specs.Words.{words_of}
 use Rattle.ballot_law.specs.Words.{some_if, then_some, is_digit, number, number_within, is_name_byte, name, parts, ip_part, ip_of_parts, ip, port, address, is_hex, hex_value, hex_on, run_id, lower}
-use Rattle.conf_lines.specs.Lines.{wanted, epoch, count, my_id_line, current_line, monitor_line, config_line, leader_line, replica_line, sentinel_line, port_line, announce_ip_line, announce_port_line, down_after_line, parallel_syncs_line, timeout_line, first_named, sentinel_directives, sentinel_words, line_of_words, line_of}
+use Rattle.conf_lines.specs.Lines.{wanted, epoch, count, my_id_line, current_line, monitor_line, config_line, leader_line, leader_id_line, replica_line, sentinel_line, port_line, announce_ip_line, announce_port_line, down_after_line, parallel_syncs_line, timeout_line, first_named, sentinel_directives, sentinel_words, line_of_words, line_of}
 use Rattle.ballot_law.specs.declared.cards.TheConstants.{MAX_EPOCH}
 use Rattle.conf_lines.proofs.StateLemmas.{IsAddr, IsId, IsName, IsState}
 
@@ -158,6 +158,12 @@ leader_is (n ∷ w ∷ []) =
     wanted_is BadNumber (epoch w) (λ epoch. line.State (LeaderEpoch m epoch)) (λ d f. (named n m e, (within 0 MAX_EPOCH w d f).1)))
 leader_is _ = tt
 
+leader_id_is : (ws : List (List ℕ)) → IsLine (leader_id_line ws)
+leader_id_is (n ∷ r ∷ []) =
+    wanted_is BadName (name n) (λ name. wanted BadRunId (run_id r) (λ id. line.State (LeaderId name id))) (λ m e.
+    wanted_is BadRunId (run_id r) (λ id. line.State (LeaderId m id)) (λ id f. (named n m e, identified r id f)))
+leader_id_is _ = tt
+
 replica_is : (ws : List (List ℕ)) → IsLine (replica_line ws)
 replica_is (n ∷ i ∷ p ∷ []) =
     wanted_is BadName (name n) (λ name. wanted BadAddress (address i p) (λ addr. line.State (KnownReplica name addr))) (λ m e.
@@ -223,12 +229,15 @@ sentinel_words_is (word ∷ args) =
             (
               leader_is args,
               (
-                replica_is args,
+                leader_id_is args,
                 (
                   replica_is args,
                   (
-                    sentinel_is args,
-                    (announce_ip_is args, (announce_port_is args, (down_after_is args, (parallel_syncs_is args, (timeout_is args, tt))))),
+                    replica_is args,
+                    (
+                      sentinel_is args,
+                      (announce_ip_is args, (announce_port_is args, (down_after_is args, (parallel_syncs_is args, (timeout_is args, tt))))),
+                    ),
                   ),
                 ),
               ),

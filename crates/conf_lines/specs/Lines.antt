@@ -5,7 +5,7 @@ use Rattle.ballot_law.specs.Orders.{same_bytes, same_addr, same_id}
 use Rattle.conf_lines.specs.declared.faults.ConfKind.{ConfKind}
 use Rattle.conf_lines.specs.declared.faults.ConfKind.TheVariants.{BadDirective, BadNumber, BadAddress, BadName, BadRunId}
 use Rattle.conf_lines.specs.declared.lines.StateLine.{StateLine}
-use Rattle.conf_lines.specs.declared.lines.StateLine.TheVariants.{MyId, CurrentEpoch, Monitor, ConfigEpoch, LeaderEpoch, KnownReplica, KnownSentinel}
+use Rattle.conf_lines.specs.declared.lines.StateLine.TheVariants.{MyId, CurrentEpoch, Monitor, ConfigEpoch, LeaderEpoch, LeaderId, KnownReplica, KnownSentinel}
 use Rattle.conf_lines.specs.declared.lines.Setting.{Setting}
 use Rattle.conf_lines.specs.declared.lines.Setting.TheVariants.{Port, AnnounceIp, AnnouncePort, DownAfter, ParallelSyncs, FailoverTimeout}
 use Rattle.conf_lines.specs.declared.lines.Line.{Line}
@@ -61,6 +61,9 @@ config_line = two (λ n e. wanted BadName (name n) (λ name. wanted BadNumber (e
 abbrev pub leader_line : List (List ℕ) → Line
 leader_line = two (λ n e. wanted BadName (name n) (λ name. wanted BadNumber (epoch e) (λ epoch. line.State (LeaderEpoch name epoch))))
 
+abbrev pub leader_id_line : List (List ℕ) → Line
+leader_id_line = two (λ n r. wanted BadName (name n) (λ name. wanted BadRunId (run_id r) (λ id. line.State (LeaderId name id))))
+
 abbrev pub replica_line : List (List ℕ) → Line
 replica_line = three (λ n i p. wanted BadName (name n) (λ name. wanted BadAddress (address i p) (λ addr. line.State (KnownReplica name addr))))
 
@@ -115,6 +118,7 @@ sentinel_directives =
     ∷ (codes "monitor", monitor_line)
     ∷ (codes "config-epoch", config_line)
     ∷ (codes "leader-epoch", leader_line)
+    ∷ (codes "leader-id", leader_id_line)
     ∷ node_directives
 
 abbrev pub sentinel_words : List (List ℕ) → Line
@@ -135,6 +139,7 @@ state_words (CurrentEpoch epoch) = codes "current-epoch" ∷ decimal epoch ∷ [
 state_words (Monitor name addr quorum) = codes "monitor" ∷ name ∷ ip_text addr.ip ∷ decimal addr.port ∷ decimal quorum ∷ []
 state_words (ConfigEpoch name epoch) = codes "config-epoch" ∷ name ∷ decimal epoch ∷ []
 state_words (LeaderEpoch name epoch) = codes "leader-epoch" ∷ name ∷ decimal epoch ∷ []
+state_words (LeaderId name id) = codes "leader-id" ∷ name ∷ id_text id ∷ []
 state_words (KnownReplica name addr) = codes "known-replica" ∷ name ∷ ip_text addr.ip ∷ decimal addr.port ∷ []
 state_words (KnownSentinel name addr id) = codes "known-sentinel" ∷ name ∷ ip_text addr.ip ∷ decimal addr.port ∷ id_text id ∷ []
 
@@ -149,6 +154,7 @@ same_key (CurrentEpoch d) (CurrentEpoch e) = true
 same_key (Monitor m a q) (Monitor n b r) = same_bytes m n
 same_key (ConfigEpoch m d) (ConfigEpoch n e) = same_bytes m n
 same_key (LeaderEpoch m d) (LeaderEpoch n e) = same_bytes m n
+same_key (LeaderId m i) (LeaderId n j) = same_bytes m n
 same_key (KnownReplica m a) (KnownReplica n b) = same_bytes m n && same_addr a b
 same_key (KnownSentinel m a i) (KnownSentinel n b j) = same_bytes m n && same_id i j
 same_key _ _ = false
@@ -160,6 +166,7 @@ state_name (CurrentEpoch epoch) = None
 state_name (Monitor name addr quorum) = Some name
 state_name (ConfigEpoch name epoch) = Some name
 state_name (LeaderEpoch name epoch) = Some name
+state_name (LeaderId name id) = Some name
 state_name (KnownReplica name addr) = Some name
 state_name (KnownSentinel name addr id) = Some name
 

@@ -6,7 +6,7 @@ use Rattle.ballot_law.specs.declared.rosters.Member.{Member}
 use Rattle.ballot_law.specs.Orders.{same_bytes}
 use Rattle.ballot_law.specs.Words.{some_if}
 use Rattle.conf_lines.specs.declared.lines.StateLine.{StateLine}
-use Rattle.conf_lines.specs.declared.lines.StateLine.TheVariants.{MyId, CurrentEpoch, Monitor, ConfigEpoch, LeaderEpoch, KnownReplica, KnownSentinel}
+use Rattle.conf_lines.specs.declared.lines.StateLine.TheVariants.{MyId, CurrentEpoch, Monitor, ConfigEpoch, LeaderEpoch, LeaderId, KnownReplica, KnownSentinel}
 use Rattle.conf_lines.specs.declared.lines.Setting.{Setting}
 use Rattle.conf_lines.specs.declared.lines.Setting.TheVariants.{Port, AnnounceIp, AnnouncePort, DownAfter, ParallelSyncs, FailoverTimeout}
 
@@ -38,6 +38,10 @@ config_of name _ = None
 abbrev pub voted_of : List ℕ → StateLine → Option ℕ
 voted_of name (LeaderEpoch other epoch) = some_if (same_bytes name other) epoch
 voted_of name _ = None
+
+abbrev pub candidate_of : List ℕ → StateLine → Option RunId
+candidate_of name (LeaderId other id) = some_if (same_bytes name other) id
+candidate_of name _ = None
 
 abbrev pub epoch_of : StateLine → Option ℕ
 epoch_of (CurrentEpoch epoch) = Some epoch

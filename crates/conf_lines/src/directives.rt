@@ -1,7 +1,7 @@
 //! What a line says, by its directive.
 
 ghost use Rattle.std.specs.Prelude.{◌≡◌, ◌≤◌};
-ghost use Rattle.conf_lines.specs.Lines.{my_id_line, current_line, monitor_line, config_line, leader_line, replica_line, sentinel_line, port_line, announce_ip_line, announce_port_line, down_after_line, parallel_syncs_line, timeout_line, first_named, master_directives, announce_directives, node_directives, sentinel_directives, sentinel_words, line_of};
+ghost use Rattle.conf_lines.specs.Lines.{my_id_line, current_line, monitor_line, config_line, leader_line, leader_id_line, replica_line, sentinel_line, port_line, announce_ip_line, announce_port_line, down_after_line, parallel_syncs_line, timeout_line, first_named, master_directives, announce_directives, node_directives, sentinel_directives, sentinel_words, line_of};
 ghost use Rattle.ballot_law.specs.declared.cards.TheConstants.{MAX_EPOCH};
 ghost use Rattle.conf_lines.specs.Results.{state_line, setting_line};
 ghost use Rattle.conf_lines.specs.Words.{words_at};
@@ -68,6 +68,16 @@ fn leader_line(args: &[u8]) -> Result<StateLine, ConfKind>
     let name = name_word(name)?;
     let epoch = number_word(epoch, 0, MAX_EPOCH)?;
     Ok(StateLine::LeaderEpoch { name, epoch })
+}
+
+/// `sentinel leader-id <name> <id>`.
+fn leader_id_line(args: &[u8]) -> Result<StateLine, ConfKind>
+    ensures { state_line result ≡ leader_id_line (words_at args.now Between) }
+{
+    let (name, id) = two_words(args)?;
+    let name = name_word(name)?;
+    let id = run_id_word(id)?;
+    Ok(StateLine::LeaderId { name, id })
 }
 
 /// `sentinel known-replica <name> <ip> <port>`, also with `known-slave`.
@@ -228,6 +238,9 @@ fn sentinel_named(name: &[u8], args: &[u8]) -> Line
     }
     if is_named(name, b"leader-epoch") {
         return of_state(leader_line(args));
+    }
+    if is_named(name, b"leader-id") {
+        return of_state(leader_id_line(args));
     }
     node_named(name, args)
 }

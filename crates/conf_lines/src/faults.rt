@@ -11,7 +11,7 @@ use thiserror::Error;
 /// not that of this list.
 #[derive(Clone, Copy, Debug, PartialEq, Eq, Error)]
 pub enum ConfKind {
-    /// The file, or the longest file that a rewrite could make of it, has more than 65,536 bytes.
+    /// The file, or the longest file that a rewrite could make of it, has more than 67,536 bytes.
     #[error("TooLong")]
     TooLong,
     /// The bytes of the file aren't UTF-8.

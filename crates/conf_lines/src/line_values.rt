@@ -1,7 +1,7 @@
 //! What a line gives, where it gives anything of the kind.
 
 ghost use Rattle.std.specs.Prelude.{◌≡◌};
-ghost use Rattle.conf_lines.specs.Values.{my_id_of, name_of, quorum_of, monitored_at, node_of, config_of, voted_of, epoch_of, known_of, port_of, announce_ip_of, announce_port_of, after_of, syncs_of, timeout_of};
+ghost use Rattle.conf_lines.specs.Values.{my_id_of, name_of, quorum_of, monitored_at, node_of, config_of, voted_of, candidate_of, epoch_of, known_of, port_of, announce_ip_of, announce_port_of, after_of, syncs_of, timeout_of};
 
 use crate::lines::{Setting, StateLine};
 use ballot_law::{Addr, Member, Name, RunId, is_same_bytes};
@@ -103,6 +103,21 @@ impl StateLine {
             StateLine::LeaderEpoch { name: other, epoch } => {
                 if is_same_bytes(name.as_slice(), other.as_slice()) {
                     return Some(*epoch);
+                }
+                None
+            }
+            _ => None,
+        }
+    }
+
+    /// The candidate of the last vote for the master of this name.
+    pub fn candidate_of(&self, name: &Name) -> Option<RunId>
+        ensures { result ≡ candidate_of name.now self.now }
+    {
+        match self {
+            StateLine::LeaderId { name: other, id } => {
+                if is_same_bytes(name.as_slice(), other.as_slice()) {
+                    return Some(*id);
                 }
                 None
             }

@@ -19,6 +19,8 @@ pub enum StateLine {
     ConfigEpoch { name: Name, epoch: u64 },
     /// `sentinel leader-epoch <name> <epoch>`: the epoch of the last vote for the master.
     LeaderEpoch { name: Name, epoch: u64 },
+    /// `sentinel leader-id <name> <id>`: the candidate of that vote. This directive is this project's own.
+    LeaderId { name: Name, id: RunId },
     /// `sentinel known-replica <name> <ip> <port>`, also with `known-slave`: a node of the master.
     KnownReplica { name: Name, addr: Addr },
     /// `sentinel known-sentinel <name> <ip> <port> <id>`: another Sentinel.
@@ -40,6 +42,9 @@ impl StateLine {
                 is_same_bytes(name.as_slice(), other.as_slice())
             }
             (StateLine::LeaderEpoch { name, .. }, StateLine::LeaderEpoch { name: other, .. }) => {
+                is_same_bytes(name.as_slice(), other.as_slice())
+            }
+            (StateLine::LeaderId { name, .. }, StateLine::LeaderId { name: other, .. }) => {
                 is_same_bytes(name.as_slice(), other.as_slice())
             }
             (
@@ -70,6 +75,7 @@ impl StateLine {
             StateLine::Monitor { name, .. }
             | StateLine::ConfigEpoch { name, .. }
             | StateLine::LeaderEpoch { name, .. }
+            | StateLine::LeaderId { name, .. }
             | StateLine::KnownReplica { name, .. }
             | StateLine::KnownSentinel { name, .. } => Some(*name),
         }
