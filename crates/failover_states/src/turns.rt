@@ -22,7 +22,7 @@ pub struct Facts<'a> {
     pub current: u64,
     /// The epoch of its last vote for this master, 0 where there is none.
     pub voted: u64,
-    /// The candidate of that vote, where it was given since the Sentinel was opened.
+    /// The candidate of that vote, where it is known.
     pub own: Option<RunId>,
     /// The Sentinel's own run id.
     pub me: RunId,

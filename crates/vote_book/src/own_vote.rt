@@ -11,7 +11,7 @@ use std::marker::Model;
 /// A vote as an answer to a request shows it.
 #[derive(Clone, Copy, Debug, PartialEq, Eq)]
 pub struct VoteAnswer {
-    /// Whom the vote of this epoch went to: none where no vote was given since the start.
+    /// Whom the vote of this epoch went to: none where no vote was given since the start and none is in the file.
     pub leader: Option<RunId>,
     /// The epoch of the last vote, 0 where none was ever given.
     pub epoch: u64,
@@ -37,12 +37,13 @@ impl Model for VoteBook {
 }
 
 impl VoteBook {
-    /// The book of a Sentinel that was just started: the two epochs as its file holds them, and no candidate, since the
-    /// file holds none.
-    pub fn of(current: u64, voted: u64) -> VoteBook
-        ensures { result ≡ record { current = current; voted = voted; leader = None } }
+    /// The book of a Sentinel that was just started: the current epoch, the epoch of the last vote and its candidate, as
+    /// its file holds them. In epoch 0 no vote is given, so it has no candidate.
+    pub fn of(current: u64, voted: u64, candidate: Option<RunId>) -> VoteBook
+        requires no_vote { voted ≡ 0 → candidate ≡ None }
+        ensures { result ≡ record { current = current; voted = voted; leader = candidate } }
     {
-        VoteBook::with_leader(current, voted, None)
+        VoteBook::with_leader(current, voted, candidate)
     }
 
     /// The book as it was read before by [`VoteBook::current`], [`VoteBook::voted`] and [`VoteBook::leader`]: for a
@@ -71,7 +72,7 @@ impl VoteBook {
         self.voted
     }
 
-    /// The candidate of the last vote: none where no vote was given since the start.
+    /// The candidate of the last vote: none where no vote was given since the start and none is in the file.
     pub fn leader(&self) -> Option<RunId>
         ensures { result ≡ self.now.leader }
     {
