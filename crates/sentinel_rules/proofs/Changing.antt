@@ -65,7 +65,7 @@ if_part m core false part f = stays m core
 -- Votes
 
 booked : (m : ℕ) (book : Book) (core : Core) → Touches m core (with_book core m book)
-booked m book core k apart = other_entry core.kept book.current m k (record (kept_of core.kept m) { voted = book.voted }) apart
+booked m book core k apart = other_entry core.kept book.current m k (record (kept_of core.kept m) { voted = book.voted; candidate = book.leader }) apart
 
 mark_touches : (plan : Plan) (m now : ℕ) (candidate : RunId) (core : Core) → Touches m core (mark_for plan m now candidate core)
 mark_touches plan m now candidate core =

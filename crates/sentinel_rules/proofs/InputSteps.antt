@@ -14,7 +14,7 @@ use Rattle.ballot_law.specs.declared.events.Event.TheVariants.{Tick, Command as 
 use Rattle.ballot_law.specs.declared.messages.Body.{Body}
 use Rattle.ballot_law.specs.declared.messages.Body.TheVariants.{Answer, PingText, AddressAnswer}
 use Rattle.ballot_law.specs.declared.messages.NodeName.{NodeName}
-use Rattle.ballot_law.specs.Ballots.{Parts, voted_of, no_kept}
+use Rattle.ballot_law.specs.Ballots.{Parts, voted_of, kept_of, no_kept}
 use Rattle.ballot_law.specs.Clocks.{clock}
 use Rattle.ballot_law.specs.Orders.{same_addr}
 use Rattle.ballot_law.specs.Worlds.{IsRightOutput}
@@ -23,7 +23,7 @@ use Rattle.node_texts.specs.Infos.{info_of}
 use Rattle.resp2_frames.specs.Frame.{Frame as Reply}
 use Rattle.port_answers.specs.Answers.{master_frame, masters_frame, replicas_frame, sentinels_frame, no_such_master, ok_line, id_frame}
 use Rattle.sentinel_rules.specs.Plans.{Plan, roster_of, me, master_count}
-use Rattle.sentinel_rules.specs.States.{Core, master_of, is_tilted, is_master_down}
+use Rattle.sentinel_rules.specs.States.{Core, is_tilted, is_master_down}
 use Rattle.sentinel_rules.specs.Parts.{Part, quiet, send, shown_of}
 use Rattle.sentinel_rules.specs.Votes.{requested}
 use Rattle.sentinel_rules.specs.News.{answered, pinged, info_read, hello_read}
@@ -81,9 +81,9 @@ asked_at_right : (plan : Plan) (parts : Parts) (target : NodeName) (m now : ℕ)
 asked_at_right plan parts target m now addr epoch down None core lt s is = silent plan parts target (Answer m addr down None 0) refl refl refl refl
 asked_at_right plan parts target m now addr epoch down (Some candidate) core lt s is =
     let after : Core = requested plan m now epoch candidate core in
-    answer_right plan parts target m addr down (master_of after m).leader (voted_of after.kept m)
+    answer_right plan parts target m addr down (kept_of after.kept m).candidate (voted_of after.kept m)
     (ap (λ (kept : Kept). voted_of kept m) (sym is.kept))
-    (is.each m (within_core plan after m s lt)).candidate
+    (ap (λ (kept : Kept). (kept_of kept m).candidate) is.kept)
 
 asked_of_right : (plan : Plan) (parts : Parts) (target : NodeName) (now : ℕ) (addr : Addr) (epoch : ℕ) (candidate : Option RunId) (m : Option ℕ) (core : Core) → ((j : ℕ) → m ≡ Some j → j < master_count plan)
     → IsSound plan (asked_of plan now addr epoch candidate m core).core → IsPartsOf (asked_of plan now addr epoch candidate m core).core parts

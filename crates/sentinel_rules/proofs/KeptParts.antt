@@ -11,7 +11,7 @@ use Rattle.sentinel_conf.specs.Meaning.{ConfPlan}
 use Rattle.sentinel_conf.specs.Rewritten.{IsKeptMaster, IsKeptPart}
 
 later : (d e : ℕ) (m : MasterPlan) (k : KeptMaster) → d ≤ e → IsKeptMaster d m k → IsKeptMaster e m k
-later d e m k h i = record { addr = i.addr; epoch = omega (arith, h, i.epoch); voted = omega (arith, h, i.voted) }
+later d e m k h i = record { addr = i.addr; epoch = omega (arith, h, i.epoch); voted = omega (arith, h, i.voted); candidate = i.candidate }
 
 all_later : (d e : ℕ) (ms : List MasterPlan) (ks : List KeptMaster) → d ≤ e → AllZip (IsKeptMaster d) ms ks → AllZip (IsKeptMaster e) ms ks
 all_later d e [] [] h i = tt

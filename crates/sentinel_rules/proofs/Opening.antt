@@ -36,7 +36,6 @@ new_open : (sentinels nodes m at : ℕ) → IsOpenOf m (new_master sentinels nod
 new_open sentinels nodes m at =
     record {
       heard = λ voter given h. let none : None ≡ Some given = sym (replicate_all sentinels None voter) ∙ h in absurd (cc);
-      candidate = refl;
       campaign = refl;
     }
 

@@ -52,7 +52,7 @@ in_votes m place (Some first ∷ votes) (suc voter) given e =
     (subst (λ (v : ℕ). Contains (votes_from m (place + 1) votes) (vote v m given.epoch given.candidate)) same there)
 
 abbrev open_at : (m : ℕ) → MasterState → OpenMaster
-open_at m master = record { heard = votes_from m 0 master.heard; candidate = master.leader; campaign = campaign_in master.failover.state }
+open_at m master = record { heard = votes_from m 0 master.heard; campaign = campaign_in master.failover.state }
 
 abbrev opens_from : (m : ℕ) → List MasterState → List OpenMaster
 opens_from m [] = []
@@ -84,7 +84,6 @@ are_parts_of core =
       each = λ m lt. subst (IsOpenOf m (master_of core m)) (sym (opens_at 0 core.masters m lt ∙ ap (λ (x : ℕ). open_at x (master_of core m)) (nothing_more m)))
           (record {
             heard = λ voter given e. subst (λ (v : ℕ). Contains (votes_from m 0 (master_of core m).heard) (vote v m given.epoch given.candidate)) (nothing_more voter) (in_votes m 0 (master_of core m).heard voter given e);
-            candidate = refl;
             campaign = refl;
           });
       wins = refl;
@@ -214,8 +213,8 @@ one_step roster i event parts (Open m) h may =
     let low : (card_of parts.kept m).epoch ≤ parts.kept.current = h.low m in
     goes roster parts h (parts.kept.current + 1) m (kept_of parts.kept m) (record (open_of parts m) { campaign = Running (parts.kept.current + 1) }) may.0 (omega arith) (omega arith) (omega arith) (omega arith) (inl refl)
 one_step roster i event parts (Cast m e c) h may =
-    recorded roster parts (changed parts parts.kept.current m (record (kept_of parts.kept m) { voted = e }) (record (open_of parts m) { candidate = Some c })) (after i parts (Cast m e c)) refl refl
-    (goes roster parts h parts.kept.current m (record (kept_of parts.kept m) { voted = e }) (record (open_of parts m) { candidate = Some c }) may.0 (omega arith) (h.low m) (h.ahead m) (h.up m) (inl refl))
+    recorded roster parts (changed parts parts.kept.current m (record (kept_of parts.kept m) { voted = e; candidate = Some c }) (open_of parts m)) (after i parts (Cast m e c)) refl refl
+    (goes roster parts h parts.kept.current m (record (kept_of parts.kept m) { voted = e; candidate = Some c }) (open_of parts m) may.0 (omega arith) (h.low m) (h.ahead m) (h.up m) (inl refl))
 one_step roster i event parts (Hear v m e c) h may =
     goes roster parts h parts.kept.current m (kept_of parts.kept m) (record (open_of parts m) { heard = (open_of parts m).heard ++ vote v m e c ∷ [] }) may.0 (omega arith) (h.low m) (h.ahead m) (h.up m) (inl refl)
 one_step roster i event parts (Win_at m e) h may =

@@ -54,7 +54,7 @@ pub card_sound : (plan : Plan) (core : Core) (m : ℕ) (card : Card) → IsSound
 card_sound plan core m card s low there none =
     sound_at plan core core2 m s refl (λ k apart. refl) refl
     (kept_with plan.conf core.kept core.kept.current m (record (kept_of core.kept m) { card = card }) (omega arith) s.kept.current
-    (λ lt. record { addr = there lt; epoch = low lt; voted = (kept_at plan.conf core.kept m lt s.kept).voted }) s.kept)
+    (λ lt. record { addr = there lt; epoch = low lt; voted = (kept_at plan.conf core.kept m lt s.kept).voted; candidate = (kept_at plan.conf core.kept m lt s.kept).candidate }) s.kept)
     (omega arith)
     (λ k apart. other_entry core.kept core.kept.current m k (record (kept_of core.kept m) { card = card }) apart)
     (λ lt. let i = s.each m lt in

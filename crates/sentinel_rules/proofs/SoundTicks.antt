@@ -1,5 +1,5 @@
 -- A tick keeps a core sound, and puts out few frames.
-use Rattle.std.proofs.Common.{◌≡◌, ℕ, zero, suc, ◌+◌, ◌*◌, ◌<◌, ◌≤◌, Bool, true, false, Option, Some, None, List, [], ◌∷◌, ◌++◌, length, length-set, slice_index_or, refl, sym, ap, subst, ◌∙◌, arith}
+use Rattle.std.proofs.Common.{◌≡◌, ℕ, zero, suc, ◌+◌, ◌*◌, ◌<◌, ◌≤◌, Bool, true, false, Option, Some, None, List, [], ◌∷◌, ◌++◌, length, slice_index_or, refl, sym, ap, subst, ◌∙◌, arith}
 use Rattle.std.specs.Prelude.{IfSome, is_some, not, unwrap_or, nat_lt, nat_le, ◌==◌, ◌&&◌, if◌then◌else◌}
 use Rattle.std.proofs.lemmas.Bool.{ltb-true, leb-true}
 use Rattle.std.proofs.lemmas.List.{length-append, length-map}
@@ -9,6 +9,7 @@ use Rattle.ballot_law.specs.declared.cards.TheConstants.{MAX_EPOCH}
 use Rattle.ballot_law.specs.Ballots.{kept_of, card_of}
 use Rattle.ballot_law.specs.Orders.{same_id}
 use Rattle.ballot_law.specs.OwnVotes.{Book, grants, asked, raised}
+use Rattle.ballot_law.proofs.CountedVotes.{both}
 use Rattle.failover_states.specs.declared.states.State.{State}
 use Rattle.failover_states.specs.declared.states.State.TheVariants.{Idle, WaitStart, SelectReplica, SendPromotion, WaitPromotion, ReconfReplicas, UpdateConfig}
 use Rattle.failover_states.specs.declared.states.Row.{Row}
@@ -28,7 +29,7 @@ use Rattle.sentinel_rules.specs.Votes.{book_of, with_book, marked, mark_for}
 use Rattle.sentinel_rules.specs.Ticks.{is_peer_due, peer_after, peer_frames, peers_part, Sending, sending_of, is_ping_due, is_info_due, is_hello_due, node_after, node_frames, nodes_part, campaign_epoch, known_of, turn_of, with_vote, with_win, promote_frames, order_frames, row_part, after_start, start_turn, starts_now, start_part, is_ask_due, ask_candidate, ask_frames, ask_part, odown_part, failover_part, judging_part, master_part, with_reading, tick}
 use Rattle.sentinel_rules.specs.Facts.{IsSoundPlan, IsSound, IsSoundMaster, IsAwaited, awaited}
 use Rattle.sentinel_rules.proofs.KeptParts.{kept_at, kept_with, kept_raised, other_entry, own_entry as own}
-use Rattle.sentinel_rules.proofs.Framing.{sound_at, sound_master, sound_current, sound_alike, master_with, nodes_with, master_same, master_other, master_later}
+use Rattle.sentinel_rules.proofs.Framing.{sound_at, sound_master, sound_current, sound_alike, master_with, nodes_with, master_later}
 use Rattle.sentinel_rules.proofs.Turns.{IsSoundFailover, turn_sound, turn_by}
 use Rattle.sentinel_rules.proofs.Choices.{best_awaited}
 
@@ -170,17 +171,16 @@ record IsLater (book after : Book) : Type 0 where
   current : book.current ≤ after.current
   voted : book.voted ≤ book.current → after.voted ≤ after.current
   last : book.current ≤ MAX_EPOCH → after.current ≤ MAX_EPOCH
+  candidate : (book.voted ≡ 0 → book.leader ≡ None) → after.voted ≡ 0 → after.leader ≡ None
 
 later_by : (book : Book) (epoch : ℕ) (candidate : RunId) (b : Bool) → grants book epoch ≡ b → epoch ≤ MAX_EPOCH →
     IsLater book (if b then record { current = epoch; voted = epoch; leader = Some candidate } else raised book epoch)
 later_by book epoch candidate true e h =
-    let le : book.current ≤ epoch = leb-true book.current epoch (parts (nat_lt book.voted epoch) (nat_le book.current epoch) e) in
-    record { current = le; voted = λ v. omega arith; last = λ l. h }
-  where
-    parts : (a b : Bool) → (a && b) ≡ true → b ≡ true
-    parts true b h = h
-    parts false b h = cc
-later_by book epoch candidate false e h = record { current = omega arith; voted = λ v. omega (arith, v); last = λ l. omega (arith, l, h) }
+    let given = both (nat_lt book.voted epoch) (nat_le book.current epoch) e in
+    let newer : book.voted < epoch = ltb-true book.voted epoch given.0 in
+    let le : book.current ≤ epoch = leb-true book.current epoch given.1 in
+    record { current = le; voted = λ v. omega arith; last = λ l. h; candidate = λ f zero. absurd (omega (arith, newer, zero)) }
+later_by book epoch candidate false e h = record { current = omega arith; voted = λ v. omega (arith, v); last = λ l. omega (arith, l, h); candidate = λ f. f }
 
 book_later : (book : Book) (epoch : ℕ) (candidate : RunId) → epoch ≤ MAX_EPOCH → IsLater book (asked book epoch candidate)
 book_later book epoch candidate h = later_by book epoch candidate (grants book epoch) refl h
@@ -188,16 +188,15 @@ book_later book epoch candidate h = later_by book epoch candidate (grants book e
 pub book_sound : (plan : Plan) (core : Core) (m epoch : ℕ) (candidate : RunId) → epoch ≤ MAX_EPOCH → IsSound plan core → IsSound plan (with_book core m (asked (book_of core m) epoch candidate))
 book_sound plan core m epoch candidate h s =
     sound_at plan core core2 m s
-    (length-set core.masters m new)
-    (λ k apart. master_other core m k new apart)
     refl
-    (kept_with plan.conf core.kept book.current m (record (kept_of core.kept m) { voted = book.voted }) l.current (l.last s.kept.current)
+    (λ k apart. refl)
+    refl
+    (kept_with plan.conf core.kept book.current m (record (kept_of core.kept m) { voted = book.voted; candidate = book.leader }) l.current (l.last s.kept.current)
     (λ lt. let i = kept_at plan.conf core.kept m lt s.kept in
-    record { addr = i.addr; epoch = let a : (card_of core.kept m).epoch ≤ core.kept.current = i.epoch in let b : core.kept.current ≤ book.current = l.current in omega arith; voted = l.voted i.voted }) s.kept)
+    record { addr = i.addr; epoch = let a : (card_of core.kept m).epoch ≤ core.kept.current = i.epoch in let b : core.kept.current ≤ book.current = l.current in omega arith; voted = l.voted i.voted; candidate = l.candidate i.candidate }) s.kept)
     l.current
-    (λ k apart. other_entry core.kept book.current m k (record (kept_of core.kept m) { voted = book.voted }) apart)
-    (λ lt. subst (IsSoundMaster plan core2.kept m) (sym (master_same core m new (inside lt)))
-    (master_alike plan core2.kept m (master_of core m) new (master_later plan core.kept core2.kept m (master_of core m) l.current (same_card lt) (s.each m lt)) refl refl refl refl))
+    (λ k apart. other_entry core.kept book.current m k (record (kept_of core.kept m) { voted = book.voted; candidate = book.leader }) apart)
+    (λ lt. master_later plan core.kept core2.kept m (master_of core m) l.current (same_card lt) (s.each m lt))
   where
     book : Book
     book = asked (book_of core m) epoch candidate
@@ -205,17 +204,11 @@ book_sound plan core m epoch candidate h s =
     core2 : Core
     core2 = with_book core m (asked (book_of core m) epoch candidate)
 
-    new : MasterState
-    new = record (master_of core m) { leader = (asked (book_of core m) epoch candidate).leader }
-
     l : IsLater (book_of core m) (asked (book_of core m) epoch candidate)
     l = book_later (book_of core m) epoch candidate h
 
-    inside : m < master_count plan → m < length core.masters
-    inside lt = subst (λ (n : ℕ). m < n) (sym s.masters) lt
-
     same_card : m < master_count plan → card_of core2.kept m ≡ card_of core.kept m
-    same_card lt = ap (λ kept. kept.card) (own core.kept book.current m (record (kept_of core.kept m) { voted = book.voted }) (subst (λ (n : ℕ). m < n) (sym s.kept_masters) lt))
+    same_card lt = ap (λ kept. kept.card) (own core.kept book.current m (record (kept_of core.kept m) { voted = book.voted; candidate = book.leader }) (subst (λ (n : ℕ). m < n) (sym s.kept_masters) lt))
 
 pub mark_sound : (plan : Plan) (m now : ℕ) (candidate : RunId) (core : Core) → IsSound plan core → IsSound plan (mark_for plan m now candidate core)
 mark_sound plan m now candidate core s = known (same_id candidate (me plan))

@@ -81,11 +81,11 @@ pub mark_twin : (plan : Plan) (m now : ℕ) (candidate : RunId) (core : Core) �
 mark_twin plan m now candidate core lt = known (same_id candidate (me plan))
   where
     self : IsTwin m core core (campaign_in (failover_of core m).state)
-    self = record { kept = refl; won = refl; count = refl; others = λ k apart. refl; heard = refl; leader = refl; runs = refl }
+    self = record { kept = refl; won = refl; count = refl; others = λ k apart. refl; heard = refl; runs = refl }
 
     known : (b : Bool) → IsTwin m core (if b then core else with_failover core m (marked now core.random (failover_of core m))) (campaign_in (failover_of core m).state)
     known true = self
-    known false = twin_master core m (record (master_of core m) { failover = marked now core.random (failover_of core m) }) lt refl refl
+    known false = twin_master core m (record (master_of core m) { failover = marked now core.random (failover_of core m) }) lt refl
 
 granted : (b : Bool) (book : Book) (epoch : ℕ) (candidate : RunId) → b ≡ true → (if b then record { current = epoch; voted = epoch; leader = Some candidate } else raised book epoch) ≡ (let x : Book = record { current = epoch; voted = epoch; leader = Some candidate } in x)
 granted true book epoch candidate h = refl
@@ -119,25 +119,14 @@ requested_steps plan event m now epoch candidate core lt inside = known (grants 
         let high : StepsTo plan event 1 core (with_current core epoch) = subst (λ (n : ℕ). StepsTo plan event 1 core (with_current core n)) at (raised_steps plan event epoch core) in
         let cast : StepsTo plan event 1 (with_current core epoch) (voted_core core m epoch candidate) = cast_steps plan event m epoch candidate (with_current core epoch) lt inside refl newer in
         let mark : StepsTo plan event 0 (voted_core core m epoch candidate) (mark_for plan m now candidate (voted_core core m epoch candidate)) =
-        twin_steps plan event 0 m (voted_core core m epoch candidate) (mark_for plan m now candidate (voted_core core m epoch candidate)) (voted_lt) (mark_twin plan m now candidate (voted_core core m epoch candidate) voted_lt) in
+        twin_steps plan event 0 m (voted_core core m epoch candidate) (mark_for plan m now candidate (voted_core core m epoch candidate)) lt (mark_twin plan m now candidate (voted_core core m epoch candidate) lt) in
         subst (λ (c : Core). StepsTo plan event 2 core (mark_for plan m now candidate c)) (sym (voted_is core m epoch candidate h))
         (steps_then plan event 2 0 core (voted_core core m epoch candidate) (mark_for plan m now candidate (voted_core core m epoch candidate))
         (steps_then plan event 1 1 core (with_current core epoch) (voted_core core m epoch candidate) high cast) mark)
-      where
-        voted_lt : m < length (voted_core core m epoch candidate).masters
-        voted_lt = subst (λ (n : ℕ). m < n) (sym (length-set core.masters m (record (master_of core m) { leader = Some candidate }))) lt
 
     same_twin : IsTwin m raised_core (with_book core m (raised (book_of core m) epoch)) (campaign_in (failover_of core m).state)
     same_twin =
-        record {
-          kept = kept_back raised_core.kept m;
-          won = refl;
-          count = length-set core.masters m (master_of core m);
-          others = λ k apart. master_other core m k (master_of core m) apart;
-          heard = ap (λ (x : MasterState). x.heard) (master_same core m (master_of core m) lt);
-          leader = ap (λ (x : MasterState). x.leader) (master_same core m (master_of core m) lt);
-          runs = ap (λ (x : MasterState). campaign_in x.failover.state) (master_same core m (master_of core m) lt);
-        }
+        record { kept = kept_back raised_core.kept m; won = refl; count = refl; others = λ k apart. refl; heard = refl; runs = refl }
 
     past : grants (book_of core m) epoch ≡ false → StepsTo plan event 2 core book
     past h =
@@ -172,7 +161,7 @@ adopt_steps plan event m card core lt inside shows newer there =
     parts_at core core2 m (kept_as core parts) (after plan.place (kept_as core parts) (Adopt m card)) (record (open_of parts m) { campaign = NoCampaign }) is lt
     (length-set core.masters m master) (λ k apart. master_other core m k master apart)
     (subst (λ (x : MasterState). IsOpenOf m x (record (open_of parts m) { campaign = NoCampaign })) (sym (master_same core m master lt))
-    (record { heard = o.heard; candidate = o.candidate; campaign = refl }))
+    (record { heard = o.heard; campaign = refl }))
     refl refl is.wins)
   where
     core2 : Core
@@ -187,8 +176,8 @@ taken_steps plan event m now card core lt =
     steps_part plan event 0 (with_card core m card) (same_addr (card_of core.kept m).addr card.addr)
     (quiet (with_card (with_master core m (at_same_address (master_of core m))) m card))
     (puts (with_card (with_master core m (at_new_address now (master_of core m))) m card) _)
-    (λ h. twin_steps plan event 0 m (with_card core m card) (with_card (with_master core m (at_same_address (master_of core m))) m card) lt (twin_master (with_card core m card) m (at_same_address (master_of core m)) lt refl refl))
-    (λ h. twin_steps plan event 0 m (with_card core m card) (with_card (with_master core m (at_new_address now (master_of core m))) m card) lt (twin_master (with_card core m card) m (at_new_address now (master_of core m)) lt refl refl))
+    (λ h. twin_steps plan event 0 m (with_card core m card) (with_card (with_master core m (at_same_address (master_of core m))) m card) lt (twin_master (with_card core m card) m (at_same_address (master_of core m)) lt refl))
+    (λ h. twin_steps plan event 0 m (with_card core m card) (with_card (with_master core m (at_new_address now (master_of core m))) m card) lt (twin_master (with_card core m card) m (at_new_address now (master_of core m)) lt refl))
 
 -- Hellos
 
@@ -231,7 +220,7 @@ hello_steps plan now text core s = read_steps plan now text (hello_of text) core
 reported_steps : (plan : Plan) (event : Event) (voter m now : ℕ) (addr : Addr) (down : Bool) (core : Core) → m < length core.masters → StepsTo plan event 0 core (reported voter m now addr down core)
 reported_steps plan event voter m now addr down core lt =
     steps_cond plan event 0 core (same_addr addr (card_of core.kept m).addr) (with_master core m new) core
-    (λ h. twin_steps plan event 0 m core (with_master core m new) lt (twin_master core m new lt refl refl))
+    (λ h. twin_steps plan event 0 m core (with_master core m new) lt (twin_master core m new lt refl))
     (λ h. stay_steps plan event 0 core)
   where
     new : MasterState
@@ -267,7 +256,6 @@ hear_steps plan voter m addr down leader epoch core lt inside room =
     (subst (λ (x : MasterState). IsOpenOf m x (record (open_of parts m) { heard = (open_of parts m).heard ++ vote voter m epoch leader ∷ [] })) (sym (master_same core m master lt))
     (record {
       heard = λ v given h. ⊎_elim (λ (e : v ≡ voter). own parts o v given e h) (λ (apart : v ≢ voter). others parts o v given apart h) (cases_eq v voter);
-      candidate = o.candidate;
       campaign = o.campaign;
     }))
     (kept_back core.kept m) refl is.wins)
@@ -337,7 +325,7 @@ named_within plan (PortAt number) at h = absurd (cc)
 
 pub node_steps : (plan : Plan) (event : Event) (m k : ℕ) (node : NodeState) (core : Core) → m < length core.masters → StepsTo plan event 0 core (with_node core m k node)
 node_steps plan event m k node core lt =
-    twin_steps plan event 0 m core (with_node core m k node) lt (twin_master core m (record (master_of core m) { nodes = slice_set (master_of core m).nodes k node }) lt refl refl)
+    twin_steps plan event 0 m core (with_node core m k node) lt (twin_master core m (record (master_of core m) { nodes = slice_set (master_of core m).nodes k node }) lt refl)
 
 pinged_at_steps : (plan : Plan) (event : Event) (now : ℕ) (reply : PingReply) (at : Option NodePlace) (core : Core) → ((a : NodePlace) → at ≡ Some a → a.master < master_count plan) → IsSound plan core → StepsTo plan event 0 core (pinged_at now reply at core)
 pinged_at_steps plan event now reply None core f s = stay_steps plan event 0 core
@@ -361,7 +349,7 @@ promotion_steps plan event m k now info (WaitPromotion epoch choice former) core
     (with_failover c m (promoted (WaitPromotion epoch choice former) (record (failover_of c m) { moment = now }))))
     (λ h. steps_then plan event 1 0 core (with_card told m card) (card_taken m now card told).core
     (steps_then plan event 0 1 core told (with_card told m card)
-    (twin_steps plan event 0 m core told lt (twin_state m core told (campaign_in f.state) (campaign_in (failover_of core m).state) (sym (ap (λ (st : State). campaign_in st) e)) (twin_master core m (record (master_of core m) { failover = f }) lt refl refl)))
+    (twin_steps plan event 0 m core told lt (twin_state m core told (campaign_in f.state) (campaign_in (failover_of core m).state) (sym (ap (λ (st : State). campaign_in st) e)) (twin_master core m (record (master_of core m) { failover = f }) lt refl)))
     (enact_steps plan event m epoch choice.addr told told_lt inside (ap (λ (master : MasterState). campaign_in master.failover.state) (master_same core m (record (master_of core m) { failover = f }) lt))))
     (taken_steps plan event m now card told told_lt))
   where
@@ -385,7 +373,7 @@ reconfigured_state _ f k = refl
 reconfiguration_steps : (plan : Plan) (event : Event) (m k : ℕ) (info : Info) (core : Core) → m < length core.masters → StepsTo plan event 1 core (reconfiguration m k info core).core
 reconfiguration_steps plan event m k info core lt =
     steps_if plan event 1 (has_followed info (card_of core.kept m).addr) core (λ c. quiet (with_failover c m (reconfigured (failover_of c m).state (failover_of c m) k)))
-    (λ h. twin_steps plan event 1 m core (with_failover core m f) lt (twin_state m core (with_failover core m f) (campaign_in f.state) (campaign_in (failover_of core m).state) (ap (λ (st : State). campaign_in st) (reconfigured_state (failover_of core m).state (failover_of core m) k)) (twin_master core m (record (master_of core m) { failover = f }) lt refl refl)))
+    (λ h. twin_steps plan event 1 m core (with_failover core m f) lt (twin_state m core (with_failover core m f) (campaign_in f.state) (campaign_in (failover_of core m).state) (ap (λ (st : State). campaign_in st) (reconfigured_state (failover_of core m).state (failover_of core m) k)) (twin_master core m (record (master_of core m) { failover = f }) lt refl)))
   where
     f : Failover
     f = reconfigured (failover_of core m).state (failover_of core m) k

@@ -1,5 +1,5 @@
 -- A tick by steps of the ballot model.
-use Rattle.std.proofs.Common.{◌≡◌, ℕ, zero, suc, ◌+◌, ◌<◌, ◌≤◌, Bool, true, false, eqb, Option, Some, None, List, length, length-set, refl, sym, ap, subst, ◌∙◌, inl, inr, arith}
+use Rattle.std.proofs.Common.{◌≡◌, ℕ, zero, suc, ◌+◌, ◌<◌, ◌≤◌, Bool, true, false, eqb, Option, Some, None, List, length, refl, sym, ap, subst, ◌∙◌, inl, inr, arith}
 use Rattle.std.specs.Prelude.{Contains, IfSome, is_some, not, unwrap_or, nat_lt, nat_le, ◌&&◌, if◌then◌else◌}
 use Rattle.std.proofs.lemmas.Bool.{ltb-true, leb-true}
 use Rattle.std.proofs.lemmas.List.Folds.{list_any_at}
@@ -7,7 +7,7 @@ use Rattle.ballot_law.specs.declared.addresses.Addr.{Addr}
 use Rattle.ballot_law.specs.declared.addresses.RunId.{RunId}
 use Rattle.ballot_law.specs.declared.events.Event.{Event}
 use Rattle.ballot_law.specs.declared.hearings.HeardVote.{HeardVote}
-use Rattle.ballot_law.specs.Ballots.{Idle as NoCampaign, Won, Parts, HasVoted, kept_of, card_of, voted_of, open_of, vote}
+use Rattle.ballot_law.specs.Ballots.{Idle as NoCampaign, Won, Parts, HasVoted, kept_of, card_of, voted_of, candidate_of, open_of, vote}
 use Rattle.ballot_law.specs.Orders.{same_addr, same_id}
 use Rattle.ballot_law.specs.OwnVotes.{Book, grants, asked, raised}
 use Rattle.ballot_law.specs.Rosters.{AtLeast, HasNode, size, need, no_addr}
@@ -32,7 +32,7 @@ use Rattle.sentinel_rules.specs.Steps.{campaign_in, IsOpenOf, IsPartsOf}
 use Rattle.sentinel_rules.proofs.KeptParts.{own_entry}
 use Rattle.std.proofs.lemmas.Option.{IfSome_then}
 use Rattle.ballot_law.specs.declared.cards.KeptMaster.{KeptMaster}
-use Rattle.sentinel_rules.proofs.Framing.{master_same, master_other, sound_alike, awaited_still}
+use Rattle.sentinel_rules.proofs.Framing.{sound_alike, awaited_still}
 use Rattle.sentinel_rules.proofs.Turns.{Best, turn_by, turn_vote}
 use Rattle.sentinel_rules.proofs.Choices.{same_addr-same, best_awaited}
 use Rattle.sentinel_rules.proofs.SoundTicks.{keeps_if, row_keeps, busy_is, idle_is, as_idle, start_within, start_keeps, peers_keeps, nodes_keeps, odown_keeps}
@@ -57,7 +57,7 @@ enough_votes : (plan : Plan) (master : MasterState) (m epoch : ℕ) (book : Book
     → length master.heard ≡ group_size plan
     → kept_at master.heard plan.place ≡ None
     → book.voted ≡ voted_of parts.kept m
-    → book.leader ≡ master.leader
+    → book.leader ≡ candidate_of parts m
     → IsElectedIn (kept_at master.heard) book (length master.heard) epoch (me plan) (need (roster_of plan) m)
     → AtLeast (HasVoted (roster_of plan) plan.place parts m epoch) (size (roster_of plan)) (need (roster_of plan) m)
 enough_votes plan master m epoch book parts p o long none voted leader elected =
@@ -73,7 +73,7 @@ enough_votes plan master m epoch book parts p o long none voted leader elected =
     p.place
     (ap (λ (kept : Option HeardVote). is_for epoch (me plan) kept) none)
     (λ v h. inl (table_vote master.heard epoch (me plan) v (λ e c. Contains (open_of parts m).heard (vote v m e c)) (λ given e. o.heard v given e) h))
-    (λ at mine. inr (refl, sym voted ∙ at, o.candidate ∙ (sym leader ∙ mine)))
+    (λ at mine. inr (refl, sym voted ∙ at, sym leader ∙ mine))
     (subst (λ (n : ℕ). IsElectedIn (kept_at master.heard) book n epoch (me plan) (need (roster_of plan) m)) long elected)
 
 -- The row of a failover
@@ -164,30 +164,7 @@ some_if_false false x e = refl
 -- a core that voted, and one with another failover that voted
 voted_twin : (core : Core) (m epoch : ℕ) (candidate : RunId) (f : Failover) → m < length core.masters → IsTwin m (voted_core core m epoch candidate) (voted_core (with_failover core m f) m epoch candidate) (campaign_in f.state)
 voted_twin core m epoch candidate f lt =
-    record {
-      kept = refl;
-      won = refl;
-      count = length-set next.masters m new ∙ (length-set core.masters m told ∙ sym (length-set core.masters m old));
-      others = λ j apart. master_other next m j new apart ∙ (master_other core m j told apart ∙ sym (master_other core m j old apart));
-      heard = ap (λ (x : MasterState). x.heard) (master_same next m new next_lt) ∙ (ap (λ (x : MasterState). x.heard) (master_same core m told lt) ∙ sym (ap (λ (x : MasterState). x.heard) (master_same core m old lt)));
-      leader = ap (λ (x : MasterState). x.leader) (master_same next m new next_lt) ∙ sym (ap (λ (x : MasterState). x.leader) (master_same core m old lt));
-      runs = ap (λ (x : MasterState). campaign_in x.failover.state) (master_same next m new next_lt) ∙ ap (λ (x : MasterState). campaign_in x.failover.state) (master_same core m told lt);
-    }
-  where
-    next : Core
-    next = with_failover core m f
-
-    told : MasterState
-    told = record (master_of core m) { failover = f }
-
-    old : MasterState
-    old = record (master_of core m) { leader = Some candidate }
-
-    new : MasterState
-    new = record (master_of next m) { leader = Some candidate }
-
-    next_lt : m < length next.masters
-    next_lt = subst (λ (n : ℕ). m < n) (sym (length-set core.masters m told)) lt
+    twin_master (voted_core core m epoch candidate) m (record (master_of core m) { failover = f }) lt refl
 
 -- The row, after the vote of its turn
 
@@ -226,7 +203,7 @@ module _ (plan : Plan) (event : Event) (m now : ℕ) (core : Core) (p : IsSoundP
       (steps_more plan event 1 2 core (with_win m (unwrap_or (epoch_of state) 0) (turn_in_state state).row (with_failover core m (turn_in_state state).failover)) (omega arith)
       (turn_steps plan event m (known_of plan core m now false) (failover_of core m) core lt inside none (best_awaited plan core m now p inside) state e (ap (λ (st : State). campaign_in st) e) busy enough
       (with_failover core m (turn_in_state state).failover)
-      (twin_master core m (record (master_of core m) { failover = (turn_in_state state).failover }) lt refl refl)))
+      (twin_master core m (record (master_of core m) { failover = (turn_in_state state).failover }) lt refl)))
     where
       enough : (epoch : ℕ) → state ≡ WaitStart epoch → is_elected epoch (known_of plan core m now false) ≡ true → (parts : Parts) → IsPartsOf core (kept_as core parts) → AtLeast (HasVoted (roster_of plan) plan.place (kept_as core parts) m epoch) (size (roster_of plan)) (need (roster_of plan) m)
       enough epoch at h parts is =
@@ -246,8 +223,8 @@ module _ (plan : Plan) (event : Event) (m now : ℕ) (core : Core) (p : IsSoundP
       (sym (voted_is next m epoch pick can_next))
       (steps_then plan event 1 1 core voted (with_win m epoch turn.row (mark_for plan m now pick (voted_core next m epoch pick)))
       (cast_steps plan event m epoch pick core lt inside (omega (arith, low, high)) newer)
-      (turn_steps plan event m (known_of plan core m now false) (failover_of core m) voted voted_lt inside none best_voted (WaitStart epoch) e
-      (ap (λ (x : MasterState). campaign_in x.failover.state) (master_same core m told lt) ∙ ap (λ (st : State). campaign_in st) e)
+      (turn_steps plan event m (known_of plan core m now false) (failover_of core m) voted lt inside none best_voted (WaitStart epoch) e
+      (ap (λ (st : State). campaign_in st) e)
       (λ b. absurd (cc))
       enough
       (mark_for plan m now pick (voted_core next m epoch pick))
@@ -272,14 +249,8 @@ module _ (plan : Plan) (event : Event) (m now : ℕ) (core : Core) (p : IsSoundP
       voted : Core
       voted = voted_core core m epoch (known_of plan core m now false).pick
 
-      told : MasterState
-      told = record (master_of core m) { leader = Some (known_of plan core m now false).pick }
-
-      voted_lt : m < length voted.masters
-      voted_lt = subst (λ (n : ℕ). m < n) (sym (length-set core.masters m told)) lt
-
       next_lt : m < length (voted_core next m epoch pick).masters
-      next_lt = subst (λ (n : ℕ). m < n) (sym (voted_twin core m epoch pick turn.failover lt).count) voted_lt
+      next_lt = subst (λ (n : ℕ). m < n) (sym (voted_twin core m epoch pick turn.failover lt).count) lt
 
       newer : voted_of core.kept m < epoch
       newer = ltb-true (voted_of core.kept m) epoch (both (nat_lt (voted_of core.kept m) epoch) (nat_le core.kept.current epoch) can).0
@@ -290,8 +261,8 @@ module _ (plan : Plan) (event : Event) (m now : ℕ) (core : Core) (p : IsSoundP
       high : epoch ≤ core.kept.current
       high = subst (λ (st : State). IfSome (epoch_of st) (λ epoch. epoch ≤ core.kept.current)) e (s.each m inside).epoch
 
-      entry : kept_of voted.kept m ≡ record (kept_of core.kept m) { voted = epoch }
-      entry = own_entry core.kept epoch m (record (kept_of core.kept m) { voted = epoch }) kept_lt
+      entry : kept_of voted.kept m ≡ record (kept_of core.kept m) { voted = epoch; candidate = Some (known_of plan core m now false).pick }
+      entry = own_entry core.kept epoch m (record (kept_of core.kept m) { voted = epoch; candidate = Some (known_of plan core m now false).pick }) kept_lt
 
       same_card : card_of voted.kept m ≡ card_of core.kept m
       same_card = ap (λ (x : KeptMaster). x.card) entry
@@ -310,10 +281,9 @@ module _ (plan : Plan) (event : Event) (m now : ℕ) (core : Core) (p : IsSoundP
           subst
           (λ (n : ℕ). AtLeast (HasVoted (roster_of plan) plan.place (kept_as voted parts) m n) (size (roster_of plan)) (need (roster_of plan) m))
           same
-          (enough_votes plan told m epoch (book_asked epoch) (kept_as voted parts) p
-          (subst (λ (x : MasterState). IsOpenOf m x (open_of parts m)) (master_same core m told lt) (is.each m voted_lt))
+          (enough_votes plan (master_of core m) m epoch (book_asked epoch) (kept_as voted parts) p (is.each m lt)
           (s.each m inside).heard (s.each m inside).own
-          (ap (λ (book : Book). book.voted) given ∙ sym (ap (λ (x : KeptMaster). x.voted) entry)) (ap (λ (book : Book). book.leader) given)
+          (ap (λ (book : Book). book.voted) given ∙ sym (ap (λ (x : KeptMaster). x.voted) entry)) (ap (λ (book : Book). book.leader) given ∙ sym (ap (λ (x : KeptMaster). x.candidate) entry))
           (elected_by epoch e (subst (λ (n : ℕ). is_elected n (known_of plan core m now false) ≡ true) (sym same) h)))
 
   turn_by_state : (state : State) → (failover_of core m).state ≡ state → (state ≡ Idle → ⊥)
@@ -369,8 +339,8 @@ start_steps plan event m now core s inside idle = subst (λ (x : Failover). Step
     from_idle : StepsTo plan event 1 core (after_start m (turned f k) core)
     from_idle =
         turn_by Q (quieted f) None (table Idle (quieted f) k)
-        (twin_steps plan event 1 m core (with_failover core m (quieted f)) lt (twin_state m core (with_failover core m (quieted f)) NoCampaign (campaign_in (failover_of core m).state) (sym runs) (twin_master core m (record (master_of core m) { failover = quieted f }) lt refl refl)))
-        ((λ h. open_steps plan event m core (with_failover core m (started (quieted f) k)) lt inside runs (start_within (quieted f) k h) (twin_master core m (record (master_of core m) { failover = started (quieted f) k }) lt refl refl)), tt)
+        (twin_steps plan event 1 m core (with_failover core m (quieted f)) lt (twin_state m core (with_failover core m (quieted f)) NoCampaign (campaign_in (failover_of core m).state) (sym runs) (twin_master core m (record (master_of core m) { failover = quieted f }) lt refl)))
+        ((λ h. open_steps plan event m core (with_failover core m (started (quieted f) k)) lt inside runs (start_within (quieted f) k h) (twin_master core m (record (master_of core m) { failover = started (quieted f) k }) lt refl)), tt)
 
 starts_steps : (plan : Plan) (event : Event) (m now : ℕ) (core : Core) → IsSound plan core → m < master_count plan → StepsTo plan event 1 core (start_part plan m now core).core
 starts_steps plan event m now core s inside =
@@ -405,18 +375,18 @@ peers_steps plan event (suc m) now core = stay_steps plan event 0 core
 nodes_steps : (plan : Plan) (event : Event) (m now : ℕ) (core : Core) → m < length core.masters → StepsTo plan event 0 core (nodes_part plan m now core).core
 nodes_steps plan event m now core lt =
     let new : MasterState = record (master_of core m) { nodes = changed_from (node_after (sending_of plan core m now)) 0 (master_of core m).nodes } in
-    twin_steps plan event 0 m core (with_master core m new) lt (twin_master core m new lt refl refl)
+    twin_steps plan event 0 m core (with_master core m new) lt (twin_master core m new lt refl)
 
 odown_steps : (plan : Plan) (event : Event) (m now : ℕ) (core : Core) → m < length core.masters → StepsTo plan event 0 core (odown_part plan m now core).core
 odown_steps plan event m now core lt =
     let new : MasterState = record (master_of core m) { odown = is_odown_at plan core m now } in
-    twin_steps plan event 0 m core (with_master core m new) lt (twin_master core m new lt refl refl)
+    twin_steps plan event 0 m core (with_master core m new) lt (twin_master core m new lt refl)
 
 ask_steps : (plan : Plan) (event : Event) (m now : ℕ) (started : Bool) (core : Core) → m < length core.masters → StepsTo plan event 0 core (ask_part plan m now started core).core
 ask_steps plan event m now started core lt =
     steps_if plan event 0 (is_master_down plan core m now && is_ask_due started (master_of core m).ask_sent now) core
     (λ c. puts (with_master c m (record (master_of c m) { ask_sent = Some now })) (frames_from (ask_frames plan m (ask_candidate plan c m)) 0 c.peers))
-    (λ h. twin_steps plan event 0 m core (with_master core m (record (master_of core m) { ask_sent = Some now })) lt (twin_master core m (record (master_of core m) { ask_sent = Some now }) lt refl refl))
+    (λ h. twin_steps plan event 0 m core (with_master core m (record (master_of core m) { ask_sent = Some now })) lt (twin_master core m (record (master_of core m) { ask_sent = Some now }) lt refl))
 
 failover_steps : (plan : Plan) (event : Event) (m now : ℕ) (core : Core) → IsSoundPlan plan → IsSound plan core → m < master_count plan → core.won ≡ None → StepsTo plan event 3 core (failover_part plan m now core).core
 failover_steps plan event m now core p s inside none =

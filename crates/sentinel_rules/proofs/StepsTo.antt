@@ -111,7 +111,6 @@ pub record IsTwin (m : ℕ) (core core2 : Core) (campaign : Campaign) : Type 0 w
   pub count : length core2.masters ≡ length core.masters
   pub others : (k : ℕ) → k ≢ m → master_of core2 k ≡ master_of core k
   pub heard : (master_of core2 m).heard ≡ (master_of core m).heard
-  pub leader : (master_of core2 m).leader ≡ (master_of core m).leader
   pub runs : campaign_in (master_of core2 m).failover.state ≡ campaign
 
 pub twin_then : (m : ℕ) (core next last : Core) (c d : Campaign) → IsTwin m core next c → IsTwin m next last d → IsTwin m core last d
@@ -122,7 +121,6 @@ twin_then m core next last c d s t =
       count = t.count ∙ s.count;
       others = λ k apart. t.others k apart ∙ s.others k apart;
       heard = t.heard ∙ s.heard;
-      leader = t.leader ∙ s.leader;
       runs = t.runs;
     }
 
@@ -131,7 +129,6 @@ twin_open : (m : ℕ) (core core2 : Core) (campaign : Campaign) (opened : OpenMa
 twin_open m core core2 campaign opened t o =
     record {
       heard = λ voter given h. o.heard voter given (subst (λ (list : List (Option HeardVote)). kept_at list voter ≡ Some given) t.heard h);
-      candidate = o.candidate ∙ sym t.leader;
       campaign = sym t.runs;
     }
 
@@ -152,7 +149,6 @@ twin_steps plan event most m core core2 lt t =
       are_parts = parts_at core core2 m (kept_as core parts) (kept_as core parts) (open_of parts m) is lt t.count t.others
           (record {
             heard = λ voter given h. o.heard voter given (subst (λ (list : List (Option HeardVote)). kept_at list voter ≡ Some given) t.heard h);
-            candidate = o.candidate ∙ sym t.leader;
             campaign = o.campaign ∙ sym t.runs;
           })
           (sym t.kept)
@@ -178,15 +174,14 @@ same_steps plan event most core core2 kept masters won parts is =
 
 -- One master's state, in what the model doesn't see
 
-pub twin_master : (core : Core) (m : ℕ) (master : MasterState) → m < length core.masters → master.heard ≡ (master_of core m).heard → master.leader ≡ (master_of core m).leader → IsTwin m core (with_master core m master) (campaign_in master.failover.state)
-twin_master core m master lt heard leader =
+pub twin_master : (core : Core) (m : ℕ) (master : MasterState) → m < length core.masters → master.heard ≡ (master_of core m).heard → IsTwin m core (with_master core m master) (campaign_in master.failover.state)
+twin_master core m master lt heard =
     record {
       kept = refl;
       won = refl;
       count = length-set core.masters m master;
       others = λ k apart. master_other core m k master apart;
       heard = ap (λ (x : MasterState). x.heard) (master_same core m master lt) ∙ heard;
-      leader = ap (λ (x : MasterState). x.leader) (master_same core m master lt) ∙ leader;
       runs = ap (λ (x : MasterState). campaign_in x.failover.state) (master_same core m master lt);
     }
 
@@ -253,22 +248,16 @@ raise_steps plan event epoch core above =
 
 abbrev pub voted_core : Core → (m epoch : ℕ) → RunId → Core
 voted_core core m epoch candidate =
-    record
-    (with_master core m (record (master_of core m) { leader = Some candidate }))
-    { kept = record { current = epoch; masters = slice_set core.kept.masters m (record (kept_of core.kept m) { voted = epoch }) } }
+    record core {
+      kept = record { current = epoch; masters = slice_set core.kept.masters m (record (kept_of core.kept m) { voted = epoch; candidate = Some candidate }) };
+    }
 
 pub cast_steps : (plan : Plan) (event : Event) (m epoch : ℕ) (candidate : RunId) (core : Core) → m < length core.masters → m < master_count plan
     → core.kept.current ≡ epoch → voted_of core.kept m < epoch → StepsTo plan event 1 core (voted_core core m epoch candidate)
 cast_steps plan event m epoch candidate core lt inside now_open later =
     steps_one plan event (Cast m epoch candidate) core (voted_core core m epoch candidate)
     (λ parts is. (inside, now_open, later))
-    (λ parts is. let o : IsOpenOf m (master_of core m) (open_of parts m) = is.each m lt in
-    parts_at core (voted_core core m epoch candidate) m (kept_as core parts) (after plan.place (kept_as core parts) (Cast m epoch candidate)) (record (open_of parts m) { candidate = Some candidate }) is lt
-    (length-set core.masters m master) (λ k apart. master_other core m k master apart)
-    (subst (λ (x : MasterState). IsOpenOf m x (record (open_of parts m) { candidate = Some candidate })) (sym (master_same core m master lt))
-    (record { heard = o.heard; candidate = refl; campaign = o.campaign }))
-    (ap (λ (current : ℕ). let x : Kept = record { current = current; masters = slice_set core.kept.masters m (record (kept_of core.kept m) { voted = epoch }) } in x) now_open)
+    (λ parts is. parts_at core (voted_core core m epoch candidate) m (kept_as core parts) (after plan.place (kept_as core parts) (Cast m epoch candidate)) (open_of parts m) is lt
+    refl (λ k apart. refl) (is.each m lt)
+    (ap (λ (current : ℕ). let x : Kept = record { current = current; masters = slice_set core.kept.masters m (record (kept_of core.kept m) { voted = epoch; candidate = Some candidate }) } in x) now_open)
     refl is.wins)
-  where
-    master : MasterState
-    master = record (master_of core m) { leader = Some candidate }

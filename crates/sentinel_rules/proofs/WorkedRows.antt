@@ -23,7 +23,7 @@ pub nothing_of_nobody : NothingOfNobody
 nothing_of_nobody = refl
 
 pub vote_after_a_restart : VoteAfterARestart
-vote_after_a_restart = refl
+vote_after_a_restart = record { held = refl; told = refl; untold = refl }
 
 pub short_answers : ShortAnswers
 unfolding on_literals

@@ -1,6 +1,5 @@
 -- What a Sentinel keeps: what its file is to hold, and what it heard, found and sent since its start.
 use Rattle.std.specs.Prelude.{ℕ, Bool, false, not, is_some, Option, None, List, length, map, replicate, slice_index_or, slice_set, ◌==◌}
-use Rattle.ballot_law.specs.declared.addresses.RunId.{RunId}
 use Rattle.ballot_law.specs.declared.cards.Card.{Card}
 use Rattle.ballot_law.specs.declared.cards.Kept.{Kept}
 use Rattle.ballot_law.specs.declared.hearings.HeardVote.{HeardVote}
@@ -37,12 +36,10 @@ pub record PeerState : Type 0 where
   pub watch : Watched
   pub ping_sent : Option ℕ
 
--- of a master: the votes heard, by the voter's place; the candidate of the last vote, where it was given since the start; the
--- failover; what the other Sentinels last said, by place; its nodes; when the other Sentinels were last asked; whether it was
--- objectively down at its last tick
+-- of a master: the votes heard, by the voter's place; the failover; what the other Sentinels last said, by place; its nodes; when
+-- the other Sentinels were last asked; whether it was objectively down at its last tick
 pub record MasterState : Type 0 where
   pub heard : List (Option HeardVote)
-  pub leader : Option RunId
   pub failover : Failover
   pub reports : List (Option DownReport)
   pub nodes : List NodeState
@@ -84,7 +81,6 @@ abbrev pub new_master : (sentinels nodes now : ℕ) → MasterState
 new_master sentinels nodes now =
     record {
       heard = replicate sentinels None;
-      leader = None;
       failover = no_failover nodes;
       reports = replicate sentinels None;
       nodes = replicate nodes (new_node now);
@@ -92,7 +88,7 @@ new_master sentinels nodes now =
       odown = false;
     }
 
--- what the file holds, and nothing else: no vote, no report, no failover
+-- what the file holds, and nothing else: no vote heard, no report, no failover
 abbrev pub opened : Plan → (now : ℕ) → Core
 opened plan now =
     let at = clock now in

@@ -24,10 +24,9 @@ campaign_in (WaitPromotion epoch choice former) = Chosen epoch choice.addr
 campaign_in (ReconfReplicas epoch choice former) = Chosen epoch choice.addr
 campaign_in (UpdateConfig epoch choice) = Chosen epoch choice.addr
 
--- each vote that is kept was heard, and the candidate and the campaign are the same
+-- each vote that is kept was heard, and the campaign is the same
 pub record IsOpenOf (m : ℕ) (master : MasterState) (open_part : OpenMaster) : Type 0 where
   pub heard : (voter : ℕ) (given : HeardVote) → kept_at master.heard voter ≡ Some given → Contains open_part.heard (vote voter m given.epoch given.candidate)
-  pub candidate : open_part.candidate ≡ master.leader
   pub campaign : open_part.campaign ≡ campaign_in master.failover.state
 
 abbrev pub wins_of : Option Win → List Win

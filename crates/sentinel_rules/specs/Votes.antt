@@ -8,17 +8,21 @@ use Rattle.ballot_law.specs.OwnVotes.{Book, grants, asked}
 use Rattle.failover_states.specs.declared.periods.TheConstants.{SPREAD_MS}
 use Rattle.failover_states.specs.Failovers.{Failover}
 use Rattle.sentinel_rules.specs.Plans.{Plan, me}
-use Rattle.sentinel_rules.specs.States.{Core, master_of, failover_of, with_master, with_failover}
+use Rattle.sentinel_rules.specs.States.{Core, failover_of, with_failover}
 
--- the own vote for a master
+-- the own vote for a master, which the file is to hold
 abbrev pub book_of : Core → (m : ℕ) → Book
-book_of core m = record { current = core.kept.current; voted = voted_of core.kept m; leader = (master_of core m).leader }
+book_of core m = record { current = core.kept.current; voted = voted_of core.kept m; leader = (kept_of core.kept m).candidate }
 
 abbrev pub with_book : Core → (m : ℕ) → Book → Core
 with_book core m book =
-    record
-    (with_master core m (record (master_of core m) { leader = book.leader }))
-    { kept = record { current = book.current; masters = slice_set core.kept.masters m (record (kept_of core.kept m) { voted = book.voted }) } }
+    record core {
+      kept =
+          record {
+            current = book.current;
+            masters = slice_set core.kept.masters m (record (kept_of core.kept m) { voted = book.voted; candidate = book.leader });
+          };
+    }
 
 -- a failover counts as started now, and a random part of a second later
 abbrev pub marked : (now random : ℕ) → Failover → Failover

@@ -61,12 +61,13 @@ abbrev pub members_from : (port : ℕ) → (digits : List ℕ) → List Member
 members_from port [] = []
 members_from port (digit ∷ digits) = record { id = id_of_digit digit; addr = local port } ∷ members_from (port + 1) digits
 
-abbrev pub kept_with : (current : ℕ) → Card → (voted : ℕ) → Kept
-kept_with current card voted = record { current = current; masters = record { card = card; voted = voted } ∷ [] }
+abbrev pub kept_with : (current : ℕ) → Card → (voted : ℕ) → (candidate : Option RunId) → Kept
+kept_with current card voted candidate =
+    record { current = current; masters = record { card = card; voted = voted; candidate = candidate } ∷ [] }
 
 -- a file of this epoch, in which nobody was voted for and the master is at port 6379
 abbrev pub kept_at_epoch : (current : ℕ) → Kept
-kept_at_epoch current = kept_with current (record { epoch = 0; addr = local 6379 }) 0
+kept_at_epoch current = kept_with current (record { epoch = 0; addr = local 6379 }) 0 None
 
 -- the first of these Sentinels watches one master with these nodes, at quorum 2
 abbrev pub plan_of : (digit : ℕ) → (others ports : List ℕ) → Settings → Kept → Plan
@@ -255,13 +256,20 @@ NothingOfNobody =
     ∷ address_answer (record { epoch = 0; addr = local 6379 })
     ∷ []
 
--- after a restart the epoch of the vote is known, and its candidate isn't; no second vote is given
-abbrev pub VoteAfterARestart : Type 0
-VoteAfterARestart =
-    outputs_of
-    (default_plan (core_of (default_plan (kept_at_epoch 0)) (ask_at 0 6379 1 (Some id_a) ∷ [])).kept)
-    (ask_at 0 6379 1 (Some id_a) ∷ [])
-    ≡ vote_answer None 1 ∷ []
+abbrev pub voted_kept : Kept
+voted_kept = (core_of (default_plan (kept_at_epoch 0)) (ask_at 0 6379 1 (Some id_a) ∷ [])).kept
+
+-- the vote was asked for before the restart; after it both candidates ask
+abbrev pub asks_after_a_restart : List (ℕ × Event)
+asks_after_a_restart = ask_at 0 6379 1 (Some id_a) ∷ ask_at 0 6379 1 (Some id_b) ∷ []
+
+-- after a restart the vote is the one that the file holds, its candidate too where the file tells it; no second vote is given
+pub record VoteAfterARestart : Type 0 where
+  pub held : voted_kept ≡ kept_with 1 (record { epoch = 0; addr = local 6379 }) 1 (Some id_a)
+  pub told : outputs_of (default_plan voted_kept) asks_after_a_restart ≡ vote_answer (Some id_a) 1 ∷ vote_answer (Some id_a) 1 ∷ []
+  pub untold :
+      outputs_of (default_plan (kept_with 1 (record { epoch = 0; addr = local 6379 }) 1 None)) asks_after_a_restart
+      ≡ vote_answer None 1 ∷ vote_answer None 1 ∷ []
 
 -- the short answers
 abbrev pub ShortAnswers : Type 0
@@ -347,9 +355,9 @@ pub record FailoverGoesOn : Type 0 where
   pub won : (failing_at 8000).won ≡ Some (record { master = 0; epoch = 1 })
   pub chosen : state_at 9000 ≡ SendPromotion 1 second_replica
   pub told : state_at 10000 ≡ WaitPromotion 1 second_replica 0
-  pub same_card : (failing_at 10050).kept ≡ kept_with 1 (record { epoch = 0; addr = local 6379 }) 1
+  pub same_card : (failing_at 10050).kept ≡ kept_with 1 (record { epoch = 0; addr = local 6379 }) 1 (Some id_a)
   pub promoted : state_at 10100 ≡ ReconfReplicas 1 second_replica 0
-  pub new_card : (failing_at 10150).kept ≡ kept_with 1 (record { epoch = 1; addr = local 6381 }) 1
+  pub new_card : (failing_at 10150).kept ≡ kept_with 1 (record { epoch = 1; addr = local 6381 }) 1 (Some id_a)
   pub updating : state_at 12000 ≡ UpdateConfig 1 second_replica
   pub ended : state_at 13000 ≡ Idle
 
@@ -413,7 +421,7 @@ pub record VotesOfAnotherEpoch : Type 0 where
 
 -- a campaign whose own vote wasn't stored: after the restart the vote of that epoch is free
 pub record VoteThatWasNotStored : Type 0 where
-  pub voted : (core_of failover_plan until_campaign).kept ≡ kept_with 1 (record { epoch = 0; addr = local 6379 }) 1
+  pub voted : (core_of failover_plan until_campaign).kept ≡ kept_with 1 (record { epoch = 0; addr = local 6379 }) 1 (Some id_a)
   pub not_won : (core_of failover_plan until_campaign).won ≡ None
   pub free : all_outputs failover_plan (opened failover_plan 7000) (ask_at 7100 6379 1 (Some id_b) ∷ []) ≡ vote_answer (Some id_b) 1 ∷ []
 
@@ -440,7 +448,7 @@ abbrev pub adopting_inputs : List (ℕ × Event)
 adopting_inputs = told_inputs ++ hello_at 10100 7 6379 7 ∷ []
 
 abbrev pub adopted_kept : Kept
-adopted_kept = kept_with 7 (record { epoch = 7; addr = local 6379 }) 5
+adopted_kept = kept_with 7 (record { epoch = 7; addr = local 6379 }) 5 (Some id_a)
 
 -- a newer configuration ends the failover: that the told replica says now that it is the master changes nothing
 pub record AdoptionEndsAFailover : Type 0 where

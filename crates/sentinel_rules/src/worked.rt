@@ -23,9 +23,9 @@ ghost use Rattle.sentinel_rules.specs.Worked.{
   ShownInAFailover,
 };
 
-/// Votes: one in an epoch, to the first that asks; a question without a candidate raises no epoch; after a restart the epoch of the
-/// vote is known and its candidate isn't, unless the vote wasn't stored, and then it is free; a vote for another candidate delays the
-/// own campaign.
+/// Votes: one in an epoch, to the first that asks; a question without a candidate raises no epoch; after a restart the vote is known as
+/// the file holds it, with its candidate, unless it wasn't stored, and then it is free; a vote for another candidate delays the own
+/// campaign.
 pub fn law_example_votes()
     ensures one_vote_an_epoch { OneVoteAnEpoch }
     ensures questions_raise_nothing { QuestionsRaiseNothing }
