@@ -22,7 +22,7 @@ const C: RunId = RunId {
 
 #[test]
 fn one_vote_in_an_epoch(rt: HostRuntime) -> Result<(), Fail> {
-    let mut book = VoteBook::of(0, 0);
+    let mut book = VoteBook::of(0, 0, None);
     for (epoch, candidate, leader, kept) in [
         (1, A, A, 1),
         (1, B, A, 1),
@@ -38,7 +38,7 @@ fn one_vote_in_an_epoch(rt: HostRuntime) -> Result<(), Fail> {
 
 #[test]
 fn no_vote_in_epoch_0(rt: HostRuntime) {
-    let mut book = VoteBook::of(0, 0);
+    let mut book = VoteBook::of(0, 0, None);
     let answer = book.ask(0, A);
     assert!(rt; answer.leader == None);
     assert!(rt; answer.epoch == 0);
@@ -46,7 +46,7 @@ fn no_vote_in_epoch_0(rt: HostRuntime) {
 
 #[test]
 fn no_vote_in_a_passed_epoch(rt: HostRuntime) {
-    let mut book = VoteBook::of(7, 0);
+    let mut book = VoteBook::of(7, 0, None);
     let answer = book.ask(5, A);
     assert!(rt; answer.leader == None);
     assert!(rt; answer.epoch == 0);
@@ -54,8 +54,24 @@ fn no_vote_in_a_passed_epoch(rt: HostRuntime) {
 }
 
 #[test]
-fn a_restart_forgets_the_candidate(rt: HostRuntime) {
-    let mut book = VoteBook::of(1, 1);
+fn a_restart_keeps_the_candidate(rt: HostRuntime) -> Result<(), Fail> {
+    let mut book = VoteBook::of(1, 1, Some(A));
+    for (epoch, candidate, leader, kept) in [
+        (1, B, A, 1),
+        (1, A, A, 1),
+        (2, B, B, 2),
+        (1, A, B, 2),
+    ] {
+        let answer = book.ask(epoch, candidate);
+        assert!(rt; answer.leader == Some(leader));
+        assert!(rt; answer.epoch == kept);
+    }
+    Ok(())
+}
+
+#[test]
+fn a_file_without_a_candidate_keeps_the_epoch(rt: HostRuntime) {
+    let mut book = VoteBook::of(1, 1, None);
     let answer = book.ask(1, A);
     assert!(rt; answer.leader == None);
     assert!(rt; answer.epoch == 1);
@@ -63,7 +79,7 @@ fn a_restart_forgets_the_candidate(rt: HostRuntime) {
 
 #[test]
 fn no_campaign_after_the_greatest_epoch(rt: HostRuntime) {
-    let mut book = VoteBook::of(281_474_976_710_654, 0);
+    let mut book = VoteBook::of(281_474_976_710_654, 0, None);
     assert!(rt; book.open_campaign() == Some(281_474_976_710_655));
     assert!(rt; book.open_campaign() == None);
     assert!(rt; book.current() == 281_474_976_710_655);
@@ -72,7 +88,7 @@ fn no_campaign_after_the_greatest_epoch(rt: HostRuntime) {
 #[test]
 fn votes_of_a_later_epoch_do_not_elect(rt: HostRuntime) -> Result<(), Fail> {
     let me = A;
-    let mut book = VoteBook::of(4, 0);
+    let mut book = VoteBook::of(4, 0, None);
     assert!(rt; book.open_campaign() == Some(5));
     book.ask(5, me);
     book.raise(7);
@@ -88,7 +104,7 @@ fn votes_of_a_later_epoch_do_not_elect(rt: HostRuntime) -> Result<(), Fail> {
 
 #[test]
 fn three_votes_elect_nobody_at_a_quorum_of_four(rt: HostRuntime) -> Result<(), Fail> {
-    let mut book = VoteBook::of(0, 0);
+    let mut book = VoteBook::of(0, 0, None);
     book.ask(1, A);
     let mut heard = Heard::new(rt.alloc(), 5)?;
     heard.hear(1, A, 1);
