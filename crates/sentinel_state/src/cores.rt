@@ -9,7 +9,7 @@ ghost use Rattle.sentinel_rules.specs.Ticks.{with_reading};
 ghost use Rattle.sentinel_rules.specs.Plans.{roster_of, group_size, master_count};
 
 use crate::masters::Master;
-use ballot_law::{Addr, Card, Info, Kept, KeptMaster, KeptMasters, NoMemory, Win};
+use ballot_law::{Addr, Card, Info, Kept, KeptMaster, KeptMasters, NoMemory, RunId, Win};
 use down_detector::{Tilt, is_odown};
 use failover_states::State as Stage;
 use sentinel_plan::Plan;
@@ -264,14 +264,31 @@ impl Core {
     pub fn set_card(&mut self, m: u16, card: Card)
         ensures { self.new ≡ with_card self.old m card }
     {
-        self.set_kept(m, card, self.voted(m));
+        let voted = self.voted(m);
+        let candidate = self.leader(m);
+        self.set_kept(
+            m,
+            KeptMaster {
+                card,
+                voted,
+                candidate,
+            },
+        );
     }
 
-    /// The epoch of the last vote for a master.
-    pub fn set_voted(&mut self, m: u16, voted: u64)
-        ensures { self.new ≡ record self.old { kept = record self.old.kept { masters = slice_set self.old.kept.masters m (record (kept_of self.old.kept m) { voted = voted }) } } }
+    /// The epoch and the candidate of the last vote for a master.
+    pub(crate) fn set_vote(&mut self, m: u16, voted: u64, candidate: Option<RunId>)
+        ensures { self.new ≡ record self.old { kept = record self.old.kept { masters = slice_set self.old.kept.masters m (record (kept_of self.old.kept m) { voted = voted; candidate = candidate }) } } }
     {
-        self.set_kept(m, self.card(m), voted);
+        let card = self.card(m);
+        self.set_kept(
+            m,
+            KeptMaster {
+                card,
+                voted,
+                candidate,
+            },
+        );
     }
 
     /// What is kept of a data node; none where there is no such node.
@@ -376,13 +393,13 @@ impl Core {
     }
 
     /// Keeps this of a master; nothing where there is no such master.
-    fn set_kept(&mut self, m: u16, card: Card, voted: u64)
-        ensures { self.new ≡ record self.old { kept = record self.old.kept { masters = slice_set self.old.kept.masters m (record { card = card; voted = voted }) } } }
+    fn set_kept(&mut self, m: u16, entry: KeptMaster)
+        ensures { self.new ≡ record self.old { kept = record self.old.kept { masters = slice_set self.old.kept.masters m entry } } }
     {
         let none = KeptMasters::from_vec(Vec::new(*self.masters.allocator()));
         let mut masters = mem::replace(&mut self.kept.masters, none).into_vec();
         if let Some(master) = masters.get_mut(m as usize) {
-            *master = KeptMaster { card, voted };
+            *master = entry;
         }
         self.kept.masters = KeptMasters::from_vec(masters);
     }

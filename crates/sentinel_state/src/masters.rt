@@ -4,7 +4,7 @@ ghost use Rattle.std.specs.Prelude.{◌≡◌, ◌≤◌, length, IfOk};
 ghost use Rattle.ballot_law.specs.Clocks.{clock};
 ghost use Rattle.sentinel_rules.specs.States.{new_master};
 
-use ballot_law::{NoMemory, RunId};
+use ballot_law::NoMemory;
 use down_detector::DownReports;
 use failover_states::Failover;
 use std::alloc::Global;
@@ -17,8 +17,6 @@ use watched_nodes::Node;
 pub(crate) struct Master {
     /// The votes of the other Sentinels, by their places.
     pub(crate) heard: Heard,
-    /// The candidate of the last vote, where it was given since the start.
-    pub(crate) leader: Option<RunId>,
     pub(crate) failover: Failover,
     /// What the other Sentinels last said of it, by their places.
     pub(crate) reports: DownReports,
@@ -39,7 +37,6 @@ impl Model for Master {
 
     ghost view = { λ master. record {
       heard = master.heard;
-      leader = master.leader;
       failover = master.failover;
       reports = master.reports;
       nodes = master.nodes.items;
@@ -63,7 +60,6 @@ impl Master {
     {
         Ok(Master {
             heard: Heard::new(alloc, sentinels)?,
-            leader: None,
             failover: Failover::new(alloc, nodes)?,
             reports: DownReports::new(alloc, sentinels)?,
             nodes: vec![in alloc; Node::new(now); nodes as usize]?,

@@ -1,8 +1,8 @@
 //! The own vote for a master and what a vote does, and the votes heard.
 
 ghost use Rattle.std.specs.Prelude.{◌≡◌};
+ghost use Rattle.ballot_law.specs.Ballots.{kept_of};
 ghost use Rattle.ballot_law.specs.Clocks.{clock};
-ghost use Rattle.sentinel_rules.specs.States.{master_of, with_master};
 ghost use Rattle.sentinel_rules.specs.News.{vote_heard};
 ghost use Rattle.sentinel_rules.specs.Ticks.{with_vote, pick_of, count_of};
 ghost use Rattle.sentinel_rules.specs.Votes.{book_of, with_book, mark_for, requested};
@@ -64,26 +64,17 @@ impl Core {
     fn keep_book(&mut self, m: u16, book: &VoteBook)
         ensures { self.new ≡ with_book self.old m book.now }
     {
-        self.set_leader(m, book.leader());
-        self.set_voted(m, book.voted());
+        self.set_vote(m, book.voted(), book.leader());
         self.set_current(book.current());
     }
 
     /// The candidate of the last vote for a master.
     pub fn leader(&self, m: u16) -> Option<RunId>
-        ensures { result ≡ (master_of self.now m).leader }
+        ensures { result ≡ (kept_of self.now.kept m).candidate }
     {
-        match self.masters.get(m as usize) {
-            Some(master) => master.leader,
+        match self.kept.masters.as_slice().get(m as usize) {
+            Some(master) => master.candidate,
             None => None,
-        }
-    }
-
-    fn set_leader(&mut self, m: u16, leader: Option<RunId>)
-        ensures { self.new ≡ with_master self.old m (record (master_of self.old m) { leader = leader }) }
-    {
-        if let Some(master) = self.masters.get_mut(m as usize) {
-            master.leader = leader;
         }
     }
 
