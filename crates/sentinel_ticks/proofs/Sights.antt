@@ -45,8 +45,8 @@ failover_alike m core failover = same_nodes m core (record (master_of core m) { 
 
 book_alike : (m : ℕ) (core : Core) (book : Book) → LooksAlike m core (with_book core m book)
 book_alike m core book = (
-  same_in_place (λ (x : KeptMaster). x.card) core.kept.masters m (record (kept_of core.kept m) { voted = book.voted }) no_kept refl,
-  (same_nodes m core (record (master_of core m) { leader = book.leader }) refl).1,
+  same_in_place (λ (x : KeptMaster). x.card) core.kept.masters m (record (kept_of core.kept m) { voted = book.voted; candidate = book.leader }) no_kept refl,
+  refl,
 )
 
 mark_alike : (plan : Plan) (m now : ℕ) (candidate : RunId) (core : Core) → LooksAlike m core (mark_for plan m now candidate core)
