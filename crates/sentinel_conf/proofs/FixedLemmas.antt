@@ -7,11 +7,11 @@ use Rattle.ballot_law.specs.declared.rosters.Member.{Member}
 use Rattle.ballot_law.specs.declared.cards.KeptMaster.{KeptMaster}
 use Rattle.ballot_law.specs.Rosters.{MasterPlan, Roster as RosterPlan}
 use Rattle.conf_lines.specs.declared.lines.StateLine.{StateLine}
-use Rattle.conf_lines.specs.declared.lines.StateLine.TheVariants.{MyId, CurrentEpoch}
+use Rattle.conf_lines.specs.declared.lines.StateLine.TheVariants.{MyId, CurrentEpoch, Monitor, ConfigEpoch, LeaderEpoch}
 use Rattle.conf_lines.specs.Lines.{spelled}
 use Rattle.conf_lines.specs.Words.{ended}
 use Rattle.sentinel_conf.specs.Fixed.{FixedTexts, IsFixedText, fixed_of, changing_lines, with_fixed, all_with_fixed}
-use Rattle.sentinel_conf.specs.Rewritten.{text_of, master_lines, sentinel_states}
+use Rattle.sentinel_conf.specs.Rewritten.{text_of, candidate_states, replica_states, master_lines, sentinel_states}
 use Rattle.sentinel_conf.specs.Room.{ROOM, bounded}
 use Rattle.sentinel_conf.proofs.RoomLemmas.{bounded-bounded, room_join, room_of, text_of-append}
 
@@ -34,16 +34,18 @@ same_added out first second rest e =
     ∙ ap (λ t. bounded (t ++ rest)) (sym (added_cut out first) ∙ ap (λ t. bounded (out ++ t)) e ∙ added_cut out second)
     ∙ bounded-bounded (out ++ second) rest
 
--- three lines, a list of lines, and what is spelled already
-pub three_and_text : (a b c : StateLine) (ds : List StateLine) (text : List ℕ) (out one two three four five : List ℕ)
+-- three lines, two lists of lines, and what is spelled already
+pub three_and_text : (a b c : StateLine) (ds es : List StateLine) (text : List ℕ) (out one two three four five six : List ℕ)
     → one ≡ bounded (out ++ ended (spelled a)) → two ≡ bounded (one ++ ended (spelled b)) → three ≡ bounded (two ++ ended (spelled c))
-    → bounded four ≡ bounded (three ++ text_of ds) → bounded five ≡ bounded (four ++ text)
-    → bounded five ≡ bounded (out ++ (text_of (a ∷ b ∷ c ∷ ds) ++ text))
-three_and_text a b c ds text out one two three four five e f g h i =
-    let third = room_join two three four (ended (spelled c)) (text_of ds) (room_of two three (ended (spelled c)) g) h in
-    let second = room_join one two four (ended (spelled b)) (text_of (c ∷ ds)) (room_of one two (ended (spelled b)) f) third in
-    let first = room_join out one four (ended (spelled a)) (text_of (b ∷ c ∷ ds)) (room_of out one (ended (spelled a)) e) second in
-    room_join out four five (text_of (a ∷ b ∷ c ∷ ds)) text first i
+    → bounded four ≡ bounded (three ++ text_of ds) → bounded five ≡ bounded (four ++ text_of es) → bounded six ≡ bounded (five ++ text)
+    → bounded six ≡ bounded (out ++ (text_of (a ∷ b ∷ c ∷ (ds ++ es)) ++ text))
+three_and_text a b c ds es text out one two three four five six e f g h i j =
+    let lists : bounded five ≡ bounded (three ++ text_of (ds ++ es)) =
+    room_join three four five (text_of ds) (text_of es) h i ∙ ap (λ t. bounded (three ++ t)) (sym (text_of-append ds es)) in
+    let third = room_join two three five (ended (spelled c)) (text_of (ds ++ es)) (room_of two three (ended (spelled c)) g) lists in
+    let second = room_join one two five (ended (spelled b)) (text_of (c ∷ (ds ++ es))) (room_of one two (ended (spelled b)) f) third in
+    let first = room_join out one five (ended (spelled a)) (text_of (b ∷ c ∷ (ds ++ es))) (room_of out one (ended (spelled a)) e) second in
+    room_join out five six (text_of (a ∷ b ∷ c ∷ (ds ++ es))) text first j
 
 -- the lines of one master more have been added
 pub masters_with : (whole out new : List ℕ) (ms : List MasterPlan) (ks : List KeptMaster) (bs : List (List ℕ)) (m : MasterPlan) (d : KeptMaster) (b : List ℕ)
@@ -91,6 +93,9 @@ masters_same id members (m ∷ ms) (k ∷ ks) [] out h = cc
 masters_same id members (m ∷ ms) (k ∷ ks) (b ∷ bs) out h =
     let mine = text_of (changing_lines (m, k)) in
     let others = text_of (sentinel_states m.name id members) in
+    let cand = candidate_states m.name k.candidate in
+    let reps = replica_states m.name k.card.addr m.nodes in
+    let sens = sentinel_states m.name id members in
     let same : bounded b ≡ bounded others = cc in
     let left : map bounded bs ≡ map (fixed_of id members) ms = cc in
     let rest = text_of (flat_map (master_lines id members) (zip ms ks)) in
@@ -100,6 +105,7 @@ masters_same id members (m ∷ ms) (k ∷ ks) (b ∷ bs) out h =
     ∙ same_added (out ++ mine) b others rest same
     ∙ ap (λ t. bounded (t ++ rest)) (append_assoc out mine others)
     ∙ ap (λ t. bounded ((out ++ t) ++ rest)) (sym (text_of-append (changing_lines (m, k)) (sentinel_states m.name id members)))
+    ∙ ap (λ t. bounded ((out ++ text_of (Monitor m.name k.card.addr m.quorum ∷ ConfigEpoch m.name k.card.epoch ∷ LeaderEpoch m.name k.voted ∷ t)) ++ rest)) (append_assoc cand reps sens)
     ∙ ap bounded (append_assoc out (text_of (master_lines id members (m, k))) rest)
     ∙ ap (λ t. bounded (out ++ t)) (sym (text_of-append (master_lines id members (m, k)) (flat_map (master_lines id members) (zip ms ks))))
 

@@ -10,6 +10,7 @@ pub mod SetLemmas
 pub mod OrderLemmas
 pub mod FileLemmas
 pub mod LineLemmas
+pub mod Candidates
 pub mod SizeLemmas
 pub mod TextLemmas
 pub mod ReadAgain

@@ -1,10 +1,13 @@
 -- A rewritten file says what its conf and its kept part say.
 use Rattle.std.proofs.Common.{◌≡◌, ℕ, ◌≤◌, max, Bool, true, false, not, eqb, ltb, List, [], ◌∷◌, ◌++◌, length, map, refl, ap, sym, ◌∙◌, subst, arith, inl, inr, Option, Some, None, Result, Ok, Err}
+use Rattle.std.specs.Prelude.{IfSome}
 use Rattle.std.specs.List.{list_any, flat_map, filter_map, zip, AllByRecursion}
 use Rattle.std.specs.Str.{IsUtf8, is_utf8}
 use Rattle.std.proofs.lemmas.Bool.{and_parts, and_right, or_cases, true≢false, false_from_ne_true, cases_Bool, not_from_true, not_from_false, le-ltb}
 use Rattle.std.proofs.lemmas.Str.{is_utf8-from_IsUtf8}
 use Rattle.ballot_law.specs.declared.addresses.Addr.{Addr}
+use Rattle.ballot_law.specs.declared.addresses.RunId.{RunId}
+use Rattle.ballot_law.specs.Hellos.{IsRunId}
 use Rattle.ballot_law.specs.declared.rosters.Member.{Member}
 use Rattle.ballot_law.specs.Ordered.{in_order, repeats}
 use Rattle.ballot_law.specs.Rosters.{Roster as RosterPlan, MasterPlan}
@@ -16,7 +19,7 @@ use Rattle.conf_lines.specs.declared.faults.ConfFault.{ConfFault}
 use Rattle.ballot_law.specs.declared.cards.KeptMaster.{KeptMaster}
 use Rattle.sentinel_conf.specs.declared.settings.Settings.{Settings}
 use Rattle.conf_lines.specs.declared.lines.StateLine.{StateLine}
-use Rattle.conf_lines.specs.declared.lines.StateLine.TheVariants.{MyId, CurrentEpoch, Monitor, ConfigEpoch, LeaderEpoch, KnownReplica, KnownSentinel}
+use Rattle.conf_lines.specs.declared.lines.StateLine.TheVariants.{MyId, CurrentEpoch, Monitor, ConfigEpoch, LeaderEpoch, LeaderId, KnownReplica, KnownSentinel}
 use Rattle.conf_lines.specs.declared.lines.Setting.{Setting}
 use Rattle.conf_lines.specs.declared.lines.Line.{Line}
 use Rattle.conf_lines.specs.declared.lines.Line.TheVariants as line
@@ -24,11 +27,11 @@ use Rattle.ballot_law.specs.Cuts.{lines}
 use Rattle.ballot_law.specs.Words.{some_if}
 use Rattle.conf_lines.specs.Lines.{line_of, spelled, same_key}
 use Rattle.ballot_law.specs.declared.cards.TheConstants.{MAX_EPOCH}
-use Rattle.sentinel_conf.specs.Meaning.{ConfPlan, states, settings, last, member_before, names_of, master_of, kept_master_of, members_of, greatest, kept_of, own_addr, own_port, settings_of, conf_of}
-use Rattle.conf_lines.specs.Values.{name_of, quorum_of, monitored_at, node_of, config_of, voted_of, epoch_of, known_of, my_id_of}
+use Rattle.sentinel_conf.specs.Meaning.{ConfPlan, states, settings, last, member_before, names_of, master_of, kept_master_of, candidate_at, first_given, members_of, greatest, kept_of, own_addr, own_port, settings_of, conf_of}
+use Rattle.conf_lines.specs.Values.{name_of, quorum_of, monitored_at, node_of, config_of, voted_of, candidate_of, epoch_of, known_of, my_id_of}
 use Rattle.ballot_law.specs.declared.cards.Kept.{Kept as KeptPlan}
 use Rattle.ballot_law.specs.Rosters.{no_addr}
-use Rattle.sentinel_conf.specs.Rewritten.{others, replicas, master_states, state_lines, rewritten, longest, IsKeptMaster, IsKeptPart}
+use Rattle.sentinel_conf.specs.Rewritten.{others, replicas, candidate_states, master_states, state_lines, rewritten, longest, IsKeptMaster, IsKeptPart, HasRunIds}
 use Rattle.ballot_law.specs.Results.{◌>>=◌}
 use Rattle.sentinel_conf.specs.Reading.{FILE_MAX, line_fault, unknown_fault, first_fault, unless, guard, found, roster_checked, whole_conf, conf_of_lines, conf_of_bytes}
 use Rattle.conf_lines.specs.Faults.{fault_at}
@@ -41,6 +44,7 @@ use Rattle.conf_lines.proofs.StateLemmas.{IsAddr, IsId, IsName, IsState, no_lf_s
 use Rattle.sentinel_conf.proofs.SizeLemmas.{rewritten_size, longest_is}
 use Rattle.sentinel_conf.proofs.TextLemmas.{utf8_spelled, utf8_ended}
 use Rattle.sentinel_conf.proofs.LineLemmas.{IsPlainLine, ArePlainTexts, AreStates, lines_again, states_again, settings_again, kept_again as kept_lines_again, clean_none, clean_each, none_twice}
+use Rattle.sentinel_conf.proofs.Candidates.{each_candidate, in_candidate, id_of_some, first_is, candidate_stays}
 use Rattle.sentinel_conf.proofs.FileLemmas.{in_append_left, in_append_right, in_append_cases, in_map, each_map, in_flat_map, each_flat_map, to_filter, from_filter, rises_filter, to_filter_map, each_filter_map, last_is, greatest-le, Apart, apart_back, apart_append, apart_map, apart_rises, any_some, apart_from_repeats, repeats_key, one_of_key, apart_filter, zipped, in_from_at}
 
 abbrev pub names : ConfPlan → List (List ℕ)
@@ -136,11 +140,13 @@ whole_plan m nodes quorum e f =
     ap (λ t. let x : MasterPlan = record { name = m.name; nodes = t; quorum = quorum } in x) e
     ∙ ap (λ t. let x : MasterPlan = record { name = m.name; nodes = m.nodes; quorum = t } in x) f
 
-whole_kept : (m : KeptMaster) (epoch voted : ℕ) (addr : Addr) → epoch ≡ m.card.epoch → addr ≡ m.card.addr → voted ≡ m.voted → (let x : KeptMaster = record { card = record { epoch = epoch; addr = addr }; voted = voted } in x) ≡ m
-whole_kept m epoch voted addr e f g =
-    ap (λ t. let x : KeptMaster = record { card = record { epoch = t; addr = addr }; voted = voted } in x) e
-    ∙ ap (λ t. let x : KeptMaster = record { card = record { epoch = m.card.epoch; addr = t }; voted = voted } in x) f
-    ∙ ap (λ t. let x : KeptMaster = record { card = record { epoch = m.card.epoch; addr = m.card.addr }; voted = t } in x) g
+whole_kept : (m : KeptMaster) (epoch voted : ℕ) (addr : Addr) (candidate : Option RunId) → epoch ≡ m.card.epoch → addr ≡ m.card.addr → voted ≡ m.voted → candidate ≡ m.candidate
+    → (let x : KeptMaster = record { card = record { epoch = epoch; addr = addr }; voted = voted; candidate = candidate } in x) ≡ m
+whole_kept m epoch voted addr candidate e f g h =
+    ap (λ t. let x : KeptMaster = record { card = record { epoch = t; addr = addr }; voted = voted; candidate = candidate } in x) e
+    ∙ ap (λ t. let x : KeptMaster = record { card = record { epoch = m.card.epoch; addr = t }; voted = voted; candidate = candidate } in x) f
+    ∙ ap (λ t. let x : KeptMaster = record { card = record { epoch = m.card.epoch; addr = m.card.addr }; voted = t; candidate = candidate } in x) g
+    ∙ ap (λ t. let x : KeptMaster = record { card = record { epoch = m.card.epoch; addr = m.card.addr }; voted = m.voted; candidate = t } in x) h
 
 -- keys
 key_name : (x y : StateLine) → same_key x y ≡ true → state_name x ≡ state_name y
@@ -149,19 +155,37 @@ key_name (CurrentEpoch d) (CurrentEpoch e) h = refl
 key_name (Monitor m a q) (Monitor n b r) h = ap Some (same_bytes-true m n h)
 key_name (ConfigEpoch m d) (ConfigEpoch n e) h = ap Some (same_bytes-true m n h)
 key_name (LeaderEpoch m d) (LeaderEpoch n e) h = ap Some (same_bytes-true m n h)
+key_name (LeaderId m i) (LeaderId n j) h = ap Some (same_bytes-true m n h)
 key_name (KnownReplica m a) (KnownReplica n b) h = ap Some (same_bytes-true m n (and_parts (same_bytes m n) (same_addr a b) h).0)
 key_name (KnownSentinel m a i) (KnownSentinel n b j) h = ap Some (same_bytes-true m n (and_parts (same_bytes m n) (same_id i j) h).0)
 key_name _ _ h = absurd (true≢false (sym h))
+
+-- a fact of each replica line and each Sentinel line of a master
+each_tail : (conf : ConfPlan) (p : MasterPlan × KeptMaster) (P : StateLine → Type 0) → ((a : Addr) → In a (replicas p.0 p.1) → P (KnownReplica p.0.name a)) → ((m : Member) → In m (others conf) → P (KnownSentinel p.0.name m.addr m.id))
+    → (s : StateLine) → In s (map (KnownReplica p.0.name) (replicas p.0 p.1) ++ map (λ member. KnownSentinel p.0.name member.addr member.id) (others conf)) → P s
+each_tail conf p P g h s i =
+    elim (in_append_cases s (map (KnownReplica p.0.name) (replicas p.0 p.1)) (map (λ member. KnownSentinel p.0.name member.addr member.id) (others conf)) i) as (λ _. P s) [
+      | inl r ↦ each_map (KnownReplica p.0.name) P (replicas p.0 p.1) g s r
+      | inr r ↦ each_map (λ (member : Member). KnownSentinel p.0.name member.addr member.id) P (others conf) h s r
+    ]
+
+-- a fact of each state line of a master behind its leader-epoch line
+each_behind : (conf : ConfPlan) (p : MasterPlan × KeptMaster) (P : StateLine → Type 0) → ((id : RunId) → p.1.candidate ≡ Some id → P (LeaderId p.0.name id))
+    → ((a : Addr) → In a (replicas p.0 p.1) → P (KnownReplica p.0.name a)) → ((m : Member) → In m (others conf) → P (KnownSentinel p.0.name m.addr m.id))
+    → (s : StateLine) → In s (candidate_states p.0.name p.1.candidate ++ (map (KnownReplica p.0.name) (replicas p.0 p.1) ++ map (λ member. KnownSentinel p.0.name member.addr member.id) (others conf))) → P s
+each_behind conf p P f g h s i =
+    let reps : List StateLine = map (KnownReplica p.0.name) (replicas p.0 p.1) in
+    let sens : List StateLine = map (λ (member : Member). KnownSentinel p.0.name member.addr member.id) (others conf) in
+    elim (in_append_cases s (candidate_states p.0.name p.1.candidate) (reps ++ sens) i) as (λ _. P s) [
+      | inl j ↦ each_candidate p.0.name p.1.candidate P f s j
+      | inr j ↦ each_tail conf p P g h s j
+    ]
 
 named : (conf : ConfPlan) (p : MasterPlan × KeptMaster) (s : StateLine) → In s (master_states conf p) → state_name s ≡ Some p.0.name
 named conf p s (inl f) = ap state_name f
 named conf p s (inr (inl f)) = ap state_name f
 named conf p s (inr (inr (inl f))) = ap state_name f
-named conf p s (inr (inr (inr j))) =
-    elim (in_append_cases s (map (KnownReplica p.0.name) (replicas p.0 p.1)) (map (λ member. KnownSentinel p.0.name member.addr member.id) (others conf)) j) as (λ _. state_name s ≡ Some p.0.name) [
-      | inl r ↦ each_map (KnownReplica p.0.name) (λ s. state_name s ≡ Some p.0.name) (replicas p.0 p.1) (λ a q. refl) s r
-      | inr r ↦ each_map (λ (member : Member). KnownSentinel p.0.name member.addr member.id) (λ s. state_name s ≡ Some p.0.name) (others conf) (λ m q. refl) s r
-    ]
+named conf p s (inr (inr (inr j))) = each_behind conf p (λ s. state_name s ≡ Some p.0.name) (λ id e. refl) (λ a q. refl) (λ m q. refl) s j
 
 -- a state line of a master has another key than one of none
 not_of_none : (s t : StateLine) (n : List ℕ) → state_name s ≡ Some n → state_name t ≡ None → same_key s t ≡ false
@@ -175,17 +199,18 @@ not_of_other s t m n e f h =
     let w : m ≡ n = cc in
     true≢false (sym (same_bytes-refl m) ∙ ap (same_bytes m) w ∙ h))
 
+apart_candidate : (n : List ℕ) (o : Option RunId) → Apart same_key (candidate_states n o)
+apart_candidate n None = tt
+apart_candidate n (Some id) = (tt, tt)
+
 apart_master : (conf : ConfPlan) (p : MasterPlan × KeptMaster) → Rises addr_before p.0.nodes → Apart same_id (map (λ (member : Member). member.id) conf.roster.sentinels) → Apart same_key (master_states conf p)
 apart_master conf p r a =
     let n = p.0.name in
     let reps : List StateLine = map (KnownReplica n) (replicas p.0 p.1) in
     let sens : List StateLine = map (λ (member : Member). KnownSentinel n member.addr member.id) (others conf) in
-    let tails : (P : StateLine → Type 0) → ((a : Addr) → P (KnownReplica n a)) → ((m : Member) → P (KnownSentinel n m.addr m.id)) → AllByRecursion P (reps ++ sens) =
-    λ P f g. each_from P (reps ++ sens) (λ s i.
-    elim (in_append_cases s reps sens i) as (λ _. P s) [
-      | inl j ↦ each_map (KnownReplica n) P (replicas p.0 p.1) (λ a q. f a) s j
-      | inr j ↦ each_map (λ (member : Member). KnownSentinel n member.addr member.id) P (others conf) (λ m q. g m) s j
-    ]) in
+    let cand : List StateLine = candidate_states n p.1.candidate in
+    let tails : (P : StateLine → Type 0) → ((id : RunId) → P (LeaderId n id)) → ((a : Addr) → P (KnownReplica n a)) → ((m : Member) → P (KnownSentinel n m.addr m.id)) → AllByRecursion P (cand ++ (reps ++ sens)) =
+    λ P f g h. each_from P (cand ++ (reps ++ sens)) (each_behind conf p P (λ id e. f id) (λ a q. g a) (λ m q. h m)) in
     let first_apart : Apart same_key reps =
     apart_map (KnownReplica n) same_key same_addr (replicas p.0 p.1) (λ x y h. and_right (same_bytes n n) (same_addr y x) h)
     (apart_rises addr_before same_addr addr_order addr_same (replicas p.0 p.1) (rises_filter addr_before (λ addr. not (same_addr p.1.card.addr addr)) p.0.nodes r)) in
@@ -195,13 +220,17 @@ apart_master conf p r a =
     let across : (x y : StateLine) → In x reps → In y sens → same_key y x ≡ false =
     λ x y i j.
     each_map (KnownReplica n) (λ x. same_key y x ≡ false) (replicas p.0 p.1)
-    (λ a q. each_map (λ (member : Member). KnownSentinel n member.addr member.id) (λ y. same_key y (KnownReplica n a) ≡ false) (others conf) (λ m w. refl) y j) x i in (
-      (refl, (refl, tails (λ s. same_key s (Monitor n p.1.card.addr p.0.quorum) ≡ false) (λ a. refl) (λ m. refl))),
+    (λ a q. each_map (λ (member : Member). KnownSentinel n member.addr member.id) (λ y. same_key y (KnownReplica n a) ≡ false) (others conf) (λ m w. refl) y j) x i in
+    let after : (x y : StateLine) → In x cand → In y (reps ++ sens) → same_key y x ≡ false =
+    λ x y i j.
+    each_candidate n p.1.candidate (λ x. same_key y x ≡ false)
+    (λ id e. each_tail conf p (λ y. same_key y (LeaderId n id) ≡ false) (λ a q. refl) (λ m q. refl) y j) x i in (
+      (refl, (refl, tails (λ s. same_key s (Monitor n p.1.card.addr p.0.quorum) ≡ false) (λ id. refl) (λ a. refl) (λ m. refl))),
       (
-        (refl, tails (λ s. same_key s (ConfigEpoch n p.1.card.epoch) ≡ false) (λ a. refl) (λ m. refl)),
+        (refl, tails (λ s. same_key s (ConfigEpoch n p.1.card.epoch) ≡ false) (λ id. refl) (λ a. refl) (λ m. refl)),
         (
-          tails (λ s. same_key s (LeaderEpoch n p.1.voted) ≡ false) (λ a. refl) (λ m. refl),
-          apart_append same_key reps sens first_apart second_apart across,
+          tails (λ s. same_key s (LeaderEpoch n p.1.voted) ≡ false) (λ id. refl) (λ a. refl) (λ m. refl),
+          apart_append same_key cand (reps ++ sens) (apart_candidate n p.1.candidate) (apart_append same_key reps sens first_apart second_apart across) after,
         ),
       ),
     )
@@ -242,7 +271,21 @@ spoken_by ns (Some m) n false e h f =
 pub spoken_known : (ns : List (List ℕ)) (l : Line) (n : List ℕ) → unknown_fault ns l ≡ None → spoken_of l ≡ Some n → In n ns
 spoken_known ns l n h f = spoken_by ns (spoken_of l) n (list_any (same_bytes n) ns) refl h f
 
+-- no rewritten file is too long
 module _ (conf : ConfPlan) (kept : KeptPlan) (c : IsConf conf) (k : IsKeptPart conf kept) where
+  longest_fits : length (rewritten conf (longest kept)) ≤ FILE_MAX
+  longest_fits =
+      let m : AllByRecursion (λ m. Rises addr_before m.nodes) conf.roster.masters = each_from (λ m. Rises addr_before m.nodes) conf.roster.masters (λ m i. (each_in IsMaster conf.roster.masters c.masters m i).order) in
+      let le = rewritten_size conf (longest kept) conf.kept m (longest_is conf kept k) c.kept in
+      let size = c.size in omega arith
+
+  pub fits : length (rewritten conf kept) ≤ FILE_MAX
+  fits =
+      let m : AllByRecursion (λ m. Rises addr_before m.nodes) conf.roster.masters = each_from (λ m. Rises addr_before m.nodes) conf.roster.masters (λ m i. (each_in IsMaster conf.roster.masters c.masters m i).order) in
+      let le = rewritten_size conf kept conf.kept m k c.kept in
+      let size = c.size in omega arith
+
+module _ (conf : ConfPlan) (kept : KeptPlan) (c : IsConf conf) (k : IsKeptPart conf kept) (ids : HasRunIds kept) where
   abbrev pairs : List (MasterPlan × KeptMaster)
   pairs = zip conf.roster.masters kept.masters
 
@@ -256,6 +299,7 @@ module _ (conf : ConfPlan) (kept : KeptPlan) (c : IsConf conf) (k : IsKeptPart c
     pub monitor : (p : MasterPlan × KeptMaster) → In p pairs → P (Monitor p.0.name p.1.card.addr p.0.quorum)
     pub config : (p : MasterPlan × KeptMaster) → In p pairs → P (ConfigEpoch p.0.name p.1.card.epoch)
     pub leader : (p : MasterPlan × KeptMaster) → In p pairs → P (LeaderEpoch p.0.name p.1.voted)
+    pub candidate : (p : MasterPlan × KeptMaster) → In p pairs → (id : RunId) → p.1.candidate ≡ Some id → P (LeaderId p.0.name id)
     pub replica : (p : MasterPlan × KeptMaster) → In p pairs → (a : Addr) → In a p.0.nodes → P (KnownReplica p.0.name a)
     pub known : (p : MasterPlan × KeptMaster) → In p pairs → (m : Member) → In m conf.roster.sentinels → P (KnownSentinel p.0.name m.addr m.id)
 
@@ -264,10 +308,10 @@ module _ (conf : ConfPlan) (kept : KeptPlan) (c : IsConf conf) (k : IsKeptPart c
   each_of_master P e p i s (inr (inl f)) = subst P (sym f) (e.config p i)
   each_of_master P e p i s (inr (inr (inl f))) = subst P (sym f) (e.leader p i)
   each_of_master P e p i s (inr (inr (inr j))) =
-      elim (in_append_cases s (map (KnownReplica p.0.name) (replicas p.0 p.1)) (map (λ member. KnownSentinel p.0.name member.addr member.id) (others conf)) j) as (λ _. P s) [
-        | inl r ↦ each_map (KnownReplica p.0.name) P (replicas p.0 p.1) (λ a q. e.replica p i a (from_filter (λ addr. not (same_addr p.1.card.addr addr)) a p.0.nodes q).1) s r
-        | inr r ↦ each_map (λ (member : Member). KnownSentinel p.0.name member.addr member.id) P (others conf) (λ m q. e.known p i m (from_filter (λ member. not (same_id conf.id member.id)) m conf.roster.sentinels q).1) s r
-      ]
+      each_behind conf p P (e.candidate p i)
+      (λ a q. e.replica p i a (from_filter (λ addr. not (same_addr p.1.card.addr addr)) a p.0.nodes q).1)
+      (λ m q. e.known p i m (from_filter (λ member. not (same_id conf.id member.id)) m conf.roster.sentinels q).1)
+      s j
 
   each_state : (P : StateLine → Type 0) → Each P → (s : StateLine) → In s lines_of_state → P s
   each_state P e s (inl f) = subst P (sym f) e.id
@@ -299,6 +343,11 @@ module _ (conf : ConfPlan) (kept : KeptPlan) (c : IsConf conf) (k : IsKeptPart c
   node_is : (p : MasterPlan × KeptMaster) → In p pairs → (a : Addr) → In a p.0.nodes → IsAddr a
   node_is p i a j = each_in IsAddr p.0.nodes (master_is p i).nodes a j
 
+  id_is : (p : MasterPlan × KeptMaster) → In p pairs → (id : RunId) → p.1.candidate ≡ Some id → IsId id
+  id_is p i id e =
+      id_of_some p.1.candidate id
+      (each_in (λ (master : KeptMaster). IfSome master.candidate IsRunId) kept.masters ids p.1 (subst (In p.1) rights (in_map (λ (p : MasterPlan × KeptMaster). p.1) p pairs i))) e
+
   member_is : (m : Member) → In m conf.roster.sentinels → IsMember m
   member_is m i = each_in IsMember conf.roster.sentinels c.members m i
 
@@ -309,6 +358,7 @@ module _ (conf : ConfPlan) (kept : KeptPlan) (c : IsConf conf) (k : IsKeptPart c
     monitor = λ p i. ((master_is p i).name, node_is p i p.1.card.addr (addr_in p i), (master_is p i).quorum);
     config = λ p i. ((master_is p i).name, (let e = (pair_is p i).epoch in let f = k.current in let r : p.1.card.epoch ≤ MAX_EPOCH = omega arith in r));
     leader = λ p i. ((master_is p i).name, (let e = (pair_is p i).voted in let f = k.current in let r : p.1.voted ≤ MAX_EPOCH = omega arith in r));
+    candidate = λ p i id e. ((master_is p i).name, id_is p i id e);
     replica = λ p i a j. ((master_is p i).name, node_is p i a j);
     known = λ p i m j. ((master_is p i).name, (member_is m j).addr, (member_is m j).id);
   })
@@ -337,6 +387,7 @@ module _ (conf : ConfPlan) (kept : KeptPlan) (c : IsConf conf) (k : IsKeptPart c
           subst (λ w. In w p.0.nodes) (ap (λ r. r.1.card.addr) f ∙ g.1) (addr_in p i);
       config = λ q j a e. nothing a (In a p.0.nodes) e;
       leader = λ q j a e. nothing a (In a p.0.nodes) e;
+      candidate = λ q j d f a e. nothing a (In a p.0.nodes) e;
       replica = λ q j b l a e.
           let g = given_if (same_bytes p.0.name q.0.name) b a e in
           let f : p ≡ q = one_pair p q i j g.0 in
@@ -357,8 +408,9 @@ module _ (conf : ConfPlan) (kept : KeptPlan) (c : IsConf conf) (k : IsKeptPart c
           | inr f ↦
               to_filter_map (node_of p.0.name) (KnownReplica p.0.name a) a lines_of_state
               (of_master p i (KnownReplica p.0.name a)
-              (inr (inr (inr (in_append_left (KnownReplica p.0.name a) (map (KnownReplica p.0.name) (replicas p.0 p.1)) (map (λ member. KnownSentinel p.0.name member.addr member.id) (others conf))
-              (in_map (KnownReplica p.0.name) a (replicas p.0 p.1) (to_filter (λ addr. not (same_addr p.1.card.addr addr)) a p.0.nodes (not_from_false (same_addr p.1.card.addr a) f) l)))))))
+              (inr (inr (inr (in_append_right (KnownReplica p.0.name a) (candidate_states p.0.name p.1.candidate) (map (KnownReplica p.0.name) (replicas p.0 p.1) ++ map (λ member. KnownSentinel p.0.name member.addr member.id) (others conf))
+              (in_append_left (KnownReplica p.0.name a) (map (KnownReplica p.0.name) (replicas p.0 p.1)) (map (λ member. KnownSentinel p.0.name member.addr member.id) (others conf))
+              (in_map (KnownReplica p.0.name) a (replicas p.0 p.1) (to_filter (λ addr. not (same_addr p.1.card.addr addr)) a p.0.nodes (not_from_false (same_addr p.1.card.addr a) f) l))))))))
               (gives_if (same_bytes p.0.name p.0.name) a (same_bytes-refl p.0.name))
         ]
 
@@ -377,6 +429,7 @@ module _ (conf : ConfPlan) (kept : KeptPlan) (c : IsConf conf) (k : IsKeptPart c
           monitor = λ q j y e. let g = given_if (same_bytes p.0.name q.0.name) q.0.quorum y e in sym g.1 ∙ ap (λ r. r.0.quorum) (sym (one_pair p q i j g.0));
           config = λ q j y e. nothing y (y ≡ p.0.quorum) e;
           leader = λ q j y e. nothing y (y ≡ p.0.quorum) e;
+          candidate = λ q j d f y e. nothing y (y ≡ p.0.quorum) e;
           replica = λ q j b l y e. nothing y (y ≡ p.0.quorum) e;
           known = λ q j m l y e. nothing y (y ≡ p.0.quorum) e;
         }))
@@ -391,6 +444,7 @@ module _ (conf : ConfPlan) (kept : KeptPlan) (c : IsConf conf) (k : IsKeptPart c
           monitor = λ q j y e. let g = given_if (same_bytes p.0.name q.0.name) q.1.card.addr y e in sym g.1 ∙ ap (λ r. r.1.card.addr) (sym (one_pair p q i j g.0));
           config = λ q j y e. nothing y (y ≡ p.1.card.addr) e;
           leader = λ q j y e. nothing y (y ≡ p.1.card.addr) e;
+          candidate = λ q j d f y e. nothing y (y ≡ p.1.card.addr) e;
           replica = λ q j b l y e. nothing y (y ≡ p.1.card.addr) e;
           known = λ q j m l y e. nothing y (y ≡ p.1.card.addr) e;
         }))
@@ -405,6 +459,7 @@ module _ (conf : ConfPlan) (kept : KeptPlan) (c : IsConf conf) (k : IsKeptPart c
           monitor = λ q j y e. nothing y (y ≡ p.1.card.epoch) e;
           config = λ q j y e. let g = given_if (same_bytes p.0.name q.0.name) q.1.card.epoch y e in sym g.1 ∙ ap (λ r. r.1.card.epoch) (sym (one_pair p q i j g.0));
           leader = λ q j y e. nothing y (y ≡ p.1.card.epoch) e;
+          candidate = λ q j d f y e. nothing y (y ≡ p.1.card.epoch) e;
           replica = λ q j b l y e. nothing y (y ≡ p.1.card.epoch) e;
           known = λ q j m l y e. nothing y (y ≡ p.1.card.epoch) e;
         }))
@@ -419,16 +474,45 @@ module _ (conf : ConfPlan) (kept : KeptPlan) (c : IsConf conf) (k : IsKeptPart c
           monitor = λ q j y e. nothing y (y ≡ p.1.voted) e;
           config = λ q j y e. nothing y (y ≡ p.1.voted) e;
           leader = λ q j y e. let g = given_if (same_bytes p.0.name q.0.name) q.1.voted y e in sym g.1 ∙ ap (λ r. r.1.voted) (sym (one_pair p q i j g.0));
+          candidate = λ q j d f y e. nothing y (y ≡ p.1.voted) e;
           replica = λ q j b l y e. nothing y (y ≡ p.1.voted) e;
           known = λ q j m l y e. nothing y (y ≡ p.1.voted) e;
         }))
         (LeaderEpoch p.0.name p.1.voted) (of_master p i (LeaderEpoch p.0.name p.1.voted) (inr (inr (inl refl)))) (gives_if (same_bytes p.0.name p.0.name) p.1.voted (same_bytes-refl p.0.name))
 
+    candidate_found : (s : StateLine) → In s lines_of_state → Gives (candidate_of p.0.name) (λ y. p.1.candidate ≡ Some y) s
+    candidate_found = each_state (Gives (candidate_of p.0.name) (λ y. p.1.candidate ≡ Some y)) (record {
+      id = λ y e. nothing y (p.1.candidate ≡ Some y) e;
+      current = λ y e. nothing y (p.1.candidate ≡ Some y) e;
+      monitor = λ q j y e. nothing y (p.1.candidate ≡ Some y) e;
+      config = λ q j y e. nothing y (p.1.candidate ≡ Some y) e;
+      leader = λ q j y e. nothing y (p.1.candidate ≡ Some y) e;
+      candidate = λ q j d f y e. let g = given_if (same_bytes p.0.name q.0.name) d y e in ap (λ r. r.1.candidate) (one_pair p q i j g.0) ∙ f ∙ ap Some g.1;
+      replica = λ q j b l y e. nothing y (p.1.candidate ≡ Some y) e;
+      known = λ q j m l y e. nothing y (p.1.candidate ≡ Some y) e;
+    })
+
+    candidate_stands : (y : RunId) → p.1.candidate ≡ Some y → (s : StateLine) × In s lines_of_state × (candidate_of p.0.name s ≡ Some y)
+    candidate_stands y e = (
+      LeaderId p.0.name y,
+      of_master p i (LeaderId p.0.name y)
+          (inr (inr (inr (in_append_left (LeaderId p.0.name y) (candidate_states p.0.name p.1.candidate) (map (KnownReplica p.0.name) (replicas p.0 p.1) ++ map (λ member. KnownSentinel p.0.name member.addr member.id) (others conf))
+          (in_candidate p.0.name p.1.candidate y e))))),
+      gives_if (same_bytes p.0.name p.0.name) y (same_bytes-refl p.0.name),
+    )
+
+    candidate_again : candidate_at (last (voted_of p.0.name) 0 lines_of_state) (first_given (candidate_of p.0.name) lines_of_state) ≡ p.1.candidate
+    candidate_again =
+        ap (λ v. candidate_at v (first_given (candidate_of p.0.name) lines_of_state)) voted_again
+        ∙ ap (candidate_at p.1.voted) (first_is (candidate_of p.0.name) p.1.candidate lines_of_state candidate_found candidate_stands)
+        ∙ candidate_stays p.1.voted p.1.candidate (pair_is p i).candidate
+
     master_again : master_of lines_of_state p.0.name ≡ p.0
     master_again = whole_plan p.0 (in_order addr_before (filter_map (node_of p.0.name) lines_of_state)) (last (quorum_of p.0.name) 0 lines_of_state) nodes_again quorum_again
 
     kept_again : kept_master_of lines_of_state p.0.name ≡ p.1
-    kept_again = whole_kept p.1 (last (config_of p.0.name) 0 lines_of_state) (last (voted_of p.0.name) 0 lines_of_state) (last (monitored_at p.0.name) no_addr lines_of_state) epoch_again card_again voted_again
+    kept_again = whole_kept p.1 (last (config_of p.0.name) 0 lines_of_state) (last (voted_of p.0.name) 0 lines_of_state) (last (monitored_at p.0.name) no_addr lines_of_state)
+        (candidate_at (last (voted_of p.0.name) 0 lines_of_state) (first_given (candidate_of p.0.name) lines_of_state)) epoch_again card_again voted_again candidate_again
 
   -- the names
   name_found : (s : StateLine) → In s lines_of_state → (n : List ℕ) → name_of s ≡ Some n → In n (names conf)
@@ -438,6 +522,7 @@ module _ (conf : ConfPlan) (kept : KeptPlan) (c : IsConf conf) (k : IsKeptPart c
     monitor = λ q j n e. let f : q.0.name ≡ n = cc in subst (λ w. In w (names conf)) f (in_map (λ (master : MasterPlan). master.name) q.0 conf.roster.masters (master_in q j));
     config = λ q j n e. nothing n (In n (names conf)) e;
     leader = λ q j n e. nothing n (In n (names conf)) e;
+    candidate = λ q j d f n e. nothing n (In n (names conf)) e;
     replica = λ q j b l n e. nothing n (In n (names conf)) e;
     known = λ q j m l n e. nothing n (In n (names conf)) e;
   })
@@ -474,6 +559,7 @@ module _ (conf : ConfPlan) (kept : KeptPlan) (c : IsConf conf) (k : IsKeptPart c
     monitor = λ q j e f. nothing e (e ≤ kept.current) f;
     config = λ q j e f. let g : q.1.card.epoch ≡ e = cc in let h = (pair_is q j).epoch in omega arith;
     leader = λ q j e f. let g : q.1.voted ≡ e = cc in let h = (pair_is q j).voted in omega arith;
+    candidate = λ q j d g e f. nothing e (e ≤ kept.current) f;
     replica = λ q j b l e f. nothing e (e ≤ kept.current) f;
     known = λ q j m l e f. nothing e (e ≤ kept.current) f;
   })
@@ -495,6 +581,7 @@ module _ (conf : ConfPlan) (kept : KeptPlan) (c : IsConf conf) (k : IsKeptPart c
     monitor = λ q j m e. nothing m (In m conf.roster.sentinels) e;
     config = λ q j m e. nothing m (In m conf.roster.sentinels) e;
     leader = λ q j m e. nothing m (In m conf.roster.sentinels) e;
+    candidate = λ q j d f m e. nothing m (In m conf.roster.sentinels) e;
     replica = λ q j b l m e. nothing m (In m conf.roster.sentinels) e;
     known = λ q j n l m e. let f : n ≡ m = cc in subst (λ w. In w conf.roster.sentinels) f l;
   })
@@ -509,8 +596,9 @@ module _ (conf : ConfPlan) (kept : KeptPlan) (c : IsConf conf) (k : IsKeptPart c
       let p = some.0 in
       to_filter_map known_of (KnownSentinel p.0.name m.addr m.id) m lines_of_state
       (of_master p some.1 (KnownSentinel p.0.name m.addr m.id)
-      (inr (inr (inr (in_append_right (KnownSentinel p.0.name m.addr m.id) (map (KnownReplica p.0.name) (replicas p.0 p.1)) (map (λ member. KnownSentinel p.0.name member.addr member.id) (others conf))
-      (in_map (λ (member : Member). KnownSentinel p.0.name member.addr member.id) m (others conf) (to_filter (λ member. not (same_id conf.id member.id)) m conf.roster.sentinels (not_from_false (same_id conf.id m.id) f) l)))))))
+      (inr (inr (inr (in_append_right (KnownSentinel p.0.name m.addr m.id) (candidate_states p.0.name p.1.candidate) (map (KnownReplica p.0.name) (replicas p.0 p.1) ++ map (λ member. KnownSentinel p.0.name member.addr member.id) (others conf))
+      (in_append_right (KnownSentinel p.0.name m.addr m.id) (map (KnownReplica p.0.name) (replicas p.0 p.1)) (map (λ member. KnownSentinel p.0.name member.addr member.id) (others conf))
+      (in_map (λ (member : Member). KnownSentinel p.0.name member.addr member.id) m (others conf) (to_filter (λ member. not (same_id conf.id member.id)) m conf.roster.sentinels (not_from_false (same_id conf.id m.id) f) l))))))))
       refl
 
   member_known : (m : Member) → In m conf.roster.sentinels → In m (own conf ∷ filter_map known_of lines_of_state)
@@ -565,6 +653,7 @@ module _ (conf : ConfPlan) (kept : KeptPlan) (c : IsConf conf) (k : IsKeptPart c
     monitor = λ q j n e. name_of_pair q j n e;
     config = λ q j n e. name_of_pair q j n e;
     leader = λ q j n e. name_of_pair q j n e;
+    candidate = λ q j d f n e. name_of_pair q j n e;
     replica = λ q j b l n e. name_of_pair q j n e;
     known = λ q j m l n e. name_of_pair q j n e;
   }) where
@@ -617,20 +706,8 @@ module _ (conf : ConfPlan) (kept : KeptPlan) (c : IsConf conf) (k : IsKeptPart c
   abbrev rostered : ConfPlan → Result ConfPlan ConfFault
   rostered w = roster_checked w >>= λ _. sized w
 
-  longest_fits : length (rewritten conf (longest kept)) ≤ FILE_MAX
-  longest_fits =
-      let m : AllByRecursion (λ m. Rises addr_before m.nodes) conf.roster.masters = each_from (λ m. Rises addr_before m.nodes) conf.roster.masters (λ m i. (each_in IsMaster conf.roster.masters c.masters m i).order) in
-      let le = rewritten_size conf (longest kept) conf.kept m (longest_is conf kept k) c.kept in
-      let size = c.size in omega arith
-
-  pub fits : length (rewritten conf kept) ≤ FILE_MAX
-  fits =
-      let m : AllByRecursion (λ m. Rises addr_before m.nodes) conf.roster.masters = each_from (λ m. Rises addr_before m.nodes) conf.roster.masters (λ m i. (each_in IsMaster conf.roster.masters c.masters m i).order) in
-      let le = rewritten_size conf kept conf.kept m k c.kept in
-      let size = c.size in omega arith
-
   not_long : ltb FILE_MAX (length (rewritten conf (longest kept))) ≡ false
-  not_long = le-ltb FILE_MAX (length (rewritten conf (longest kept))) longest_fits
+  not_long = le-ltb FILE_MAX (length (rewritten conf (longest kept))) (longest_fits conf kept c k)
 
   sized_again : sized again ≡ Ok again
   sized_again = ap (λ t. elim t as (λ _. Result (Unit {0}) ConfFault) [ true ↦ Err (fault_at 0 TooLong) | false ↦ Ok tt ] >>= λ _. let r : Result ConfPlan ConfFault = Ok again in r) not_long
@@ -672,7 +749,7 @@ module _ (conf : ConfPlan) (kept : KeptPlan) (c : IsConf conf) (k : IsKeptPart c
   pub read_again : conf_of_bytes (rewritten conf kept) ≡ Ok again
   read_again =
       ap (λ t. elim t as (λ _. Result (Unit {0}) ConfFault) [ true ↦ Err (fault_at 0 TooLong) | false ↦ Ok tt ] >>= λ _. guard (not (is_utf8 (rewritten conf kept))) NotUtf8 >>= λ _. conf_of_lines (lines (rewritten conf kept)))
-      (le-ltb FILE_MAX (length (rewritten conf kept)) fits)
+      (le-ltb FILE_MAX (length (rewritten conf kept)) (fits conf kept c k))
       ∙ ap (λ t. elim t as (λ _. Result (Unit {0}) ConfFault) [ true ↦ Err (fault_at 0 NotUtf8) | false ↦ Ok tt ] >>= λ _. conf_of_lines (lines (rewritten conf kept))) is_text
       ∙ ap conf_of_lines (lines-ended texts texts_no_lf)
       ∙ lines_read_again

@@ -17,7 +17,7 @@ use Rattle.conf_lines.specs.declared.faults.ConfKind.{ConfKind}
 use Rattle.conf_lines.specs.declared.faults.ConfKind.TheVariants.{TooLong, NotUtf8, NoMyId, Roster}
 use Rattle.conf_lines.specs.declared.faults.ConfFault.{ConfFault}
 use Rattle.conf_lines.specs.declared.lines.StateLine.{StateLine}
-use Rattle.conf_lines.specs.declared.lines.StateLine.TheVariants.{MyId, CurrentEpoch, Monitor, ConfigEpoch, LeaderEpoch, KnownReplica, KnownSentinel}
+use Rattle.conf_lines.specs.declared.lines.StateLine.TheVariants.{MyId, CurrentEpoch, Monitor, ConfigEpoch, LeaderEpoch, LeaderId, KnownReplica, KnownSentinel}
 use Rattle.conf_lines.specs.declared.lines.Setting.{Setting}
 use Rattle.conf_lines.specs.declared.lines.Setting.TheVariants.{Port, AnnounceIp, AnnouncePort, DownAfter, ParallelSyncs, FailoverTimeout}
 use Rattle.conf_lines.specs.declared.lines.Line.{Line}
@@ -26,11 +26,11 @@ use Rattle.ballot_law.specs.Cuts.{lines}
 use Rattle.ballot_law.specs.Words.{some_if}
 use Rattle.conf_lines.specs.Lines.{line_of}
 use Rattle.ballot_law.specs.declared.cards.TheConstants.{MAX_EPOCH}
-use Rattle.sentinel_conf.specs.Meaning.{ConfPlan, states, settings, state_of, setting_of, last, member_before, names_of, master_of, kept_master_of, greatest, kept_of, own_addr, own_port, settings_of, is_kept}
-use Rattle.conf_lines.specs.Values.{name_of, quorum_of, monitored_at, node_of, config_of, voted_of, epoch_of, known_of, my_id_of, port_of, announce_ip_of, announce_port_of}
+use Rattle.sentinel_conf.specs.Meaning.{ConfPlan, states, settings, state_of, setting_of, last, member_before, names_of, master_of, kept_master_of, first_given, greatest, kept_of, own_addr, own_port, settings_of, is_kept}
+use Rattle.conf_lines.specs.Values.{name_of, quorum_of, monitored_at, node_of, config_of, voted_of, candidate_of, epoch_of, known_of, my_id_of, port_of, announce_ip_of, announce_port_of}
 use Rattle.ballot_law.specs.declared.cards.Kept.{Kept as KeptPlan}
 use Rattle.ballot_law.specs.Rosters.{no_addr}
-use Rattle.sentinel_conf.specs.Rewritten.{rewritten, longest, IsKeptMaster, IsKeptPart}
+use Rattle.sentinel_conf.specs.Rewritten.{rewritten, longest, IsKeptMaster, IsKeptPart, HasRunIds}
 use Rattle.ballot_law.specs.Results.{◌>>=◌}
 use Rattle.sentinel_conf.specs.Reading.{FILE_MAX, line_fault, unknown_fault, first_fault, unless, guard, found, roster_checked, kept_lines_of, whole_conf, conf_of_lines, conf_of_bytes}
 use Rattle.conf_lines.specs.Faults.{fault_at}
@@ -40,6 +40,7 @@ use Rattle.sentinel_conf.proofs.SetLemmas.{In, Rises, each_in, each_from, rises_
 use Rattle.sentinel_conf.proofs.OrderLemmas.{addr_order, member_order, bytes_order}
 use Rattle.conf_lines.proofs.StateLemmas.{IsAddr, IsId, IsName, IsState}
 use Rattle.sentinel_conf.proofs.FileLemmas.{in_map, each_map, to_filter_map, each_filter_map, in_filter_map, from_filter, greatest-le}
+use Rattle.sentinel_conf.proofs.Candidates.{candidate_of_none}
 use Rattle.sentinel_conf.proofs.LineLemmas.{IsPlainLine, Clean, none_clean, each_clean}
 use Rattle.sentinel_conf.proofs.TextLemmas.{text_lines}
 use Rattle.conf_lines.proofs.ValidLines.{IsSetting, IsLine, line_of_is}
@@ -222,6 +223,7 @@ module _ (bytes : List ℕ) (u : IsUtf8 bytes) (id : RunId) where
     named_by (LeaderEpoch m a) v e = cc
     named_by (KnownReplica m a) v e = cc
     named_by (KnownSentinel m a q) v e = cc
+    named_by (LeaderId m q) v e = cc
 
     name_valid : IsName n
     name_valid = let m = monitored n i in named_by m.0 (state_valid m.0 m.1) m.2
@@ -234,6 +236,7 @@ module _ (bytes : List ℕ) (u : IsUtf8 bytes) (id : RunId) where
     node_by (ConfigEpoch m a) b v e = cc
     node_by (LeaderEpoch m a) b v e = cc
     node_by (KnownSentinel m a q) b v e = cc
+    node_by (LeaderId m q) b v e = cc
 
     quorum_by : (s : StateLine) (w : ℕ) → IsState s → quorum_of n s ≡ Some w → w ≤ 4294967295
     quorum_by (Monitor m a q) w v e = let f : q ≡ w = (given_if (same_bytes n m) q w e).1 in let l : q ≤ 4294967295 = v.2 in omega arith
@@ -243,6 +246,7 @@ module _ (bytes : List ℕ) (u : IsUtf8 bytes) (id : RunId) where
     quorum_by (LeaderEpoch m a) w v e = cc
     quorum_by (KnownReplica m a) w v e = cc
     quorum_by (KnownSentinel m a q) w v e = cc
+    quorum_by (LeaderId m q) w v e = cc
 
   members_valid : (own_id : IsId id) → AllByRecursion IsMember conf.roster.sentinels
   members_valid own_id =
@@ -258,6 +262,7 @@ module _ (bytes : List ℕ) (u : IsUtf8 bytes) (id : RunId) where
         known_by m (ConfigEpoch n a) v e = cc
         known_by m (LeaderEpoch n a) v e = cc
         known_by m (KnownReplica n a) v e = cc
+        known_by m (LeaderId n i) v e = cc
 
         member_by : (m : Member) → In m ((record { id = id; addr = own_addr (settings all) }) ∷ filter_map known_of ss) → IsMember m
         member_by m (inl e) = subst IsMember (sym e) (record { id = own_id; addr = own_is })
@@ -272,6 +277,7 @@ module _ (bytes : List ℕ) (u : IsUtf8 bytes) (id : RunId) where
   epoch_bound (MyId n) e v h = cc
   epoch_bound (KnownReplica n a) e v h = cc
   epoch_bound (KnownSentinel n a i) e v h = cc
+  epoch_bound (LeaderId n i) e v h = cc
 
   config_is_epoch : (n : List ℕ) (s : StateLine) (e : ℕ) → config_of n s ≡ Some e → epoch_of s ≡ Some e
   config_is_epoch n (ConfigEpoch m d) e h = ap Some (given_if (same_bytes n m) d e h).1
@@ -281,6 +287,7 @@ module _ (bytes : List ℕ) (u : IsUtf8 bytes) (id : RunId) where
   config_is_epoch n (MyId m) e h = cc
   config_is_epoch n (KnownReplica m a) e h = cc
   config_is_epoch n (KnownSentinel m a i) e h = cc
+  config_is_epoch n (LeaderId m i) e h = cc
 
   voted_is_epoch : (n : List ℕ) (s : StateLine) (e : ℕ) → voted_of n s ≡ Some e → epoch_of s ≡ Some e
   voted_is_epoch n (LeaderEpoch m d) e h = ap Some (given_if (same_bytes n m) d e h).1
@@ -290,6 +297,7 @@ module _ (bytes : List ℕ) (u : IsUtf8 bytes) (id : RunId) where
   voted_is_epoch n (MyId m) e h = cc
   voted_is_epoch n (KnownReplica m a) e h = cc
   voted_is_epoch n (KnownSentinel m a i) e h = cc
+  voted_is_epoch n (LeaderId m i) e h = cc
 
   monitored_is_node : (n : List ℕ) (s : StateLine) (a : Addr) → monitored_at n s ≡ Some a → node_of n s ≡ Some a
   monitored_is_node n (Monitor m a q) b h = h
@@ -299,6 +307,7 @@ module _ (bytes : List ℕ) (u : IsUtf8 bytes) (id : RunId) where
   monitored_is_node n (MyId m) b h = cc
   monitored_is_node n (KnownReplica m a) b h = cc
   monitored_is_node n (KnownSentinel m a i) b h = cc
+  monitored_is_node n (LeaderId m i) b h = cc
 
   monitor_gives : (n : List ℕ) (s : StateLine) → name_of s ≡ Some n → (a : Addr) × (monitored_at n s ≡ Some a)
   monitor_gives n (Monitor m a q) h = let f : n ≡ m = cc in (a, ap (λ t. some_if t a) (ap (same_bytes n) (sym f) ∙ same_bytes-refl n))
@@ -308,6 +317,7 @@ module _ (bytes : List ℕ) (u : IsUtf8 bytes) (id : RunId) where
   monitor_gives n (MyId m) h = cc
   monitor_gives n (KnownReplica m a) h = cc
   monitor_gives n (KnownSentinel m a i) h = cc
+  monitor_gives n (LeaderId m i) h = cc
 
   epochs_le : (s : StateLine) → In s ss → (e : ℕ) → epoch_of s ≡ Some e → e ≤ greatest (filter_map epoch_of ss)
   epochs_le s i e h = le_greatest e (filter_map epoch_of ss) (to_filter_map epoch_of s e ss i h)
@@ -323,6 +333,7 @@ module _ (bytes : List ℕ) (u : IsUtf8 bytes) (id : RunId) where
             m.0 m.1 g.0 g.1;
         epoch = last_fact (config_of n) (λ e. e ≤ greatest (filter_map epoch_of ss)) 0 ss (omega arith) (λ s q e h. epochs_le s q e (config_is_epoch n s e h));
         voted = last_fact (voted_of n) (λ e. e ≤ greatest (filter_map epoch_of ss)) 0 ss (omega arith) (λ s q e h. epochs_le s q e (voted_is_epoch n s e h));
+        candidate = candidate_of_none (last (voted_of n) 0 ss) (first_given (candidate_of n) ss);
       }
 
   kept_valid : IsKeptPart conf (kept_of ss)
@@ -342,6 +353,7 @@ module _ (bytes : List ℕ) (u : IsUtf8 bytes) (id : RunId) where
   own_id_by (Monitor m a q) v e = cc
   own_id_by (KnownReplica m a) v e = cc
   own_id_by (KnownSentinel m a i) v e = cc
+  own_id_by (LeaderId m i) v e = cc
 
   settings_kept : kept_settings conf ≡ settings all
   settings_kept = kept_only texts
@@ -403,5 +415,5 @@ conf_is bytes c h =
     conf_is_of_lines bytes u c b.2
 
 -- the rewritten file of what was read, and a kept part of its masters, is read as both
-pub reads_again : (bytes : List ℕ) (c : ConfPlan) (kept : KeptPlan) → conf_of_bytes bytes ≡ Ok c → IsKeptPart c kept → conf_of_bytes (rewritten c kept) ≡ Ok (record c { kept = kept })
-reads_again bytes c kept h k = read_again c kept (conf_is bytes c h) k
+pub reads_again : (bytes : List ℕ) (c : ConfPlan) (kept : KeptPlan) → conf_of_bytes bytes ≡ Ok c → IsKeptPart c kept → HasRunIds kept → conf_of_bytes (rewritten c kept) ≡ Ok (record c { kept = kept })
+reads_again bytes c kept h k ids = read_again c kept (conf_is bytes c h) k ids

@@ -1,5 +1,5 @@
 -- No rewritten file is longer than the one with every epoch the last, whichever node a card names.
-use Rattle.std.proofs.Common.{◌≡◌, ℕ, ◌+◌, ◌≤◌, Bool, true, false, not, List, [], ◌∷◌, ◌++◌, length, map, refl, ap, sym, ◌∙◌, subst, arith, ◌⊎◌, inl, inr, length-append}
+use Rattle.std.proofs.Common.{◌≡◌, ℕ, ◌+◌, ◌≤◌, Bool, true, false, not, List, [], ◌∷◌, ◌++◌, length, map, refl, ap, sym, ◌∙◌, subst, arith, ◌⊎◌, inl, inr, Option, Some, None, length-append}
 use Rattle.std.specs.Prelude.{filter, decimal, codes}
 use Rattle.std.specs.Fmt.{digits}
 use Rattle.std.specs.List.{flat_map, zip, AllZip, AllByRecursion}
@@ -7,20 +7,22 @@ use Rattle.std.proofs.lemmas.Bool.{true≢false, false_from_ne_true, not_from_tr
 use Rattle.std.proofs.lemmas.Fmt.{length-decimal-le}
 use Rattle.std.proofs.lemmas.List.Concat.{flat_map-append}
 use Rattle.ballot_law.specs.declared.addresses.Addr.{Addr}
+use Rattle.ballot_law.specs.declared.addresses.RunId.{RunId}
 use Rattle.ballot_law.specs.declared.rosters.Member.{Member}
-use Rattle.ballot_law.specs.Rosters.{MasterPlan}
+use Rattle.ballot_law.specs.Rosters.{MasterPlan, no_id}
 use Rattle.ballot_law.specs.Orders.{same_addr, addr_before}
 use Rattle.ballot_law.specs.declared.cards.KeptMaster.{KeptMaster}
 use Rattle.conf_lines.specs.declared.lines.StateLine.{StateLine}
-use Rattle.conf_lines.specs.declared.lines.StateLine.TheVariants.{CurrentEpoch, Monitor, ConfigEpoch, LeaderEpoch, KnownReplica, KnownSentinel}
-use Rattle.ballot_law.specs.Words.{ip_text}
+use Rattle.conf_lines.specs.declared.lines.StateLine.TheVariants.{CurrentEpoch, Monitor, ConfigEpoch, LeaderEpoch, LeaderId, KnownReplica, KnownSentinel}
+use Rattle.ballot_law.specs.Words.{ip_text, id_text}
 use Rattle.conf_lines.specs.Lines.{spelled}
 use Rattle.ballot_law.specs.declared.cards.TheConstants.{MAX_EPOCH}
 use Rattle.sentinel_conf.specs.Meaning.{ConfPlan}
 use Rattle.ballot_law.specs.declared.cards.Kept.{Kept as KeptPlan}
-use Rattle.sentinel_conf.specs.Rewritten.{others, master_states, state_lines, rewritten, longest, at_last_epoch, IsKeptMaster, IsKeptPart}
+use Rattle.sentinel_conf.specs.Rewritten.{others, candidate_states, master_states, state_lines, rewritten, longest, at_last_epoch, IsKeptMaster, IsKeptPart}
 use Rattle.conf_lines.specs.Words.{ended}
 use Rattle.sentinel_conf.proofs.SetLemmas.{In, Rises}
+use Rattle.sentinel_conf.proofs.Candidates.{length-id}
 use Rattle.sentinel_conf.proofs.OrderLemmas.{addr_order, addr_same}
 use Rattle.sentinel_conf.proofs.FileLemmas.{Apart, apart_rises, in_from_at, filter_yes, filter_no}
 
@@ -57,6 +59,15 @@ leader_le : (n : List ℕ) (e : ℕ) → e ≤ MAX_EPOCH → length (spelled (Le
 leader_le n e h =
     behind (codes "sentinel") (codes "leader-epoch" ++ 32 ∷ (n ++ 32 ∷ decimal e)) (codes "leader-epoch" ++ 32 ∷ (n ++ 32 ∷ decimal MAX_EPOCH))
     (behind (codes "leader-epoch") (n ++ 32 ∷ decimal e) (n ++ 32 ∷ decimal MAX_EPOCH) (behind n (decimal e) (decimal MAX_EPOCH) (epoch_fits e h)))
+
+leader_id_le : (n : List ℕ) (id : RunId) → length (spelled (LeaderId n id)) ≤ length (spelled (LeaderId n no_id))
+leader_id_le n id =
+    behind (codes "sentinel") (codes "leader-id" ++ 32 ∷ (n ++ 32 ∷ id_text id)) (codes "leader-id" ++ 32 ∷ (n ++ 32 ∷ id_text no_id))
+    (behind (codes "leader-id") (n ++ 32 ∷ id_text id) (n ++ 32 ∷ id_text no_id) (behind n (id_text id) (id_text no_id) (omega (arith, length-id id, length-id no_id))))
+
+candidate_le : (n : List ℕ) (o : Option RunId) → size (candidate_states n o) ≤ size (candidate_states n (Some no_id))
+candidate_le n None = omega arith
+candidate_le n (Some id) = omega (arith, leader_id_le n id)
 
 current_le : (e : ℕ) → e ≤ MAX_EPOCH → length (spelled (CurrentEpoch e)) ≤ length (spelled (CurrentEpoch MAX_EPOCH))
 current_le e h =
@@ -126,6 +137,9 @@ master_size conf m k l r i j e v =
       one_left_out m.name l.card.addr m.nodes apart j,
       config_le m.name k.card.epoch e,
       leader_le m.name k.voted v,
+      candidate_le m.name k.candidate,
+      size-append (candidate_states m.name k.candidate) (left ++ known),
+      size-append (candidate_states m.name (Some no_id)) (right ++ known),
       size-append left known,
       size-append right known,
     )
@@ -168,7 +182,7 @@ last_zip : (d e : ℕ) (ms : List MasterPlan) (ks : List KeptMaster) → e ≡ M
 last_zip d e [] [] f a = tt
 last_zip d e [] (k ∷ ks) f a = absurd a
 last_zip d e (m ∷ ms) [] f a = absurd a
-last_zip d e (m ∷ ms) (k ∷ ks) f a = (record { addr = a.0.addr; epoch = omega arith; voted = omega arith }, last_zip d e ms ks f a.1)
+last_zip d e (m ∷ ms) (k ∷ ks) f a = (record { addr = a.0.addr; epoch = omega arith; voted = omega arith; candidate = λ e. absurd (omega arith) }, last_zip d e ms ks f a.1)
 
 pub longest_is : (conf : ConfPlan) (kept : KeptPlan) → IsKeptPart conf kept → IsKeptPart conf (longest kept)
 longest_is conf kept a = record { current = omega arith; masters = last_zip kept.current MAX_EPOCH conf.roster.masters kept.masters refl a.masters }

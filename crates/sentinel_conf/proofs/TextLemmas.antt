@@ -10,7 +10,7 @@ use Rattle.std.proofs.Math.Seq.{take-append_seam, drop-append-add}
 use Rattle.ballot_law.specs.declared.addresses.Addr.{Addr}
 use Rattle.ballot_law.specs.declared.addresses.RunId.{RunId}
 use Rattle.conf_lines.specs.declared.lines.StateLine.{StateLine}
-use Rattle.conf_lines.specs.declared.lines.StateLine.TheVariants.{MyId, CurrentEpoch, Monitor, ConfigEpoch, LeaderEpoch, KnownReplica, KnownSentinel}
+use Rattle.conf_lines.specs.declared.lines.StateLine.TheVariants.{MyId, CurrentEpoch, Monitor, ConfigEpoch, LeaderEpoch, LeaderId, KnownReplica, KnownSentinel}
 use Rattle.ballot_law.specs.Cuts.{lines, with_first}
 use Rattle.conf_lines.specs.Words.{spaced}
 use Rattle.ballot_law.specs.Words.{is_digit, is_hex, is_name_byte, name, ip_text, id_text, hex}
@@ -81,6 +81,7 @@ low_words (Monitor n a q) v =
     (low_text (codes "sentinel") refl, (low_text (codes "monitor") refl, (low_name n v.0, (low_ip a.ip v.1.ip, (low_port a v.1, (low_decimal q (let l : q ≤ 4294967295 = v.2 in omega arith), tt))))))
 low_words (ConfigEpoch n e) v = (low_text (codes "sentinel") refl, (low_text (codes "config-epoch") refl, (low_name n v.0, (low_epoch e v.1, tt))))
 low_words (LeaderEpoch n e) v = (low_text (codes "sentinel") refl, (low_text (codes "leader-epoch") refl, (low_name n v.0, (low_epoch e v.1, tt))))
+low_words (LeaderId n i) v = (low_text (codes "sentinel") refl, (low_text (codes "leader-id") refl, (low_name n v.0, (low_id i v.1, tt))))
 low_words (KnownReplica n a) v =
     (low_text (codes "sentinel") refl, (low_text (codes "known-replica") refl, (low_name n v.0, (low_ip a.ip v.1.ip, (low_port a v.1, tt)))))
 low_words (KnownSentinel n a i) v =

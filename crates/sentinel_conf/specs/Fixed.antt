@@ -9,7 +9,7 @@ use Rattle.conf_lines.specs.declared.lines.StateLine.{StateLine}
 use Rattle.conf_lines.specs.declared.lines.StateLine.TheVariants.{MyId, Monitor, ConfigEpoch, LeaderEpoch}
 use Rattle.conf_lines.specs.Lines.{spelled}
 use Rattle.conf_lines.specs.Words.{ended}
-use Rattle.sentinel_conf.specs.Rewritten.{text_of, replica_states, sentinel_states}
+use Rattle.sentinel_conf.specs.Rewritten.{text_of, candidate_states, replica_states, sentinel_states}
 use Rattle.sentinel_conf.specs.Room.{bounded}
 
 -- the line of the own run id, and the Sentinel lines of each master
@@ -32,7 +32,7 @@ changing_lines (master, kept) =
     Monitor master.name kept.card.addr master.quorum
     ∷ ConfigEpoch master.name kept.card.epoch
     ∷ LeaderEpoch master.name kept.voted
-    ∷ replica_states master.name kept.card.addr master.nodes
+    ∷ (candidate_states master.name kept.candidate ++ replica_states master.name kept.card.addr master.nodes)
 
 -- the state lines of one master as text, of which the last ones are spelled already
 abbrev pub with_fixed : MasterPlan × (KeptMaster × List ℕ) → List ℕ

@@ -1,5 +1,5 @@
 -- What the lines of a file say, as folds over them.
-use Rattle.std.specs.Prelude.{ℕ, max, Bool, true, false, ◌||◌, ◌&&◌, List, [], ◌∷◌, map, Option, Some, None, unwrap_or, fold}
+use Rattle.std.specs.Prelude.{ℕ, max, Bool, true, false, ◌||◌, ◌&&◌, ◌==◌, if◌then◌else◌, List, [], ◌∷◌, map, Option, Some, None, unwrap_or, fold}
 use Rattle.std.specs.List.{filter_map}
 use Rattle.ballot_law.specs.declared.addresses.Addr.{Addr}
 use Rattle.ballot_law.specs.declared.addresses.RunId.{RunId}
@@ -13,7 +13,7 @@ use Rattle.ballot_law.specs.Rosters.{no_addr}
 use Rattle.sentinel_conf.specs.declared.settings.Settings.{Settings}
 use Rattle.conf_lines.specs.declared.lines.StateLine.{StateLine}
 use Rattle.conf_lines.specs.declared.lines.Setting.{Setting}
-use Rattle.conf_lines.specs.Values.{name_of, quorum_of, monitored_at, node_of, config_of, voted_of, epoch_of, known_of, port_of, announce_ip_of, announce_port_of, after_of, syncs_of, timeout_of}
+use Rattle.conf_lines.specs.Values.{name_of, quorum_of, monitored_at, node_of, config_of, voted_of, candidate_of, epoch_of, known_of, port_of, announce_ip_of, announce_port_of, after_of, syncs_of, timeout_of}
 use Rattle.conf_lines.specs.declared.lines.Line.{Line}
 use Rattle.conf_lines.specs.declared.lines.Line.TheVariants as line
 
@@ -63,10 +63,15 @@ master_of states name = record {
   quorum = last (quorum_of name) 0 states;
 }
 
+-- the candidate of the vote in this epoch, where a line names one; no vote is given in epoch 0
+abbrev pub candidate_at : ℕ → Option RunId → Option RunId
+candidate_at voted named = if voted == 0 then None else named
+
 abbrev pub kept_master_of : List StateLine → List ℕ → KeptMaster
 kept_master_of states name = record {
   card = record { epoch = last (config_of name) 0 states; addr = last (monitored_at name) no_addr states };
   voted = last (voted_of name) 0 states;
+  candidate = candidate_at (last (voted_of name) 0 states) (first_given (candidate_of name) states);
 }
 
 abbrev pub members_of : Member → List StateLine → List Member

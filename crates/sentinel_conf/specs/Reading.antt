@@ -22,7 +22,7 @@ use Rattle.conf_lines.specs.Values.{my_id_of, name_of}
 use Rattle.sentinel_conf.specs.Rewritten.{rewritten, longest}
 
 abbrev pub FILE_MAX : ℕ
-FILE_MAX = 65536
+FILE_MAX = 67536
 
 -- the faults of a line by itself, after these state lines
 abbrev pub line_fault : List StateLine → Line → Option ConfKind

@@ -1,14 +1,15 @@
 -- The rewritten file of a conf and a kept part.
-use Rattle.std.specs.Prelude.{ℕ, ◌≤◌, not, List, ◌∷◌, ◌++◌, map, filter, Contains}
-use Rattle.std.specs.List.{flat_map, zip, AllZip}
+use Rattle.std.specs.Prelude.{ℕ, ◌≡◌, ◌≤◌, not, List, [], ◌∷◌, ◌++◌, map, filter, Contains, Option, Some, None, IfSome}
+use Rattle.std.specs.List.{flat_map, zip, AllZip, AllByRecursion}
 use Rattle.ballot_law.specs.declared.addresses.Addr.{Addr}
 use Rattle.ballot_law.specs.declared.addresses.RunId.{RunId}
 use Rattle.ballot_law.specs.declared.rosters.Member.{Member}
-use Rattle.ballot_law.specs.Rosters.{MasterPlan}
+use Rattle.ballot_law.specs.Hellos.{IsRunId}
+use Rattle.ballot_law.specs.Rosters.{MasterPlan, no_id}
 use Rattle.ballot_law.specs.Orders.{same_id, same_addr}
 use Rattle.ballot_law.specs.declared.cards.KeptMaster.{KeptMaster}
 use Rattle.conf_lines.specs.declared.lines.StateLine.{StateLine}
-use Rattle.conf_lines.specs.declared.lines.StateLine.TheVariants.{MyId, CurrentEpoch, Monitor, ConfigEpoch, LeaderEpoch, KnownReplica, KnownSentinel}
+use Rattle.conf_lines.specs.declared.lines.StateLine.TheVariants.{MyId, CurrentEpoch, Monitor, ConfigEpoch, LeaderEpoch, LeaderId, KnownReplica, KnownSentinel}
 use Rattle.conf_lines.specs.Words.{ended}
 use Rattle.conf_lines.specs.Lines.{spelled}
 use Rattle.ballot_law.specs.declared.cards.TheConstants.{MAX_EPOCH}
@@ -27,13 +28,18 @@ replica_states name at nodes = map (KnownReplica name) (filter (λ addr. not (sa
 abbrev pub sentinel_states : List ℕ → RunId → List Member → List StateLine
 sentinel_states name id members = map (λ member. KnownSentinel name member.addr member.id) (filter (λ member. not (same_id id member.id)) members)
 
+-- the line of the candidate of the last vote, where there is one
+abbrev pub candidate_states : List ℕ → Option RunId → List StateLine
+candidate_states name None = []
+candidate_states name (Some id) = LeaderId name id ∷ []
+
 -- the state lines of one master, but for the Sentinel with this run id
 abbrev pub master_lines : RunId → List Member → MasterPlan × KeptMaster → List StateLine
 master_lines id members (master, kept) =
     Monitor master.name kept.card.addr master.quorum
     ∷ ConfigEpoch master.name kept.card.epoch
     ∷ LeaderEpoch master.name kept.voted
-    ∷ (replica_states master.name kept.card.addr master.nodes ++ sentinel_states master.name id members)
+    ∷ (candidate_states master.name kept.candidate ++ (replica_states master.name kept.card.addr master.nodes ++ sentinel_states master.name id members))
 
 abbrev pub master_states : ConfPlan → MasterPlan × KeptMaster → List StateLine
 master_states conf = master_lines conf.id conf.roster.sentinels
@@ -53,9 +59,10 @@ abbrev pub rewritten : ConfPlan → KeptPlan → List ℕ
 rewritten conf kept = flat_map ended (rewritten_lines conf kept)
 
 abbrev pub at_last_epoch : KeptMaster → KeptMaster
-at_last_epoch kept = record { card = record { epoch = MAX_EPOCH; addr = kept.card.addr }; voted = MAX_EPOCH }
+at_last_epoch kept = record { card = record { epoch = MAX_EPOCH; addr = kept.card.addr }; voted = MAX_EPOCH; candidate = Some no_id }
 
--- the kept part with every epoch the last one, which has the most digits
+-- the kept part with every epoch the last one, which has the most digits, and a candidate for each master; every run id has as
+-- many digits
 abbrev pub longest : KeptPlan → KeptPlan
 longest kept = record { current = MAX_EPOCH; masters = map at_last_epoch kept.masters }
 
@@ -63,6 +70,11 @@ pub record IsKeptMaster (current : ℕ) (master : MasterPlan) (kept : KeptMaster
   pub addr : Contains master.nodes kept.card.addr
   pub epoch : kept.card.epoch ≤ current
   pub voted : kept.voted ≤ current
+  pub candidate : kept.voted ≡ 0 → kept.candidate ≡ None
+
+-- each candidate is a run id of 40 digits, as every value of its type is
+abbrev pub HasRunIds : KeptPlan → Type 0
+HasRunIds kept = AllByRecursion (λ (master : KeptMaster). IfSome master.candidate IsRunId) kept.masters
 
 -- a kept part of this conf's masters
 pub record IsKeptPart (conf : ConfPlan) (kept : KeptPlan) : Type 0 where

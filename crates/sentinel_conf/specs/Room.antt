@@ -2,7 +2,7 @@
 use Rattle.std.specs.Prelude.{ℕ, List, take}
 
 abbrev pub ROOM : ℕ
-ROOM = 65537
+ROOM = 67537
 
 -- what the room holds of the text
 unfoldable pub bounded : List ℕ → List ℕ

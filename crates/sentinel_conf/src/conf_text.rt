@@ -9,7 +9,7 @@ use std::alloc::Global;
 use std::marker::Model;
 
 /// The greatest number of bytes of a file.
-pub const FILE_MAX: usize = 65_536;
+pub const FILE_MAX: usize = 67_536;
 
 /// One byte more, so that a text that is too long shows.
 const ROOM: usize = FILE_MAX + 1;

@@ -5,7 +5,7 @@ ghost use Rattle.ballot_law.specs.Cuts.{lines};
 ghost use Rattle.conf_lines.specs.Lines.{spelled};
 ghost use Rattle.sentinel_conf.specs.Meaning.{ConfPlan};
 ghost use Rattle.ballot_law.specs.declared.cards.Kept.{Kept as KeptPlan};
-ghost use Rattle.sentinel_conf.specs.Rewritten.{rewritten, state_lines, IsKeptPart};
+ghost use Rattle.sentinel_conf.specs.Rewritten.{rewritten, state_lines, IsKeptPart, HasRunIds};
 ghost use Rattle.sentinel_conf.specs.Reading.{conf_of_bytes, FILE_MAX};
 
 /// The rewritten file of a conf that was read, and of a kept part of its masters, is read as that conf with that kept
@@ -13,10 +13,10 @@ ghost use Rattle.sentinel_conf.specs.Reading.{conf_of_bytes, FILE_MAX};
 /// be.
 pub fn law_read_again()
     ensures again { (bytes : List ℕ) (conf : ConfPlan) (kept : KeptPlan) →
-        conf_of_bytes bytes ≡ Ok conf → IsKeptPart conf kept →
+        conf_of_bytes bytes ≡ Ok conf → IsKeptPart conf kept → HasRunIds kept →
         conf_of_bytes (rewritten conf kept) ≡ Ok (record conf { kept = kept }) }
     ensures kept { (bytes : List ℕ) (conf : ConfPlan) (kept : KeptPlan) →
-        conf_of_bytes bytes ≡ Ok conf → IsKeptPart conf kept →
+        conf_of_bytes bytes ≡ Ok conf → IsKeptPart conf kept → HasRunIds kept →
         lines (rewritten conf kept) ≡ conf.kept_lines ++ map spelled (state_lines conf kept) }
     ensures size { (bytes : List ℕ) (conf : ConfPlan) (kept : KeptPlan) →
         conf_of_bytes bytes ≡ Ok conf → IsKeptPart conf kept → length (rewritten conf kept) ≤ FILE_MAX }

@@ -2,8 +2,8 @@
 
 ghost use Rattle.std.specs.Prelude.{◌≡◌, ◌∷◌, ◌++◌, [], ℕ, List, map, IfOk, Some, None};
 ghost use Rattle.std.specs.List.{filter_map};
-ghost use Rattle.conf_lines.specs.Values.{name_of, my_id_of, node_of, quorum_of, epoch_of, known_of};
-ghost use Rattle.sentinel_conf.specs.Meaning.{first_given, last, greatest, master_of, kept_master_of, members_of, own_port, own_addr, settings_of};
+ghost use Rattle.conf_lines.specs.Values.{name_of, my_id_of, node_of, quorum_of, voted_of, candidate_of, epoch_of, known_of};
+ghost use Rattle.sentinel_conf.specs.Meaning.{first_given, last, greatest, master_of, candidate_at, kept_master_of, members_of, own_port, own_addr, settings_of};
 
 use crate::members::{Listed, members_in_order};
 use crate::settings::Settings;
@@ -100,11 +100,45 @@ pub fn masters_of(
     Ok(masters)
 }
 
+/// The epoch of the last vote that the lines give to the master of this name, or 0.
+fn voted_of(states: &[StateLine], name: &Name) -> u64
+    ensures { result ≡ last (voted_of name.now) 0 states.now }
+{
+    states
+        .iter()
+        .fold(0, |epoch, state| state.voted_of(name).unwrap_or(epoch))
+}
+
+/// The candidate that the first line of this name gives.
+fn candidate_given(states: &[StateLine], name: &Name) -> Option<RunId>
+    ensures { result ≡ first_given (candidate_of name.now) states.now }
+{
+    let mut rest = states;
+    while let [state, more @ ..] = rest {
+        if let Some(id) = state.candidate_of(name) {
+            return Some(id);
+        }
+        rest = more;
+    }
+    None
+}
+
+/// The candidate of the vote in this epoch for the master of this name. No vote is given in epoch 0.
+fn candidate_at(states: &[StateLine], name: &Name, voted: u64) -> Option<RunId>
+    ensures { result ≡ candidate_at voted (first_given (candidate_of name.now) states.now) }
+{
+    if voted == 0 {
+        return None;
+    }
+    candidate_given(states, name)
+}
+
 /// What the lines hold of the master of this name.
 fn kept_master_of(states: &[StateLine], name: &Name) -> KeptMaster
     ensures { result ≡ kept_master_of states.now name.now }
 {
     let nowhere = Addr { ip: 0, port: 0 };
+    let voted = voted_of(states, name);
     KeptMaster {
         card: Card {
             epoch: states.iter().fold(
@@ -116,9 +150,8 @@ fn kept_master_of(states: &[StateLine], name: &Name) -> KeptMaster
                 |addr, state| state.address_of(name).unwrap_or(addr),
             ),
         },
-        voted: states
-            .iter()
-            .fold(0, |epoch, state| state.voted_of(name).unwrap_or(epoch)),
+        voted,
+        candidate: candidate_at(states, name, voted),
     }
 }
 

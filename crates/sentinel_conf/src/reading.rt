@@ -274,7 +274,10 @@ pub fn parts_of(alloc: Global, bytes: &[u8]) -> Result<Parts, ConfFault>
     assembled(alloc, file, names, id)
 }
 
-/// This master with the greatest epoch everywhere.
+/// The run id of which all 40 digits are 0.
+const ZEROS: RunId = RunId { hi: 0, lo: 0 };
+
+/// This master with the greatest epoch everywhere, and a candidate.
 fn at_last_epoch(master: &KeptMaster) -> KeptMaster
     ensures { result ≡ at_last_epoch master.now }
 {
@@ -284,10 +287,11 @@ fn at_last_epoch(master: &KeptMaster) -> KeptMaster
             addr: master.card.addr,
         },
         voted: MAX_EPOCH,
+        candidate: Some(ZEROS),
     }
 }
 
-/// These masters with the greatest epoch everywhere.
+/// These masters with the greatest epoch everywhere, each with a candidate.
 fn at_last_epochs(alloc: Global, masters: &[KeptMaster]) -> Result<Vec<KeptMaster>, AllocError>
     ensures { IfOk result (λ list. list.items ≡ map at_last_epoch masters.now) }
 {

@@ -4,7 +4,7 @@ ghost use Rattle.std.specs.Prelude.{◌≡◌, ◌∷◌, ◌++◌, decimal};
 ghost use Rattle.conf_lines.specs.declared.lines.StateLine.TheVariants.{CurrentEpoch};
 ghost use Rattle.ballot_law.specs.Words.{ip_text, id_text};
 ghost use Rattle.conf_lines.specs.Lines.{spelled};
-ghost use Rattle.sentinel_conf.specs.Rewritten.{text_of, replica_states, sentinel_states};
+ghost use Rattle.sentinel_conf.specs.Rewritten.{text_of, candidate_states, replica_states, sentinel_states};
 ghost use Rattle.sentinel_conf.specs.Fixed.{with_fixed, all_with_fixed};
 ghost use Rattle.conf_lines.specs.Words.{ended};
 ghost use Rattle.sentinel_conf.specs.Room.{bounded};
@@ -68,6 +68,15 @@ fn add_epoch(out: &mut ConfText, name: &Name, epoch: u64)
     add_number(out, epoch);
 }
 
+/// Adds a name and a run id, each after a space.
+#[tactic(auto, using(crate::proofs::RoomLemmas::added_both))]
+fn add_candidate(out: &mut ConfText, name: &Name, id: RunId)
+    ensures { out.new ≡ bounded (out.old ++ 32 ∷ (name.now ++ 32 ∷ id_text id)) }
+{
+    add_word(out, name.as_slice());
+    add_id(out, id);
+}
+
 /// Adds a state line without its end.
 #[tactic(auto, using(crate::proofs::RoomLemmas::added_both))]
 fn add_spelled(out: &mut ConfText, state: &StateLine)
@@ -95,6 +104,10 @@ fn add_spelled(out: &mut ConfText, state: &StateLine)
             out.add(b"sentinel leader-epoch");
             add_epoch(out, name, *epoch);
         }
+        StateLine::LeaderId { name, id } => {
+            out.add(b"sentinel leader-id");
+            add_candidate(out, name, *id);
+        }
         StateLine::KnownReplica { name, addr } => {
             out.add(b"sentinel known-replica");
             add_node(out, name, *addr);
@@ -114,6 +127,15 @@ pub fn add_state(out: &mut ConfText, state: &StateLine)
 {
     add_spelled(out, state);
     out.add(b"\n");
+}
+
+/// Adds the line of the candidate of a master's last vote, where there is one.
+fn add_leader_id(out: &mut ConfText, name: Name, candidate: Option<RunId>)
+    ensures { bounded out.new ≡ bounded (out.old ++ text_of (candidate_states name candidate)) }
+{
+    if let Some(id) = candidate {
+        add_state(out, &StateLine::LeaderId { name, id });
+    }
 }
 
 /// Adds the replica lines of a master whose address is `at`.
@@ -170,6 +192,7 @@ fn add_master(out: &mut ConfText, master: &Watched, kept: &KeptMaster, sentinels
     add_state(out, &StateLine::ConfigEpoch { name, epoch });
     let epoch = kept.voted;
     add_state(out, &StateLine::LeaderEpoch { name, epoch });
+    add_leader_id(out, name, kept.candidate);
     add_replicas(out, &name, master.nodes(), addr);
     out.add(sentinels.as_slice());
 }

@@ -5,6 +5,6 @@ use Rattle.sentinel_conf.proofs.laws.law_read_again.Goals as goal
 pub returns : goal.returns
 returns c = record {
   again = reads_again;
-  kept = λ bytes conf kept h k. lines_of_rewritten conf kept (conf_is bytes conf h) k;
+  kept = λ bytes conf kept h k ids. lines_of_rewritten conf kept (conf_is bytes conf h) k ids;
   size = λ bytes conf kept h k. fits conf kept (conf_is bytes conf h) k;
 }

@@ -18,6 +18,12 @@ returns-in-LeaderEpoch c =
     c.add-in-LeaderEpoch.ensures c.add_epoch-in-LeaderEpoch.ensures
     ∙ ap (λ s. bounded (c.args.out.now ++ spelled s)) (sym c.in-LeaderEpoch.is)
 
+pub returns-in-LeaderId : goal.returns-in-LeaderId
+returns-in-LeaderId c =
+    two_adds c.args.out.now (codes "sentinel leader-id") (32 ∷ (c.in-LeaderId.name ++ 32 ∷ id_text c.in-LeaderId.id)) c.add-in-LeaderId.new.self c.add_candidate.new.out
+    c.add-in-LeaderId.ensures c.add_candidate.ensures
+    ∙ ap (λ s. bounded (c.args.out.now ++ spelled s)) (sym c.in-LeaderId.is)
+
 pub returns-in-Monitor : goal.returns-in-Monitor
 returns-in-Monitor c =
     let name = c.in-Monitor.name in
