@@ -3,6 +3,7 @@ use Rattle.std.proofs.Common.{◌≡◌, ◌≢◌, ◌⊎◌, ◌≤◌, ℕ, B
 use Rattle.std.specs.Prelude.{IfSome, OnOk, Result, Ok, Err, is_err, ◌||◌}
 use Rattle.std.proofs.lemmas.Bool.Decides.{eqb_tells}
 use Rattle.ballot_law.specs.declared.addresses.Addr.{Addr}
+use Rattle.ballot_law.specs.declared.addresses.RunId.{RunId}
 use Rattle.ballot_law.specs.declared.cards.Card.{Card}
 use Rattle.ballot_law.specs.declared.cards.Kept.{Kept}
 use Rattle.ballot_law.specs.declared.cards.KeptMaster.{KeptMaster}
@@ -32,11 +33,30 @@ same_card a b h =
     let addr : a.addr ≡ b.addr = same_addr a.addr b.addr (λ n. h (λ e. n (ap (λ (x : Card). x.addr) e))) in
     ap (λ n. let x : Card = record { epoch = n; addr = a.addr } in x) epoch ∙ ap (λ n. let x : Card = record { epoch = b.epoch; addr = n } in x) addr
 
+same_id : (a b : RunId) → ¬ (a ≢ b) → a ≡ b
+same_id a b h =
+    let hi : a.hi ≡ b.hi = same_number a.hi b.hi (λ n. h (λ e. n (ap (λ (x : RunId). x.hi) e))) in
+    let lo : a.lo ≡ b.lo = same_number a.lo b.lo (λ n. h (λ e. n (ap (λ (x : RunId). x.lo) e))) in
+    ap (λ n. let x : RunId = record { hi = n; lo = a.lo } in x) hi ∙ ap (λ n. let x : RunId = record { hi = b.hi; lo = n } in x) lo
+
+abbrev id_or : RunId → Option RunId → RunId
+id_or none None = none
+id_or none (Some id) = id
+
+same_candidate : (a b : Option RunId) → ¬ (a ≢ b) → a ≡ b
+same_candidate None None h = refl
+same_candidate None (Some y) h = absurd (h (λ e. let no : ⊥ = cc in no))
+same_candidate (Some x) None h = absurd (h (λ e. let no : ⊥ = cc in no))
+same_candidate (Some x) (Some y) h = ap Some (same_id x y (λ n. h (λ e. n (ap (id_or x) e))))
+
 same_master : (a b : KeptMaster) → ¬ (a ≢ b) → a ≡ b
 same_master a b h =
     let card : a.card ≡ b.card = same_card a.card b.card (λ n. h (λ e. n (ap (λ (x : KeptMaster). x.card) e))) in
     let voted : a.voted ≡ b.voted = same_number a.voted b.voted (λ n. h (λ e. n (ap (λ (x : KeptMaster). x.voted) e))) in
-    ap (λ n. let x : KeptMaster = record { card = n; voted = a.voted } in x) card ∙ ap (λ n. let x : KeptMaster = record { card = b.card; voted = n } in x) voted
+    let candidate : a.candidate ≡ b.candidate = same_candidate a.candidate b.candidate (λ n. h (λ e. n (ap (λ (x : KeptMaster). x.candidate) e))) in
+    ap (λ n. let x : KeptMaster = record { card = n; voted = a.voted; candidate = a.candidate } in x) card
+    ∙ ap (λ n. let x : KeptMaster = record { card = b.card; voted = n; candidate = a.candidate } in x) voted
+    ∙ ap (λ n. let x : KeptMaster = record { card = b.card; voted = b.voted; candidate = n } in x) candidate
 
 abbrev head_or : KeptMaster → List KeptMaster → KeptMaster
 head_or none [] = none

@@ -85,7 +85,7 @@ fn is_flush(event: &Event) -> bool
 }
 
 impl Sentinel {
-    /// Opens a Sentinel with what its file says, at a reading of its clock in milliseconds: what the file holds is kept, the epochs of the
+    /// Opens a Sentinel with what its file says, at a reading of its clock in milliseconds: what the file holds is kept, the
     /// last votes among it, and nothing else. `NoMemory` drops the conf.
     pub fn open(alloc: Global, conf: Conf, now: u64) -> Result<Sentinel, OpenFault>
         ensures plan { IfOk result (λ sentinel. sentinel.plan.conf ≡ conf) }
