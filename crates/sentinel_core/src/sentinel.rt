@@ -2,7 +2,7 @@
 
 ghost use Rattle.std.specs.Prelude.{◌≡◌, ◌≢◌, ◌↔◌, ◌≤◌, ◌<◌, ◌⊎◌, ◌+◌, ◌-◌, ◌^◌, ◌++◌, [], ◌||◌, ℕ, true, false, length, OnOk, OnErr, IsOk, is_ok, IfOk, IfErr, IfSome, IfNone, IsTrue, IsFalse, IsErrOf, Some, None, vec_capacity};
 ghost use Rattle.ballot_law.specs.Ballots.{Parts, card_of};
-ghost use Rattle.sentinel_conf.specs.Rewritten.{rewritten};
+ghost use Rattle.sentinel_conf.specs.Rewritten.{rewritten, HasRunIds};
 ghost use Rattle.sentinel_rules.specs.Facts.{IsWithinEvent};
 ghost use Rattle.sentinel_rules.specs.Plans.{group_size, master_count, me, roster_of};
 ghost use Rattle.sentinel_rules.specs.Parts.{output_of};
@@ -17,7 +17,7 @@ use crate::acting::act;
 use crate::faults::{OpenFault, ReleaseFault, StoreFault, TakeFault};
 use crate::former::Former;
 use ballot_law::{Card, Command, Event, Input, Roster};
-use sentinel_conf::{Conf, ConfStore, ConfText, rewrite_into};
+use sentinel_conf::{Conf, ConfStore, ConfText, law_run_ids, rewrite_into};
 use sentinel_outbox::{Outbox, Phase, Room};
 use sentinel_plan::Plan;
 use sentinel_rules::{
@@ -124,6 +124,14 @@ impl Sentinel {
         ensures { IsWhole self.now }
     {
         let _ = &self.phase;
+    }
+
+    /// What is always true of what a Sentinel keeps: each candidate of a vote is a run id of 40 digits, so that the file is read again as it
+    /// was written. A caller that is lent a Sentinel learns it by this call, which reads the candidates and does nothing else.
+    pub fn has_run_ids(&self)
+        ensures { HasRunIds self.now.core.kept }
+    {
+        law_run_ids(self.state.core.kept());
     }
 
     /// The allocator that it was opened with.

@@ -170,8 +170,8 @@ taken_image before after text now event changed outputs took roster (OfOther o) 
 -- A file
 
 -- the rewritten file is read as the conf with what was stored
-abbrev pub AgainOf : Type 0
-AgainOf = (bytes : List ℕ) (conf : ConfPlan) (kept : Kept) → conf_of_bytes bytes ≡ Ok conf → IsKeptPart conf kept → conf_of_bytes (rewritten conf kept) ≡ Ok (record conf { kept = kept })
+abbrev pub AgainOf : Kept → Type 0
+AgainOf kept = (bytes : List ℕ) (conf : ConfPlan) → conf_of_bytes bytes ≡ Ok conf → IsKeptPart conf kept → conf_of_bytes (rewritten conf kept) ≡ Ok (record conf { kept = kept })
 
 abbrev pub SizeOf : Type 0
 SizeOf = (bytes : List ℕ) (conf : ConfPlan) (kept : Kept) → conf_of_bytes bytes ≡ Ok conf → IsKeptPart conf kept → length (rewritten conf kept) ≤ FILE_MAX
@@ -179,8 +179,8 @@ SizeOf = (bytes : List ℕ) (conf : ConfPlan) (kept : Kept) → conf_of_bytes by
 kept_part : (conf : ConfPlan) (file kept : Kept) → IsKeptPart conf kept → IsKeptPart (record conf { kept = file }) kept
 kept_part conf file kept part = record { current = part.current; masters = part.masters }
 
-read_again : AgainOf → (text : List ℕ) (conf : ConfPlan) (file kept : Kept) → conf_of_bytes text ≡ Ok (record conf { kept = file }) → IsKeptPart conf kept → conf_of_bytes (rewritten conf kept) ≡ Ok (record conf { kept = kept })
-read_again again text conf file kept read part = again text (record conf { kept = file }) kept read (kept_part conf file kept part)
+read_again : (kept : Kept) → AgainOf kept → (text : List ℕ) (conf : ConfPlan) (file : Kept) → conf_of_bytes text ≡ Ok (record conf { kept = file }) → IsKeptPart conf kept → conf_of_bytes (rewritten conf kept) ≡ Ok (record conf { kept = kept })
+read_again kept again text conf file read part = again text (record conf { kept = file }) read (kept_part conf file kept part)
 
 fits_file : SizeOf → (text : List ℕ) (conf : ConfPlan) (file kept : Kept) → conf_of_bytes text ≡ Ok (record conf { kept = file }) → IsKeptPart conf kept → length (rewritten conf kept) ≤ FILE_MAX
 fits_file size text conf file kept read part = size text (record conf { kept = file }) kept read (kept_part conf file kept part)
@@ -205,9 +205,9 @@ answers : (file : File) (text : List ℕ) → length text ≤ FILE_MAX → outco
 answers file text h = ap (λ b. Rattle.std.proofs.Common.cond b (record { is_stored = false; text = file.text }) (outcome_with file.refusal file.text text)) (no_over (length text) h)
 
 -- a store that ends well
-stored_image_of : AgainOf → (before after : Whole) (text text2 : List ℕ) (roster : Roster) (s : Sentinel) → IsSentinelImage before text roster s → is_pending before.phase ≡ true → IsWhole after → after ≡ record before { stored = before.core.kept; phase = phase.Stored } →
+stored_image_of : (before after : Whole) (text text2 : List ℕ) (roster : Roster) (s : Sentinel) → IsSentinelImage before text roster s → is_pending before.phase ≡ true → IsWhole after → after ≡ record before { stored = before.core.kept; phase = phase.Stored } →
     conf_of_bytes text2 ≡ Ok (record before.plan.conf { kept = before.core.kept }) → IsImageOf after text2 roster (OfSentinel (stored_now s))
-stored_image_of again before after text text2 roster s h p whole e read =
+stored_image_of before after text text2 roster s h p whole e read =
     record {
       whole_ok = whole;
       has_roster = ap (λ (w : Whole). roster_of w.plan) e ∙ h.has_roster;
@@ -263,14 +263,14 @@ abbrev pub StoreEnds : HowStored → Sentinel → (after : Whole) (text2 : List 
 StoreEnds h s after text2 roster result = (result ≡ store_answer h (OfSentinel s)) × IsImageOf after text2 roster (after_store h (OfSentinel s))
 
 -- with nothing to store, the store ends well however it is to end
-store_free : AgainOf → (w : HowStored) (before after : Whole) (file file2 : File) (result : Result (Unit {0}) StoreFault) → StoredAs before after file file2 result → before.phase ≡ phase.Pending false →
+store_free : (w : HowStored) (before after : Whole) (file file2 : File) (result : Result (Unit {0}) StoreFault) → StoredAs before after file file2 result → before.phase ≡ phase.Pending false →
     (roster : Roster) (s : Sentinel) → IsSentinelImage before file.text roster s → s.must_store ≡ false → before.core.kept ≡ before.stored → (result ≡ Ok tt) × IsImageOf after file2.text roster (OfSentinel (stored_now s))
-store_free again w before after file file2 result st p roster s h none same =
+store_free w before after file file2 result st p roster s h none same =
     let ok : is_ok result ≡ true = is_ok_told result (st.untouched p).1 in
     let file_same : file2 ≡ file = on_ok_in result (st.untouched p).0 ok in
     let file_is : s.file ≡ before.core.kept = h.file_is (ap is_running p) ∙ sym same in (
       ok_unit result ok,
-      stored_image_of again before after file.text file2.text roster s h (ap is_pending p) st.whole (on_ok_in result st.stored ok)
+      stored_image_of before after file.text file2.text roster s h (ap is_pending p) st.whole (on_ok_in result st.stored ok)
           (ap (λ (f : File). conf_of_bytes f.text) file_same ∙ subst (λ k. conf_of_bytes file.text ≡ Ok (record before.plan.conf { kept = k })) file_is h.read),
     )
 
@@ -281,18 +281,18 @@ store_free_ends how.RefusedOld s after text2 roster result b e m ends =
 store_free_ends how.RefusedNew s after text2 roster result b e m ends =
     subst (λ x. (result ≡ refusal x) × IsImageOf after text2 roster (OfSentinel (refused_sentinel s x New))) (sym (m ∙ e)) ends
 
-store_due : AgainOf → SizeOf → (w : HowStored) (before after : Whole) (file file2 : File) (result : Result (Unit {0}) StoreFault) → file.refusal ≡ refusal_of w → StoredAs before after file file2 result → before.phase ≡ phase.Pending true →
+store_due : (w : HowStored) (before after : Whole) → AgainOf before.core.kept → SizeOf → (file file2 : File) (result : Result (Unit {0}) StoreFault) → file.refusal ≡ refusal_of w → StoredAs before after file file2 result → before.phase ≡ phase.Pending true →
     (roster : Roster) (s : Sentinel) → IsSentinelImage before file.text roster s → s.must_store ≡ true → StoreEnds w s after file2.text roster result
-store_due again size how.Done before after file file2 result asked st p roster s h due =
+store_due how.Done before after again size file file2 result asked st p roster s h due =
     let new = rewritten before.plan.conf before.core.kept in
     let a : outcome_of file new ≡ record { is_stored = true; text = new } = answers file new (fits_file size file.text before.plan.conf s.file before.core.kept h.read h.whole_ok.core.kept) ∙ ap (λ r. outcome_with r file.text new) asked in
     let ok : is_ok result ≡ true = (st.known p).0 ∙ ap (λ (x : Outcome). x.is_stored) a in
     let text : file2.text ≡ new = same_text ((st.known p).1 ∙ ap (λ (x : Outcome). Some x.text) a) in (
       ok_unit result ok,
-      stored_image_of again before after file.text file2.text roster s h (ap is_pending p) st.whole (on_ok_in result st.stored ok)
-          (ap conf_of_bytes text ∙ read_again again file.text before.plan.conf s.file before.core.kept h.read h.whole_ok.core.kept),
+      stored_image_of before after file.text file2.text roster s h (ap is_pending p) st.whole (on_ok_in result st.stored ok)
+          (ap conf_of_bytes text ∙ read_again before.core.kept again file.text before.plan.conf s.file h.read h.whole_ok.core.kept),
     )
-store_due again size how.RefusedOld before after file file2 result asked st p roster s h due =
+store_due how.RefusedOld before after again size file file2 result asked st p roster s h due =
     let new = rewritten before.plan.conf before.core.kept in
     let a : outcome_of file new ≡ record { is_stored = false; text = file.text } = answers file new (fits_file size file.text before.plan.conf s.file before.core.kept h.read h.whole_ok.core.kept) ∙ ap (λ r. outcome_with r file.text new) asked in
     let r : result ≡ Err store_fault.Refused = refused_is result (is_pending before.phase) st.nothing (ap is_pending p) ((st.known p).0 ∙ ap (λ (x : Outcome). x.is_stored) a) in
@@ -301,7 +301,7 @@ store_due again size how.RefusedOld before after file file2 result asked st p ro
       r,
       halted_image_of before after file.text file2.text roster s (ended s Halted) h p st.whole (st.halted r) refl refl refl (ap conf_of_bytes text ∙ h.read),
     )
-store_due again size how.RefusedNew before after file file2 result asked st p roster s h due =
+store_due how.RefusedNew before after again size file file2 result asked st p roster s h due =
     let new = rewritten before.plan.conf before.core.kept in
     let a : outcome_of file new ≡ record { is_stored = false; text = new } = answers file new (fits_file size file.text before.plan.conf s.file before.core.kept h.read h.whole_ok.core.kept) ∙ ap (λ r. outcome_with r file.text new) asked in
     let r : result ≡ Err store_fault.Refused = refused_is result (is_pending before.phase) st.nothing (ap is_pending p) ((st.known p).0 ∙ ap (λ (x : Outcome). x.is_stored) a) in
@@ -309,16 +309,16 @@ store_due again size how.RefusedNew before after file file2 result asked st p ro
     subst (λ x. (result ≡ refusal x) × IsImageOf after file2.text roster (OfSentinel (refused_sentinel s x New))) (sym due) (
       r,
       halted_image_of before after file.text file2.text roster s (ended_new s Halted) h p st.whole (st.halted r) refl refl refl
-          (ap conf_of_bytes text ∙ subst (λ k. conf_of_bytes new ≡ Ok (record before.plan.conf { kept = k })) (sym h.parts_of.kept) (read_again again file.text before.plan.conf s.file before.core.kept h.read h.whole_ok.core.kept)),
+          (ap conf_of_bytes text ∙ subst (λ k. conf_of_bytes new ≡ Ok (record before.plan.conf { kept = k })) (sym h.parts_of.kept) (read_again before.core.kept again file.text before.plan.conf s.file h.read h.whole_ok.core.kept)),
     )
 
-store_pending : AgainOf → SizeOf → (w : HowStored) (before after : Whole) (file file2 : File) (result : Result (Unit {0}) StoreFault) → file.refusal ≡ refusal_of w → StoredAs before after file file2 result →
+store_pending : (w : HowStored) (before after : Whole) → AgainOf before.core.kept → SizeOf → (file file2 : File) (result : Result (Unit {0}) StoreFault) → file.refusal ≡ refusal_of w → StoredAs before after file file2 result →
     (roster : Roster) (s : Sentinel) → IsSentinelImage before file.text roster s → (b : Bool) → before.phase ≡ phase.Pending b → StoreEnds w s after file2.text roster result
-store_pending again size w before after file file2 result asked st roster s h b p =
+store_pending w before after again size file file2 result asked st roster s h b p =
     let due = subst (λ q. IsPendingAs q before s) p h.pending in
     elim b as (λ x. b ≡ x → StoreEnds w s after file2.text roster result) [
-      | true ↦ λ e. store_due again size w before after file file2 result asked st (p ∙ ap phase.Pending e) roster s h (due.0 ∙ e)
-      | false ↦ λ e. store_free_ends w s after file2.text roster result false refl (due.0 ∙ e) (store_free again w before after file file2 result st (p ∙ ap phase.Pending e) roster s h (due.0 ∙ e) (due.1 e))
+      | true ↦ λ e. store_due w before after again size file file2 result asked st (p ∙ ap phase.Pending e) roster s h (due.0 ∙ e)
+      | false ↦ λ e. store_free_ends w s after file2.text roster result false refl (due.0 ∙ e) (store_free w before after file file2 result st (p ∙ ap phase.Pending e) roster s h (due.0 ∙ e) (due.1 e))
     ] refl
 
 -- a phase that the model calls pending
@@ -336,12 +336,12 @@ not_pending phase.Stored e = refl
 not_pending phase.Halted e = refl
 not_pending phase.Stopped e = refl
 
-pub store_moves : AgainOf → SizeOf → (w : HowStored) (before after : Whole) (file file2 : File) (result : Result (Unit {0}) StoreFault) → file.refusal ≡ refusal_of w → StoredAs before after file file2 result →
+pub store_moves : (w : HowStored) (before after : Whole) → AgainOf before.core.kept → SizeOf → (file file2 : File) (result : Result (Unit {0}) StoreFault) → file.refusal ≡ refusal_of w → StoredAs before after file file2 result →
     (roster : Roster) (image : Image) → IsImageOf before file.text roster image → state_of image ≡ Pending → (result ≡ store_answer w image) × IsImageOf after file2.text roster (after_store w image)
-store_moves again size w before after file file2 result asked st roster (OfSentinel s) h pending =
+store_moves w before after again size file file2 result asked st roster (OfSentinel s) h pending =
     let p = pending_phase before.phase (sym pending ∙ h.state_is) in
-    store_pending again size w before after file file2 result asked st roster s h p.0 p.1
-store_moves again size w before after file file2 result asked st roster (OfOther o) h pending = elim h [ ]
+    store_pending w before after again size file file2 result asked st roster s h p.0 p.1
+store_moves w before after again size file file2 result asked st roster (OfOther o) h pending = elim h [ ]
 
 err_of : (r : Result (Unit {0}) StoreFault) (f : StoreFault) → IsErrOf r f → r ≡ Err f
 err_of r f h = h
@@ -410,23 +410,23 @@ pub record StoppedNew (before middle after : Whole) (file file2 : File) (result 
   pub stopped : after ≡ record middle { phase = phase.Stopped }
   pub whole : IsWhole after
 
-stop_new_sentinel : AgainOf → SizeOf → (before middle after : Whole) (file file2 : File) (result : Result (Unit {0}) StoreFault) (roster : Roster) (s : Sentinel) → StoppedNew before middle after file file2 result → IsSentinelImage before file.text roster s →
+stop_new_sentinel : (before middle after : Whole) → AgainOf before.core.kept → SizeOf → (file file2 : File) (result : Result (Unit {0}) StoreFault) (roster : Roster) (s : Sentinel) → StoppedNew before middle after file file2 result → IsSentinelImage before file.text roster s →
     ((s.state ≡ Pending) ⊎ (s.state ≢ Pending)) → IsSentinelImage after file2.text roster (stopped_sentinel s s.state New)
-stop_new_sentinel again size before middle after file file2 result roster s n h (inl pending) =
-    let m = (store_moves again size how.Done before middle file file2 result n.asked n.stored roster (OfSentinel s) h pending).1 in
+stop_new_sentinel before middle after again size file file2 result roster s n h (inl pending) =
+    let m = (store_moves how.Done before middle again size file file2 result n.asked n.stored roster (OfSentinel s) h pending).1 in
     let e = n.stopped in
     subst (λ state. IsSentinelImage after file2.text roster (stopped_sentinel s state New)) (sym pending)
     (stopped_as middle after file2.text file2.text roster (stored_now s) (ended_new s Stopped) m n.whole (ap (λ (w : Whole). w.plan) e) (ap (λ (w : Whole). w.core) e) (ap (λ (w : Whole). w.phase) e) refl refl m.read)
-stop_new_sentinel again size before middle after file file2 result roster s n h (inr other) =
+stop_new_sentinel before middle after again size file file2 result roster s n h (inr other) =
     let m = (store_nothing before middle file file2 result n.stored roster (OfSentinel s) h other).1 in
     let e = n.stopped in
     subst (IsSentinelImage after file2.text roster) (sym (stop_new_at s s.state other))
     (stopped_as middle after file2.text file2.text roster s (ended s Stopped) m n.whole (ap (λ (w : Whole). w.plan) e) (ap (λ (w : Whole). w.core) e) (ap (λ (w : Whole). w.phase) e) refl refl m.read)
 
-pub stop_new : AgainOf → SizeOf → (before middle after : Whole) (file file2 : File) (result : Result (Unit {0}) StoreFault) (roster : Roster) (image : Image) → StoppedNew before middle after file file2 result → IsImageOf before file.text roster image →
+pub stop_new : (before middle after : Whole) → AgainOf before.core.kept → SizeOf → (file file2 : File) (result : Result (Unit {0}) StoreFault) (roster : Roster) (image : Image) → StoppedNew before middle after file file2 result → IsImageOf before file.text roster image →
     IsImageOf after file2.text roster (stopped_image New image)
-stop_new again size before middle after file file2 result roster (OfSentinel s) n h = stop_new_sentinel again size before middle after file file2 result roster s n h (is_pending_state s.state)
-stop_new again size before middle after file file2 result roster (OfOther o) n h = elim h [ ]
+stop_new before middle after again size file file2 result roster (OfSentinel s) n h = stop_new_sentinel before middle after again size file file2 result roster s n h (is_pending_state s.state)
+stop_new before middle after again size file file2 result roster (OfOther o) n h = elim h [ ]
 
 -- A start
 
@@ -495,24 +495,24 @@ takes_of (Ok took) before after text now event held whole ready core outputs cha
     }
 takes_of (Err fault) before after text now event held whole ready core outputs changed unchanged p plan stored steps = tt
 
-pub stores_of : AgainOf → SizeOf → (w : HowStored) (before after : Whole) (first file file2 : File) (result : Result (Unit {0}) StoreFault) → file ≡ record first { refusal = refusal_of w } → StoredAs before after file file2 result →
+pub stores_of : (w : HowStored) (before after : Whole) → AgainOf before.core.kept → SizeOf → (first file file2 : File) (result : Result (Unit {0}) StoreFault) → file ≡ record first { refusal = refusal_of w } → StoredAs before after file file2 result →
     Stores w result (IsImageOf before first.text) (IsImageOf after file2.text)
-stores_of again size w before after first file file2 result e st =
+stores_of w before after again size first file file2 result e st =
     let text : file.text ≡ first.text = ap (λ (f : File). f.text) e in
     record {
-      pending = λ roster image h p. store_moves again size w before after file file2 result (ap (λ (f : File). f.refusal) e) st roster image (subst (λ t. IsImageOf before t roster image) (sym text) h) p;
+      pending = λ roster image h p. store_moves w before after again size file file2 result (ap (λ (f : File). f.refusal) e) st roster image (subst (λ t. IsImageOf before t roster image) (sym text) h) p;
       nothing = λ roster image h p. store_nothing before after file file2 result st roster image (subst (λ t. IsImageOf before t roster image) (sym text) h) p;
     }
 
 pub stops_old : (before after : Whole) (text : List ℕ) → after ≡ record before { phase = phase.Stopped } → IsWhole after → Stops Old (IsImageOf before text) (IsImageOf after text)
 stops_old before after text e whole = record { each = λ roster image h. stop_old before after text roster image e whole h }
 
-pub stops_new : AgainOf → SizeOf → (before middle after : Whole) (first file file2 : File) (result : Result (Unit {0}) StoreFault) → file ≡ record first { refusal = None } → StoredAs before middle file file2 result → after ≡ record middle { phase = phase.Stopped } → IsWhole after →
+pub stops_new : (before middle after : Whole) → AgainOf before.core.kept → SizeOf → (first file file2 : File) (result : Result (Unit {0}) StoreFault) → file ≡ record first { refusal = None } → StoredAs before middle file file2 result → after ≡ record middle { phase = phase.Stopped } → IsWhole after →
     Stops New (IsImageOf before first.text) (IsImageOf after file2.text)
-stops_new again size before middle after first file file2 result e st stopped whole =
+stops_new before middle after again size first file file2 result e st stopped whole =
     let text : file.text ≡ first.text = ap (λ (f : File). f.text) e in
     record {
-      each = λ roster image h. stop_new again size before middle after file file2 result roster image (record { asked = ap (λ (f : File). f.refusal) e; stored = st; stopped = stopped; whole = whole }) (subst (λ t. IsImageOf before t roster image) (sym text) h);
+      each = λ roster image h. stop_new before middle after again size file file2 result roster image (record { asked = ap (λ (f : File). f.refusal) e; stored = st; stopped = stopped; whole = whole }) (subst (λ t. IsImageOf before t roster image) (sym text) h);
     }
 
 pub starts_of : OpenedIsSound → (before after : Whole) (text text2 : List ℕ) (conf : ConfPlan) (now : ℕ) → StartedAs after text conf now → text2 ≡ text → Starts (IsImageOf before text) (IsImageOf after text2)

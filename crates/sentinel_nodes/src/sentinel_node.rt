@@ -71,6 +71,7 @@ impl SentinelNode {
         ensures plan { self.new.sentinel.plan ≡ self.old.sentinel.plan }
     {
         law_read_again();
+        self.sentinel.has_run_ids();
         self.file.refuse(None);
         let _stored = self.sentinel.store(&mut self.file);
         self.is_whole();
@@ -142,6 +143,7 @@ impl Node for SentinelNode {
 
     fn store(&mut self, how: HowStored) -> Result<(), StoreFault> {
         law_read_again();
+        self.sentinel.has_run_ids();
         self.file.refuse(refusal_of(how));
         let stored = self.sentinel.store(&mut self.file);
         self.is_whole();
