@@ -106,7 +106,9 @@ advertised_ok t h (Send message ∷ held) ok =
     (advertised_by t.roster held)
     (All-head (OutputOk t h) (Send message) held ok).1
     (advertised_ok t h held (All-tail (OutputOk t h) (Send message) held ok))
-advertised_ok t h (Tell note ∷ held) ok = advertised_ok t h held (All-tail (OutputOk t h) (Tell note) held ok)
+advertised_ok t h (Tell note ∷ held) ok =
+    All-cons (ShownOk t h) (record { master = note.master; card = note.card }) (advertised_by t.roster held) (All-head (OutputOk t h) (Tell note) held ok)
+    (advertised_ok t h held (All-tail (OutputOk t h) (Tell note) held ok))
 
 -- A Sentinel
 

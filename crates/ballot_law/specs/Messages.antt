@@ -58,11 +58,11 @@ sent [] = []
 sent (Send message ∷ outputs) = message ∷ sent outputs
 sent (Tell note ∷ outputs) = sent outputs
 
--- the configurations that outputs advertise, in order; a note advertises none
+-- the configurations that outputs advertise, in order; a note advertises its own
 abbrev pub advertised_by : Roster → List Output → List Shown
 advertised_by roster [] = []
 advertised_by roster (Send message ∷ outputs) = advertised roster message.body ++ advertised_by roster outputs
-advertised_by roster (Tell note ∷ outputs) = advertised_by roster outputs
+advertised_by roster (Tell note ∷ outputs) = (record { master = note.master; card = note.card }) ∷ advertised_by roster outputs
 
 -- What a message becomes
 

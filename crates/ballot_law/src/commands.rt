@@ -31,4 +31,6 @@ pub enum Command {
     CkQuorum(Option<Name>),
     /// `SENTINEL FLUSHCONFIG`.
     FlushConfig,
+    /// `SUBSCRIBE +switch-master`: the connection asks to be told of each new address of a master.
+    Subscribe,
 }
