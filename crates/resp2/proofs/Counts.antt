@@ -4,7 +4,7 @@ use Rattle.ballot_law.specs.declared.commands.Command.{Command}
 use Rattle.resp2.specs.declared.command.CommandFault.TheVariants.{WrongArguments}
 use Rattle.resp2_frames.specs.declared.value.Value.{Value}
 use Rattle.resp2_frames.specs.Frame.{frames_view}
-use Rattle.resp2.specs.Commands.{words, is_master_down_by_addr, master_of, alone}
+use Rattle.resp2.specs.Commands.{words, is_master_down_by_addr, master_of, alone, subscribe}
 
 pub wrong_number : (args : List Value) → length args ≢ 4 → is_master_down_by_addr (words (frames_view args)) ≡ Err WrongArguments
 wrong_number [] other = refl
@@ -18,6 +18,11 @@ pub not_one_word : (args : List Value) → length args ≢ 1 → master_of (word
 not_one_word [] other = refl
 not_one_word (a ∷ []) other = absurd (other refl)
 not_one_word (a ∷ b ∷ rest) other = refl
+
+pub no_one_channel : (args : List Value) → length args ≢ 1 → subscribe (words (frames_view args)) ≡ Err WrongArguments
+no_one_channel [] other = refl
+no_one_channel (a ∷ []) other = absurd (other refl)
+no_one_channel (a ∷ b ∷ rest) other = refl
 
 pub more_words : (command : Command) (args : List Value) → length args ≢ 0 → alone command (words (frames_view args)) ≡ Err WrongArguments
 more_words command [] other = absurd (other refl)

@@ -4,12 +4,12 @@ use Rattle.ballot_law.specs.declared.addresses.Addr.{Addr}
 use Rattle.ballot_law.specs.declared.addresses.RunId.{RunId}
 use Rattle.ballot_law.specs.declared.cards.TheConstants.{MAX_EPOCH}
 use Rattle.ballot_law.specs.declared.commands.Command.{Command}
-use Rattle.ballot_law.specs.declared.commands.Command.TheVariants.{Ping, IsMasterDownByAddr, GetMasterAddrByName, Masters, Master, Replicas, Sentinels, MyId, CkQuorum, FlushConfig}
+use Rattle.ballot_law.specs.declared.commands.Command.TheVariants.{Ping, IsMasterDownByAddr, GetMasterAddrByName, Masters, Master, Replicas, Sentinels, MyId, CkQuorum, FlushConfig, Subscribe}
 use Rattle.ballot_law.specs.Hellos.{IsRunId}
 use Rattle.ballot_law.specs.Results.{◌>>=◌, wanted}
 use Rattle.ballot_law.specs.Words.{then_some, canonical_within, canonical_address, run_id, name, lower, ip_text, id_text}
 use Rattle.resp2.specs.declared.command.CommandFault.{CommandFault}
-use Rattle.resp2.specs.declared.command.CommandFault.TheVariants.{NotACommand, UnknownCommand, WrongArguments, BadAddress, BadEpoch, BadRunId}
+use Rattle.resp2.specs.declared.command.CommandFault.TheVariants.{NotACommand, UnknownCommand, WrongArguments, BadAddress, BadEpoch, BadRunId, UnknownChannel}
 use Rattle.resp2_frames.specs.Frame.{Frame, FrameList, bulk, items, no_frames, frame}
 
 -- ---- words
@@ -64,6 +64,15 @@ abbrev pub alone : Command → List (List ℕ) → Result Command CommandFault
 alone command [] = Ok command
 alone command _ = Err WrongArguments
 
+-- the channel of the notes that a port tells
+abbrev pub channel : List ℕ
+channel = codes "+switch-master"
+
+-- the one word as a channel, whose letters are taken as they are
+abbrev pub subscribe : List (List ℕ) → Result Command CommandFault
+subscribe (word ∷ []) = if bytes_eq word channel then Ok Subscribe else Err UnknownChannel
+subscribe _ = Err WrongArguments
+
 -- a name in lower case, and what the words behind it make
 abbrev pub Entry : Type 0
 Entry = List ℕ × (List (List ℕ) → Result Command CommandFault)
@@ -95,7 +104,7 @@ sentinel_command (name ∷ args) = called_in subcommands name args
 
 -- the commands
 abbrev pub commands : List Entry
-commands = (codes "ping", alone Ping) ∷ (codes "sentinel", sentinel_command) ∷ []
+commands = (codes "ping", alone Ping) ∷ (codes "sentinel", sentinel_command) ∷ (codes "subscribe", subscribe) ∷ []
 
 abbrev pub command_of_words : List (List ℕ) → Result Command CommandFault
 command_of_words [] = Err NotACommand

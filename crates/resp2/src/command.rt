@@ -34,6 +34,9 @@ pub enum CommandFault {
     /// The run id is neither 40 lower case hex digits nor `*`.
     #[error("BadRunId")]
     BadRunId,
+    /// `SUBSCRIBE` names another channel than `+switch-master`.
+    #[error("UnknownChannel")]
+    UnknownChannel,
 }
 
 /// The bytes of a bulk string, and none of any other value.
@@ -147,6 +150,25 @@ fn alone(command: Command, args: &[Value]) -> Result<Command, CommandFault>
     }
 }
 
+/// The channel on which a port tells that a master has another address, as Redis's Sentinel names it.
+pub const CHANNEL: &str = "+switch-master";
+
+/// The command of `SUBSCRIBE` and these words.
+#[tactic(auto, using(crate::proofs::Counts::no_one_channel))]
+fn subscribe(args: &[Value]) -> Result<Command, CommandFault>
+    ensures within { IfOk result commands.IsWithin }
+    ensures command { result ≡ commands.subscribe (commands.words (frames_view args.now)) }
+{
+    let [word] = args else {
+        return Err(CommandFault::WrongArguments);
+    };
+    if word_of(word) == CHANNEL.as_bytes() {
+        Ok(Command::Subscribe)
+    } else {
+        Err(CommandFault::UnknownChannel)
+    }
+}
+
 /// The command of `SENTINEL` and these words.
 fn sentinel_command(words: &[Value]) -> Result<Command, CommandFault>
     ensures within { IfOk result commands.IsWithin }
@@ -193,6 +215,8 @@ fn command_of_items(words: &[Value]) -> Result<Command, CommandFault>
         sentinel_command(args)
     } else if is_called(word_of(name), b"PING", b"ping") {
         alone(Command::Ping, args)
+    } else if is_called(word_of(name), b"SUBSCRIBE", b"subscribe") {
+        subscribe(args)
     } else {
         Err(CommandFault::UnknownCommand)
     }
@@ -200,9 +224,9 @@ fn command_of_items(words: &[Value]) -> Result<Command, CommandFault>
 
 /// The command that a value spells, or the first fault that fits. No memory is taken.
 ///
-/// The commands are `PING` and the subcommands of `SENTINEL` that docs/RESP2.md lists, by the names that the Redis Sentinel
-/// documentation gives them; `SLAVES` is the former name of `REPLICAS`. Names of commands and subcommands ignore ASCII case,
-/// as in Redis; all other words are taken as they are. A word in the place of a master's name that can't be a name
+/// The commands are `PING`, `SUBSCRIBE` and the subcommands of `SENTINEL` that docs/RESP2.md lists, by the names that the Redis
+/// Sentinel documentation gives them; `SLAVES` is the former name of `REPLICAS`. Names of commands and subcommands ignore ASCII
+/// case, as in Redis; all other words are taken as they are. A word in the place of a master's name that can't be a name
 /// is no fault: the command names no master.
 pub fn command_of(value: &Value) -> Result<Command, CommandFault>
     ensures command { result ≡ commands.command_of (view value.now) }
