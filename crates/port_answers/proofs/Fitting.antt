@@ -1,16 +1,17 @@
 -- Every answer has room.
-use Rattle.std.proofs.Common.{ℕ, ◌+◌, ◌*◌, ◌≤◌, length, arith}
+use Rattle.std.proofs.Common.{ℕ, ◌+◌, ◌*◌, ◌≤◌, List, length, ap, arith}
 use Rattle.std.specs.Prelude.{codes}
 use Rattle.ballot_law.specs.declared.addresses.RunId.{RunId}
 use Rattle.ballot_law.specs.Words.{id_text}
 use Rattle.resp2_frames.specs.Frame.{Frame, spelling}
 use Rattle.resp2.specs.declared.command.CommandFault.{CommandFault}
-use Rattle.resp2.specs.declared.command.CommandFault.TheVariants.{NotACommand, UnknownCommand, WrongArguments, BadAddress, BadEpoch, BadRunId}
+use Rattle.resp2.specs.declared.command.CommandFault.TheVariants.{NotACommand, UnknownCommand, WrongArguments, BadAddress, BadEpoch, BadRunId, UnknownChannel}
 use Rattle.port_answers.specs.declared.rows.SentinelRow.{SentinelRow}
 use Rattle.port_answers.specs.Room.{ANSWER_MAX}
-use Rattle.port_answers.specs.Answers.{master_frame, replica_frame, sentinel_frame, masters_frame, replicas_frame, sentinels_frame, no_such_master, ok_line, quorum_reached, no_quorum, id_frame, command_fault, protocol_error}
+use Rattle.port_answers.specs.Answers.{master_frame, replica_frame, sentinel_frame, masters_frame, replicas_frame, sentinels_frame, no_such_master, ok_line, quorum_reached, no_quorum, id_frame, subscribed, command_fault, protocol_error}
 use Rattle.port_answers.specs.Limits.{IsPlace, IsMasterRow, IsReplicaRow, Fits, MasterFits, MastersFit, ReplicasFit, SentinelsFit, LinesFit}
 use Rattle.bounded_list.proofs.Bounded.{bounded_all}
+use Rattle.port_answers.proofs.Subscribing.{subscribed_bytes}
 use Rattle.port_answers.proofs.Sizes.{master_size, replica_size, sentinel_size, rows_array, counted_size, bulk_size, id_size}
 
 fits : (frame : Frame) (most : ℕ) → length (spelling frame) ≤ most → most ≤ ANSWER_MAX → Fits frame
@@ -41,6 +42,7 @@ fault_fits WrongArguments = fits (command_fault WrongArguments) 100 (omega arith
 fault_fits BadAddress = fits (command_fault BadAddress) 100 (omega arith) (omega arith)
 fault_fits BadEpoch = fits (command_fault BadEpoch) 100 (omega arith) (omega arith)
 fault_fits BadRunId = fits (command_fault BadRunId) 100 (omega arith) (omega arith)
+fault_fits UnknownChannel = fits (command_fault UnknownChannel) 100 (omega arith) (omega arith)
 
 id_fits : (id : RunId) → Fits (id_frame id)
 id_fits id =
@@ -55,6 +57,7 @@ lines_fit = record {
       (counted_size 43 (codes "OK ") (codes " usable Sentinels, quorum and majority can be reached") usable h) (omega arith);
   no_quorum = λ usable h. fits (no_quorum usable) 49 (counted_size 45 (codes "NOQUORUM ") (codes " usable Sentinels") usable h) (omega arith);
   id_frame = id_fits;
+  subscribed = fits subscribed 100 (let e = ap (λ (bytes : List ℕ). length bytes) subscribed_bytes in omega arith) (omega arith);
   command_fault = fault_fits;
   protocol_error = fits protocol_error 100 (omega arith) (omega arith);
 }

@@ -1,11 +1,12 @@
 -- The answers of a Sentinel's port about masters, replicas and Sentinels, and its short answers.
-use Rattle.std.specs.Prelude.{ℕ, Bool, true, false, List, [], ◌∷◌, ◌++◌, map, codes, decimal}
+use Rattle.std.specs.Prelude.{ℕ, Bool, true, false, pos, List, [], ◌∷◌, ◌++◌, map, codes, decimal}
 use Rattle.ballot_law.specs.declared.addresses.Addr.{Addr}
 use Rattle.ballot_law.specs.declared.addresses.RunId.{RunId}
 use Rattle.ballot_law.specs.Words.{ip_text, id_text}
-use Rattle.resp2_frames.specs.Frame.{Frame, simple, fault, bulk, items, frames_of, spellings, line_end}
+use Rattle.resp2_frames.specs.Frame.{Frame, simple, fault, int, bulk, items, frames_of, spellings, line_end}
+use Rattle.resp2.specs.Commands.{channel}
 use Rattle.resp2.specs.declared.command.CommandFault.{CommandFault}
-use Rattle.resp2.specs.declared.command.CommandFault.TheVariants.{NotACommand, UnknownCommand, WrongArguments, BadAddress, BadEpoch, BadRunId}
+use Rattle.resp2.specs.declared.command.CommandFault.TheVariants.{NotACommand, UnknownCommand, WrongArguments, BadAddress, BadEpoch, BadRunId, UnknownChannel}
 use Rattle.port_answers.specs.declared.rows.MasterRow.{MasterRow}
 use Rattle.port_answers.specs.declared.rows.ReplicaRow.{ReplicaRow}
 use Rattle.port_answers.specs.declared.rows.SentinelRow.{SentinelRow}
@@ -132,6 +133,10 @@ no_quorum usable = fault (codes "NOQUORUM " ++ (decimal usable ++ codes " usable
 abbrev pub id_frame : RunId → Frame
 id_frame id = bulk (id_text id)
 
+-- the answer to SUBSCRIBE: the channel, and on how many channels the connection listens now
+abbrev pub subscribed : Frame
+subscribed = items (frames_of (bulk (codes "subscribe") ∷ bulk channel ∷ int (pos 1) ∷ []))
+
 abbrev pub fault_text : CommandFault → List ℕ
 fault_text NotACommand = codes "ERR not a command"
 fault_text UnknownCommand = codes "ERR unknown command"
@@ -139,6 +144,7 @@ fault_text WrongArguments = codes "ERR wrong number of arguments"
 fault_text BadAddress = codes "ERR bad address"
 fault_text BadEpoch = codes "ERR bad epoch"
 fault_text BadRunId = codes "ERR bad run id"
+fault_text UnknownChannel = codes "ERR unknown channel"
 
 -- the answer to a value that is no command of the port
 abbrev pub command_fault : CommandFault → Frame

@@ -9,7 +9,7 @@ use Rattle.port_answers.specs.declared.rows.MasterRow.{MasterRow}
 use Rattle.port_answers.specs.declared.rows.ReplicaRow.{ReplicaRow}
 use Rattle.port_answers.specs.declared.rows.SentinelRow.{SentinelRow}
 use Rattle.port_answers.specs.Room.{ANSWER_MAX, bounded}
-use Rattle.port_answers.specs.Answers.{master_frame, masters_frame, replicas_frame, sentinels_frame, no_such_master, ok_line, quorum_reached, no_quorum, id_frame, command_fault, protocol_error}
+use Rattle.port_answers.specs.Answers.{master_frame, masters_frame, replicas_frame, sentinels_frame, no_such_master, ok_line, quorum_reached, no_quorum, id_frame, subscribed, command_fault, protocol_error}
 
 -- an IPv4 address and a TCP port
 pub record IsPlace (addr : Addr) : Type 0 where
@@ -62,5 +62,6 @@ pub record LinesFit : Type 0 where
   pub quorum_reached : (usable : ℕ) → usable < 2 ^ 64 → Fits (quorum_reached usable)
   pub no_quorum : (usable : ℕ) → usable < 2 ^ 64 → Fits (no_quorum usable)
   pub id_frame : (id : RunId) → Fits (id_frame id)
+  pub subscribed : Fits subscribed
   pub command_fault : (refusal : CommandFault) → Fits (command_fault refusal)
   pub protocol_error : Fits protocol_error

@@ -3,7 +3,7 @@
 ghost use Rattle.std.specs.Prelude.{◌≡◌, ◌∷◌, ◌++◌, decimal};
 ghost use Rattle.resp2_frames.specs.Frame.{spelling, line_end};
 ghost use Rattle.port_answers.specs.Room.{bounded};
-ghost use Rattle.port_answers.specs.Answers.{no_such_master, ok_line, quorum_reached, no_quorum, id_frame, fault_text, command_fault, protocol_error};
+ghost use Rattle.port_answers.specs.Answers.{no_such_master, ok_line, quorum_reached, no_quorum, id_frame, subscribed, fault_text, command_fault, protocol_error};
 
 use crate::answer_text::AnswerText;
 use ballot_law::RunId;
@@ -22,6 +22,7 @@ fn fault_text(fault: CommandFault) -> &'static [u8]
         CommandFault::BadAddress => b"ERR bad address",
         CommandFault::BadEpoch => b"ERR bad epoch",
         CommandFault::BadRunId => b"ERR bad run id",
+        CommandFault::UnknownChannel => b"ERR unknown channel",
     }
 }
 
@@ -76,6 +77,14 @@ impl AnswerText {
         ensures { self.new ≡ bounded (self.old ++ spelling (id_frame id)) }
     {
         self.add_bulk(run_id_text(id).as_slice());
+    }
+
+    /// Adds the answer to `SUBSCRIBE +switch-master`, as Redis words it: the connection listens on one channel now. What has no room
+    /// is cut.
+    pub fn add_subscribed(&mut self)
+        ensures { self.new ≡ bounded (self.old ++ spelling subscribed) }
+    {
+        self.add(b"*3\r\n$9\r\nsubscribe\r\n$14\r\n+switch-master\r\n:1\r\n");
     }
 
     /// Adds the answer to a value that is no command of the port. What has no room is cut.
