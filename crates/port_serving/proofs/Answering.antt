@@ -8,7 +8,7 @@ use Rattle.ballot_law.specs.declared.cards.Kept.{Kept}
 use Rattle.ballot_law.specs.declared.cards.KeptMaster.{KeptMaster}
 use Rattle.ballot_law.specs.declared.cards.TheConstants.{MAX_EPOCH}
 use Rattle.ballot_law.specs.declared.commands.Command.{Command}
-use Rattle.ballot_law.specs.declared.commands.Command.TheVariants.{Ping, IsMasterDownByAddr, GetMasterAddrByName, Masters, Master, Replicas, Sentinels, MyId, CkQuorum, FlushConfig}
+use Rattle.ballot_law.specs.declared.commands.Command.TheVariants.{Ping, IsMasterDownByAddr, GetMasterAddrByName, Masters, Master, Replicas, Sentinels, MyId, CkQuorum, FlushConfig, Subscribe}
 use Rattle.ballot_law.specs.declared.events.Event.TheVariants.{Command as Commanded}
 use Rattle.ballot_law.specs.declared.messages.Body.{Body}
 use Rattle.ballot_law.specs.declared.messages.Message.{Message}
@@ -22,7 +22,7 @@ use Rattle.port_answers.specs.Answers.{command_fault, master_frame, replicas_fra
 use Rattle.bounded_list.specs.BoundedLists.{bounded as within_limit}
 use Rattle.port_answers.specs.Room.{bounded}
 use Rattle.resp2.specs.declared.command.CommandFault.{CommandFault}
-use Rattle.resp2.specs.declared.command.CommandFault.TheVariants.{NotACommand, UnknownCommand, WrongArguments, BadAddress, BadEpoch, BadRunId}
+use Rattle.resp2.specs.declared.command.CommandFault.TheVariants.{NotACommand, UnknownCommand, WrongArguments, BadAddress, BadEpoch, BadRunId, UnknownChannel}
 use Rattle.resp2_frames.specs.Frame.{Frame, spelling, IsLine}
 use Rattle.sentinel_conf.specs.Meaning.{ConfPlan}
 use Rattle.sentinel_conf.specs.Rewritten.{IsKeptMaster, IsKeptPart}
@@ -42,6 +42,7 @@ line_fits WrongArguments = refl
 line_fits BadAddress = refl
 line_fits BadEpoch = refl
 line_fits BadRunId = refl
+line_fits UnknownChannel = refl
 
 -- ---- answers
 
@@ -87,6 +88,7 @@ command_writable plan now (Sentinels name) core h = about_writable core (named p
 command_writable plan now MyId core h = tt
 command_writable plan now (CkQuorum name) core h = about_writable core (named plan name) (λ m. []) (λ m. quorum_frame plan core now m)
 command_writable plan now FlushConfig core h = tt
+command_writable plan now Subscribe core h = tt
 
 abbrev body_of : Body → Option Output → Body
 body_of other None = other

@@ -4,7 +4,7 @@ use Rattle.std.proofs.lemmas.List.{append-nil}
 use Rattle.std.specs.Prelude.{OnOk, IfErr}
 use Rattle.ballot_law.specs.declared.cards.Shown.{Shown}
 use Rattle.ballot_law.specs.declared.commands.Command.{Command}
-use Rattle.ballot_law.specs.declared.commands.Command.TheVariants.{Ping, IsMasterDownByAddr, GetMasterAddrByName, Masters, Master, Replicas, Sentinels, MyId, CkQuorum, FlushConfig}
+use Rattle.ballot_law.specs.declared.commands.Command.TheVariants.{Ping, IsMasterDownByAddr, GetMasterAddrByName, Masters, Master, Replicas, Sentinels, MyId, CkQuorum, FlushConfig, Subscribe}
 use Rattle.ballot_law.specs.declared.messages.Body.{Body}
 use Rattle.ballot_law.specs.declared.messages.Body.TheVariants.{AddressAnswer}
 use Rattle.ballot_law.specs.declared.messages.Message.{Message}
@@ -53,6 +53,7 @@ module _ (start : World) (now : ℕ) where
   by_turn v MyId bytes w t h = h
   by_turn v (CkQuorum name) bytes w t h = h
   by_turn v FlushConfig bytes w t h = h
+  by_turn v Subscribe bytes w t h = h
 
   pub turn_written : {X : Type 0} (v : View) (command : Command) (shown : List Output) (answer : Result X ServeFault) (text : List ℕ) (message : Message) (w : View)
       → takes_turn command ≡ true → (h : ShowsAnswer start now v command shown w) → message ≡ h.0

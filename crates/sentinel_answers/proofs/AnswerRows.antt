@@ -8,7 +8,7 @@ use Rattle.port_answers.specs.declared.rows.MasterRow.{MasterRow}
 use Rattle.port_answers.specs.declared.rows.ReplicaRow.{ReplicaRow}
 use Rattle.port_answers.specs.declared.rows.SentinelRow.{SentinelRow}
 use Rattle.port_answers.specs.Room.{ANSWER_MAX, bounded}
-use Rattle.port_answers.specs.Answers.{header, master_frame, masters_frame, replica_frame, replicas_frame, sentinel_frame, sentinels_frame, no_such_master, ok_line, quorum_reached, no_quorum, id_frame}
+use Rattle.port_answers.specs.Answers.{header, master_frame, masters_frame, replica_frame, replicas_frame, sentinel_frame, sentinels_frame, no_such_master, ok_line, quorum_reached, no_quorum, id_frame, subscribed}
 use Rattle.port_answers.specs.Limits.{IsPlace, IsMasterRow, IsReplicaRow, Fits}
 use Rattle.port_answers.proofs.Fitting.{master_fits, masters_fit, replicas_fit, sentinels_fit, lines_fit}
 use Rattle.bounded_list.proofs.Bounded.{added_both}
@@ -225,6 +225,9 @@ unknown_whole = lines_fit.no_such_master.whole
 
 pub ok_whole : bounded (spelling ok_line) ≡ spelling ok_line
 ok_whole = lines_fit.ok_line.whole
+
+pub subscribed_whole : bounded (spelling subscribed) ≡ spelling subscribed
+subscribed_whole = lines_fit.subscribed.whole
 
 pub id_whole : (id : RunId) → bounded (spelling (id_frame id)) ≡ spelling (id_frame id)
 id_whole id = (lines_fit.id_frame id).whole

@@ -4,7 +4,7 @@ ghost use Rattle.std.specs.Prelude.{◌≡◌, ◌≤◌, ◌<◌, ◌↔◌, �
 ghost use Rattle.ballot_law.specs.declared.messages.Body.TheVariants.{PingText, PortReply};
 ghost use Rattle.ballot_law.specs.Clocks.{clock};
 ghost use Rattle.resp2_frames.specs.Frame.{spelling};
-ghost use Rattle.port_answers.specs.Answers.{masters_frame, no_such_master, ok_line, id_frame};
+ghost use Rattle.port_answers.specs.Answers.{masters_frame, no_such_master, ok_line, id_frame, subscribed};
 ghost use Rattle.sentinel_rules.specs.Answers.{master_with_card, asked_of, master_row, all_masters, reply, named, about, address_of, commanded};
 ghost use Rattle.sentinel_rules.specs.Plans.{roster_of, me, master_count};
 ghost use Rattle.sentinel_answers.specs.Plain.{is_plain, answer_about};
@@ -85,7 +85,8 @@ pub fn answer_plainly(plan: &Plan, core: &mut Core, now: u64, command: &Command)
         | Command::Sentinels(_)
         | Command::MyId
         | Command::CkQuorum(_)
-        | Command::FlushConfig => None,
+        | Command::FlushConfig
+        | Command::Subscribe => None,
     }
 }
 
@@ -131,6 +132,7 @@ pub fn answer_by_text(
         Command::MyId => answer_id(plan, text, shown),
         Command::CkQuorum(name) => answer_about(plan, core, now, name, Asked::Quorum, text, shown),
         Command::FlushConfig => answer_done(text, shown),
+        Command::Subscribe => answer_subscribed(text, shown),
         Command::Ping | Command::IsMasterDownByAddr { .. } | Command::GetMasterAddrByName(_) =>
             unreachable!(),
     }
@@ -248,6 +250,17 @@ fn answer_id(plan: &Plan, text: AnswerText, shown: Vec<Shown>) -> Body
 {
     let mut text = text;
     text.add_id(plan.me());
+    reply(text, shown)
+}
+
+/// That the connection listens on the channel of notes. Whether it does is the connection's own matter.
+#[tactic(auto, using(crate::proofs::AnswerRows::subscribed_whole))]
+fn answer_subscribed(text: AnswerText, shown: Vec<Shown>) -> Body
+    requires text { text ≡ [] }
+    ensures { result ≡ PortReply shown.items (spelling subscribed) }
+{
+    let mut text = text;
+    text.add_subscribed();
     reply(text, shown)
 }
 

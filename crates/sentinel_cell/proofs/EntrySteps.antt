@@ -3,7 +3,7 @@ use Rattle.std.proofs.Common.{◌≡◌, ◌≢◌, ◌↔◌, ◌⊎◌, ℕ, �
 use Rattle.std.specs.Prelude.{not, ◌||◌, slice_index_or, slice_get}
 use Rattle.std.proofs.lemmas.List.{length-append}
 use Rattle.ballot_law.specs.declared.cards.Kept.{Kept}
-use Rattle.ballot_law.specs.declared.commands.Command.TheVariants.{Ping, IsMasterDownByAddr, GetMasterAddrByName, Masters, Master, Replicas, Sentinels, MyId, CkQuorum, FlushConfig}
+use Rattle.ballot_law.specs.declared.commands.Command.TheVariants.{Ping, IsMasterDownByAddr, GetMasterAddrByName, Masters, Master, Replicas, Sentinels, MyId, CkQuorum, FlushConfig, Subscribe}
 use Rattle.ballot_law.specs.declared.events.Event.{Event}
 use Rattle.ballot_law.specs.declared.events.Event.TheVariants.{Tick, Command as Commanded, Answered, Pinged, InfoRead, HelloRead, Become, Handed}
 use Rattle.ballot_law.specs.declared.events.Input.{Input}
@@ -43,6 +43,7 @@ flush_true (Commanded sender (Master n)) e = absurd (true≢false (sym e))
 flush_true (Commanded sender (Replicas n)) e = absurd (true≢false (sym e))
 flush_true (Commanded sender (Sentinels n)) e = absurd (true≢false (sym e))
 flush_true (Commanded sender MyId) e = absurd (true≢false (sym e))
+flush_true (Commanded sender Subscribe) e = absurd (true≢false (sym e))
 flush_true (Commanded sender (CkQuorum n)) e = absurd (true≢false (sym e))
 flush_true (Tick m random) e = absurd (true≢false (sym e))
 flush_true (Answered v m a d l n) e = absurd (true≢false (sym e))
@@ -62,6 +63,7 @@ flush_is (Commanded sender (Master n)) h = absurd h
 flush_is (Commanded sender (Replicas n)) h = absurd h
 flush_is (Commanded sender (Sentinels n)) h = absurd h
 flush_is (Commanded sender MyId) h = absurd h
+flush_is (Commanded sender Subscribe) h = absurd h
 flush_is (Commanded sender (CkQuorum n)) h = absurd h
 flush_is (Tick m random) h = absurd h
 flush_is (Answered v m a d l n) h = absurd h

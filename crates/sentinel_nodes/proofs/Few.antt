@@ -6,7 +6,7 @@ use Rattle.std.specs.Prelude.{not, ◌&&◌}
 use Rattle.ballot_law.specs.declared.addresses.Addr.{Addr}
 use Rattle.ballot_law.specs.declared.addresses.RunId.{RunId}
 use Rattle.ballot_law.specs.declared.commands.Command.{Command}
-use Rattle.ballot_law.specs.declared.commands.Command.TheVariants.{Ping, IsMasterDownByAddr, GetMasterAddrByName, Masters, Master, Replicas, Sentinels, MyId, CkQuorum, FlushConfig}
+use Rattle.ballot_law.specs.declared.commands.Command.TheVariants.{Ping, IsMasterDownByAddr, GetMasterAddrByName, Masters, Master, Replicas, Sentinels, MyId, CkQuorum, FlushConfig, Subscribe}
 use Rattle.ballot_law.specs.declared.events.Event.{Event}
 use Rattle.ballot_law.specs.declared.events.Event.TheVariants.{Tick, Command as Commanded, Answered as AnswerCame, Pinged, InfoRead, HelloRead, Become, Handed}
 use Rattle.ballot_law.specs.declared.messages.Body.{Body}
@@ -50,6 +50,7 @@ answer_few plan now (Sentinels name) core p = about_few core (named plan name) _
 answer_few plan now MyId core p = omega arith
 answer_few plan now (CkQuorum name) core p = about_few core (named plan name) _ (λ m. omega arith)
 answer_few plan now FlushConfig core p = omega arith
+answer_few plan now Subscribe core p = omega arith
 
 frame_few : (plan : Plan) (core : Core) (frame : Frame) → IsFewShown (output_of plan core frame)
 frame_few plan core (PingTo target) = tt

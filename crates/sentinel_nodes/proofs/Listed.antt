@@ -5,7 +5,7 @@ use Rattle.ballot_law.specs.declared.addresses.Addr.{Addr}
 use Rattle.ballot_law.specs.declared.addresses.RunId.{RunId}
 use Rattle.ballot_law.specs.declared.cards.Shown.{Shown}
 use Rattle.ballot_law.specs.declared.commands.Command.{Command}
-use Rattle.ballot_law.specs.declared.commands.Command.TheVariants.{Ping, IsMasterDownByAddr, GetMasterAddrByName, Masters, Master, Replicas, Sentinels, MyId, CkQuorum, FlushConfig}
+use Rattle.ballot_law.specs.declared.commands.Command.TheVariants.{Ping, IsMasterDownByAddr, GetMasterAddrByName, Masters, Master, Replicas, Sentinels, MyId, CkQuorum, FlushConfig, Subscribe}
 use Rattle.ballot_law.specs.declared.events.Event.{Event}
 use Rattle.ballot_law.specs.declared.events.Event.TheVariants.{Tick, Command as Commanded, Answered as AnswerCame, Pinged, InfoRead, HelloRead, Become, Handed}
 use Rattle.ballot_law.specs.declared.messages.Body.{Body}
@@ -65,6 +65,7 @@ answer_listed plan now (Sentinels name) core = about_listed plan core (named pla
 answer_listed plan now MyId core = tt
 answer_listed plan now (CkQuorum name) core = about_listed plan core (named plan name) _ (λ m found. tt)
 answer_listed plan now FlushConfig core = tt
+answer_listed plan now Subscribe core = tt
 
 -- Frames: of these only a hello advertises, and a hello shows nothing where its name is no master's
 

@@ -8,7 +8,7 @@ use Rattle.ballot_law.specs.declared.addresses.RunId.{RunId}
 use Rattle.ballot_law.specs.declared.cards.Kept.{Kept}
 use Rattle.ballot_law.specs.declared.cards.KeptMaster.{KeptMaster}
 use Rattle.ballot_law.specs.declared.commands.Command.{Command}
-use Rattle.ballot_law.specs.declared.commands.Command.TheVariants.{Ping, IsMasterDownByAddr, GetMasterAddrByName, Masters, Master, Replicas, Sentinels, MyId, CkQuorum, FlushConfig}
+use Rattle.ballot_law.specs.declared.commands.Command.TheVariants.{Ping, IsMasterDownByAddr, GetMasterAddrByName, Masters, Master, Replicas, Sentinels, MyId, CkQuorum, FlushConfig, Subscribe}
 use Rattle.ballot_law.specs.declared.events.Event.{Event}
 use Rattle.ballot_law.specs.declared.events.Event.TheVariants.{Tick, Command as Commanded, Answered as AnswerCame, Pinged, InfoRead, HelloRead, Become, Handed}
 use Rattle.ballot_law.specs.declared.messages.Body.{Body}
@@ -21,7 +21,7 @@ use Rattle.ballot_law.specs.Worlds.{IsRightOutput}
 use Rattle.node_texts.specs.Hellos.{hello_of}
 use Rattle.node_texts.specs.Infos.{info_of}
 use Rattle.resp2_frames.specs.Frame.{Frame as Reply}
-use Rattle.port_answers.specs.Answers.{master_frame, masters_frame, replicas_frame, sentinels_frame, no_such_master, ok_line, id_frame}
+use Rattle.port_answers.specs.Answers.{master_frame, masters_frame, replicas_frame, sentinels_frame, no_such_master, ok_line, id_frame, subscribed}
 use Rattle.sentinel_rules.specs.Plans.{Plan, roster_of, me, master_count}
 use Rattle.sentinel_rules.specs.States.{Core, is_tilted, is_master_down}
 use Rattle.sentinel_rules.specs.Parts.{Part, quiet, send, shown_of}
@@ -69,6 +69,7 @@ commanded_steps plan event now (Sentinels name) core s = stay_steps plan event 2
 commanded_steps plan event now MyId core s = stay_steps plan event 2 core
 commanded_steps plan event now (CkQuorum name) core s = stay_steps plan event 2 core
 commanded_steps plan event now FlushConfig core s = stay_steps plan event 2 core
+commanded_steps plan event now Subscribe core s = stay_steps plan event 2 core
 
 -- Answers
 
@@ -118,6 +119,7 @@ commanded_right plan parts target now MyId core s t is = reply_right plan core p
 commanded_right plan parts target now (CkQuorum name) core s t is =
     about_right plan core parts target (named plan name) (λ m. reply core [] (quorum_frame plan core now m)) is (λ m. reply_right plan core parts target [] (quorum_frame plan core now m) is)
 commanded_right plan parts target now FlushConfig core s t is = reply_right plan core parts target [] ok_line is
+commanded_right plan parts target now Subscribe core s t is = reply_right plan core parts target [] subscribed is
 
 -- One input
 

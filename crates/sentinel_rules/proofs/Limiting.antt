@@ -71,6 +71,7 @@ answer_within plan now (command.Sentinels name) core = about_within core (named 
 answer_within plan now command.MyId core = tt
 answer_within plan now (command.CkQuorum name) core = about_within core (named plan name) _ (λ m. tt)
 answer_within plan now command.FlushConfig core = tt
+answer_within plan now command.Subscribe core = tt
 
 -- One input
 

@@ -17,7 +17,7 @@ use Rattle.resp2_frames.specs.Frame.{Frame, spelling}
 use Rattle.port_answers.specs.declared.rows.MasterRow.{MasterRow}
 use Rattle.port_answers.specs.declared.rows.ReplicaRow.{ReplicaRow}
 use Rattle.port_answers.specs.declared.rows.SentinelRow.{SentinelRow}
-use Rattle.port_answers.specs.Answers.{master_frame, masters_frame, replicas_frame, sentinels_frame, no_such_master, ok_line, quorum_reached, no_quorum, id_frame}
+use Rattle.port_answers.specs.Answers.{master_frame, masters_frame, replicas_frame, sentinels_frame, no_such_master, ok_line, quorum_reached, no_quorum, id_frame, subscribed}
 use Rattle.sentinel_rules.specs.declared.assumed.TheConstants.{ASSUMED_INFO}
 use Rattle.sentinel_rules.specs.Plans.{Plan, roster_of, me, group_size, master_count, settings_at, nodes_of, addr_at}
 use Rattle.sentinel_rules.specs.States.{Core, node_of, card_place, is_failing_over, is_tilted, is_node_down, is_master_down, is_peer_down, is_odown_at}
@@ -158,3 +158,4 @@ commanded plan now (Sentinels name) core =
 commanded plan now MyId core = unchanged core (reply core [] (id_frame (me plan)))
 commanded plan now (CkQuorum name) core = unchanged core (about core (named plan name) (λ m. reply core [] (quorum_frame plan core now m)))
 commanded plan now FlushConfig core = unchanged core (reply core [] ok_line)
+commanded plan now Subscribe core = unchanged core (reply core [] subscribed)
