@@ -1,5 +1,5 @@
--- Each hello that a part puts out is of a master of the roster.
-use Rattle.std.proofs.Common.{ℕ, zero, suc, ◌<◌, Bool, true, false, Option, Some, None, [], ◌∷◌, ◌++◌}
+-- Each hello and each note that a part puts out is of a master of the roster.
+use Rattle.std.proofs.Common.{◌≡◌, ℕ, zero, suc, ◌<◌, refl, Bool, true, false, Option, Some, None, [], ◌∷◌, ◌++◌}
 use Rattle.std.specs.Prelude.{Result, Ok, Err, not, nat_lt, ◌==◌, ◌&&◌, if◌then◌else◌}
 use Rattle.std.proofs.lemmas.Bool.{ltb-true}
 use Rattle.ballot_law.specs.declared.cards.Card.{Card}
@@ -11,6 +11,7 @@ use Rattle.ballot_law.specs.declared.replies.Info.{Info}
 use Rattle.ballot_law.specs.Ballots.{card_of}
 use Rattle.ballot_law.specs.Orders.{same_addr}
 use Rattle.ballot_law.specs.Rosters.{master_named}
+use Rattle.ballot_law.proofs.RosterLemmas.{named_master}
 use Rattle.failover_states.specs.declared.states.State.{State}
 use Rattle.failover_states.specs.declared.states.State.TheVariants.{WaitPromotion}
 use Rattle.failover_states.specs.declared.states.Row.{Row}
@@ -27,6 +28,7 @@ use Rattle.sentinel_rules.specs.Parts.{Part, quiet, puts, then_part, part_if, fr
 use Rattle.sentinel_rules.specs.Ticks.{is_peer_due, peer_frames, peers_part, Sending, sending_of, is_ping_due, is_info_due, is_hello_due, node_frames, nodes_part, turn_of, promote_frames, order_frames, row_part, after_start, start_turn, starts_now, start_part, is_ask_due, ask_candidate, ask_frames, ask_part, odown_part, failover_part, judging_part, master_part, with_reading, tick}
 use Rattle.sentinel_rules.specs.News.{at_same_address, at_new_address, card_taken, is_heeded, is_newer, raised_to, adopted, hello_heeded, hello_read, is_master_role, promotion, has_followed, reconfiguration, wrong_of, can_be_followed, is_role_overdue, is_address_overdue, correction, is_reconfiguring, judged, info_kept, info_of_node, info_read}
 use Rattle.sentinel_rules.specs.Named.{HellosNameMasters}
+use Rattle.sentinel_rules.proofs.StepNews.{named_within}
 use Rattle.sentinel_rules.proofs.ShownOutputs.{AreNamed, named_append, named_one, named_each, named_if}
 
 -- Ticks
@@ -102,42 +104,42 @@ frames_either : (plan : Plan) (test : Bool) (a b : Part) → AreNamed plan a.fra
 frames_either plan true a b f g = f
 frames_either plan false a b f g = g
 
-taken_frames : (plan : Plan) (m now : ℕ) (card : Card) (core : Core) → AreNamed plan (card_taken m now card core).frames
-taken_frames plan m now card core =
+taken_frames : (plan : Plan) (m now : ℕ) (card : Card) (core : Core) → m < master_count plan → AreNamed plan (card_taken m now card core).frames
+taken_frames plan m now card core lt =
     frames_either plan (same_addr (card_of core.kept m).addr card.addr)
     (quiet (with_card (with_master core m (at_same_address (master_of core m))) m card))
     (puts (with_card (with_master core m (at_new_address now (master_of core m))) m card) (NoteOf m (card_of core.kept m).addr ∷ []))
     tt
-    (tt, tt)
+    (lt, tt)
 
-heeded_frames : (plan : Plan) (now : ℕ) (m : Option ℕ) (hello : Hello) (core : Core) → AreNamed plan (hello_heeded plan now m hello core).frames
-heeded_frames plan now None hello core = tt
-heeded_frames plan now (Some m) hello core =
+heeded_frames : (plan : Plan) (now : ℕ) (m : Option ℕ) (hello : Hello) (core : Core) → master_named (roster_of plan) hello.master ≡ m → AreNamed plan (hello_heeded plan now m hello core).frames
+heeded_frames plan now None hello core found = tt
+heeded_frames plan now (Some m) hello core found =
     named_if plan (is_newer plan (raised_to hello.current core) m hello.card) (raised_to hello.current core) (adopted m now hello.card)
-    (λ h. taken_frames plan m now hello.card _)
+    (λ h. taken_frames plan m now hello.card _ (named_master (roster_of plan) hello.master m found).0)
 
 pub hello_frames : (plan : Plan) (now : ℕ) (read : Result Hello TextFault) (core : Core) → AreNamed plan (hello_read plan now read core).frames
 hello_frames plan now (Err fault) core = tt
 hello_frames plan now (Ok hello) core =
     named_if plan (is_heeded plan hello) core (hello_heeded plan now (master_named (roster_of plan) hello.master) hello)
-    (λ h. heeded_frames plan now (master_named (roster_of plan) hello.master) hello core)
+    (λ h. heeded_frames plan now (master_named (roster_of plan) hello.master) hello core refl)
 
-promotion_frames : (plan : Plan) (m k now : ℕ) (info : Info) (state : State) (core : Core) → AreNamed plan (promotion m k now info state core).frames
-promotion_frames plan m k now info (WaitPromotion epoch choice former) core =
+promotion_frames : (plan : Plan) (m k now : ℕ) (info : Info) (state : State) (core : Core) → m < master_count plan → AreNamed plan (promotion m k now info state core).frames
+promotion_frames plan m k now info (WaitPromotion epoch choice former) core lt =
     named_if plan ((k == choice.place) && is_master_role info.role) core
     (λ c. card_taken m now (record { epoch = epoch; addr = choice.addr })
     (with_failover c m (promoted (WaitPromotion epoch choice former) (record (failover_of c m) { moment = now }))))
-    (λ h. taken_frames plan m now (record { epoch = epoch; addr = choice.addr }) (with_failover core m (promoted (WaitPromotion epoch choice former) (record (failover_of core m) { moment = now }))))
-promotion_frames plan m k now info _ core = tt
+    (λ h. taken_frames plan m now (record { epoch = epoch; addr = choice.addr }) (with_failover core m (promoted (WaitPromotion epoch choice former) (record (failover_of core m) { moment = now }))) lt)
+promotion_frames plan m k now info _ core lt = tt
 
-judged_frames : (plan : Plan) (m k now : ℕ) (info : Info) (core : Core) → AreNamed plan (judged plan m k now info core).frames
-judged_frames plan m k now info core =
+judged_frames : (plan : Plan) (m k now : ℕ) (info : Info) (core : Core) → m < master_count plan → AreNamed plan (judged plan m k now info core).frames
+judged_frames plan m k now info core lt =
     frames_either plan (is_failing_over core m)
     (if is_reconfiguring (failover_of core m).state then reconfiguration m k info core else promotion m k now info (failover_of core m).state core)
     (part_if (not (k == card_place plan core m)) core (correction plan m k now info))
     (frames_either plan (is_reconfiguring (failover_of core m).state) (reconfiguration m k info core) (promotion m k now info (failover_of core m).state core)
     (named_if plan (has_followed info (card_of core.kept m).addr) core (λ c. quiet (with_failover c m (reconfigured (failover_of c m).state (failover_of c m) k))) (λ h. tt))
-    (promotion_frames plan m k now info (failover_of core m).state core))
+    (promotion_frames plan m k now info (failover_of core m).state core lt))
     (named_if plan (not (k == card_place plan core m)) core (correction plan m k now info) (λ h. named_one plan (if role_told then true else address_told) (FollowTo (node_name plan m k) m) tt))
   where
     role_told : Bool
@@ -146,15 +148,15 @@ judged_frames plan m k now info core =
     address_told : Bool
     address_told = is_address_overdue (settings_at plan m).timeout now (wrong_of now info (card_of core.kept m).addr (node_of core m k)) && can_be_followed plan core m now
 
-of_node_frames : (plan : Plan) (now : ℕ) (at : Option NodePlace) (info : Info) (core : Core) → AreNamed plan (info_of_node plan now at info core).frames
-of_node_frames plan now None info core = tt
-of_node_frames plan now (Some at) info core =
+of_node_frames : (plan : Plan) (now : ℕ) (at : Option NodePlace) (info : Info) (core : Core) → ((it : NodePlace) → at ≡ Some it → it.master < master_count plan) → AreNamed plan (info_of_node plan now at info core).frames
+of_node_frames plan now None info core within = tt
+of_node_frames plan now (Some at) info core within =
     named_if plan (not (is_tilted (info_kept at.master at.place now info core))) (info_kept at.master at.place now info core) (judged plan at.master at.place now info)
-    (λ h. judged_frames plan at.master at.place now info (info_kept at.master at.place now info core))
+    (λ h. judged_frames plan at.master at.place now info (info_kept at.master at.place now info core) (within at refl))
 
 pub info_frames : (plan : Plan) (node : NodeName) (now : ℕ) (read : Result Info TextFault) (core : Core) → AreNamed plan (info_read plan node now read core).frames
 info_frames plan node now (Err fault) core = tt
-info_frames plan node now (Ok info) core = of_node_frames plan now (node_named plan node) info core
+info_frames plan node now (Ok info) core = of_node_frames plan now (node_named plan node) info core (named_within plan node)
 
 -- One input
 

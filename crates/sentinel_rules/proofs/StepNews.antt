@@ -317,7 +317,7 @@ numbered_within (master ∷ masters) first number at h = known (nat_lt number (l
     known true h more = let e : (let x : NodePlace = record { master = first; place = number } in x) ≡ at = cc in subst (λ (a : NodePlace). a.master < first + length (master ∷ masters)) e (omega arith)
     known false h more = let l : at.master < first + 1 + length masters = more h in omega arith
 
-named_within : (plan : Plan) (node : NodeName) (at : NodePlace) → node_named plan node ≡ Some at → at.master < master_count plan
+pub named_within : (plan : Plan) (node : NodeName) (at : NodePlace) → node_named plan node ≡ Some at → at.master < master_count plan
 named_within plan (StoreAt number) at h = let l : at.master < 0 + length (roster_of plan).masters = numbered_within (roster_of plan).masters 0 number at h in omega arith
 named_within plan (SentinelAt place) at h = absurd (cc)
 named_within plan (ClientAt number) at h = absurd (cc)

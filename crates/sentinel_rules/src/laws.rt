@@ -22,7 +22,7 @@ pub fn law_inputs_are_steps()
     ensures { InputsAreSteps }
 {}
 
-/// Each hello that an input puts out is of a master of the roster.
+/// Each hello and each note that an input puts out is of a master of the roster.
 #[tactic(auto, using(crate::proofs::NamedFrames::hellos_name_masters))]
 pub fn law_hellos_name_masters()
     ensures { HellosNameMasters }
