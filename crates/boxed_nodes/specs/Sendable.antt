@@ -40,13 +40,13 @@ IsFewShown (Tell note) = Unit {0}
 abbrev pub IsOfMaster : Roster → Shown → Type 0
 IsOfMaster roster shown = shown.master < length roster.masters
 
--- each configuration that it advertises is of a master of the roster; a note advertises none
+-- each configuration that it advertises is of a master of the roster
 abbrev pub IsListedIn : Roster → Body → Type 0
 IsListedIn roster body = AllByRecursion (IsOfMaster roster) (advertised roster body)
 
 abbrev pub IsListed : Roster → Output → Type 0
 IsListed roster (Send message) = IsListedIn roster message.body
-IsListed roster (Tell note) = Unit {0}
+IsListed roster (Tell note) = IsOfMaster roster (record { master = note.master; card = note.card })
 
 -- so is all that a Sentinel holds; of other nodes nothing is asked, since only Sentinels advertise
 abbrev pub AreListed : Roster → NodeName → List Output → Type 0

@@ -37,7 +37,9 @@ outputs_told roster i (Send message ∷ outputs) =
     ∙ ap (λ xs. xs ++ flat_map (news_of_output roster i) outputs) (ap (λ xs. map (entry_of_said roster) (said_by i xs)) (append-nil (advertised roster message.body)))
     ∙ ap (λ ys. map (entry_of_said roster) (said_by i (advertised roster message.body)) ++ ys) (outputs_told roster i outputs)
     ∙ sym (said_append roster i (advertised roster message.body) (advertised_by roster outputs))
-outputs_told roster i (Tell note ∷ outputs) = flat_map-cons (news_of_output roster i) (Tell note) outputs ∙ outputs_told roster i outputs
+outputs_told roster i (Tell note ∷ outputs) =
+    flat_map-cons (news_of_output roster i) (Tell note) outputs
+    ∙ ap (λ ys. entry_of_shown roster i (record { master = note.master; card = note.card }) ∷ ys) (outputs_told roster i outputs)
 
 pub all_outputs : (roster : Roster) (i : ℕ) (outputs : List Output) (k : ℕ) (before after : List Entry) → length outputs ≤ k → after ≡ before ++ flat_map (news_of_output roster i) (take k outputs) → after ≡ before ++ map (entry_of_said roster) (said_by i (advertised_by roster outputs))
 all_outputs roster i outputs k before after past e = e ∙ ap (λ xs. before ++ flat_map (news_of_output roster i) xs) (take_all k outputs past) ∙ ap (λ ys. before ++ ys) (outputs_told roster i outputs)

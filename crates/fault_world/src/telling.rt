@@ -118,7 +118,7 @@ fn tell_body(report: &mut Report, roster: &Roster, sentinel: u16, body: &Body)
     }
 }
 
-/// Tells of what an output advertises; a note advertises nothing.
+/// Tells of what an output advertises; a note advertises its configuration.
 fn tell_output(report: &mut Report, roster: &Roster, sentinel: u16, output: &Output)
     requires names { HasDistinctNames roster.now }
     requires sentinel { sentinel < size roster.now }
@@ -129,8 +129,17 @@ fn tell_output(report: &mut Report, roster: &Roster, sentinel: u16, output: &Out
         ≡ report.old.entries ++ map (entry_of_said roster.now) (said_by sentinel (advertised_by roster.now (output.now ∷ []))) }
     ensures room { report.old.room ≤ report.new.room + SHOWN_MAX }
 {
-    if let Output::Send(message) = output {
-        tell_body(report, roster, sentinel, &message.body);
+    match output {
+        Output::Send(message) => tell_body(report, roster, sentinel, &message.body),
+        Output::Tell(note) => tell_said(
+            report,
+            roster,
+            &Advertisement {
+                sentinel,
+                master: note.master,
+                card: note.card,
+            },
+        ),
     }
 }
 

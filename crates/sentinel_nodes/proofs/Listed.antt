@@ -17,6 +17,8 @@ use Rattle.ballot_law.proofs.RosterLemmas.{named_master}
 use Rattle.boxed_nodes.specs.Sendable.{IsOfMaster, IsListedIn, IsListed}
 use Rattle.sentinel_rules.specs.declared.frames.Frame.{Frame}
 use Rattle.sentinel_rules.specs.declared.frames.Frame.TheVariants.{PingTo, InfoTo, HelloTo, AskTo, PromoteTo, FollowTo, NoteOf}
+use Rattle.sentinel_rules.specs.Named.{IsNamed}
+use Rattle.sentinel_rules.proofs.NamedFrames.{hellos_name_masters}
 use Rattle.sentinel_rules.specs.Answers.{commanded, asked_of, master_with_card, named, about, address_of, numbers_from}
 use Rattle.sentinel_rules.specs.Parts.{output_of, shown_of, hello_of_master}
 use Rattle.sentinel_rules.specs.Plans.{Plan, roster_of, master_count}
@@ -67,31 +69,31 @@ answer_listed plan now (CkQuorum name) core = about_listed plan core (named plan
 answer_listed plan now FlushConfig core = tt
 answer_listed plan now Subscribe core = tt
 
--- Frames: of these only a hello advertises, and a hello shows nothing where its name is no master's
+-- Frames: of these only a hello and a note advertise, and a hello shows nothing where its name is no master's
 
-frame_listed : (plan : Plan) (core : Core) (frame : Frame) → IsListed (roster_of plan) (output_of plan core frame)
-frame_listed plan core (PingTo target) = tt
-frame_listed plan core (InfoTo target) = tt
-frame_listed plan core (HelloTo target m) =
+frame_listed : (plan : Plan) (core : Core) (frame : Frame) → IsNamed plan frame → IsListed (roster_of plan) (output_of plan core frame)
+frame_listed plan core (PingTo target) named = tt
+frame_listed plan core (InfoTo target) named = tt
+frame_listed plan core (HelloTo target m) named =
     let hello = hello_of_master plan core m in shown_listed (roster_of plan) hello (master_named (roster_of plan) hello.master) refl
-frame_listed plan core (AskTo place m candidate) = tt
-frame_listed plan core (PromoteTo target) = tt
-frame_listed plan core (FollowTo target m) = tt
-frame_listed plan core (NoteOf m old) = tt
+frame_listed plan core (AskTo place m candidate) named = tt
+frame_listed plan core (PromoteTo target) named = tt
+frame_listed plan core (FollowTo target m) named = tt
+frame_listed plan core (NoteOf m old) named = named
 
-frames_listed : (plan : Plan) (core : Core) (frames : List Frame) → AllByRecursion (IsListed (roster_of plan)) (map (output_of plan core) frames)
-frames_listed plan core [] = tt
-frames_listed plan core (frame ∷ frames) = (frame_listed plan core frame, frames_listed plan core frames)
+frames_listed : (plan : Plan) (core : Core) (frames : List Frame) → AllByRecursion (IsNamed plan) frames → AllByRecursion (IsListed (roster_of plan)) (map (output_of plan core) frames)
+frames_listed plan core [] named = tt
+frames_listed plan core (frame ∷ frames) named = (frame_listed plan core frame named.0, frames_listed plan core frames named.1)
 
 -- One input
 
 outputs_at : (plan : Plan) (now : ℕ) (event : Event) (core : Core) → AllByRecursion (IsListed (roster_of plan)) (next_at plan now event core).outputs
 outputs_at plan now (Commanded sender c) core = (answer_listed plan now c core, tt)
-outputs_at plan now (Tick m random) core = frames_listed plan (part_of plan now (Tick m random) core).core (part_of plan now (Tick m random) core).frames
+outputs_at plan now (Tick m random) core = frames_listed plan (part_of plan now (Tick m random) core).core (part_of plan now (Tick m random) core).frames (hellos_name_masters plan now (Tick m random) core)
 outputs_at plan now (AnswerCame voter m addr down leader epoch) core = tt
 outputs_at plan now (Pinged node reply) core = tt
-outputs_at plan now (InfoRead node text) core = frames_listed plan (part_of plan now (InfoRead node text) core).core (part_of plan now (InfoRead node text) core).frames
-outputs_at plan now (HelloRead text) core = frames_listed plan (part_of plan now (HelloRead text) core).core (part_of plan now (HelloRead text) core).frames
+outputs_at plan now (InfoRead node text) core = frames_listed plan (part_of plan now (InfoRead node text) core).core (part_of plan now (InfoRead node text) core).frames (hellos_name_masters plan now (InfoRead node text) core)
+outputs_at plan now (HelloRead text) core = frames_listed plan (part_of plan now (HelloRead text) core).core (part_of plan now (HelloRead text) core).frames (hellos_name_masters plan now (HelloRead text) core)
 outputs_at plan now (Become priority offset link_down) core = tt
 outputs_at plan now (Handed message) core = tt
 
