@@ -2,7 +2,7 @@
 
 ghost use Rattle.std.specs.Prelude.{◌≤◌, length};
 
-use group_sentinels::{GroupState, Member, ServeFault, Session, ThreadSeat, Which};
+use group_sentinels::{GroupState, Member, ServeFault, Session, Switch, ThreadSeat, Which};
 use mio::net::TcpStream;
 use sentinel_conf::ConfStore;
 use std::alloc::Global;
@@ -147,6 +147,19 @@ impl Connection {
     /// Whether it is read on: not once it ends, and not while too much is unsent.
     fn may_read(&self) -> bool {
         !self.ends && self.session.unsent().len() < UNSENT_MAX
+    }
+
+    /// Tells its client of a master's new address where it has subscribed: whether the connection is whole, and had memory for it.
+    pub(crate) fn tell<J: Which, S: ConfStore>(
+        &mut self,
+        member: &Member<J, S>,
+        switch: &Switch,
+    ) -> bool {
+        match member.notify(&mut self.session, switch) {
+            Ok(false) => true,
+            Ok(true) => self.send(),
+            Err(_) => false,
+        }
     }
 
     /// Reads and sends until it would wait, or until others have their turn.

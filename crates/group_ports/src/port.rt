@@ -1,7 +1,7 @@
 //! A port with its connections.
 
 use crate::connection::{Connection, Fate, PIECE};
-use group_sentinels::{GroupState, Member, ThreadSeat, Which};
+use group_sentinels::{GroupState, Member, Switch, ThreadSeat, Which};
 use mio::net::{TcpListener, TcpStream};
 use mio::{Events, Interest, Poll, Token};
 use sentinel_conf::ConfStore;
@@ -134,6 +134,35 @@ impl Port {
         }
     }
 
+    /// Tells one connection of a master's new address, and closes it where it has no memory for that.
+    fn tell_one<J: Which, S: ConfStore>(
+        &mut self,
+        member: &Member<J, S>,
+        switch: &Switch,
+        key: usize,
+    ) {
+        let Some(connection) = self.connections.get_mut(key) else {
+            return;
+        };
+        if !connection.tell(member, switch) {
+            drop(self.connections.try_remove(key));
+        }
+    }
+
+    /// Tells the subscribers of a master's new address.
+    fn tell_all<J: Which, S: ConfStore>(&mut self, member: &Member<J, S>, switch: &Switch) {
+        for key in 0..CONNECTIONS_MAX {
+            self.tell_one(member, switch, key);
+        }
+    }
+
+    /// Tells the subscribers of each new address that a thread of the Sentinel showed since the last turn.
+    fn tell_switches<J: Which, S: ConfStore, R: Wait>(&mut self, rt: &R, member: &Member<J, S>) {
+        for switch in &member.take_switches(rt) {
+            self.tell_all(member, switch);
+        }
+    }
+
     /// Waits until the system tells of a connection; not at all where one has more to read.
     fn wait(&mut self, events: &mut Events<Global>) -> io::Result<()> {
         let millis = if self.busy { 0 } else { WAIT_MS };
@@ -191,6 +220,7 @@ impl Port {
             self.wait(&mut events)?;
             self.serve_told(rt, group, member, seat, &events);
             self.serve_busy(rt, group, member, seat);
+            self.tell_switches(rt, member);
         }
         unreachable!()
     }

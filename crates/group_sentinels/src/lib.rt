@@ -10,6 +10,7 @@ mod member;
 mod named;
 mod notes;
 mod rows;
+mod switches;
 mod workers;
 
 pub use clock::GroupClock;
@@ -17,4 +18,5 @@ pub use group_state::GroupState;
 pub use member::{Member, ThreadSeat, Which};
 pub use port_sessions::{ServeFault, Session};
 pub use sentinel_cell::{ActFault, Seat, SharedSentinel};
+pub use switches::Switch;
 pub use workers::{run_link, run_timer};

@@ -7,7 +7,8 @@ ghost use Rattle.sentinel_rules.specs.Facts.{IsWithinEvent};
 
 use crate::group_state::GroupState;
 use crate::notes::note_all;
-use ballot_law::{Addr, Body, Command, Event, Input, Name, NodeName, Output, Roster};
+use crate::switches::{Switch, Switches};
+use ballot_law::{Addr, Body, Command, Event, Input, Name, NoMemory, NodeName, Output, Roster};
 use log::kv::With;
 use log::{Level, Log, Span, log_enabled};
 use port_sessions::{ServeFault, Session};
@@ -38,6 +39,7 @@ pub struct Member<J: Which, S: ConfStore> {
     cell: SharedSentinel<S>,
     masters: u16,
     port: u16,
+    switches: Switches,
     of: PhantomData<J>,
     ghost is: { cell.id ≡ J.cell },
 }
@@ -85,6 +87,7 @@ impl<J: Which, S: ConfStore> Member<J, S> {
             cell,
             masters,
             port,
+            switches: Switches::new(alloc),
             of: PhantomData,
         };
         (member, with_outbox(alloc, seat))
@@ -105,21 +108,27 @@ impl<J: Which, S: ConfStore> Member<J, S> {
         Some((with_outbox(alloc, one), with_outbox(alloc, two)))
     }
 
-    /// One input. The outbox shows what the Sentinel says, once it is stored; at a fault it says nothing.
-    fn turn<R: Wait>(&self, rt: &R, seat: &mut ThreadSeat<J>, input: &Input) -> Result<(), ActFault>
+    /// One input, and how many calls stand before it. The outbox shows what the Sentinel says, once it is stored; at a fault it says
+    /// nothing.
+    fn turn<R: Wait>(
+        &self,
+        rt: &R,
+        seat: &mut ThreadSeat<J>,
+        input: &Input,
+    ) -> Result<u64, ActFault>
         requires { IsWithinEvent input.now.event }
         ensures { OnOk result (AllByRecursion IsSendableOutput seat.new.outbox.shown) }
     {
         law_outputs_are_within();
         seat.outbox.clear();
         match self.cell.act(rt, &mut seat.seat, input, &mut seat.outbox) {
-            Ok(_) => Ok(()),
+            Ok(reply) => Ok(reply.entry),
             Err(fault) => Err(fault),
         }
     }
 
     /// One input at a reading of the clock in milliseconds. What the Sentinel says, once it is stored, goes to its links, and what it notes to
-    /// the log. At a fault it says nothing.
+    /// the log and to the subscribers of its port. At a fault it says nothing.
     pub fn carry_out<R: Wait + Log>(
         &self,
         rt: &R,
@@ -131,9 +140,10 @@ impl<J: Which, S: ConfStore> Member<J, S> {
         requires { IsWithinEvent event }
     {
         let input = Input { now, event };
-        self.turn(rt, seat, &input)?;
+        let entry = self.turn(rt, seat, &input)?;
         let outputs = seat.outbox.outputs();
         group.links.send_all(rt, outputs);
+        self.switches.add_all(rt, outputs, entry);
         if log_enabled!(rt; Level::Info) {
             note_all(&self.noting(rt), self.roster(), &input.event, outputs);
         }
@@ -177,6 +187,20 @@ impl<J: Which, S: ConfStore> Member<J, S> {
             Some(Output::Send(message)) => Some(&message.body),
             _ => None,
         }
+    }
+
+    /// The notes for the subscribers of the port that nobody took yet, in the order in which they came.
+    pub fn take_switches<R: Wait>(&self, rt: &R) -> Vec<Switch> {
+        self.switches.take(rt)
+    }
+
+    /// Tells a session of a note: whether it is told, which joins what it sends. `NoMemory` changes nothing.
+    pub fn notify(&self, session: &mut Session, switch: &Switch) -> Result<bool, NoMemory> {
+        let roster = self.cell.roster();
+        if switch.note.master as usize >= roster.masters().len() {
+            return Ok(false);
+        }
+        session.notify(roster, &switch.note, switch.entry)
     }
 
     /// Hands a session the next piece of its stream, at a reading of the clock in milliseconds.
