@@ -75,6 +75,8 @@ $40\r\naaaaaaaaaaaaaaaaaaaaaaaaaaaaaaaaaaaaaaaa\r\n\
 -ERR bad address\r\n\
 -ERR bad epoch\r\n\
 -ERR bad run id\r\n\
+-ERR unknown channel\r\n\
+*3\r\n$9\r\nsubscribe\r\n$14\r\n+switch-master\r\n:1\r\n\
 -ERR Protocol error\r\n";
 
 /// The run id of forty times this digit.
@@ -189,6 +191,8 @@ fn each_line(rt: HostRuntime) -> Result<(), Fail> {
     answers.add_command_fault(CommandFault::BadAddress);
     answers.add_command_fault(CommandFault::BadEpoch);
     answers.add_command_fault(CommandFault::BadRunId);
+    answers.add_command_fault(CommandFault::UnknownChannel);
+    answers.add_subscribed();
     answers.add_protocol_error();
     assert!(rt; answers.as_slice() == LINES.as_bytes());
     Ok(())

@@ -83,7 +83,8 @@ const EACH_COMMAND: &[u8] = b"*1\r\n$4\r\npInG\r\n\
 *3\r\n$8\r\nSENTInel\r\n$9\r\nSentinels\r\n$8\r\nMyMaster\r\n\
 *2\r\n$8\r\nsentinel\r\n$4\r\nmyID\r\n\
 *3\r\n$8\r\nSENTINEL\r\n$8\r\nckQuorum\r\n$8\r\nMyMaster\r\n\
-*2\r\n$8\r\nSeNtInEl\r\n$11\r\nFlushConfig\r\n";
+*2\r\n$8\r\nSeNtInEl\r\n$11\r\nFlushConfig\r\n\
+*2\r\n$9\r\nSubScribe\r\n$14\r\n+switch-master\r\n";
 
 #[test]
 fn each_command_is_read_in_any_case(rt: HostRuntime) -> Result<(), Fail> {
@@ -101,6 +102,7 @@ fn each_command_is_read_in_any_case(rt: HostRuntime) -> Result<(), Fail> {
         Ok(Command::MyId),
         Ok(Command::CkQuorum(name)),
         Ok(Command::FlushConfig),
+        Ok(Command::Subscribe),
     ];
     let mut frames = Frames::new(rt.alloc());
     frames.feed(EACH_COMMAND)?;
@@ -168,6 +170,9 @@ PONG\n\
 MASTER mymaster\n\
 \n\
 SENTINEL FAILOVER mymaster\n\
+SENTINEL SUBSCRIBE +switch-master\n\
+PSUBSCRIBE *\n\
+UNSUBSCRIBE +switch-master\n\
 SENTINEL HELP\n\
 SENTINEL REPLICA mymaster\n\
 SENTINEL  IS-MASTER-DOWN-BY-ADDR";
@@ -190,8 +195,21 @@ SENTINEL SLAVES bad/name b\n\
 SENTINEL SENTINELS\n\
 SENTINEL MYID x\n\
 SENTINEL CKQUORUM\n\
-SENTINEL FLUSHCONFIG ";
+SENTINEL FLUSHCONFIG \n\
+SUBSCRIBE\n\
+SUBSCRIBE +switch-master +sdown";
     assert!(rt; are_refused(rt.alloc(), lines, CommandFault::WrongArguments)?);
+    Ok(())
+}
+
+#[test]
+fn other_channels_are_unknown(rt: HostRuntime) -> Result<(), Fail> {
+    let lines = b"SUBSCRIBE +sdown\n\
+SUBSCRIBE *\n\
+SUBSCRIBE switch-master\n\
+SUBSCRIBE +Switch-Master\n\
+SUBSCRIBE ";
+    assert!(rt; are_refused(rt.alloc(), lines, CommandFault::UnknownChannel)?);
     Ok(())
 }
 
