@@ -23,6 +23,8 @@ name 127.0.0.1:6381 ip 127.0.0.1 port 6381 flags s_down,slave slave-priority 100
 const SENTINELS_UP: &str = "*1\n\
 name aaaaaaaaaaaaaaaaaaaaaaaaaaaaaaaaaaaaaaaa ip 127.0.0.1 port 26380 runid aaaaaaaaaaaaaaaaaaaaaaaaaaaaaaaaaaaaaaaa flags sentinel";
 
+const SUBSCRIBED: &str = "*3\n$subscribe\n$+switch-master\n:1";
+
 const REACHED: &str = "+OK 2 usable Sentinels, quorum and majority can be reached";
 
 const LOST: &str = "-NOQUORUM 1 usable Sentinels";
@@ -110,10 +112,11 @@ fn a_name_that_no_master_has(rt: HostRuntime) -> Result<(), Fail> {
 }
 
 #[test]
-fn the_own_run_id_and_that_it_is_done(rt: HostRuntime) -> Result<(), Fail> {
+fn the_own_run_id_and_that_it_is_done_or_heard(rt: HostRuntime) -> Result<(), Fail> {
     let state = LoneState::open(rt.alloc(), TWO_MASTERS, 1_000)?;
     assert!(rt; state.answers(rt.alloc(), 2_000, &Command::MyId, MY_ID, &[])?);
     assert!(rt; state.answers(rt.alloc(), 2_000, &Command::FlushConfig, "+OK", &[])?);
+    assert!(rt; state.answers(rt.alloc(), 2_000, &Command::Subscribe, SUBSCRIBED, &[])?);
     Ok(())
 }
 
