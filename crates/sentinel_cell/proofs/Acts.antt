@@ -1,5 +1,5 @@
 -- What one turn adds to the history.
-use Rattle.std.proofs.Common.{◌≡◌, ◌≢◌, ℕ, ◌<◌, ◌≤◌, Bool, cond, List, [], ◌∷◌, ◌++◌, drop, Option, Some, None, Result, Ok, Err, refl, sym, ap, ◌∙◌, subst, lt-ltb, le-ltb}
+use Rattle.std.proofs.Common.{◌≡◌, ◌≢◌, ℕ, ◌+◌, ◌<◌, ◌≤◌, Bool, cond, List, [], ◌∷◌, ◌++◌, drop, length, length-append, Option, Some, None, Result, Ok, Err, refl, sym, ap, ◌∙◌, subst, lt-ltb, le-ltb}
 use mathlib.Core.List.{append-nil}
 use Rattle.atomic_table.specs.Table.{Me}
 use Rattle.ballot_law.specs.declared.cards.Kept.{Kept}
@@ -195,11 +195,21 @@ module _ (start : World) (v : View) (input : Input) (outputs : List Output) (w :
       let step = last_step start (v.front ++ a.0) e (subst (IsLegal start) a.2 a.3).1 in
       sym a.8 ∙ none (replay start (v.front ++ a.0)) e.input e.outputs e.failures (subst (IsOutcome (replay start (v.front ++ a.0)) e.input e.outputs e.failures) a.7 step)
 
-  pub as_told : (acted : Result Outcome TicketsSpent) (first end : ℕ) → IfOk acted (λ outcome. Adds start v input outcome outputs w) → OnErr acted ((9223372036854775808 ≤ w.tickets) × IsSame v w × (outputs ≡ [])) → Acted start v input outputs w (answer_of acted first end)
-  as_told (Ok Stored) first end a s = a
-  as_told (Ok Refused) first end a s = (no_outputs Refused (λ u i o n h. h.1) a, a)
-  as_told (Ok Halted) first end a s = (no_outputs Halted (λ u i o n h. h.1) a, a)
+  pub as_told : (acted : Result (Outcome × ℕ) TicketsSpent) (first end : ℕ) → IfOk acted (λ turn. Adds start v input turn.0 outputs w) → OnErr acted ((9223372036854775808 ≤ w.tickets) × IsSame v w × (outputs ≡ [])) → Acted start v input outputs w (answer_of acted first end)
+  as_told (Ok (Stored, _)) first end a s = a
+  as_told (Ok (Refused, _)) first end a s = (no_outputs Refused (λ u i o n h. h.1) a, a)
+  as_told (Ok (Halted, _)) first end a s = (no_outputs Halted (λ u i o n h. h.1) a, a)
   as_told (Err _) first end a s = (s.2, s.1, s.0)
+
+-- the ticket of a turn is its entry's place in the history
+pub counted_entry : (v w : View) (r t : ℕ) (history : List Entry) (given : ℕ) (e : Entry) → w ≡ passed (raised (turned v r t history given) e) → t ≡ length history → t + 1 ≡ length w.front
+counted_entry v w r t history given e is here = ap (λ (n : ℕ). n + 1) here ∙ (sym (length-append history (e ∷ [])) ∙ ap (λ (x : View). length x.front) (sym is))
+
+pub entry_told : (acted : Result (Outcome × ℕ) TicketsSpent) (first end n : ℕ) → IfOk acted (λ turn. turn.1 + 1 ≡ n) → IfOk (answer_of acted first end) (λ reply. reply.entry + 1 ≡ n)
+entry_told (Ok (Stored, _)) first end n h = h
+entry_told (Ok (Refused, _)) first end n h = tt
+entry_told (Ok (Halted, _)) first end n h = tt
+entry_told (Err _) first end n h = tt
 
 -- the views that the seat had before and has after
 module _ (start : World) (input : Input) (outputs : List Output) (result : Result Reply ActFault) where

@@ -1,5 +1,5 @@
 -- What the calls ask for and get, at the values that they have.
-use Rattle.std.proofs.Common.{◌≡◌, ◌≢◌, ℕ, ◌+◌, ◌%◌, ◌<◌, ◌≤◌, List, [], ◌∷◌, ◌++◌, Option, None, sym, ap, ◌∙◌, subst}
+use Rattle.std.proofs.Common.{◌≡◌, ◌≢◌, ℕ, ◌+◌, ◌%◌, ◌<◌, ◌≤◌, List, [], ◌∷◌, ◌++◌, length, Option, None, sym, ap, ◌∙◌, subst}
 use mathlib.Core.Option as maybe
 use Rattle.atomic_table.specs.Table.{Me, step, Allows}
 use Rattle.sentinel_rules.specs.Plans.{addr_at, master_count}
@@ -42,6 +42,12 @@ module _ {C : Type 0} (Legal : List Entry → Type 0) (Fit : List Entry → C �
 
   pub has_turn : (m n : Me C View) (r t : ℕ) (m' : Me C View) → n ≡ m → r ≡ t → m.0.stage ≡ Waiting t → Turns Legal Fit (step 0 0 0 0 maybe.none) n r m' → HasTurn m t m'
   has_turn m n r t m' same hit is h = got_turn m t m' is (subst (λ (x : Me C View × ℕ). Turns Legal Fit (step 0 0 0 0 maybe.none) x.0 x.1 m') (λ i. (same i, hit i)) h)
+
+  -- the ticket is the number of entries that the seat sees
+  pub counts_turn : (m n : Me C View) (r t : ℕ) (m' : Me C View) → n ≡ m → r ≡ t → m.0.stage ≡ Waiting t → Turns Legal Fit (step 0 0 0 0 maybe.none) n r m' → t ≡ length m'.0.front
+  counts_turn m n r t m' same hit is h =
+      let g = h.0 (ap (λ (x : Me C View). x.0.stage) same ∙ (is ∙ ap Waiting (sym hit))) in
+      sym hit ∙ (g.7 ∙ sym (ap (λ (v : View). length v.front) g.2.1))
 
   pub no_turn : (m n : Me C View) (r t : ℕ) (m' : Me C View) → n ≡ m → r ≢ t → m.0.stage ≡ Waiting t → Turns Legal Fit (step 0 0 0 0 maybe.none) n r m' → m' ≡ m
   no_turn m n r t m' same miss is h = h.1 (λ now. miss (same_ticket r t (sym now ∙ (ap (λ (x : Me C View). x.0.stage) same ∙ is)))) ∙ same

@@ -1,5 +1,5 @@
 -- Each step keeps the rule.
-use Rattle.std.proofs.Common.{◌≡◌, ◌≢◌, ◌⊎◌, ℕ, zero, suc, ◌+◌, ◌/◌, ◌%◌, ◌<◌, ◌≤◌, eqb, ltb, max, Bool, true, false, cond, List, [], ◌∷◌, ◌++◌, length, get_or, set, refl, sym, ap, ◌∙◌, subst, ⊎_elim, inl, inr, arith, eq-eqb, ne_eqb, ltb-true, ltb-false, length-set, get_or-set_same, get_or-set_other}
+use Rattle.std.proofs.Common.{◌≡◌, ◌≢◌, ◌⊎◌, ℕ, zero, suc, ◌+◌, ◌/◌, ◌%◌, ◌<◌, ◌≤◌, eqb, ltb, max, Bool, true, false, cond, List, [], ◌∷◌, ◌++◌, length, get_or, set, refl, sym, ap, ◌∙◌, subst, ⊎_elim, inl, inr, arith, eq-eqb, ne_eqb, ltb-true, ltb-false, length-append, length-set, get_or-set_same, get_or-set_other}
 use mathlib.Core.Option.{Option, none, some, some-injective, some-ne-none}
 use mathlib.Core.Logic.{dite}
 use mathlib.Core.List.{append-nil}
@@ -105,6 +105,7 @@ module _ {C : Type 0} (Legal : List Entry → Type 0) (stored : List Entry → �
     legal = r.legal;
     wide = wide;
     cards = λ m low. ap (unpacked at_place m) (shown m low) ∙ r.cards m low;
+    counted = r.counted ∙ sym same;
     ordered = let o = r.ordered in omega arith;
     room = room;
     shares = let t = total_set share_of s.views id v w at in let h = r.shares in omega arith;
@@ -279,7 +280,7 @@ module _ {C : Type 0} (Legal : List Entry → Type 0) (stored : List Entry → �
               queued = (q.0, q.1, refl, q.3, refl, sym h.3);
             }
             (none ∷ []) (inr (refl, (id, w, served s, in_place s.views id me.0 w at, refl)))),
-        ((λ _. (r.history, h.0, (r.given, refl, k.numbers.upto), refl, subst Legal (ap (λ (l : List Entry). r.history ++ l) h.3 ∙ append-nil r.history) r.legal, h.2, (k.front, λ n has. (k.mine n has).2))), (λ not. absurd (not now))),
+        ((λ _. (r.history, h.0, (r.given, refl, k.numbers.upto), refl, subst Legal (ap (λ (l : List Entry). r.history ++ l) h.3 ∙ append-nil r.history) r.legal, h.2, (k.front, λ n has. (k.mine n has).2), sym r.counted)), (λ not. absurd (not now))),
       ))
       (λ miss. (
         me.0,
@@ -339,6 +340,7 @@ module _ {C : Type 0} (Legal : List Entry → Type 0) (stored : List Entry → �
           legal = subst Legal all r.legal;
           wide = length-set s.words 0 ((n + 1) % 18446744073709551616) ∙ wide;
           cards = λ x low. ap (unpacked at_place x) (get_or-set_other s.words 0 (x + 2) ((n + 1) % 18446744073709551616) 0 (λ y. omega arith)) ∙ (r.cards x low ∙ ap (λ (l : List Entry). stored l x) all);
+          counted = length-append r.history (e ∷ []) ∙ (ap (λ (x : ℕ). x + 1) r.counted ∙ sym now);
           ordered = omega arith;
           room = omega arith;
           shares = let sum = total_set share_of s.views id me.0 w at in let h = r.shares in omega arith;
@@ -416,6 +418,7 @@ module _ {C : Type 0} (Legal : List Entry → Type 0) (stored : List Entry → �
           cards = λ x small. dite (ℕ_discrete x m)
               (λ same. subst (λ (y : ℕ). unpacked at_place y (get_or words (y + 2) 0) ≡ stored (r.history ++ e ∷ []) y) (sym same) (ap (unpacked at_place m) now ∙ (up ∙ ap (λ (l : List Entry). stored l m) longer)))
               (λ other. ap (unpacked at_place x) (get_or-set_other s.words (m + 2) (x + 2) (max n k) 0 (λ y. other (omega arith))) ∙ (r.cards x small ∙ (ap (λ (l : List Entry). stored l x) all ∙ (sym (others x other) ∙ ap (λ (l : List Entry). stored l x) longer))));
+          counted = r.counted ∙ sym still_served;
           ordered = omega arith;
           room = omega arith;
           shares = let sum = total_set share_of s.views id me.0 w at in let h = r.shares in omega arith;
@@ -542,6 +545,7 @@ module _ {C : Type 0} (Legal : List Entry → Type 0) (stored : List Entry → �
     legal = r.legal;
     wide = r.wide;
     cards = r.cards;
+    counted = r.counted;
     ordered = r.ordered;
     room = room;
     shares = shares;
@@ -704,6 +708,7 @@ module _ {C : Type 0} (Legal : List Entry → Type 0) (stored : List Entry → �
     legal = legal;
     wide = wide;
     cards = cards;
+    counted = sym zero_served;
     ordered = omega arith;
     room = omega arith;
     shares = omega arith;

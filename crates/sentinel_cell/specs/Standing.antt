@@ -82,10 +82,10 @@ abbrev pub Acted : World → View → Input → List Output → View → Result 
 Acted start v input outputs w (Ok reply) = Adds start v input Stored outputs w
 Acted start v input outputs w (Err fault) = Faulted start v input outputs w fault
 
-abbrev pub answer_of : Result Outcome TicketsSpent → ℕ → ℕ → Result Reply ActFault
-answer_of (Ok Stored) first end = Ok (record { first = first; count = end - first })
-answer_of (Ok Refused) first end = Err StoreRefused
-answer_of (Ok Halted) first end = Err Stopped
+abbrev pub answer_of : Result (Outcome × ℕ) TicketsSpent → ℕ → ℕ → Result Reply ActFault
+answer_of (Ok (Stored, entry)) first end = Ok (record { first = first; count = end - first; entry = entry })
+answer_of (Ok (Refused, _)) first end = Err StoreRefused
+answer_of (Ok (Halted, _)) first end = Err Stopped
 answer_of (Err _) first end = Err Spent
 
 -- The Sentinel and its store are those that a legal history leaves, which begins with all that the seat had seen. Each answer that the seat

@@ -67,7 +67,7 @@ module _ {C : Type 0} where
   Out homes views = (homes ≡ none ∷ []) × ((j : ℕ) × (v : View) × (t : ℕ) × (get_elem? views j ≡ some v) × (v.stage ≡ Serving t))
 
 -- There is one legal history, with the calls of numbers that were given out, and the slot fits it while it is at home. One more entry may be announced,
--- and the words have the configurations that are stored after it
+-- and the words have the configurations that are stored after it. Each turn that was served has added one entry
 pub record Orderly {C : Type 0} (Legal : List Entry → Type 0) (stored : List Entry → ℕ → Card) (Fits : List Entry → C → Type 0) (at : ℕ → ℕ → Addr) (masters seats : ℕ) (s : State C View) : Type 0 where
   pub history : List Entry
   pub flight : List Entry
@@ -77,6 +77,7 @@ pub record Orderly {C : Type 0} (Legal : List Entry → Type 0) (stored : List E
   pub legal : Legal (history ++ flight)
   pub wide : length s.words ≡ masters + 2
   pub cards : (m : ℕ) → m < masters → unpacked at m (slice_index s.words (m + 2)) ≡ stored (history ++ flight) m
+  pub counted : length history ≡ slice_index s.words 0
   pub ordered : slice_index s.words 0 ≤ slice_index s.words 1
   pub room : slice_index s.words 1 + total looks_of s.views ≤ 9223372036854775808 + seats
   pub shares : total share_of s.views ≡ seats
@@ -191,10 +192,10 @@ module _ {C : Type 0} where
   abbrev pub Draws : Step C → Me C View → ℕ → Me C View → Type 0
   Draws st m r m' = (m'.0 ≡ drawn m.0 r) × (m'.1 ≡ m.1)
 
-  -- the turn comes where the served count is the ticket
+  -- the turn comes where the served count is the ticket, which is then the number of entries before this turn
   abbrev pub Turns : (List Entry → Type 0) → (List Entry → C → Type 0) → Step C → Me C View → ℕ → Me C View → Type 0
   Turns Legal Fits st m r m' =
-      (m.0.stage ≡ Waiting r → (history : List Entry) × (c : C) × ((given : ℕ) × (m'.0 ≡ serving m.0 r history given) × (m.0.given ≤ given)) × (m'.1 ≡ (0, c) ∷ m.1) × Legal history × Fits history c × Follows m.0 history)
+      (m.0.stage ≡ Waiting r → (history : List Entry) × (c : C) × ((given : ℕ) × (m'.0 ≡ serving m.0 r history given) × (m.0.given ≤ given)) × (m'.1 ≡ (0, c) ∷ m.1) × Legal history × Fits history c × Follows m.0 history × (r ≡ length history))
       × (¬ (m.0.stage ≡ Waiting r) → m' ≡ m)
 
   abbrev pub Raises : Entry → Step C → Me C View → ℕ → Me C View → Type 0

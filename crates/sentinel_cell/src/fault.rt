@@ -36,9 +36,11 @@ pub enum ActFault {
     StoreRefused,
 }
 
-/// Where the outputs of a call stand among those that the outbox shows.
+/// Where the outputs of a call stand among those that the outbox shows, and its entry in the history.
 #[derive(Clone, Copy, Debug, PartialEq, Eq)]
 pub struct Reply {
     pub first: usize,
     pub count: usize,
+    /// How many calls of `act` stand before this one in the history of all threads' calls.
+    pub entry: u64,
 }

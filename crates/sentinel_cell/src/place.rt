@@ -41,6 +41,7 @@ pub(crate) fn wait_for_turn<J: Origin, S: ConfStore, R: Wait>(
     requires start { J.start ≡ opened S.held S.failure_count hall.now.key.keeper }
     ensures same { (place.new.table_id ≡ place.old.table_id) × (place.new.id ≡ place.old.id) }
     ensures turn { (history : _) × (c : _) × ((given : _) × (place.new.me ≡ (serving place.old.me.0 ticket history given, (0, c) ∷ place.old.me.1)) × (place.old.me.0.given ≤ given)) × IsLegal J.start history × Fits S.held S.failure_count J.start history c × Follows place.old.me.0 history }
+    ensures counted { ticket ≡ length place.new.me.0.front }
 {
     for _ in rt.forever() {
         if hall.load::<Take<J>>(place, 0) == ticket {
@@ -152,14 +153,15 @@ pub(crate) fn fill<S: ConfStore>(hall: &Hall<S>, place: &mut Place<S>, keeper: K
 #[derive(Drop)]
 pub(crate) struct TicketsSpent;
 
-/// One turn: the seat looks at the tickets, draws one, waits, and serves the input.
+/// One turn: the seat looks at the tickets, draws one, waits, and serves the input. Beside the outcome stands the ticket's number, which is
+/// how many entries stand before this one.
 pub(crate) fn act_at<S: ConfStore, R: Wait>(
     rt: &R,
     hall: &Hall<S>,
     place: &mut Place<S>,
     input: &Input,
     outbox: &mut Outbox,
-) -> Result<Outcome, TicketsSpent>
+) -> Result<(Outcome, u64), TicketsSpent>
     requires own { (place.old.table_id ≡ hall.now.table_id) × (hall.now.table_id.words ≡ master_count hall.now.key.keeper.sentinel.plan + 2) }
     requires few { hall.now.key.seats ≤ 4294967296 }
     requires rest { AtRest place.old.me.0 × (place.old.me.1 ≡ []) }
@@ -167,7 +169,8 @@ pub(crate) fn act_at<S: ConfStore, R: Wait>(
     requires within { IsWithinEvent input.now.event }
     ensures same { (place.new.table_id ≡ place.old.table_id) × (place.new.id ≡ place.old.id) }
     ensures rest { AtRest place.new.me.0 × (place.new.me.1 ≡ []) }
-    ensures added { IfOk result (λ outcome. Adds (opened S.held S.failure_count hall.now.key.keeper) place.old.me.0 input.entry.now outcome (drop (length outbox.old.shown) outbox.new.shown) place.new.me.0) }
+    ensures added { IfOk result (λ turn. Adds (opened S.held S.failure_count hall.now.key.keeper) place.old.me.0 input.entry.now turn.0 (drop (length outbox.old.shown) outbox.new.shown) place.new.me.0) }
+    ensures entry { IfOk result (λ turn. turn.1 + 1 ≡ length place.new.me.0.front) }
     ensures spent { OnErr result ((9223372036854775808 ≤ place.new.me.0.tickets) × IsSame place.old.me.0 place.new.me.0 × (outbox.new ≡ outbox.old)) }
     ensures shown { outbox.new.shown ≡ outbox.old.shown ++ drop (length outbox.old.shown) outbox.new.shown }
     ensures held { outbox.new.held ≡ [] }
@@ -195,7 +198,7 @@ pub(crate) fn act_at<S: ConfStore, R: Wait>(
         word,
     );
     pass_turn::<Brand, S>(hall, place);
-    Ok(outcome)
+    Ok((outcome, ticket))
 }
 
 /// Cuts a seat in two. The new one has a number that no call has.

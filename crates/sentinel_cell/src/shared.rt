@@ -241,6 +241,7 @@ impl<S: ConfStore> SharedSentinel<S> {
         ensures held { outbox.new.held ≡ [] }
         ensures shown { outbox.new.shown ≡ outbox.old.shown ++ drop (length outbox.old.shown) outbox.new.shown }
         ensures reply { IfOk result (λ reply. (reply.first ≡ length outbox.old.shown) × (reply.first + reply.count ≡ length outbox.new.shown)) }
+        ensures entry { IfOk result (λ reply. reply.entry + 1 ≡ length seat.new.view.front) }
         ensures same { (seat.new.view.numbers ≡ seat.old.view.numbers) × (seat.new.view.answers ≡ seat.old.view.answers) × (seat.new.view.share ≡ seat.old.view.share) }
         ensures acted { Acted self.now.start seat.old.view input.entry.now (drop (length outbox.old.shown) outbox.new.shown) seat.new.view result }
     {
@@ -311,18 +312,23 @@ impl<S: ConfStore> SharedSentinel<S> {
     }
 }
 
-/// What a turn answers, and where its outputs stand.
-fn answer(acted: Result<Outcome, TicketsSpent>, first: usize, end: usize) -> Result<Reply, ActFault>
+/// What a turn answers, and where its outputs and its entry stand.
+fn answer(
+    acted: Result<(Outcome, u64), TicketsSpent>,
+    first: usize,
+    end: usize,
+) -> Result<Reply, ActFault>
     requires { first ≤ end }
     ensures { result ≡ answer_of acted first end }
 {
     match acted {
-        Ok(Outcome::Stored) => Ok(Reply {
+        Ok((Outcome::Stored, entry)) => Ok(Reply {
             first,
             count: end - first,
+            entry,
         }),
-        Ok(Outcome::Refused) => Err(ActFault::StoreRefused),
-        Ok(Outcome::Halted) => Err(ActFault::Halted),
+        Ok((Outcome::Refused, _)) => Err(ActFault::StoreRefused),
+        Ok((Outcome::Halted, _)) => Err(ActFault::Halted),
         Err(_) => Err(ActFault::Spent),
     }
 }

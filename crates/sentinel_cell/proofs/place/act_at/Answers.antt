@@ -6,7 +6,7 @@ use Rattle.sentinel_cell.specs.Histories.{World, opened, after, replay, entry_of
 use Rattle.sentinel_cell.specs.Standing.{first_number}
 use Rattle.atomic_table.specs.Table.{Me}
 use Rattle.sentinel_cell.proofs.Steps.{sits_all, draws_all}
-use Rattle.sentinel_cell.proofs.Acts.{adds, looks_low, turned, in_turn, kept_view, slots_of, slot_out, left_out, passes_on, same_step, passed_at, legal_step, follows_first, given_first, left_plan, announced, first_has, still_answers}
+use Rattle.sentinel_cell.proofs.Acts.{adds, looks_low, turned, in_turn, kept_view, slots_of, slot_out, left_out, passes_on, same_step, passed_at, legal_step, follows_first, given_first, left_plan, announced, first_has, still_answers, counted_entry}
 use Rattle.sentinel_cell.proofs.place.act_at.Given.{Over}
 use Rattle.sentinel_cell.proofs.place.act_at.Goals as goal
 use Rattle.sentinel_cell.proofs.place.act_at.Goals.{After-wait_for_turn, After-put_in}
@@ -120,3 +120,11 @@ returns-clause-added g at =
     (follows_first c.args.place.now.me c.load.new.seat.me c.fetch_add-ticket.new.seat.me c.load.result c.fetch_add-ticket.result t.0 c.load.ensures.2.0 c.fetch_add-ticket.ensures.2.0 t.5)
     (ap (λ (v : View). first_number v.numbers) (served g c)) refl refl (ap (λ (n : ℕ). drop n c.turn-outcome.new.outbox.shown) (ap length c.outputs-first.ensures))
     (still_answers (start g c) at.raise_word.new.place.me at.pass_turn.new.place.me at.pass_turn.ensures.passed at.pass_turn.ensures.answers) at.pass_turn.ensures.given
+
+pub returns-clause-entry : goal.returns-clause-entry
+returns-clause-entry g at =
+    let c = (goal.at.returns-clause-entry g at).After-put_in in
+    let t = c.wait_for_turn.ensures.turn in
+    counted_entry c.args.place.now.me.0 at.pass_turn.new.place.me.0 c.load.result c.fetch_add-ticket.result t.0 t.2.0 (entry g c)
+    (passed_at c.put_in.new.place.me at.raise_word.new.place.me at.pass_turn.new.place.me _ (entry g c) (served g c) at.raise_word.ensures.raised at.pass_turn.ensures.passed)
+    (c.wait_for_turn.ensures.counted ∙ ap (λ (m : Me _ View). length m.0.front) t.2.1)
