@@ -205,12 +205,6 @@ module _ (start : World) (v : View) (input : Input) (outputs : List Output) (w :
 pub counted_entry : (v w : View) (r t : ℕ) (history : List Entry) (given : ℕ) (e : Entry) → w ≡ passed (raised (turned v r t history given) e) → t ≡ length history → t + 1 ≡ length w.front
 counted_entry v w r t history given e is here = ap (λ (n : ℕ). n + 1) here ∙ (sym (length-append history (e ∷ [])) ∙ ap (λ (x : View). length x.front) (sym is))
 
-pub entry_told : (acted : Result (Outcome × ℕ) TicketsSpent) (first end n : ℕ) → IfOk acted (λ turn. turn.1 + 1 ≡ n) → IfOk (answer_of acted first end) (λ reply. reply.entry + 1 ≡ n)
-entry_told (Ok (Stored, _)) first end n h = h
-entry_told (Ok (Refused, _)) first end n h = tt
-entry_told (Ok (Halted, _)) first end n h = tt
-entry_told (Err _) first end n h = tt
-
 -- the views that the seat had before and has after
 module _ (start : World) (input : Input) (outputs : List Output) (result : Result Reply ActFault) where
   pub acted_between : (x x' : View) (seat : Standing) (t : TableId) (before after' : List View) → standing t (head_view before) ≡ seat → before ≡ x ∷ [] → after' ≡ x' ∷ [] → Acted start x input outputs x' result
