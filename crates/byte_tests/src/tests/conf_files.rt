@@ -1,8 +1,9 @@
 //! Files read, refused and rewritten, with the bytes that an operator would see.
 
-ghost use Rattle.std.specs.Prelude.{◌≡◌, ◌∷◌, [], IfOk};
+ghost use Rattle.std.specs.Prelude.{◌≡◌, ◌∷◌, [], IfOk, Option};
+ghost use Rattle.ballot_law.specs.declared.addresses.RunId.{RunId};
 
-use ballot_law::{Addr, Card, Kept, KeptMaster, KeptMasters, RosterFault};
+use ballot_law::{Addr, Card, Kept, KeptMaster, KeptMasters, RosterFault, RunId};
 use sentinel_conf::{Conf, ConfFault, ConfKind, ConfText, Settings, read, rewrite_into};
 use std::alloc::Global;
 use std::test::Fail;
@@ -33,6 +34,38 @@ sentinel leader-epoch mymaster 3\n\
 sentinel known-replica mymaster 127.0.0.1 6379\n\
 sentinel known-replica mymaster 127.0.0.1 6381\n\
 sentinel known-sentinel mymaster 127.0.0.1 26380 bbbbbbbbbbbbbbbbbbbbbbbbbbbbbbbbbbbbbbbb\n";
+
+/// The same with the candidate of the vote of epoch 3.
+const GROUP_ONE_WITH_CANDIDATE: &str = "# group one\n\
+port 26379\n\
+bind 127.0.0.1\n\
+sentinel auth-pass mymaster secret\n\
+sentinel down-after-milliseconds mymaster 5000\n\
+sentinel myid aaaaaaaaaaaaaaaaaaaaaaaaaaaaaaaaaaaaaaaa\n\
+sentinel current-epoch 3\n\
+sentinel monitor mymaster 127.0.0.1 6380 2\n\
+sentinel config-epoch mymaster 2\n\
+sentinel leader-epoch mymaster 3\n\
+sentinel leader-id mymaster bbbbbbbbbbbbbbbbbbbbbbbbbbbbbbbbbbbbbbbb\n\
+sentinel known-replica mymaster 127.0.0.1 6379\n\
+sentinel known-replica mymaster 127.0.0.1 6381\n\
+sentinel known-sentinel mymaster 127.0.0.1 26380 bbbbbbbbbbbbbbbbbbbbbbbbbbbbbbbbbbbbbbbb\n";
+
+/// The second Sentinel of group one.
+const SECOND: RunId = RunId {
+    hi: 0xbbbb_bbbb_bbbb_bbbb_bbbb_bbbb_bbbb_bbbb,
+    lo: 0xbbbb_bbbb,
+};
+
+/// A line that names it.
+const CANDIDATE: &str = "sentinel leader-id mymaster bbbbbbbbbbbbbbbbbbbbbbbbbbbbbbbbbbbbbbbb";
+
+/// One Sentinel and one master with the last epoch everywhere, as it is rewritten.
+const LAST_EPOCHS: &str = "sentinel myid aaaaaaaaaaaaaaaaaaaaaaaaaaaaaaaaaaaaaaaa\n\
+sentinel current-epoch 281474976710655\n\
+sentinel monitor mymaster 127.0.0.1 6379 2\n\
+sentinel config-epoch mymaster 281474976710655\n\
+sentinel leader-epoch mymaster 281474976710655\n";
 
 /// A file as a Redis Sentinel rewrites it.
 const FROM_REDIS: &str = "protected-mode no\n\
@@ -94,19 +127,39 @@ fn at(line: u64, kind: ConfKind) -> Option<ConfFault> {
     Some(ConfFault { line, kind })
 }
 
-/// One master's part at this port.
-fn kept_at(alloc: Global, current: u64, epoch: u64, port: u16, voted: u64) -> Result<Kept, Fail>
+/// What is kept of group one after a failover to its second node, with this candidate of the vote.
+fn kept_with(alloc: Global, candidate: Option<RunId>) -> Result<Kept, Fail>
     ensures { IfOk result (λ kept. kept ≡ record {
-      current = current;
-      masters = (record { card = record { epoch = epoch; addr = record { ip = HERE; port = port } }; voted = voted }) ∷ [];
+      current = 3;
+      masters = (record {
+        card = record { epoch = 2; addr = record { ip = HERE; port = 6380 } };
+        voted = 3;
+        candidate = candidate;
+      }) ∷ [];
     }) }
 {
-    let addr = Addr { ip: HERE, port };
-    let card = Card { epoch, addr };
+    let addr = Addr {
+        ip: HERE,
+        port: 6380,
+    };
+    let master = KeptMaster {
+        card: Card { epoch: 2, addr },
+        voted: 3,
+        candidate,
+    };
     Ok(Kept {
-        current,
-        masters: KeptMasters::from_vec(vec![in alloc; KeptMaster { card, voted }]?),
+        current: 3,
+        masters: KeptMasters::from_vec(vec![in alloc; master]?),
     })
+}
+
+/// The candidate of the only master of this file.
+fn candidate_of(alloc: Global, text: &[u8]) -> Result<Option<RunId>, Fail> {
+    let conf = read(alloc, text)?;
+    match conf.kept().masters.as_slice() {
+        [master] => Ok(master.candidate),
+        _ => Err(Fail::new("there isn't one master")),
+    }
 }
 
 #[test]
@@ -114,9 +167,80 @@ fn group_one_is_rewritten_after_a_failover(rt: HostRuntime) -> Result<(), Fail> 
     let alloc = rt.alloc();
     let conf = read(alloc, GROUP_ONE.as_bytes())?;
     let mut text = ConfText::room_for(alloc, &conf)?;
-    let kept = kept_at(alloc, 3, 2, 6380, 3)?;
+    let kept = kept_with(alloc, None)?;
     rewrite_into(&conf, &kept, &mut text);
     assert_eq!(rt; text.as_slice(), GROUP_ONE_AFTER_FAILOVER.as_bytes());
+    Ok(())
+}
+
+#[test]
+fn group_one_is_rewritten_with_the_candidate(rt: HostRuntime) -> Result<(), Fail> {
+    let alloc = rt.alloc();
+    let conf = read(alloc, GROUP_ONE.as_bytes())?;
+    let mut text = ConfText::room_for(alloc, &conf)?;
+    let kept = kept_with(alloc, Some(SECOND))?;
+    rewrite_into(&conf, &kept, &mut text);
+    assert_eq!(rt; text.as_slice(), GROUP_ONE_WITH_CANDIDATE.as_bytes());
+    assert_eq!(rt; candidate_of(alloc, text.as_slice())?, Some(SECOND));
+    Ok(())
+}
+
+#[test]
+fn a_file_with_a_candidate_is_rewritten_as_it_is(rt: HostRuntime) -> Result<(), Fail> {
+    let alloc = rt.alloc();
+    let conf = read(alloc, GROUP_ONE_WITH_CANDIDATE.as_bytes())?;
+    let mut text = ConfText::room_for(alloc, &conf)?;
+    rewrite_into(&conf, conf.kept(), &mut text);
+    assert_eq!(rt; text.as_slice(), GROUP_ONE_WITH_CANDIDATE.as_bytes());
+    Ok(())
+}
+
+#[test]
+fn a_file_without_a_candidate_has_none(rt: HostRuntime) -> Result<(), Fail> {
+    let alloc = rt.alloc();
+    let text = GROUP_ONE_AFTER_FAILOVER.as_bytes();
+    assert_eq!(rt; candidate_of(alloc, text)?, None);
+    assert_eq!(rt; candidate_of(alloc, FROM_REDIS.as_bytes())?, None);
+    Ok(())
+}
+
+#[test]
+fn a_candidate_of_no_vote_is_left_out(rt: HostRuntime) -> Result<(), Fail> {
+    let alloc = rt.alloc();
+    let text = format!(in alloc; "{GROUP_ONE}\n{CANDIDATE}")?;
+    assert_eq!(rt; candidate_of(alloc, text.as_bytes())?, None);
+    let with_line = read(alloc, text.as_bytes())?;
+    let mut one = ConfText::room_for(alloc, &with_line)?;
+    rewrite_into(&with_line, with_line.kept(), &mut one);
+    let without = read(alloc, GROUP_ONE.as_bytes())?;
+    let mut other = ConfText::room_for(alloc, &without)?;
+    rewrite_into(&without, without.kept(), &mut other);
+    assert_eq!(rt; one.as_slice(), other.as_slice());
+    Ok(())
+}
+
+#[test]
+fn a_candidate_may_stand_before_its_master(rt: HostRuntime) -> Result<(), Fail> {
+    let alloc = rt.alloc();
+    let text = format!(in alloc; "{CANDIDATE}\n{GROUP_ONE_AFTER_FAILOVER}")?;
+    assert_eq!(rt; candidate_of(alloc, text.as_bytes())?, Some(SECOND));
+    Ok(())
+}
+
+#[test]
+fn a_bad_candidate_is_refused_at_its_line(rt: HostRuntime) -> Result<(), Fail> {
+    let alloc = rt.alloc();
+    let name = "sentinel leader-id mymaster";
+    assert_eq!(rt; fault_with(alloc, name)?, at(11, ConfKind::BadDirective));
+    let master = "sentinel leader-id my*master xyz";
+    assert_eq!(rt; fault_with(alloc, master)?, at(11, ConfKind::BadName));
+    let word = "sentinel leader-id mymaster xyz";
+    assert_eq!(rt; fault_with(alloc, word)?, at(11, ConfKind::BadRunId));
+    let other = "sentinel leader-id other aaaaaaaaaaaaaaaaaaaaaaaaaaaaaaaaaaaaaaaa";
+    assert_eq!(rt; fault_with(alloc, other)?, at(11, ConfKind::UnknownMaster));
+    let twice = format!(in alloc; "{CANDIDATE}\n{CANDIDATE}")?;
+    assert_eq!(rt; fault_with(alloc, twice.as_str())?, at(12, ConfKind::Twice));
+    assert_eq!(rt; fault_with(alloc, CANDIDATE)?, None);
     Ok(())
 }
 
@@ -196,7 +320,7 @@ fn a_line_of_a_wrong_form_is_found_before_an_unknown_master(rt: HostRuntime) {
 fn a_file_as_a_whole_is_refused_with_line_0(rt: HostRuntime) -> Result<(), Fail> {
     let alloc = rt.alloc();
     let mut long = Vec::new(alloc);
-    long.resize(65_537, b'#')?;
+    long.resize(67_537, b'#')?;
     assert_eq!(rt; fault_of(alloc, &long), at(0, ConfKind::TooLong));
     let _ = long.pop();
     assert_eq!(rt; fault_of(alloc, &long), at(0, ConfKind::NoMyId));
@@ -208,6 +332,29 @@ fn a_file_as_a_whole_is_refused_with_line_0(rt: HostRuntime) -> Result<(), Fail>
     let alone = b"sentinel myid aaaaaaaaaaaaaaaaaaaaaaaaaaaaaaaaaaaaaaaa";
     let no_master = at(0, ConfKind::Roster(RosterFault::NoMaster));
     assert_eq!(rt; fault_of(alloc, alone), no_master);
+    Ok(())
+}
+
+/// The fault of this text with a comment behind it, which ends with its byte of this number.
+fn fault_padded(alloc: Global, text: &str, length: usize) -> Result<Option<ConfFault>, Fail> {
+    let mut long = Vec::from_slice(alloc, text.as_bytes())?;
+    long.push(b'#')?;
+    long.resize(length, b'#')?;
+    let _end = long.pop();
+    long.push(b'\n')?;
+    Ok(fault_of(alloc, &long))
+}
+
+#[test]
+fn the_longest_file_has_room_for_each_candidate(rt: HostRuntime) -> Result<(), Fail> {
+    let alloc = rt.alloc();
+    assert_eq!(rt; fault_padded(alloc, LAST_EPOCHS, 65_536)?, None);
+    assert_eq!(rt; fault_padded(alloc, LAST_EPOCHS, 67_467)?, None);
+    let too_long = at(0, ConfKind::TooLong);
+    assert_eq!(rt; fault_padded(alloc, LAST_EPOCHS, 67_468)?, too_long);
+    let named = format!(in alloc; "{LAST_EPOCHS}{CANDIDATE}\n")?;
+    assert_eq!(rt; fault_padded(alloc, named.as_str(), 67_536)?, None);
+    assert_eq!(rt; fault_padded(alloc, named.as_str(), 67_537)?, too_long);
     Ok(())
 }
 
