@@ -9,19 +9,20 @@ use std::io::{self, Cursor, ErrorKind, Read, Write};
 use std::test::Fail;
 
 /// Requests for the vote of epochs 1, 1, 2 and 1, by four candidates.
-const FOUR_ASKS: &[u8] =
+pub(crate) const FOUR_ASKS: &[u8] =
     b"*6\r\n$8\r\nSENTINEL\r\n$22\r\nIS-MASTER-DOWN-BY-ADDR\r\n$9\r\n127.0.0.1\r\n$4\r\n6379\r\n$1\r\n1\r\n$40\r\naaaaaaaaaaaaaaaaaaaaaaaaaaaaaaaaaaaaaaaa\r\n\
 *6\r\n$8\r\nSENTINEL\r\n$22\r\nIS-MASTER-DOWN-BY-ADDR\r\n$9\r\n127.0.0.1\r\n$4\r\n6379\r\n$1\r\n1\r\n$40\r\nbbbbbbbbbbbbbbbbbbbbbbbbbbbbbbbbbbbbbbbb\r\n\
 *6\r\n$8\r\nSENTINEL\r\n$22\r\nIS-MASTER-DOWN-BY-ADDR\r\n$9\r\n127.0.0.1\r\n$4\r\n6379\r\n$1\r\n2\r\n$40\r\nbbbbbbbbbbbbbbbbbbbbbbbbbbbbbbbbbbbbbbbb\r\n\
 *6\r\n$8\r\nSENTINEL\r\n$22\r\nIS-MASTER-DOWN-BY-ADDR\r\n$9\r\n127.0.0.1\r\n$4\r\n6379\r\n$1\r\n1\r\n$40\r\ncccccccccccccccccccccccccccccccccccccccc\r\n";
 
-const FOUR_ANSWERS: &[u8] = b"*3\r\n:0\r\n$40\r\naaaaaaaaaaaaaaaaaaaaaaaaaaaaaaaaaaaaaaaa\r\n:1\r\n\
+pub(crate) const FOUR_ANSWERS: &[u8] =
+    b"*3\r\n:0\r\n$40\r\naaaaaaaaaaaaaaaaaaaaaaaaaaaaaaaaaaaaaaaa\r\n:1\r\n\
 *3\r\n:0\r\n$40\r\naaaaaaaaaaaaaaaaaaaaaaaaaaaaaaaaaaaaaaaa\r\n:1\r\n\
 *3\r\n:0\r\n$40\r\nbbbbbbbbbbbbbbbbbbbbbbbbbbbbbbbbbbbbbbbb\r\n:2\r\n\
 *3\r\n:0\r\n$40\r\nbbbbbbbbbbbbbbbbbbbbbbbbbbbbbbbbbbbbbbbb\r\n:2\r\n";
 
 /// How many bytes one answer of `FOUR_ANSWERS` has.
-const ANSWER_LEN: usize = 59;
+pub(crate) const ANSWER_LEN: usize = 59;
 
 /// A reader of two pieces.
 #[derive(Drop)]
@@ -233,19 +234,25 @@ fn a_full_writer_holds_a_first_part(rt: HostRuntime) -> Result<(), Fail> {
 
 /// How the serving of a stream ended, what was written, and the store that it left.
 #[derive(Drop)]
-struct Outcome {
-    result: Result<Served, ServeFault>,
-    written: Vec<u8>,
-    store: MemoryStore,
+pub(crate) struct Outcome {
+    pub(crate) result: Result<Served, ServeFault>,
+    pub(crate) written: Vec<u8>,
+    pub(crate) store: MemoryStore,
 }
 
-/// Serves these bytes with this file, whose first store is refused where the old text or the new one is to be left.
-fn serve_file(alloc: Global, file: &[u8], refusal: Option<bool>, bytes: &[u8]) -> Option<Outcome> {
+/// Serves these bytes with this file, one store of which is refused behind so many that are served, where the old text or the new one is
+/// to be left.
+pub(crate) fn serve_file(
+    alloc: Global,
+    file: &[u8],
+    refusal: Option<(u32, bool)>,
+    bytes: &[u8],
+) -> Option<Outcome> {
     let Ok(mut store) = MemoryStore::holding(alloc, file) else {
         return None;
     };
-    if let Some(new) = refusal {
-        store.refuse_next(new);
+    if let Some((passes, new)) = refusal {
+        store.refuse_after(passes, new);
     }
     let mut written = Vec::new(alloc);
     let result = serve(
@@ -296,7 +303,7 @@ fn a_vote_outlives_the_process(rt: HostRuntime) -> Result<(), Fail> {
 #[test]
 fn a_refused_store_leaves_its_vote_unanswered(rt: HostRuntime) -> Result<(), Fail> {
     for new in [false, true] {
-        let outcome = serve_file(rt.alloc(), FOUR_SENTINELS, Some(new), FOUR_ASKS).ok_or(
+        let outcome = serve_file(rt.alloc(), FOUR_SENTINELS, Some((0, new)), FOUR_ASKS).ok_or(
             "refused",
         )?;
         assert_eq!(rt; outcome.result, Err(ServeFault::Halted));
