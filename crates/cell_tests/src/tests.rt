@@ -6,6 +6,7 @@ mod histories;
 mod known_cell;
 mod mixed_calls;
 mod plain_sentinel;
+mod refused_memory;
 mod seat_counts;
 mod stores_held;
 mod turns;

@@ -14,7 +14,6 @@ use std::process::Abort;
 use std::rt::Clock;
 use std::sync::Wait;
 use std::sync::atomic::{AtomicU64, Ordering};
-use std::test::Fail;
 use std::thread::{self, Threads};
 use std::time::Duration;
 
@@ -177,16 +176,24 @@ fn shared_and_held<'a, R: Clock>(
     SharedSentinel::new(alloc, sentinel, held, 2).ok()
 }
 
-#[test]
-fn address_while_storing(rt: HostRuntime) -> Result<(), Fail> {
+/// How often the store is held.
+const ROUNDS: u32 = 100;
+
+/// Holds a store of a Sentinel of its own until the address was told by the other seat; how many stores were refused.
+fn hold_a_store<R: Threads + Wait + Clock + Abort + Sync>(rt: &R, alloc: Global) -> u64 {
     let flags = Flags {
         held: AtomicU64::new(0),
         told: AtomicU64::new(0),
     };
-    let Some((cell, seat)) = shared_and_held(&rt, rt.alloc(), &flags) else {
+    let Some((cell, seat)) = shared_and_held(rt, alloc, &flags) else {
         panic!(rt; "no cell")
     };
-    let file = ask_while_held::<Brand, _>(&rt, rt.alloc(), &flags, cell, seat);
-    assert_eq!(rt; file.failures(), 0);
-    Ok(())
+    ask_while_held::<Brand, R>(rt, alloc, &flags, cell, seat).failures()
+}
+
+#[test]
+fn address_while_storing(rt: HostRuntime) {
+    for round in 0..ROUNDS {
+        assert!(rt; hold_a_store(&rt, rt.alloc()) == 0, "round {round}");
+    }
 }

@@ -1,4 +1,4 @@
-use Rattle.cell_tests.proofs.tests.stores_held.address_while_storing.Given as goal
+use Rattle.cell_tests.proofs.tests.stores_held.hold_a_store.Given as goal
 
 -- which cell it is
 abbrev pub ghosts-ask_while_held : goal.ghosts-ask_while_held
