@@ -1,7 +1,9 @@
 //! A client of a port.
 
+use std::alloc::Global;
 use std::io::{self, Read, Write};
 use std::net::{Ipv4Addr, Net, SocketAddr, TcpStream};
+use std::test::Fail;
 
 /// The question for the address of the master.
 pub(crate) const ADDRESS: &[u8] =
@@ -36,10 +38,16 @@ pub(crate) fn shows_down<T: Read + Write>(stream: &mut T, command: &[u8]) -> io:
     )
 }
 
-/// The request for a vote of this epoch, by the Sentinel `dddd..`.
-pub(crate) const VOTE: &[u8] = b"*6\r\n$8\r\nSENTINEL\r\n$22\r\nIS-MASTER-DOWN-BY-ADDR\r\n\
-$9\r\n127.0.0.1\r\n$4\r\n6379\r\n$1\r\n7\r\n$40\r\ndddddddddddddddddddddddddddddddddddddddd\r\n";
+/// The request for a vote of this epoch, of three digits, by the Sentinel `dddd..`.
+pub(crate) fn vote_of(alloc: Global, epoch: u64) -> Result<String, Fail> {
+    Ok(format!(in alloc;
+        "*6\r\n$8\r\nSENTINEL\r\n$22\r\nIS-MASTER-DOWN-BY-ADDR\r\n$9\r\n127.0.0.1\r\n$4\r\n6379\r\n$3\r\n{epoch}\r\n$40\r\ndddddddddddddddddddddddddddddddddddddddd\r\n"
+    )?)
+}
 
-/// What it is answered by a Sentinel that finds no master down and has not voted yet.
-pub(crate) const VOTED: [u8; 59] =
-    *b"*3\r\n:0\r\n$40\r\ndddddddddddddddddddddddddddddddddddddddd\r\n:7\r\n";
+/// What it is answered by a Sentinel that finds no master down and has not voted in this epoch yet.
+pub(crate) fn voted_in(alloc: Global, epoch: u64) -> Result<String, Fail> {
+    Ok(format!(in alloc;
+        "*3\r\n:0\r\n$40\r\ndddddddddddddddddddddddddddddddddddddddd\r\n:{epoch}\r\n"
+    )?)
+}

@@ -51,8 +51,19 @@ pub(crate) fn wait_for<R: Clock>(rt: &R, number: &AtomicU64, least: u64) -> bool
     false
 }
 
-/// A file that tells the epochs of what is written. Where it is held, a write waits until `voted` of `until` has come up to 1, and is refused
-/// where it doesn't.
+/// The greatest epoch of a vote in a text, 0 where there is none.
+fn voted(alloc: Global, text: &[u8]) -> u64 {
+    let mut greatest = 0;
+    if let Ok(conf) = read(alloc, text) {
+        for master in conf.kept().masters.as_slice() {
+            greatest = master.voted.max(greatest);
+        }
+    }
+    greatest
+}
+
+/// A file that tells the epochs of what is written. Where it is held, a write waits until its number has come up to the epoch of the vote that
+/// is written, and is refused where it doesn't.
 #[derive(Drop)]
 pub(crate) struct ToldFile<'a, R: Clock> {
     file: MemoryStore,
@@ -88,7 +99,7 @@ impl<'a, R: Clock> ConfStore for ToldFile<'a, R> {
 
     fn replace(&mut self, text: &[u8]) -> Result<(), StoreRefused> {
         if let Some((rt, number)) = self.held {
-            if !wait_for(rt, number, 1) {
+            if !wait_for(rt, number, voted(self.alloc, text)) {
                 self.file.refuse_next(false);
             }
         }
