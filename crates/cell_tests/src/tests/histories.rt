@@ -95,7 +95,8 @@ fn new_worker<J: Which>(alloc: Global, seat: KnownSeat<J>, thread: usize) -> Wor
 }
 
 impl<J: Which> Worker<J> {
-    /// Makes the call of a step, and notes its turn and its answer.
+    /// Makes the call of a step, and notes its turn and its answer. A reply that tells another place than its turn ends the thread, whose
+    /// further calls are then missing.
     fn make<S: ConfStore, R: Wait>(
         &mut self,
         rt: &R,
@@ -105,12 +106,13 @@ impl<J: Which> Worker<J> {
         step: usize,
     ) -> Result<(), NoMemory> {
         let input = call_of(self.thread, step).input(alloc, clock_of(step))?;
-        let answer = match cell.act(rt, &mut self.seat, &input) {
-            Ok(_) => Ok(()),
-            Err(ActFault::NoMemory | ActFault::Spent) => return Err(NoMemory),
+        let reply = cell.act(rt, &mut self.seat, &input);
+        let turn = turns.note();
+        let answer = match reply {
+            Ok(reply) if reply.entry.checked_add(1) == Some(turn) => Ok(()),
+            Ok(_) | Err(ActFault::NoMemory | ActFault::Spent) => return Err(NoMemory),
             Err(fault) => Err(fault),
         };
-        let turn = turns.note();
         self.answers.add(alloc, turn, answer, self.seat.outputs())
     }
 

@@ -38,7 +38,12 @@ fn is_answered_again<J: Which, R: Wait>(
         Err(ActFault::StoreRefused) => return None,
         reply => reply,
     };
-    let is_answered = reply == Ok(Reply { first: 0, count: 1 }) && seat.outputs().len() == 1;
+    let first_alone = Reply {
+        first: 0,
+        count: 1,
+        entry: 0,
+    };
+    let is_answered = reply == Ok(first_alone) && seat.outputs().len() == 1;
     let card = Card {
         epoch: 0,
         addr: here(6379),
