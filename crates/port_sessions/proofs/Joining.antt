@@ -4,17 +4,16 @@ use Rattle.std.specs.List.{flat_map, AllByRecursion}
 use Rattle.std.proofs.lemmas.List.Concat.{flat_map-append}
 use Rattle.resp2_frames.specs.Frame.{Frame, spelling, IsFrame}
 use Rattle.resp2_frames.specs.Stream.{Parts}
-use Rattle.sentinel_cell.specs.declared.view.View.{View}
 use Rattle.sentinel_cell.specs.Histories.{World}
-use Rattle.port_sessions.specs.Talks.{AnswersTo}
+use Rattle.port_sessions.specs.Talks.{Party, AnswersTo}
 use Rattle.port_sessions.specs.Laws.{PiecesJoin}
 
-answers-append : (start : World) (now : ℕ) (v : View) (values more : List Frame) (bytes later : List ℕ) (m w : View) → AnswersTo start now v values bytes m
-    → AnswersTo start now m more later w → AnswersTo start now v (values ++ more) (bytes ++ later) w
-answers-append start now v [] more bytes later m w a b =
-    subst (λ (t : List ℕ). AnswersTo start now v more (t ++ later) w) (sym a.0) (subst (λ (x : View). AnswersTo start now x more later w) a.1 b)
-answers-append start now v (x ∷ xs) more bytes later m w a b =
-    (a.0, a.1, a.2 ++ later, ap (λ (t : List ℕ). t ++ later) a.3 ∙ append_assoc a.1 a.2 later, a.4, answers-append start now a.0 xs more a.2 later m w a.5 b)
+answers-append : (start : World) (now : ℕ) (p : Party) (values more : List Frame) (bytes later : List ℕ) (m q : Party) → AnswersTo start now p values bytes m
+    → AnswersTo start now m more later q → AnswersTo start now p (values ++ more) (bytes ++ later) q
+answers-append start now p [] more bytes later m q a b =
+    subst (λ (t : List ℕ). AnswersTo start now p more (t ++ later) q) (sym a.0) (subst (λ (x : Party). AnswersTo start now x more later q) a.1 b)
+answers-append start now p (x ∷ xs) more bytes later m q a b =
+    (a.0, a.1, a.2 ++ later, ap (λ (t : List ℕ). t ++ later) a.3 ∙ append_assoc a.1 a.2 later, a.4, answers-append start now a.0 xs more a.2 later m q a.5 b)
 
 all_frames : (xs ys : List Frame) → AllByRecursion IsFrame xs → AllByRecursion IsFrame ys → AllByRecursion IsFrame (xs ++ ys)
 all_frames [] ys a b = b
@@ -29,10 +28,10 @@ parts_join stream piece held xs ys rest a b =
     (cut ∙ ap (λ (t : List ℕ). first ++ t) b.0 ∙ sym (append_assoc first second rest) ∙ whole, all_frames xs ys a.1 b.1)
 
 pub pieces_join : PiecesJoin
-pieces_join start now stream piece held later bytes more v middle w a b =
+pieces_join start now stream piece held later bytes more p middle q a b =
     let first : Parts stream a.values held = subst (λ (t : List ℕ). Parts stream a.values t) a.splits.2.0 a.splits.1 in
     record {
       values = a.values ++ b.values;
       splits = (b.splits.0, parts_join stream piece held a.values b.values b.splits.0 first b.splits.1, b.splits.2);
-      answers = answers-append start now v a.values b.values bytes more middle w a.answers b.answers;
+      answers = answers-append start now p a.values b.values bytes more middle q a.answers b.answers;
     }

@@ -8,7 +8,7 @@ use Rattle.sentinel_cell.specs.declared.view.View.{View}
 use Rattle.sentinel_cell.specs.Calls.{Begins}
 use Rattle.sentinel_cell.specs.Histories.{World, IsLegal, replay}
 use Rattle.sentinel_rules.specs.States.{Core}
-use Rattle.port_sessions.specs.Talks.{Replies, IsAnswered}
+use Rattle.port_sessions.specs.Talks.{Party, Replies, IsAnswered}
 
 -- what a Sentinel has that keeps what is stored: the same as its core, but after a refused store
 abbrev pub stored_core : World → Core
@@ -25,6 +25,6 @@ AnswersAreServed = (start : World) (now : ℕ) (v w : View) (value : Frame) (byt
 
 abbrev pub PiecesJoin : Type 0
 PiecesJoin =
-    (start : World) (now : ℕ) (stream piece held later bytes more : List ℕ) (v middle w : View)
-    → IsAnswered start now stream v held bytes middle → IsAnswered start now (held ++ piece) middle later more w
-    → IsAnswered start now (stream ++ piece) v later (bytes ++ more) w
+    (start : World) (now : ℕ) (stream piece held later bytes more : List ℕ) (p middle q : Party)
+    → IsAnswered start now stream p held bytes middle → IsAnswered start now (held ++ piece) middle later more q
+    → IsAnswered start now (stream ++ piece) p later (bytes ++ more) q

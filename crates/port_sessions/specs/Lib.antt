@@ -1,3 +1,5 @@
+pub mod Listening
 pub mod Talks
+pub mod Notes
 pub mod OnTheWay
 pub mod Laws

@@ -19,7 +19,7 @@ use Rattle.sentinel_cell.specs.declared.fault.ActFault.TheVariants.{NoMemory, Sp
 use Rattle.sentinel_cell.specs.declared.view.View.{View}
 use Rattle.sentinel_cell.specs.Histories.{World}
 use Rattle.sentinel_cell.specs.Standing.{Adds, Faulted}
-use Rattle.port_sessions.specs.Talks.{asked, Replies, AnswersTo, IsHaltedAt, IsAnswered, Breaks}
+use Rattle.port_sessions.specs.Talks.{asked, Party, Responds, AnswersTo, IsHaltedAt, IsAnswered, Breaks}
 
 module _ (start : World) (now : ℕ) where
   -- a command took its turn, and shows one message
@@ -41,40 +41,45 @@ module _ (start : World) (now : ℕ) where
   Turns v command (Err fault) outputs w = ShowsNothing v command fault w
 
   -- a value has no answer
-  abbrev pub Fails : View → Result Command CommandFault → ServeFault → View → Type 0
-  Fails v command Refused w = IsHaltedAt start now v command w
-  Fails v command OutOfMemory w = (w ≡ v) ⊎ ((bytes : List ℕ) × Replies start now v command bytes w)
-  Fails v command (FaultyFrame fault) w = ⊥
-  Fails v command Read w = ⊥
-  Fails v command Write w = ⊥
+  abbrev pub Fails : Party → Result Command CommandFault → ServeFault → Party → Type 0
+  Fails p command Refused q = IsHaltedAt start now p command q
+  Fails p command OutOfMemory q = (q ≡ p) ⊎ ((bytes : List ℕ) × Responds start now p command bytes q)
+  Fails p command (FaultyFrame fault) q = ⊥
+  Fails p command Read q = ⊥
+  Fails p command Write q = ⊥
 
   -- how the answering of one value ends
-  abbrev pub Ends : {X : Type 0} → View → Result Command CommandFault → Result X ServeFault → (text : List ℕ) → View → Type 0
-  Ends v command (Ok x) text w = Replies start now v command text w
-  Ends v command (Err fault) text w = Fails v command fault w
+  abbrev pub Ends : {X : Type 0} → Party → Result Command CommandFault → Result X ServeFault → (text : List ℕ) → Party → Type 0
+  Ends p command (Ok x) text q = Responds start now p command text q
+  Ends p command (Err fault) text q = Fails p command fault q
 
   -- these values of the stream were answered, and the bytes behind them are held
-  pub record IsOnTheWay (stream : List ℕ) (v : View) (held : Held) (bytes : List ℕ) (w : View) : Type 0 where
+  pub record IsOnTheWay (stream : List ℕ) (p : Party) (held : Held) (bytes : List ℕ) (q : Party) : Type 0 where
     pub values : List Frame
     pub rest : List ℕ
     pub held_is : held ≡ reading rest
     pub parts : Parts stream values rest
-    pub answers : AnswersTo start now v values bytes w
+    pub answers : AnswersTo start now p values bytes q
 
   -- all values of the stream were answered
-  abbrev pub IsDone : (stream : List ℕ) → View → Held → (bytes : List ℕ) → View → Type 0
-  IsDone stream v held bytes w = (rest : List ℕ) × (held ≡ reading rest) × IsAnswered start now stream v rest bytes w
+  abbrev pub IsDone : (stream : List ℕ) → Party → Held → (bytes : List ℕ) → Party → Type 0
+  IsDone stream p held bytes q = (rest : List ℕ) × (held ≡ reading rest) × IsAnswered start now stream p rest bytes q
 
   -- how the answering of the first whole value ends: it was answered, or there is none
-  abbrev pub Steps : (stream : List ℕ) → View → Result Bool ServeFault → Held → (bytes : List ℕ) → View → Type 0
-  Steps stream v (Ok true) held bytes w = IsOnTheWay stream v held bytes w
-  Steps stream v (Ok false) held bytes w = IsDone stream v held bytes w
-  Steps stream v (Err fault) held bytes w = Breaks start now stream v fault bytes w
+  abbrev pub Steps : (stream : List ℕ) → Party → Result Bool ServeFault → Held → (bytes : List ℕ) → Party → Type 0
+  Steps stream p (Ok true) held bytes q = IsOnTheWay stream p held bytes q
+  Steps stream p (Ok false) held bytes q = IsDone stream p held bytes q
+  Steps stream p (Err fault) held bytes q = Breaks start now stream p fault bytes q
 
   -- how the answering of all whole values ends
-  abbrev pub Drains : {X : Type 0} → (stream : List ℕ) → View → Result X ServeFault → Held → (bytes : List ℕ) → View → Type 0
-  Drains stream v (Ok x) held bytes w = IsDone stream v held bytes w
-  Drains stream v (Err fault) held bytes w = Breaks start now stream v fault bytes w
+  abbrev pub Drains : {X : Type 0} → (stream : List ℕ) → Party → Result X ServeFault → Held → (bytes : List ℕ) → Party → Type 0
+  Drains stream p (Ok x) held bytes q = IsDone stream p held bytes q
+  Drains stream p (Err fault) held bytes q = Breaks start now stream p fault bytes q
+
+  -- how the taking of a piece ends, before the session is closed
+  abbrev pub Takes : {X : Type 0} → (stream : List ℕ) → Party → Result X ServeFault → (held bytes : List ℕ) → Party → Type 0
+  Takes stream p (Ok x) held bytes q = IsAnswered start now stream p held bytes q
+  Takes stream p (Err fault) held bytes q = Breaks start now stream p fault bytes q
 
 -- the fault that ends a session at a turn that shows nothing
 abbrev pub ended_by : ActFault → ServeFault

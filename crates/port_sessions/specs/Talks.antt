@@ -1,10 +1,10 @@
 -- What a client of a shared Sentinel's port is answered, and how its session ends.
-use Rattle.std.specs.Prelude.{◌≡◌, ◌≢◌, ◌⊎◌, ◌++◌, ◌∷◌, ℕ, Bool, true, false, Option, None, Some, List, [], Result, Ok, Err}
+use Rattle.std.specs.Prelude.{◌≡◌, ◌≢◌, ◌⊎◌, ◌++◌, ◌∷◌, ◌-◌, ℕ, Bool, true, false, Option, None, Some, List, [], Result, Ok, Err, length}
 use Rattle.std.specs.List.{flat_map}
 use Rattle.ballot_law.specs.declared.cards.Card.{Card}
 use Rattle.ballot_law.specs.declared.cards.Shown.{Shown}
 use Rattle.ballot_law.specs.declared.commands.Command.{Command}
-use Rattle.ballot_law.specs.declared.commands.Command.TheVariants.{GetMasterAddrByName}
+use Rattle.ballot_law.specs.declared.commands.Command.TheVariants.{GetMasterAddrByName, Subscribe}
 use Rattle.ballot_law.specs.declared.events.Event.TheVariants.{Command as Commanded}
 use Rattle.ballot_law.specs.declared.events.Input.{Input}
 use Rattle.ballot_law.specs.declared.messages.Body.TheVariants.{AddressAnswer}
@@ -28,12 +28,24 @@ use Rattle.sentinel_cell.specs.Histories.{World, IsLegal, stored_at}
 use Rattle.sentinel_cell.specs.Standing.{Adds, Faulted}
 use Rattle.sentinel_cell.specs.Turns.{answered, IsFresh}
 use Rattle.sentinel_rules.specs.Answers.{named}
+use Rattle.port_sessions.specs.Listening.{answer_while_listening}
 
--- what a session has: the bytes that came and are no whole value yet, the answers that aren't sent yet, and the fault that ended it
+-- What a session has: the bytes that came and are no whole value yet, the answers and notes that aren't sent yet, and the fault that ended it.
+-- Where it listens to notes, it has the entry of its SUBSCRIBE in the history of the Sentinel. Of each master it has the epoch of the configuration that it was told last
 pub record Talk : Type 0 where
   pub held : List ℕ
   pub unsent : List ℕ
   pub ended : Option ServeFault
+  pub listens : Option ℕ
+  pub told : List (Option ℕ)
+
+-- what an answer rests on: what the seat has seen, and since which entry the session listens
+pub record Party : Type 0 where
+  pub view : View
+  pub listens : Option ℕ
+
+abbrev pub party : View → Option ℕ → Party
+party v listens = record { view = v; listens = listens }
 
 -- ---- one answer
 
@@ -45,6 +57,11 @@ asked now command = record { now = now; event = Commanded (PortAt 0) command }
 abbrev pub takes_turn : Command → Bool
 takes_turn (GetMasterAddrByName name) = false
 takes_turn command = true
+
+-- after the answer to SUBSCRIBE the session listens, since the last entry that its seat has seen then
+abbrev pub listens_after : Result Command CommandFault → View → Option ℕ
+listens_after (Ok Subscribe) w = Some (length w.front - 1)
+listens_after command w = None
 
 abbrev pub shown : (m : ℕ) → Card → Shown
 shown m card = record { master = m; card = card }
@@ -65,78 +82,90 @@ module _ (start : World) (now : ℕ) where
   abbrev pub TakesTurn : View → Command → List ℕ → View → Type 0
   TakesTurn v command bytes w = (outputs : List Output) × (bytes ≡ flat_map output_bytes outputs) × Adds start v (asked now command) Stored outputs w
 
-  -- the answer to a value at a seat, and what the seat has seen then; a value that is no command is answered by the line of its fault
+  -- The answer to a value at a seat where the session doesn't listen, and what the seat has seen then; a value that is no command is answered
+  -- by the line of its fault
   abbrev pub Replies : View → Result Command CommandFault → List ℕ → View → Type 0
   Replies v (Ok (GetMasterAddrByName name)) bytes w = TellsAddress start v (named start.plan name) bytes w
   Replies v (Ok command) bytes w = TakesTurn v command bytes w
   Replies v (Err fault) bytes w = (bytes ≡ spelling (command_fault fault)) × (w ≡ v)
 
+  -- a session that listens takes no turn and asks for no address
+  abbrev pub RespondsAt : Option ℕ → View → Result Command CommandFault → List ℕ → Party → Type 0
+  RespondsAt None v command bytes q = Replies v command bytes q.view × (q.listens ≡ listens_after command q.view)
+  RespondsAt (Some entry) v command bytes q = (bytes ≡ spelling (answer_while_listening command)) × (q ≡ party v (Some entry))
+
+  -- the answer to a value, and what the next one rests on
+  abbrev pub Responds : Party → Result Command CommandFault → List ℕ → Party → Type 0
+  Responds p command bytes q = RespondsAt p.listens p.view command bytes q
+
   -- the answers to these values, in their order, one behind the other
-  abbrev pub AnswersTo : View → List Frame → List ℕ → View → Type 0
-  AnswersTo v [] bytes w = (bytes ≡ []) × (w ≡ v)
-  AnswersTo v (value ∷ values) bytes w =
-      (middle : View) × (first : List ℕ) × (rest : List ℕ)
-      × (bytes ≡ first ++ rest) × Replies v (command_of value) first middle × AnswersTo middle values rest w
+  abbrev pub AnswersTo : Party → List Frame → List ℕ → Party → Type 0
+  AnswersTo p [] bytes q = (bytes ≡ []) × (q ≡ p)
+  AnswersTo p (value ∷ values) bytes q =
+      (middle : Party) × (first : List ℕ) × (rest : List ℕ)
+      × (bytes ≡ first ++ rest) × Responds p (command_of value) first middle × AnswersTo middle values rest q
 
   -- ---- how a piece is taken: `stream` is what was held before it, and then the piece
 
   -- all values of the stream were answered, and the bytes behind the last of them are held
-  pub record IsAnswered (stream : List ℕ) (v : View) (held bytes : List ℕ) (w : View) : Type 0 where
+  pub record IsAnswered (stream : List ℕ) (p : Party) (held bytes : List ℕ) (q : Party) : Type 0 where
     pub values : List Frame
     pub splits : Splits stream values (reading held)
-    pub answers : AnswersTo v values bytes w
+    pub answers : AnswersTo p values bytes q
 
   -- the values before a fault were answered, and then comes the line of the fault
-  pub record IsRefused (stream : List ℕ) (fault : FrameFault) (v : View) (bytes : List ℕ) (w : View) : Type 0 where
+  pub record IsRefused (stream : List ℕ) (fault : FrameFault) (p : Party) (bytes : List ℕ) (q : Party) : Type 0 where
     pub values : List Frame
     pub splits : Splits stream values (ended fault)
     pub text : List ℕ
     pub bytes_are : bytes ≡ text ++ last_line
-    pub answers : AnswersTo v values text w
+    pub answers : AnswersTo p values text q
 
-  -- a command showed nothing in its turn, since the Sentinel is halted or is so now, or has no turn, since no tickets are left
-  pub record IsHaltedAt (v : View) (command : Result Command CommandFault) (w : View) : Type 0 where
+  -- a command showed nothing in its turn where the session doesn't listen, since the Sentinel is halted or is so now, or has no turn, since no tickets are left
+  pub record IsHaltedAt (p : Party) (command : Result Command CommandFault) (q : Party) : Type 0 where
     pub what : Command
     pub is_it : command ≡ Ok what
     pub turn : takes_turn what ≡ true
+    pub silent : p.listens ≡ None
     pub why : ActFault
     pub not_memory : why ≢ NoMemory
-    pub turned : Faulted start v (asked now what) [] w why
+    pub turned : Faulted start p.view (asked now what) [] q.view why
 
   -- the values before a command were answered, and the command wasn't
-  pub record IsHalted (stream : List ℕ) (v : View) (bytes : List ℕ) (w : View) : Type 0 where
+  pub record IsHalted (stream : List ℕ) (p : Party) (bytes : List ℕ) (q : Party) : Type 0 where
     pub values : List Frame
     pub value : Frame
     pub rest : List ℕ
     pub parts : Parts stream (values ++ value ∷ []) rest
-    pub middle : View
-    pub answers : AnswersTo v values bytes middle
-    pub halted : IsHaltedAt middle (command_of value) w
+    pub middle : Party
+    pub answers : AnswersTo p values bytes middle
+    pub halted : IsHaltedAt middle (command_of value) q
 
   -- what one value more did to the seat whose answer had no room
-  pub record IsLost (stream : List ℕ) (values : List Frame) (v w : View) : Type 0 where
+  pub record IsLost (stream : List ℕ) (values : List Frame) (p q : Party) : Type 0 where
     pub value : Frame
     pub rest : List ℕ
     pub parts : Parts stream (values ++ value ∷ []) rest
     pub bytes : List ℕ
-    pub reply : Replies v (command_of value) bytes w
+    pub reply : Responds p (command_of value) bytes q
 
   -- values were answered, and at most one more was carried out
-  pub record IsCut (stream : List ℕ) (v : View) (bytes : List ℕ) (w : View) : Type 0 where
+  pub record IsCut (stream : List ℕ) (p : Party) (bytes : List ℕ) (q : Party) : Type 0 where
     pub values : List Frame
     pub rest : List ℕ
     pub parts : Parts stream values rest
-    pub middle : View
-    pub answers : AnswersTo v values bytes middle
-    pub left : (w ≡ middle) ⊎ IsLost stream values middle w
+    pub middle : Party
+    pub answers : AnswersTo p values bytes middle
+    pub left : (q ≡ middle) ⊎ IsLost stream values middle q
 
-  abbrev pub Breaks : (stream : List ℕ) → View → ServeFault → (bytes : List ℕ) → View → Type 0
-  Breaks stream v (FaultyFrame fault) bytes w = IsRefused stream fault v bytes w
-  Breaks stream v Refused bytes w = IsHalted stream v bytes w
-  Breaks stream v OutOfMemory bytes w = IsCut stream v bytes w
-  Breaks stream v Read bytes w = ⊥
-  Breaks stream v Write bytes w = ⊥
+  abbrev pub Breaks : (stream : List ℕ) → Party → ServeFault → (bytes : List ℕ) → Party → Type 0
+  Breaks stream p (FaultyFrame fault) bytes q = IsRefused stream fault p bytes q
+  Breaks stream p Refused bytes q = IsHalted stream p bytes q
+  Breaks stream p OutOfMemory bytes q = IsCut stream p bytes q
+  Breaks stream p Read bytes q = ⊥
+  Breaks stream p Write bytes q = ⊥
 
-  abbrev pub Receives : {X : Type 0} → (stream : List ℕ) → View → Result X ServeFault → (held bytes : List ℕ) → View → Type 0
-  Receives stream v (Ok x) held bytes w = IsAnswered stream v held bytes w
-  Receives stream v (Err fault) held bytes w = Breaks stream v fault bytes w
+  -- a session that ended listens to nothing
+  abbrev pub Receives : {X : Type 0} → (stream : List ℕ) → Party → Result X ServeFault → (held bytes : List ℕ) → Party → Type 0
+  Receives stream p (Ok x) held bytes q = IsAnswered stream p held bytes q
+  Receives stream p (Err fault) held bytes q = (q.listens ≡ None) × (listened : Option ℕ) × Breaks stream p fault bytes (party q.view listened)

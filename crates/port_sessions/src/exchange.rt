@@ -1,12 +1,14 @@
 //! What came from a client and what goes to it.
 
-ghost use Rattle.std.specs.Prelude.{◌≡◌, ◌≤◌, ◌<◌, ◌++◌, ℕ, List, [], OnOk, OnErr, IfOk, IfErr, IsTrue, length, drop};
+ghost use Rattle.std.specs.Prelude.{◌≡◌, ◌≤◌, ◌<◌, ◌++◌, ℕ, List, [], None, OnOk, OnErr, IfOk, IfErr, IsTrue, length, drop};
 ghost use Rattle.resp2_frames.specs.Stream.{reading, held_size, bytes_in};
-ghost use Rattle.sentinel_cell.specs.declared.view.View.{View};
-ghost use Rattle.port_sessions.specs.Talks.{Receives};
-ghost use Rattle.port_sessions.specs.OnTheWay.{IsOnTheWay, Steps, Drains, Refuses};
+ghost use Rattle.resp2_frames.specs.Frame.{spelling};
+ghost use Rattle.port_sessions.specs.Listening.{note_frame};
+ghost use Rattle.port_sessions.specs.Talks.{Party, party};
+ghost use Rattle.port_sessions.specs.OnTheWay.{IsOnTheWay, Steps, Drains, Refuses, Takes};
 
 use crate::responder::Responder;
+use ballot_law::{NoMemory, Note, Roster};
 use bytes::BytesMut;
 use port_serving::ServeFault;
 use resp2::{FrameFault, Frames, next_command};
@@ -20,7 +22,7 @@ use std::sync::Wait;
 pub(crate) struct Exchange {
     alloc: Global,
     pub(crate) frames: Frames,
-    responder: Responder,
+    pub(crate) responder: Responder,
     pub(crate) unsent: BytesMut,
 }
 
@@ -29,6 +31,7 @@ impl Exchange {
     pub(crate) fn new(alloc: Global) -> Exchange
         ensures frames { result.frames ≡ reading [] }
         ensures unsent { result.unsent.items ≡ [] }
+        ensures silent { result.responder.listens ≡ None }
     {
         Exchange {
             alloc,
@@ -50,6 +53,7 @@ impl Exchange {
         requires { n ≤ length self.old.unsent.items }
         ensures unsent { self.new.unsent.items ≡ drop n self.old.unsent.items }
         ensures frames { self.new.frames ≡ self.old.frames }
+        ensures listens { self.new.responder.listens ≡ self.old.responder.listens }
     {
         self.unsent.advance(n);
     }
@@ -58,13 +62,39 @@ impl Exchange {
     pub(crate) fn drop_held(&mut self)
         ensures frames { self.new.frames ≡ reading [] }
         ensures unsent { self.new.unsent.items ≡ self.old.unsent.items }
+        ensures listens { self.new.responder.listens ≡ self.old.responder.listens }
     {
         self.frames = Frames::new(self.alloc);
+    }
+
+    /// The client is told of no more notes.
+    pub(crate) fn stop_listening(&mut self)
+        ensures frames { self.new.frames ≡ self.old.frames }
+        ensures unsent { self.new.unsent.items ≡ self.old.unsent.items }
+        ensures silent { self.new.responder.listens ≡ None }
+    {
+        self.responder.stop_listening();
+    }
+
+    /// Puts out the message of a note.
+    pub(crate) fn put_note(&mut self, roster: &Roster, note: &Note) -> Result<(), NoMemory>
+        requires { note.now.master < length roster.now.masters }
+        ensures frames { self.new.frames ≡ self.old.frames }
+        ensures listens { self.new.responder.listens ≡ self.old.responder.listens }
+        ensures ok { OnOk result (self.new.unsent.items ≡ self.old.unsent.items ++ spelling (note_frame roster.now note.now)) }
+        ensures err { OnErr result (self.new.unsent.items ≡ self.old.unsent.items) }
+    {
+        self.responder.write_note(roster, note)?;
+        match self.put_out() {
+            Ok(()) => Ok(()),
+            Err(_) => Err(NoMemory),
+        }
     }
 
     /// Puts out the answer that the responder has.
     fn put_out(&mut self) -> Result<(), ServeFault>
         ensures frames { self.new.frames ≡ self.old.frames }
+        ensures listens { self.new.responder.listens ≡ self.old.responder.listens }
         ensures ok { OnOk result (self.new.unsent.items ≡ self.old.unsent.items ++ self.old.responder.text) }
         ensures err { OnErr result (self.new.unsent.items ≡ self.old.unsent.items) }
         ensures fault { IfErr result (λ fault. fault ≡ ServeFault.NoMemory) }
@@ -78,6 +108,7 @@ impl Exchange {
     /// Puts out the line of a frame's fault, and gives the fault that ends the session.
     fn refuse(&mut self, fault: FrameFault) -> ServeFault
         ensures frames { self.new.frames ≡ self.old.frames }
+        ensures listens { self.new.responder.listens ≡ self.old.responder.listens }
         ensures refused { (line : List ℕ) × (self.new.unsent.items ≡ self.old.unsent.items ++ line) × Refuses fault line result }
     {
         if let FrameFault::NoMemory = fault {
@@ -100,10 +131,10 @@ impl Exchange {
         requires own { seat.old.cell ≡ cell.now.id }
         ensures own { seat.new.cell ≡ seat.old.cell }
         ensures smaller { IfOk result (λ more. IsTrue more → held_size self.new.frames < held_size self.old.frames) }
-        ensures answered { (stream before bytes : List ℕ) (v : View) → self.old.unsent.items ≡ before ++ bytes
-            → IsOnTheWay cell.now.start now stream v self.old.frames bytes seat.old.view
+        ensures answered { (stream before bytes : List ℕ) (p : Party) → self.old.unsent.items ≡ before ++ bytes
+            → IsOnTheWay cell.now.start now stream p self.old.frames bytes (party seat.old.view self.old.responder.listens)
             → (more : List ℕ) × (self.new.unsent.items ≡ before ++ more)
-            × Steps cell.now.start now stream v result self.new.frames more seat.new.view }
+            × Steps cell.now.start now stream p result self.new.frames more (party seat.new.view self.new.responder.listens) }
     {
         let asked = match next_command(&mut self.frames) {
             Ok(Some(asked)) => asked,
@@ -129,10 +160,10 @@ impl Exchange {
     ) -> Result<(), ServeFault>
         requires own { seat.old.cell ≡ cell.now.id }
         ensures own { seat.new.cell ≡ seat.old.cell }
-        ensures answered { (stream before bytes : List ℕ) (v : View) → self.old.unsent.items ≡ before ++ bytes
-            → IsOnTheWay cell.now.start now stream v self.old.frames bytes seat.old.view
+        ensures answered { (stream before bytes : List ℕ) (p : Party) → self.old.unsent.items ≡ before ++ bytes
+            → IsOnTheWay cell.now.start now stream p self.old.frames bytes (party seat.old.view self.old.responder.listens)
             → (more : List ℕ) × (self.new.unsent.items ≡ before ++ more)
-            × Drains cell.now.start now stream v result self.new.frames more seat.new.view }
+            × Drains cell.now.start now stream p result self.new.frames more (party seat.new.view self.new.responder.listens) }
     {
         loop {
             match self.answer_next(rt, cell, seat, now) {
@@ -157,7 +188,8 @@ impl Exchange {
         ensures own { seat.new.cell ≡ seat.old.cell }
         ensures open { OnOk result (self.new.frames ≡ reading (bytes_in self.new.frames)) }
         ensures received { (more : List ℕ) × (self.new.unsent.items ≡ self.old.unsent.items ++ more)
-            × Receives cell.now.start now (bytes_in self.old.frames ++ piece.now) seat.old.view result (bytes_in self.new.frames) more seat.new.view }
+            × Takes cell.now.start now (bytes_in self.old.frames ++ piece.now) (party seat.old.view self.old.responder.listens) result (bytes_in self.new.frames) more
+            (party seat.new.view self.new.responder.listens) }
     {
         if self.frames.feed(piece).is_err() {
             return Err(ServeFault::NoMemory);

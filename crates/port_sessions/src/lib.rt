@@ -17,6 +17,7 @@
 
 mod exchange;
 mod laws;
+mod notes;
 mod responder;
 mod session;
 

@@ -1,18 +1,23 @@
 //! The answer to one value.
 
-ghost use Rattle.std.specs.Prelude.{◌≡◌, ◌<◌, ℕ, [], None, Ok, Err, true, IfSome, OnOk, IfOk, IfErr, IsErr};
+ghost use Rattle.std.specs.Prelude.{◌≡◌, ◌≢◌, ◌<◌, ◌+◌, ℕ, [], None, Ok, Err, true, length, IfSome, OnOk, OnErr, IfOk, IfErr, IsOk, IsErr};
 ghost use Rattle.ballot_law.specs.declared.messages.Body.TheVariants.{AddressAnswer};
 ghost use Rattle.message_texts.specs.MessageTexts.{message_bytes, IsWritable};
 ghost use Rattle.port_answers.specs.Answers.{command_fault};
 ghost use Rattle.port_serving.specs.Serving.{last_line};
 ghost use Rattle.resp2.specs.Commands.{IsWithin};
 ghost use Rattle.resp2_frames.specs.Frame.{spelling};
+ghost use Rattle.sentinel_cell.specs.declared.view.View.{View};
 ghost use Rattle.sentinel_rules.specs.Answers.{named};
 ghost use Rattle.sentinel_rules.specs.Plans.{master_count};
-ghost use Rattle.port_sessions.specs.Talks.{IsTold, takes_turn};
+ghost use Rattle.port_sessions.specs.Listening.{pong_message, not_allowed, note_frame, answer_while_listening};
+ghost use Rattle.port_sessions.specs.Talks.{IsTold, takes_turn, party, listens_after};
 ghost use Rattle.port_sessions.specs.OnTheWay.{Ends, Turns, ended_by};
 
-use ballot_law::{Body, Card, Command, Event, Input, Message, Name, NodeName, Output, Shown};
+use crate::notes::{write_for_listener, write_note};
+use ballot_law::{
+    Body, Card, Command, Event, Input, Message, Name, NoMemory, NodeName, Note, Output, Roster, Shown,
+};
 use message_texts::message_text;
 use port_answers::AnswerText;
 use port_serving::ServeFault;
@@ -23,12 +28,14 @@ use sentinel_outbox::Outbox;
 use std::alloc::Global;
 use std::sync::Wait;
 
-/// What answers one value after another: the room for the outputs of a command, and the text of the last answer.
+/// What answers one value after another: the room for the outputs of a command, the text of the last answer, and since which entry of the
+/// Sentinel's history the client listens to notes.
 #[derive(Drop)]
 pub(crate) struct Responder {
     alloc: Global,
     outbox: Outbox,
     pub(crate) text: OutText,
+    pub(crate) listens: Option<u64>,
     ghost none_held: { outbox.held ≡ [] },
 }
 
@@ -91,6 +98,17 @@ fn write_message(alloc: Global, message: &Message, text: &mut OutText) -> Result
     }
 }
 
+/// The fault that ends a session at a refused growth.
+fn of_memory(wrote: Result<(), NoMemory>) -> Result<(), ServeFault>
+    ensures ok { OnOk result (IsOk wrote) }
+    ensures fault { IfErr result (λ fault. fault ≡ ServeFault.NoMemory) }
+{
+    match wrote {
+        Ok(()) => Ok(()),
+        Err(_) => Err(ServeFault::NoMemory),
+    }
+}
+
 /// The fault that ends a session at a turn that shows nothing.
 fn of_act(fault: ActFault) -> ServeFault
     ensures { result ≡ ended_by fault }
@@ -103,13 +121,26 @@ fn of_act(fault: ActFault) -> ServeFault
     }
 }
 
+/// Since which entry a client listens after this command, whose entry it is.
+fn listens_since(command: Command, entry: u64) -> Option<u64>
+    ensures { (w : View) → entry + 1 ≡ length w.front → result ≡ listens_after (Ok command) w }
+{
+    match command {
+        Command::Subscribe => Some(entry),
+        _ => None,
+    }
+}
+
 impl Responder {
     /// No answer was given yet. No memory is taken.
-    pub(crate) fn new(alloc: Global) -> Responder {
+    pub(crate) fn new(alloc: Global) -> Responder
+        ensures { result.listens ≡ None }
+    {
         Responder {
             alloc,
             outbox: Outbox::new(alloc),
             text: OutText::new(alloc),
+            listens: None,
         }
     }
 
@@ -122,6 +153,7 @@ impl Responder {
 
     /// The answer is this line.
     fn answer_line(&mut self, line: &AnswerText) -> Result<(), ServeFault>
+        ensures same { self.new.listens ≡ self.old.listens }
         ensures ok { OnOk result (self.new.text ≡ line.now) }
         ensures fault { IfErr result (λ fault. fault ≡ ServeFault.NoMemory) }
     {
@@ -135,6 +167,7 @@ impl Responder {
     /// The answer to bytes that are no RESP2.
     #[tactic(auto, using(crate::proofs::Lines::protocol_error_fits))]
     pub(crate) fn answer_protocol_error(&mut self) -> Result<(), ServeFault>
+        ensures same { self.new.listens ≡ self.old.listens }
         ensures ok { OnOk result (self.new.text ≡ last_line) }
         ensures fault { IfErr result (λ fault. fault ≡ ServeFault.NoMemory) }
     {
@@ -148,6 +181,7 @@ impl Responder {
     /// The answer to a value that is no command.
     #[tactic(auto, using(port_serving::proofs::Answering::line_fits))]
     fn answer_fault(&mut self, fault: CommandFault) -> Result<(), ServeFault>
+        ensures same { self.new.listens ≡ self.old.listens }
         ensures ok { OnOk result (self.new.text ≡ spelling (command_fault fault)) }
         ensures fault { IfErr result (λ fault. fault ≡ ServeFault.NoMemory) }
     {
@@ -165,15 +199,17 @@ impl Responder {
         seat: &mut Seat,
         name: Option<Name>,
     ) -> Result<(), ServeFault>
+        requires silent { self.old.listens ≡ None }
         requires own { seat.old.cell ≡ cell.now.id }
         ensures own { seat.new.cell ≡ seat.old.cell }
-        ensures answered { (now : ℕ) → Ends cell.now.start now seat.old.view (Ok (Command.GetMasterAddrByName name)) result self.new.text seat.new.view }
+        ensures answered { (now : ℕ) → Ends cell.now.start now (party seat.old.view self.old.listens) (Ok (Command.GetMasterAddrByName name)) result self.new.text
+            (party seat.new.view self.new.listens) }
     {
         let shown = told_of(cell, seat, name);
         write_message(self.alloc, &address_answer(shown), &mut self.text)
     }
 
-    /// Has a command take its turn, after which the outbox shows its answer alone.
+    /// Has a command take its turn, after which the outbox shows its answer alone, and the client listens where it was SUBSCRIBE.
     fn take_turn<S: ConfStore, R: Wait>(
         &mut self,
         rt: &R,
@@ -184,8 +220,11 @@ impl Responder {
     ) -> Result<(), ServeFault>
         requires own { seat.old.cell ≡ cell.now.id }
         requires within { IsWithin command }
+        requires silent { self.old.listens ≡ None }
         ensures own { seat.new.cell ≡ seat.old.cell }
         ensures turned { Turns cell.now.start now seat.old.view command result self.new.outbox.shown seat.new.view }
+        ensures listens { OnOk result (self.new.listens ≡ listens_after (Ok command) seat.new.view) }
+        ensures silent { OnErr result (self.new.listens ≡ None) }
     {
         self.outbox.clear();
         let sender = NodeName::PortAt(0);
@@ -194,7 +233,10 @@ impl Responder {
             event: Event::Command { sender, command },
         };
         match cell.act(rt, seat, &input, &mut self.outbox) {
-            Ok(_) => Ok(()),
+            Ok(reply) => {
+                self.listens = listens_since(command, reply.entry);
+                Ok(())
+            }
             Err(fault) => Err(of_act(fault)),
         }
     }
@@ -211,8 +253,9 @@ impl Responder {
         requires own { seat.old.cell ≡ cell.now.id }
         requires within { IsWithin command }
         requires turn { takes_turn command ≡ true }
+        requires silent { self.old.listens ≡ None }
         ensures own { seat.new.cell ≡ seat.old.cell }
-        ensures answered { Ends cell.now.start now seat.old.view (Ok command) result self.new.text seat.new.view }
+        ensures answered { Ends cell.now.start now (party seat.old.view self.old.listens) (Ok command) result self.new.text (party seat.new.view self.new.listens) }
     {
         if let Err(fault) = self.take_turn(rt, cell, seat, now, command) {
             return Err(fault);
@@ -223,7 +266,42 @@ impl Responder {
         write_message(self.alloc, message, &mut self.text)
     }
 
-    /// The answer to a value, by the command that it spells or the reason why it is none: what it asks for, or the line of its fault.
+    /// The answer to a value of a client that doesn't listen, by the command that it spells or the reason why it is none: what it asks for, or
+    /// the line of its fault.
+    fn answer_silent<S: ConfStore, R: Wait>(
+        &mut self,
+        rt: &R,
+        cell: &SharedSentinel<S>,
+        seat: &mut Seat,
+        now: u64,
+        asked: Result<Command, CommandFault>,
+    ) -> Result<(), ServeFault>
+        requires within { IfOk asked IsWithin }
+        requires own { seat.old.cell ≡ cell.now.id }
+        requires silent { self.old.listens ≡ None }
+        ensures own { seat.new.cell ≡ seat.old.cell }
+        ensures answered { Ends cell.now.start now (party seat.old.view self.old.listens) asked result self.new.text (party seat.new.view self.new.listens) }
+    {
+        match asked {
+            Ok(Command::GetMasterAddrByName(name)) => self.answer_address(cell, seat, name),
+            Ok(command) => self.answer_in_turn(rt, cell, seat, now, command),
+            Err(fault) => self.answer_fault(fault),
+        }
+    }
+
+    /// The answer to a value of a client that listens, which is the same at every Sentinel.
+    fn answer_listener(&mut self, asked: Result<Command, CommandFault>) -> Result<(), ServeFault>
+        ensures same { self.new.listens ≡ self.old.listens }
+        ensures ok { OnOk result (self.new.text ≡ spelling (answer_while_listening asked)) }
+        ensures fault { IfErr result (λ fault. fault ≡ ServeFault.NoMemory) }
+    {
+        match asked {
+            Ok(command) => of_memory(write_for_listener(command, &mut self.text)),
+            Err(fault) => self.answer_fault(fault),
+        }
+    }
+
+    /// The answer to a value.
     pub(crate) fn answer<S: ConfStore, R: Wait>(
         &mut self,
         rt: &R,
@@ -235,12 +313,28 @@ impl Responder {
         requires within { IfOk asked IsWithin }
         requires own { seat.old.cell ≡ cell.now.id }
         ensures own { seat.new.cell ≡ seat.old.cell }
-        ensures answered { Ends cell.now.start now seat.old.view asked result self.new.text seat.new.view }
+        ensures answered { Ends cell.now.start now (party seat.old.view self.old.listens) asked result self.new.text (party seat.new.view self.new.listens) }
     {
-        match asked {
-            Ok(Command::GetMasterAddrByName(name)) => self.answer_address(cell, seat, name),
-            Ok(command) => self.answer_in_turn(rt, cell, seat, now, command),
-            Err(fault) => self.answer_fault(fault),
+        if self.listens.is_some() {
+            return self.answer_listener(asked);
         }
+        self.answer_silent(rt, cell, seat, now, asked)
+    }
+
+    /// The client listens no more.
+    pub(crate) fn stop_listening(&mut self)
+        ensures { self.new.listens ≡ None }
+    {
+        self.listens = None;
+    }
+
+    /// The text is this note, as a client that listens is told.
+    pub(crate) fn write_note(&mut self, roster: &Roster, note: &Note) -> Result<(), NoMemory>
+        requires { note.now.master < length roster.now.masters }
+        ensures same { self.new.listens ≡ self.old.listens }
+        ensures ok { OnOk result (self.new.text ≡ spelling (note_frame roster.now note.now)) }
+    {
+        let name = roster.masters()[note.master as usize].name;
+        write_note(self.alloc, &name, note, &mut self.text)
     }
 }

@@ -1,9 +1,11 @@
 //! A session as its callers see it.
 
-ghost use Rattle.std.specs.Prelude.{◌≡◌, ◌≤◌, ◌++◌, ℕ, List, [], None, Some, OnOk, IfErr, IfSome, length, drop};
-ghost use Rattle.port_sessions.specs.Talks.{Receives};
+ghost use Rattle.std.specs.Prelude.{◌≡◌, ◌≤◌, ◌<◌, ◌++◌, ℕ, List, [], None, Some, OnOk, IfErr, IfSome, length, drop};
+ghost use Rattle.port_sessions.specs.Notes.{none_told, is_due, Notifies};
+ghost use Rattle.port_sessions.specs.Talks.{Receives, party};
 
 use crate::exchange::Exchange;
+use ballot_law::{NoMemory, Note, Roster};
 use port_serving::ServeFault;
 use sentinel_cell::{Seat, SharedSentinel};
 use sentinel_conf::ConfStore;
@@ -11,12 +13,17 @@ use std::alloc::Global;
 use std::marker::Model;
 use std::sync::Wait;
 
-/// The conversation with one client of a port. Contracts see the bytes held, which came and are no whole value yet, the answers that
-/// aren't sent yet, and the fault that ended it.
+/// The greatest number of masters that a roster has.
+const MASTERS_MAX: usize = 16;
+
+/// The conversation with one client of a port. Contracts see the bytes held, which came and are no whole value yet, the answers and notes
+/// that aren't sent yet, and the fault that ended it; whether it listens to notes, with the entry of its SUBSCRIBE; and of each master the epoch of
+/// the configuration that it was told last.
 #[derive(Drop)]
 pub struct Session {
     exchange: Exchange,
     fault: Option<ServeFault>,
+    told: [Option<u64>; MASTERS_MAX],
 }
 
 impl Model for Session {
@@ -30,6 +37,8 @@ impl Model for Session {
       held = bytes_in session.exchange.frames;
       unsent = session.exchange.unsent.items;
       ended = session.fault;
+      listens = session.exchange.responder.listens;
+      told = session.told;
     } };
 
     ghost invariant = { λ session. session.exchange.frames ≡ reading (bytes_in session.exchange.frames) };
@@ -38,11 +47,12 @@ impl Model for Session {
 impl Session {
     /// A session to which no bytes came. No memory is taken.
     pub fn new(alloc: Global) -> Session
-        ensures { result ≡ record { held = []; unsent = []; ended = None } }
+        ensures { result ≡ record { held = []; unsent = []; ended = None; listens = None; told = none_told } }
     {
         Session {
             exchange: Exchange::new(alloc),
             fault: None,
+            told: [None; MASTERS_MAX],
         }
     }
 
@@ -70,7 +80,8 @@ impl Session {
         ensures own { seat.new.cell ≡ seat.old.cell }
         // The answers to the values of the bytes held before and the piece join what is unsent, and the bytes behind them are held.
         ensures received { self.old.ended ≡ None → (more : List ℕ) × (self.new.unsent ≡ self.old.unsent ++ more)
-            × Receives cell.now.start now (self.old.held ++ piece.now) seat.old.view result self.new.held more seat.new.view }
+            × Receives cell.now.start now (self.old.held ++ piece.now) (party seat.old.view self.old.listens) result self.new.held more (party seat.new.view self.new.listens) }
+        ensures told { self.new.told ≡ self.old.told }
         ensures open { OnOk result (self.new.ended ≡ None) }
         ensures closed { IfErr result (λ fault. self.new.ended ≡ Some fault) }
         // An ended session answers its fault, and nothing else happens.
@@ -83,6 +94,7 @@ impl Session {
             Ok(()) => Ok(()),
             Err(fault) => {
                 self.exchange.drop_held();
+                self.exchange.stop_listening();
                 self.fault = Some(fault);
                 Err(fault)
             }
@@ -103,5 +115,41 @@ impl Session {
         ensures { self.new ≡ record self.old { unsent = drop n self.old.unsent } }
     {
         self.exchange.sent(n);
+    }
+
+    /// Whether a note of this entry is news to the client.
+    fn is_due(&self, note: &Note, entry: u64) -> bool
+        requires { note.now.master < length self.now.told }
+        ensures { result ≡ is_due self.now note.now entry }
+    {
+        let Some(since) = self.exchange.responder.listens else {
+            return false;
+        };
+        if entry <= since {
+            return false;
+        }
+        match self.told[note.master as usize] {
+            Some(last) => last < note.card.epoch,
+            None => true,
+        }
+    }
+
+    /// Tells the client of a note, where it is news to it: whether it is.
+    pub fn notify(
+        &mut self,
+        roster: &Roster,
+        note: &Note,
+        entry: u64,
+    ) -> Result<bool, NoMemory>
+        requires { note.now.master < length roster.now.masters }
+        ensures { Notifies roster.now note.now entry self.old result self.new }
+    {
+        roster.is_made();
+        if !self.is_due(note, entry) {
+            return Ok(false);
+        }
+        self.exchange.put_note(roster, note)?;
+        self.told[note.master as usize] = Some(note.card.epoch);
+        Ok(true)
     }
 }

@@ -1,0 +1,68 @@
+//! What a client is sent that listens to notes.
+
+ghost use Rattle.std.specs.Prelude.{◌≡◌, ◌++◌, Ok, OnOk};
+ghost use Rattle.resp2_frames.specs.Frame.{spelling};
+ghost use Rattle.port_sessions.specs.Listening.{addr_words, note_text, message_frame, answer_while_listening};
+
+use ballot_law::{Addr, Command, Name, NoMemory, Note};
+use itoa::Buffer;
+use resp2::{OutText, push_bulk};
+use std::alloc::Global;
+use words::ip_text;
+
+/// Has the text hold these bytes, and nothing else.
+fn set_text(text: &mut OutText, bytes: &[u8]) -> Result<(), NoMemory>
+    ensures { OnOk result (text.new ≡ bytes.now) }
+{
+    text.clear();
+    text.add(bytes)
+}
+
+/// Has the text hold the answer to a command of a client that listens.
+pub(crate) fn write_for_listener(command: Command, text: &mut OutText) -> Result<(), NoMemory>
+    ensures { OnOk result (text.new ≡ spelling (answer_while_listening (Ok command))) }
+{
+    match command {
+        Command::Ping => set_text(text, b"*2\r\n$4\r\npong\r\n$0\r\n\r\n"),
+        Command::Subscribe => {
+            set_text(text, b"*3\r\n$9\r\nsubscribe\r\n$14\r\n+switch-master\r\n:1\r\n")
+        }
+        _ => set_text(text, b"-ERR not allowed while subscribed\r\n"),
+    }
+}
+
+/// Adds an address: its IPv4 address, a space and its port.
+fn add_addr(text: &mut OutText, addr: Addr) -> Result<(), NoMemory>
+    ensures { OnOk result (text.new ≡ text.old ++ addr_words addr) }
+{
+    text.add(&ip_text(addr.ip))?;
+    text.add(b" ")?;
+    let mut port = Buffer::new();
+    text.add(port.format(addr.port).as_bytes())
+}
+
+/// Adds what a note tells: the master's name, its old address and its new one.
+fn add_note(text: &mut OutText, name: &Name, note: &Note) -> Result<(), NoMemory>
+    ensures { OnOk result (text.new ≡ text.old ++ note_text name.now note.now) }
+{
+    text.add(name.as_slice())?;
+    text.add(b" ")?;
+    add_addr(text, note.old)?;
+    text.add(b" ")?;
+    add_addr(text, note.card.addr)
+}
+
+/// Has the text hold the message of a note about the master with this name.
+pub(crate) fn write_note(
+    alloc: Global,
+    name: &Name,
+    note: &Note,
+    text: &mut OutText,
+) -> Result<(), NoMemory>
+    ensures { OnOk result (text.new ≡ spelling (message_frame (note_text name.now note.now))) }
+{
+    let mut told = OutText::new(alloc);
+    add_note(&mut told, name, note)?;
+    set_text(text, b"*3\r\n$7\r\nmessage\r\n$14\r\n+switch-master\r\n")?;
+    push_bulk(text, told.as_slice())
+}
