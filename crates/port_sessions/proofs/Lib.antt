@@ -1,4 +1,5 @@
 pub mod Lines
+pub mod Listening
 pub mod Turning
 pub mod Replying
 pub mod Stepping

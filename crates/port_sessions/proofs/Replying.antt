@@ -1,7 +1,7 @@
 -- The answer to a value, and the text that it is written to.
-use Rattle.std.proofs.Common.{◌≡◌, ℕ, true, List, Result, Ok, Err, Option, refl, sym, ap, ◌∙◌, subst, inl, inr, true≢false}
+use Rattle.std.proofs.Common.{◌≡◌, ℕ, true, List, Result, Ok, Err, Option, Some, None, refl, sym, ap, ◌∙◌, subst, inl, inr, true≢false}
 use Rattle.std.proofs.lemmas.List.{append-nil}
-use Rattle.std.specs.Prelude.{OnOk, IfErr}
+use Rattle.std.specs.Prelude.{OnOk, IfErr, is_some}
 use Rattle.ballot_law.specs.declared.cards.Shown.{Shown}
 use Rattle.ballot_law.specs.declared.commands.Command.{Command}
 use Rattle.ballot_law.specs.declared.commands.Command.TheVariants.{Ping, IsMasterDownByAddr, GetMasterAddrByName, Masters, Master, Replicas, Sentinels, MyId, CkQuorum, FlushConfig, Subscribe}
@@ -20,26 +20,34 @@ use Rattle.resp2_frames.specs.Frame.{spelling}
 use Rattle.sentinel_cell.specs.declared.view.View.{View}
 use Rattle.sentinel_cell.specs.Histories.{World}
 use Rattle.sentinel_rules.specs.Answers.{named}
-use Rattle.port_sessions.specs.Talks.{takes_turn, IsTold, TakesTurn, Replies}
+use Rattle.port_sessions.specs.Listening.{answer_while_listening}
+use Rattle.port_sessions.specs.Talks.{Party, party, takes_turn, listens_after, IsTold, TakesTurn, Replies, RespondsAt, Responds}
 use Rattle.port_sessions.specs.OnTheWay.{ShowsAnswer, ShowsNothing, Fails, Ends}
 
 module _ (start : World) (now : ℕ) where
   -- the answer was written, or it had no room
-  wrote : {X : Type 0} (v : View) (command : Result Command CommandFault) (answer : Result X ServeFault) (text bytes : List ℕ) (w : View)
-      → OnOk answer (text ≡ bytes) → IfErr answer (λ fault. fault ≡ OutOfMemory) → Replies start now v command bytes w → Ends start now v command answer text w
-  wrote v command (Ok x) text bytes w ok err r = subst (λ (t : List ℕ). Replies start now v command t w) (sym ok) r
-  wrote v command (Err OutOfMemory) text bytes w ok err r = inr (bytes, r)
-  wrote v command (Err Refused) text bytes w ok err r = absurd (let no : ⊥ = cc in no)
-  wrote v command (Err Read) text bytes w ok err r = absurd (let no : ⊥ = cc in no)
-  wrote v command (Err Write) text bytes w ok err r = absurd (let no : ⊥ = cc in no)
-  wrote v command (Err (FaultyFrame f)) text bytes w ok err r = absurd (let no : ⊥ = cc in no)
+  wrote : {X : Type 0} (p : Party) (command : Result Command CommandFault) (answer : Result X ServeFault) (text bytes : List ℕ) (q : Party)
+      → OnOk answer (text ≡ bytes) → IfErr answer (λ fault. fault ≡ OutOfMemory) → Responds start now p command bytes q → Ends start now p command answer text q
+  wrote p command (Ok x) text bytes q ok err r = subst (λ (t : List ℕ). Responds start now p command t q) (sym ok) r
+  wrote p command (Err OutOfMemory) text bytes q ok err r = inr (bytes, r)
+  wrote p command (Err Refused) text bytes q ok err r = absurd (let no : ⊥ = cc in no)
+  wrote p command (Err Read) text bytes q ok err r = absurd (let no : ⊥ = cc in no)
+  wrote p command (Err Write) text bytes q ok err r = absurd (let no : ⊥ = cc in no)
+  wrote p command (Err (FaultyFrame f)) text bytes q ok err r = absurd (let no : ⊥ = cc in no)
+
+  -- where the session doesn't listen
+  silent_one : (v : View) (listens after : Option ℕ) (command : Result Command CommandFault) (bytes : List ℕ) (w : View) → listens ≡ None → after ≡ listens_after command w
+      → Replies start now v command bytes w → Responds start now (party v listens) command bytes (party w after)
+  silent_one v listens after command bytes w silent same r =
+      subst (λ (l : Option ℕ). RespondsAt start now l v command bytes (party w after)) (sym silent) (r, same)
 
   -- the answer to an address
-  pub told_written : {X : Type 0} (v : View) (name : Option (List ℕ)) (answer : Result X ServeFault) (text : List ℕ) (told : Option Shown) (body : Body) (w : View)
-      → body ≡ AddressAnswer told → OnOk answer (text ≡ message_bytes body) → IfErr answer (λ fault. fault ≡ OutOfMemory)
-      → IsTold start v (named start.plan name) told w → Ends start now v (Ok (GetMasterAddrByName name)) answer text w
-  told_written v name answer text told body w body_is ok err h =
-      wrote v (Ok (GetMasterAddrByName name)) answer text (message_bytes body) w ok err (told, ap message_bytes body_is, h)
+  pub told_written : {X : Type 0} (v : View) (listens : Option ℕ) (name : Option (List ℕ)) (answer : Result X ServeFault) (text : List ℕ) (told : Option Shown) (body : Body) (w : View)
+      → listens ≡ None → body ≡ AddressAnswer told → OnOk answer (text ≡ message_bytes body) → IfErr answer (λ fault. fault ≡ OutOfMemory)
+      → IsTold start v (named start.plan name) told w → Ends start now (party v listens) (Ok (GetMasterAddrByName name)) answer text (party w listens)
+  told_written v listens name answer text told body w silent body_is ok err h =
+      wrote (party v listens) (Ok (GetMasterAddrByName name)) answer text (message_bytes body) (party w listens) ok err
+      (silent_one v listens listens (Ok (GetMasterAddrByName name)) (message_bytes body) w silent silent (told, ap message_bytes body_is, h))
 
   -- a command that takes a turn is answered by what it shows
   by_turn : (v : View) (command : Command) (bytes : List ℕ) (w : View) → takes_turn command ≡ true → TakesTurn start now v command bytes w → Replies start now v (Ok command) bytes w
@@ -55,24 +63,36 @@ module _ (start : World) (now : ℕ) where
   by_turn v FlushConfig bytes w t h = h
   by_turn v Subscribe bytes w t h = h
 
-  pub turn_written : {X : Type 0} (v : View) (command : Command) (shown : List Output) (answer : Result X ServeFault) (text : List ℕ) (message : Message) (w : View)
-      → takes_turn command ≡ true → (h : ShowsAnswer start now v command shown w) → message ≡ h.0
-      → OnOk answer (text ≡ message_bytes message.body) → IfErr answer (λ fault. fault ≡ OutOfMemory) → Ends start now v (Ok command) answer text w
-  turn_written v command shown answer text message w t h same ok err =
+  pub turn_written : {X : Type 0} (v : View) (listens after : Option ℕ) (command : Command) (shown : List Output) (answer : Result X ServeFault) (text : List ℕ) (message : Message) (w : View)
+      → listens ≡ None → after ≡ listens_after (Ok command) w → takes_turn command ≡ true → (h : ShowsAnswer start now v command shown w) → message ≡ h.0
+      → OnOk answer (text ≡ message_bytes message.body) → IfErr answer (λ fault. fault ≡ OutOfMemory) → Ends start now (party v listens) (Ok command) answer text (party w after)
+  turn_written v listens after command shown answer text message w silent listening t h same ok err =
       let bytes_are : message_bytes message.body ≡ flat_map output_bytes shown =
       ap (λ (m : Message). message_bytes m.body) same ∙ sym (append-nil (message_bytes h.0.body)) ∙ ap (flat_map output_bytes) (sym h.1) in
-      wrote v (Ok command) answer text (message_bytes message.body) w ok err (by_turn v command (message_bytes message.body) w t (shown, bytes_are, h.3))
+      wrote (party v listens) (Ok command) answer text (message_bytes message.body) (party w after) ok err
+      (silent_one v listens after (Ok command) (message_bytes message.body) w silent listening (by_turn v command (message_bytes message.body) w t (shown, bytes_are, h.3)))
 
   -- a turn that showed nothing
-  pub turn_failed : (v : View) (command : Command) (fault : ServeFault) (w : View) → takes_turn command ≡ true
-      → ShowsNothing start now v command fault w → Fails start now v (Ok command) fault w
-  turn_failed v command Refused w t h = record { what = command; is_it = refl; turn = t; why = h.0; not_memory = h.1; turned = h.2 }
-  turn_failed v command OutOfMemory w t h = inl h
-  turn_failed v command Read w t h = h
-  turn_failed v command Write w t h = h
-  turn_failed v command (FaultyFrame f) w t h = h
+  pub turn_failed : (v : View) (listens after : Option ℕ) (command : Command) (fault : ServeFault) (w : View) → listens ≡ None → after ≡ None → takes_turn command ≡ true
+      → ShowsNothing start now v command fault w → Fails start now (party v listens) (Ok command) fault (party w after)
+  turn_failed v listens after command Refused w silent still t h =
+      record { what = command; is_it = refl; turn = t; silent = silent; why = h.0; not_memory = h.1; turned = h.2 }
+  turn_failed v listens after command OutOfMemory w silent still t h = inl (λ i. party (h i) ((still ∙ sym silent) i))
+  turn_failed v listens after command Read w silent still t h = h
+  turn_failed v listens after command Write w silent still t h = h
+  turn_failed v listens after command (FaultyFrame f) w silent still t h = h
 
   -- the line of a value that is no command
-  pub line_written : {X : Type 0} (v : View) (fault : CommandFault) (answer : Result X ServeFault) (text : List ℕ) → OnOk answer (text ≡ spelling (command_fault fault))
-      → IfErr answer (λ fault. fault ≡ OutOfMemory) → Ends start now v (Err fault) answer text v
-  line_written v fault answer text ok err = wrote v (Err fault) answer text (spelling (command_fault fault)) v ok err (refl, refl)
+  pub line_written : {X : Type 0} (v : View) (listens after : Option ℕ) (fault : CommandFault) (answer : Result X ServeFault) (text : List ℕ) → listens ≡ None → after ≡ listens
+      → OnOk answer (text ≡ spelling (command_fault fault)) → IfErr answer (λ fault. fault ≡ OutOfMemory) → Ends start now (party v listens) (Err fault) answer text (party v after)
+  line_written v listens after fault answer text silent same ok err =
+      wrote (party v listens) (Err fault) answer text (spelling (command_fault fault)) (party v after) ok err
+      (silent_one v listens after (Err fault) (spelling (command_fault fault)) v silent (same ∙ silent) (refl, refl))
+
+  -- any value of a session that listens
+  pub listener_written : {X : Type 0} (v : View) (listens after : Option ℕ) (command : Result Command CommandFault) (answer : Result X ServeFault) (text : List ℕ) → is_some listens ≡ true
+      → after ≡ listens → OnOk answer (text ≡ spelling (answer_while_listening command)) → IfErr answer (λ fault. fault ≡ OutOfMemory)
+      → Ends start now (party v listens) command answer text (party v after)
+  listener_written v None after command answer text there same ok err = absurd (true≢false (sym there))
+  listener_written v (Some since) after command answer text there same ok err =
+      wrote (party v (Some since)) command answer text (spelling (answer_while_listening command)) (party v after) ok err (refl, (λ i. party v (same i)))

@@ -10,9 +10,13 @@
 //! let count = connection.write(session.unsent())?;
 //! session.sent(count);
 //! if heard.is_err() && session.unsent().is_empty() { close(connection) }
+//!
+//! // a call of some thread's `act` answered this reply and showed this note
+//! let told = session.notify(cell.roster(), &note, reply.entry);      // where its client has subscribed and doesn't know of it yet
 //! ```
 //!
-//! What a stream of commands is answered stands in `Talks`.
+//! What a stream of commands is answered stands in `Talks`, what a client that has subscribed is answered and told in `Listening`, and which notes it is
+//! told in `Notes`.
 #![tactic(auto)]
 
 mod exchange;

@@ -25,7 +25,10 @@ pub(crate) fn write_for_listener(command: Command, text: &mut OutText) -> Result
     match command {
         Command::Ping => set_text(text, b"*2\r\n$4\r\npong\r\n$0\r\n\r\n"),
         Command::Subscribe => {
-            set_text(text, b"*3\r\n$9\r\nsubscribe\r\n$14\r\n+switch-master\r\n:1\r\n")
+            set_text(
+                text,
+                b"*3\r\n$9\r\nsubscribe\r\n$14\r\n+switch-master\r\n:1\r\n",
+            )
         }
         _ => set_text(text, b"-ERR not allowed while subscribed\r\n"),
     }

@@ -1,6 +1,7 @@
 //! The answer to one value.
 
-ghost use Rattle.std.specs.Prelude.{◌≡◌, ◌≢◌, ◌<◌, ◌+◌, ℕ, [], None, Ok, Err, true, length, IfSome, OnOk, OnErr, IfOk, IfErr, IsOk, IsErr};
+ghost use Rattle.std.specs.Prelude.{◌≡◌, ◌<◌, ◌+◌, ℕ, [], None, Ok, Err, true, length, IfSome, OnOk, OnErr, IfOk, IfErr, IsOk, IsErr};
+ghost use Rattle.std.specs.Bool.{then_some};
 ghost use Rattle.ballot_law.specs.declared.messages.Body.TheVariants.{AddressAnswer};
 ghost use Rattle.message_texts.specs.MessageTexts.{message_bytes, IsWritable};
 ghost use Rattle.port_answers.specs.Answers.{command_fault};
@@ -10,13 +11,14 @@ ghost use Rattle.resp2_frames.specs.Frame.{spelling};
 ghost use Rattle.sentinel_cell.specs.declared.view.View.{View};
 ghost use Rattle.sentinel_rules.specs.Answers.{named};
 ghost use Rattle.sentinel_rules.specs.Plans.{master_count};
-ghost use Rattle.port_sessions.specs.Listening.{pong_message, not_allowed, note_frame, answer_while_listening};
+ghost use Rattle.port_sessions.specs.Listening.{note_frame, answer_while_listening};
 ghost use Rattle.port_sessions.specs.Talks.{IsTold, takes_turn, party, listens_after};
 ghost use Rattle.port_sessions.specs.OnTheWay.{Ends, Turns, ended_by};
 
 use crate::notes::{write_for_listener, write_note};
 use ballot_law::{
-    Body, Card, Command, Event, Input, Message, Name, NoMemory, NodeName, Note, Output, Roster, Shown,
+    Body, Card, Command, Event, Input, Message, Name, NoMemory, NodeName, Note, Output, Roster,
+    Shown,
 };
 use message_texts::message_text;
 use port_answers::AnswerText;
@@ -121,13 +123,13 @@ fn of_act(fault: ActFault) -> ServeFault
     }
 }
 
-/// Since which entry a client listens after this command, whose entry it is.
-fn listens_since(command: Command, entry: u64) -> Option<u64>
-    ensures { (w : View) → entry + 1 ≡ length w.front → result ≡ listens_after (Ok command) w }
+/// Whether a client listens after the answer to this command, since its entry.
+fn subscribes(command: &Command) -> bool
+    ensures { (w : View) (entry : ℕ) → entry + 1 ≡ length w.front → then_some result entry ≡ listens_after (Ok command.now) w }
 {
     match command {
-        Command::Subscribe => Some(entry),
-        _ => None,
+        Command::Subscribe => true,
+        _ => false,
     }
 }
 
@@ -227,6 +229,7 @@ impl Responder {
         ensures silent { OnErr result (self.new.listens ≡ None) }
     {
         self.outbox.clear();
+        let subscribes = subscribes(&command);
         let sender = NodeName::PortAt(0);
         let input = Input {
             now,
@@ -234,7 +237,7 @@ impl Responder {
         };
         match cell.act(rt, seat, &input, &mut self.outbox) {
             Ok(reply) => {
-                self.listens = listens_since(command, reply.entry);
+                self.listens = subscribes.then_some(reply.entry);
                 Ok(())
             }
             Err(fault) => Err(of_act(fault)),
@@ -334,7 +337,7 @@ impl Responder {
         ensures same { self.new.listens ≡ self.old.listens }
         ensures ok { OnOk result (self.new.text ≡ spelling (note_frame roster.now note.now)) }
     {
-        let name = roster.masters()[note.master as usize].name;
-        write_note(self.alloc, &name, note, &mut self.text)
+        let master = &roster.masters()[note.master as usize];
+        write_note(self.alloc, &master.name, note, &mut self.text)
     }
 }

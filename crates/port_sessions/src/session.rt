@@ -63,11 +63,15 @@ impl Session {
     /// thread's store is under way, and after a halt. Every other command is answered by the outputs of one `act`, and what is no command
     /// by the line of its fault.
     ///
+    /// The first answer to `SUBSCRIBE +switch-master` has the session listen to notes (`notify`), since the entry of that `act`. From then on
+    /// the connection is in the Pub/Sub state of a Redis client: PING is answered by an array of `pong` and an empty text, SUBSCRIBE by its answer again, and
+    /// any other command by `-ERR not allowed while subscribed`. None of these takes a turn or asks for an address, so they come also after a halt.
+    ///
     /// `Frame` where the bytes are no RESP2 value: the values before were answered, and `-ERR Protocol error` stands behind their answers.
     /// `Halted` where a command took a turn and the Sentinel is halted, its store refused what the answer rests on, or there are no tickets
     /// left: it has no answer. `NoMemory` where a growth was refused: the values before were answered, and one value more may have been
     /// carried out with no answer. No other fault comes. What was put out before stays, and from then on the session answers the same fault for good,
-    /// takes nothing more and holds no bytes; the next client has a session of its own.
+    /// takes nothing more, holds no bytes and listens to nothing; the next client has a session of its own.
     pub fn received<S: ConfStore, R: Wait>(
         &mut self,
         rt: &R,
@@ -119,7 +123,7 @@ impl Session {
 
     /// Whether a note of this entry is news to the client.
     fn is_due(&self, note: &Note, entry: u64) -> bool
-        requires { note.now.master < length self.now.told }
+        requires { note.now.master < 16 }
         ensures { result ≡ is_due self.now note.now entry }
     {
         let Some(since) = self.exchange.responder.listens else {
@@ -134,13 +138,17 @@ impl Session {
         }
     }
 
-    /// Tells the client of a note, where it is news to it: whether it is.
-    pub fn notify(
-        &mut self,
-        roster: &Roster,
-        note: &Note,
-        entry: u64,
-    ) -> Result<bool, NoMemory>
+    /// Tells the client of a note, where it is due: whether it is. `entry` is the number of calls before the one that showed the note in the
+    /// history of the Sentinel (`Reply::entry`), and the note's master is one of the roster.
+    ///
+    /// `true` where the session listens, its SUBSCRIBE stands before that entry, and it was told of no configuration of the master with an epoch as
+    /// high. Then what is unsent ends with the message that clients of Redis Sentinel wait for, as its documentation of Pub/Sub messages has it:
+    /// the array of `message`, `+switch-master` and `<name> <oldip> <oldport> <newip> <newport>`. So a client is told no configuration twice, and
+    /// none that is older than one that it was told; a note that comes after a newer one is left out. `false` changes nothing.
+    ///
+    /// Nothing says when a note arrives, or that it does: a client that listens asks for the address too, as it does after each new
+    /// connection. After `NoMemory` nothing has changed and the client misses a note: the connection is to be closed.
+    pub fn notify(&mut self, roster: &Roster, note: &Note, entry: u64) -> Result<bool, NoMemory>
         requires { note.now.master < length roster.now.masters }
         ensures { Notifies roster.now note.now entry self.old result self.new }
     {

@@ -1,6 +1,6 @@
 use Rattle.std.proofs.Common.{◌≡◌, ◌++◌, ℕ, List}
 use Rattle.resp2_frames.specs.Stream.{held_size}
-use Rattle.sentinel_cell.specs.declared.view.View.{View}
+use Rattle.port_sessions.specs.Talks.{Party, party}
 use Rattle.port_sessions.specs.OnTheWay.{IsOnTheWay}
 use Rattle.port_sessions.proofs.exchange.Exchange.answer_whole.Given as goal
 
@@ -8,10 +8,10 @@ use Rattle.port_sessions.proofs.exchange.Exchange.answer_whole.Given as goal
 abbrev pub invariant-loop-fault : goal.invariant-loop-fault
 invariant-loop-fault g l =
     (l.seat.cell ≡ l.initial.seat.cell)
-    × ((stream before bytes : List ℕ) (v : View) → l.initial.self.unsent.items ≡ before ++ bytes
-    → IsOnTheWay l.fn.cell.start l.fn.now stream v l.initial.self.frames bytes l.initial.seat.view
+    × ((stream before bytes : List ℕ) (p : Party) → l.initial.self.unsent.items ≡ before ++ bytes
+    → IsOnTheWay l.fn.cell.start l.fn.now stream p l.initial.self.frames bytes (party l.initial.seat.view l.initial.self.responder.listens)
     → (more : List ℕ) × (l.self.unsent.items ≡ before ++ more)
-    × IsOnTheWay l.fn.cell.start l.fn.now stream v l.self.frames more l.seat.view)
+    × IsOnTheWay l.fn.cell.start l.fn.now stream p l.self.frames more (party l.seat.view l.self.responder.listens))
 
 abbrev pub decreases-loop-fault : goal.decreases-loop-fault
 decreases-loop-fault g l = held_size l.self.frames
