@@ -97,10 +97,10 @@ struct Seen {
     addr: Option<Addr>,
     flags: Flags,
     promoting: bool,
-    campaign: u64,
+    campaign: Option<u64>,
     begun: u64,
     epoch: u64,
-    voted: u64,
+    voted: Option<u64>,
     silent: Vec<Text>,
 }
 
@@ -111,10 +111,10 @@ impl Seen {
             addr: None,
             flags: Flags::none(),
             promoting: false,
-            campaign: 0,
+            campaign: None,
             begun: 0,
             epoch: 0,
-            voted: 0,
+            voted: None,
             silent: Vec::new(alloc),
         }
     }
@@ -149,21 +149,21 @@ impl Seen {
         self.flags.agreed = flags.agreed;
     }
 
-    /// Notes a vote that wasn't known.
+    /// Notes a vote that was given since the first look, which shows the one of the file.
     fn note_vote<R: Log>(&mut self, rt: &R, vote: Vote) {
+        let before = self.voted.unwrap_or(vote.epoch);
         if let Some(leader) = vote.leader {
-            if vote.epoch > self.voted {
+            if vote.epoch > before {
                 info!(rt; "+vote-for-leader {} {}", NamedId(leader), vote.epoch);
             }
         }
-        self.voted = self.voted.max(vote.epoch);
+        self.voted = Some(before.max(vote.epoch));
     }
 
     /// Notes that a failover was begun.
     fn note_start<R: Log>(&mut self, rt: &R, flags: Flags, master: NamedMaster<'_>) {
         if flags.failing_over && !self.flags.failing_over {
             info!(rt; "+try-failover master {master}");
-            self.promoting = false;
             self.begun = self.epoch;
         }
     }
@@ -176,20 +176,21 @@ impl Seen {
         self.promoting = true;
     }
 
-    /// Notes how a failover ended: its epoch has brought a configuration, or nobody was promoted in time. Its epoch is that of the vote which
-    /// it begins with.
+    /// Notes how the leader's failover ended: its epoch has brought a configuration, or nobody was promoted in time. Its epoch is that of the
+    /// vote which it begins with. Who lost the election may take the winner's configuration of the same epoch: that is no end of its own.
     fn note_end<R: Log>(&mut self, rt: &R, flags: Flags, master: NamedMaster<'_>) {
         let before = self.flags.failing_over;
         if flags.failing_over && !before {
             self.campaign = self.voted;
         }
-        if before && !flags.failing_over {
-            if self.epoch == self.campaign {
+        if self.promoting && before && !flags.failing_over {
+            if Some(self.epoch) == self.campaign {
                 info!(rt; "+failover-end master {master}");
-            } else if self.promoting && self.epoch == self.begun {
+            } else if self.epoch == self.begun {
                 info!(rt; "-failover-abort-slave-timeout master {master}");
             }
         }
+        self.promoting &= flags.failing_over;
         self.flags.failing_over = flags.failing_over;
     }
 
