@@ -5,3 +5,4 @@ pub mod Replying
 pub mod Stepping
 pub mod Joining
 pub mod Served
+pub mod Told

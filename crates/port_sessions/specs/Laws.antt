@@ -1,5 +1,7 @@
--- What the answers of a session are to the answers of a stream, and to its pieces.
-use Rattle.std.specs.Prelude.{◌≡◌, ◌⊎◌, ◌++◌, ℕ, List}
+-- What the answers of a session are to the answers of a stream, and to its pieces; and what a note is to the notes behind it.
+use Rattle.std.specs.Prelude.{◌≡◌, ◌≢◌, ◌<◌, ◌≤◌, ◌⊎◌, ◌++◌, ℕ, false, List, length}
+use Rattle.ballot_law.specs.declared.messages.Note.{Note}
+use Rattle.ballot_law.specs.Rosters.{Roster}
 use Rattle.port_serving.specs.Serving.{replied}
 use Rattle.resp2.specs.Commands.{command_of}
 use Rattle.resp2_frames.specs.Frame.{Frame}
@@ -8,7 +10,8 @@ use Rattle.sentinel_cell.specs.declared.view.View.{View}
 use Rattle.sentinel_cell.specs.Calls.{Begins}
 use Rattle.sentinel_cell.specs.Histories.{World, IsLegal, replay}
 use Rattle.sentinel_rules.specs.States.{Core}
-use Rattle.port_sessions.specs.Talks.{Party, Replies, IsAnswered}
+use Rattle.port_sessions.specs.Notes.{is_due, notified}
+use Rattle.port_sessions.specs.Talks.{Talk, Party, Replies, IsAnswered}
 
 -- what a Sentinel has that keeps what is stored: the same as its core, but after a refused store
 abbrev pub stored_core : World → Core
@@ -28,3 +31,10 @@ PiecesJoin =
     (start : World) (now : ℕ) (stream piece held later bytes more : List ℕ) (p middle q : Party)
     → IsAnswered start now stream p held bytes middle → IsAnswered start now (held ++ piece) middle later more q
     → IsAnswered start now (stream ++ piece) p later (bytes ++ more) q
+
+-- behind a note that was told, none of its master is due whose configuration is no newer, and whether another master's is due is as before
+abbrev pub NotesRise : Type 0
+NotesRise =
+    (roster : Roster) (note other : Note) (entry : ℕ) (talk : Talk) → note.master < length talk.told
+    → (other.master ≡ note.master → other.card.epoch ≤ note.card.epoch → is_due (notified roster note talk) other entry ≡ false)
+    × (other.master ≢ note.master → is_due (notified roster note talk) other entry ≡ is_due talk other entry)

@@ -25,6 +25,6 @@ mod notes;
 mod responder;
 mod session;
 
-pub use laws::{law_answers_are_served, law_pieces_join};
+pub use laws::{law_answers_are_served, law_notes_rise, law_pieces_join};
 pub use port_serving::ServeFault;
 pub use session::Session;

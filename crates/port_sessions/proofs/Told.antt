@@ -1,0 +1,20 @@
+-- What a note that was told keeps back.
+use Rattle.std.proofs.Common.{◌≡◌, ℕ, Bool, true, false, ◌&&◌, Option, Some, None, slice_index_or, slice_set, refl, ap, ◌∙◌, get_or-set_same, get_or-set_other}
+use Rattle.std.proofs.lemmas.Bool.{le-ltb}
+use Rattle.port_sessions.specs.Laws.{NotesRise}
+use Rattle.port_sessions.specs.Notes.{listened_before, is_newer}
+
+and_false : (b : Bool) → (b && false) ≡ false
+and_false true = refl
+and_false false = refl
+
+pub notes_rise : NotesRise
+notes_rise roster note other entry talk known =
+    let listens = listened_before talk.listens entry in
+    let due : Option ℕ → Bool = λ last. listens && is_newer last other.card.epoch in
+    let after = slice_set talk.told note.master (Some note.card.epoch) in (
+      λ same low.
+          let told = ap (λ (m : ℕ). slice_index_or after m None) same ∙ get_or-set_same talk.told note.master (Some note.card.epoch) None known in
+          ap due told ∙ ap (λ (b : Bool). listens && b) (le-ltb note.card.epoch other.card.epoch low) ∙ and_false listens,
+      λ apart. ap due (get_or-set_other talk.told note.master other.master (Some note.card.epoch) None apart),
+    )
