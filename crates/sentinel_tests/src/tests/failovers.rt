@@ -123,12 +123,6 @@ const VOTE_FOR_B: &str = "*3\n\
 $bbbbbbbbbbbbbbbbbbbbbbbbbbbbbbbbbbbbbbbb\n\
 :1";
 
-/// A vote of epoch 1 for nobody that is known.
-const VOTE_OF_1: &str = "*3\n\
-:0\n\
-$*\n\
-:1";
-
 /// B finds the master down, and votes for nobody.
 const DOWN_TOO: Turn = Turn::AnswerOfB {
     leader: None,
@@ -256,7 +250,7 @@ fn a_campaign_that_was_not_stored_leaves_the_vote_free(rt: HostRuntime) -> Resul
 
 #[test]
 fn a_campaign_that_was_stored_has_its_vote(rt: HostRuntime) -> Result<(), Fail> {
-    let scenes = stopped_campaign(End::StoppedStored, VOTE_OF_1);
+    let scenes = stopped_campaign(End::StoppedStored, VOTE_FOR_A);
     play(&rt, rt.alloc(), QUICK, &[], scenes.as_slice())
 }
 
@@ -265,8 +259,8 @@ fn a_vote_outlives_the_sentinel(rt: HostRuntime) -> Result<(), Fail> {
     let scenes = [
         at(0, Turn::Request(A), VOTE_FOR_A),
         at(0, Turn::Where, "").ending(End::StoppedStored),
-        at(0, Turn::Request(A), VOTE_OF_1),
-        at(0, Turn::Request(B), VOTE_OF_1),
+        at(0, Turn::Request(A), VOTE_FOR_A),
+        at(0, Turn::Request(B), VOTE_FOR_A),
     ];
     play(&rt, rt.alloc(), FOUR_SENTINELS, &[], scenes.as_slice())
 }
