@@ -361,11 +361,12 @@ impl Lookout {
             return;
         };
         let vote = Vote::of(member.ask(rt, seat, now, vote_question(addr)));
-        self.note_master(rt, master, Card { epoch, addr }, flags, named);
+        let card = Card { epoch, addr };
+        self.note_master(rt, master, card, flags, named);
         self.note_epoch(rt, told.epoch.max(vote.epoch));
         let promoted = node_of(member.roster(), told.promoted);
         self.note_failover(rt, master, flags, vote, promoted, named);
-        self.look_around(rt, member, seat, now, master, named);
+        self.look_around(rt, member, seat, now, master, card, named);
     }
 
     /// Notes whether a master with this configuration is down.
@@ -404,7 +405,7 @@ impl Lookout {
         seen.note_end(rt, flags, named);
     }
 
-    /// Notes which replicas of a master, and which other Sentinels, are down.
+    /// Notes which replicas of a master, and which other Sentinels, are down, unless another thread brought a new configuration meanwhile.
     fn look_around<J: Which, S: ConfStore, R: Wait + Log>(
         &mut self,
         rt: &R,
@@ -412,6 +413,7 @@ impl Lookout {
         seat: &mut ThreadSeat<J>,
         now: u64,
         master: u16,
+        card: Card,
         named: NamedMaster<'_>,
     ) {
         let Some(name) = member.name_of(master) else {
@@ -420,9 +422,16 @@ impl Lookout {
         let Some(seen) = self.masters.get_mut(master as usize) else {
             return;
         };
-        let replicas = member.ask(rt, seat, now, Command::Replicas(Some(name)));
+        let replicas = member.ask_about(rt, seat, now, Command::Replicas(Some(name)), master, card);
         seen.note_rows(rt, "slave", text_of(replicas), named);
-        let sentinels = member.ask(rt, seat, now, Command::Sentinels(Some(name)));
+        let sentinels = member.ask_about(
+            rt,
+            seat,
+            now,
+            Command::Sentinels(Some(name)),
+            master,
+            card,
+        );
         seen.note_rows(rt, "sentinel", text_of(sentinels), named);
     }
 }

@@ -8,7 +8,9 @@ ghost use Rattle.sentinel_rules.specs.Facts.{IsWithinEvent};
 use crate::group_state::GroupState;
 use crate::notes::note_all;
 use crate::switches::{Switch, Switches};
-use ballot_law::{Addr, Body, Command, Event, Input, Name, NoMemory, NodeName, Output, Roster};
+use ballot_law::{
+    Addr, Body, Card, Command, Event, Input, Name, NoMemory, NodeName, Output, Roster,
+};
 use log::kv::With;
 use log::{Level, Log, Span, log_enabled};
 use port_sessions::{ServeFault, Session};
@@ -201,6 +203,31 @@ impl<J: Which, S: ConfStore> Member<J, S> {
             return Ok(false);
         }
         session.notify(roster, &switch.note, switch.entry)
+    }
+
+    /// What the Sentinel answers to a command about the master with this number, where this is still its configuration after the answer: then
+    /// the answer is of that configuration, since epochs only rise. None else, and at a fault.
+    pub(crate) fn ask_about<'a, R: Wait>(
+        &self,
+        rt: &R,
+        seat: &'a mut ThreadSeat<J>,
+        now: u64,
+        command: Command,
+        master: u16,
+        card: Card,
+    ) -> Option<&'a Body>
+        requires { IsWithinEvent (Event.Command (NodeName.PortAt 0) command) }
+    {
+        let sender = NodeName::PortAt(0);
+        let event = Event::Command { sender, command };
+        self.turn(rt, seat, &Input { now, event }).ok()?;
+        if self.address(seat, master)? != (card.epoch, card.addr) {
+            return None;
+        }
+        match seat.outbox.outputs().first() {
+            Some(Output::Send(message)) => Some(&message.body),
+            _ => None,
+        }
     }
 
     /// Hands a session the next piece of its stream, at a reading of the clock in milliseconds.
