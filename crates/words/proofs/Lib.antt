@@ -1,3 +1,4 @@
 pub mod NumberLemmas
 pub mod DotLemmas
 pub mod HexLemmas
+pub mod PartDigits

@@ -1,6 +1,6 @@
 //! IPv4 addresses and TCP ports.
 
-ghost use Rattle.std.specs.Prelude.{◌≡◌, ◌+◌, ◌*◌, ◌≤◌, ◌++◌, decimal};
+ghost use Rattle.std.specs.Prelude.{◌≡◌, ◌+◌, ◌*◌, ◌<◌, ◌≤◌, ◌++◌, decimal};
 ghost use Rattle.arrayvec.specs.ArrayVec.{array_vec_len};
 ghost use Rattle.ballot_law.specs.Words.{ip_part, ip, ip_text, port, canonical_port, address, canonical_address};
 
@@ -8,7 +8,6 @@ use crate::cuts::split_at_byte;
 use crate::numbers::{canonical_number_of, number_of};
 use arrayvec::ArrayVec;
 use ballot_law::Addr;
-use itoa::Buffer;
 
 /// The greatest TCP port.
 pub const PORT_MAX: u64 = 65_535;
@@ -83,15 +82,59 @@ pub fn canonical_address_of(ip_bytes: &[u8], port_bytes: &[u8]) -> Option<Addr>
     Some(Addr { ip, port })
 }
 
+/// A decimal digit.
+fn digit(value: u8) -> u8
+    requires { value < 10 }
+    ensures { result ≡ 48 + value }
+{
+    b'0' + value
+}
+
+/// A number below 100 of two digits.
+#[tactic(auto, using(crate::proofs::PartDigits::two_digits))]
+fn two_digits(number: u8) -> [u8; 2]
+    requires low { 10 ≤ number }
+    requires high { number < 100 }
+    ensures { result ≡ decimal number }
+{
+    [digit(number / 10), digit(number % 10)]
+}
+
+/// A number below 256 of three digits.
+#[tactic(auto, using(crate::proofs::PartDigits::three_digits))]
+fn three_digits(number: u8) -> [u8; 3]
+    requires { 100 ≤ number }
+    ensures { result ≡ decimal number }
+{
+    [
+        digit(number / 10 / 10),
+        digit(number / 10 % 10),
+        digit(number % 10),
+    ]
+}
+
+/// A number of one digit.
+#[tactic(auto, using(crate::proofs::PartDigits::one_digit))]
+fn one_digit(number: u8) -> [u8; 1]
+    requires { number < 10 }
+    ensures { result ≡ decimal number }
+{
+    [digit(number)]
+}
+
 /// Adds one of the four parts of an address in decimal.
 fn push_part(text: &mut ArrayVec<u8, IP_TEXT_MAX>, part: u8)
     requires { array_vec_len text.old + 3 ≤ 15 }
     ensures items { text.new.items ≡ text.old.items ++ decimal part }
     ensures len { array_vec_len text.new ≤ array_vec_len text.old + 3 }
 {
-    let mut buffer = Buffer::new();
-    text.try_extend_from_slice(buffer.format(part).as_bytes())
-        .unwrap()
+    if part < 10 {
+        text.try_extend_from_slice(&one_digit(part)).unwrap()
+    } else if part < 100 {
+        text.try_extend_from_slice(&two_digits(part)).unwrap()
+    } else {
+        text.try_extend_from_slice(&three_digits(part)).unwrap()
+    }
 }
 
 /// An IPv4 address as a text: its four parts in decimal, with dots between them.
