@@ -225,8 +225,8 @@ impl<S: ConfStore> SharedSentinel<S> {
     /// Waits for its turn, and has the Sentinel take one input: it is taken, stored, and its outputs stand at the end of those that the
     /// outbox shows, `count` of them from `first` on. The epoch of a command is at most `MAX_EPOCH`, as `command_of` gives it.
     ///
-    /// The call is then the last entry of a legal history, which begins with all that the seat had seen. `NoMemory` and `Spent` come before
-    /// the turn and add no entry; `Halted` and `StoreRefused` add one, and show nothing.
+    /// The call is then the last entry of a legal history, which begins with all that the seat had seen; `entry` tells how many stand before
+    /// it. `NoMemory` and `Spent` come before the turn and add no entry; `Halted` and `StoreRefused` add one, and show nothing.
     pub fn act<R: Wait>(
         &self,
         rt: &R,
