@@ -20,7 +20,7 @@ pub data Campaign : Type 0 where
   Won : (epoch : ℕ) → Campaign
   Chosen : (epoch : ℕ) → (choice : Addr) → Campaign
 
--- what a stop makes a Sentinel lose of a master: the votes heard, the candidate of the voted epoch, the campaign
+-- what a stop makes a Sentinel lose of a master: the votes heard, the campaign
 pub record OpenMaster : Type 0 where
   pub heard : List Vote
   pub campaign : Campaign

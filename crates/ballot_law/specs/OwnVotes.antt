@@ -2,7 +2,7 @@
 use Rattle.std.specs.Prelude.{ℕ, max, Bool, Option, Some, nat_lt, nat_le, ◌&&◌, if◌then◌else◌}
 use Rattle.ballot_law.specs.declared.addresses.RunId.{RunId}
 
--- the current epoch, the epoch of the last vote, and whom it went to, where that is known since the start
+-- the current epoch, the epoch of the last vote, and whom it went to, where that is known
 pub record Book : Type 0 where
   pub current : ℕ
   pub voted : ℕ

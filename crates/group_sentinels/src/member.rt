@@ -72,6 +72,14 @@ impl<J: Which> ThreadSeat<J> {
     pub(crate) fn outputs(&self) -> &[Output] {
         self.outbox.outputs()
     }
+
+    /// The answer among them, where the input was a command.
+    fn answer(&self) -> Option<&Body> {
+        match self.outbox.outputs().first() {
+            Some(Output::Send(message)) => Some(&message.body),
+            _ => None,
+        }
+    }
 }
 
 impl<J: Which, S: ConfStore> Member<J, S> {
@@ -162,6 +170,19 @@ impl<J: Which, S: ConfStore> Member<J, S> {
         self.cell.roster()
     }
 
+    /// How far its ticks stand behind those of the first Sentinel, where two ticks are so far apart: each Sentinel has its share of the time
+    /// between. So the first one that begins a failover is heard by the others before their own ticks, and has their votes; Redis's Sentinel
+    /// varies its timer for that.
+    pub(crate) fn phase(&self, period: u64) -> u64 {
+        let sentinels = self.cell.roster().sentinels();
+        for place in 0..sentinels.len() {
+            if sentinels[place].addr.port == self.port {
+                return period.saturating_mul(place as u64) / sentinels.len() as u64;
+            }
+        }
+        0
+    }
+
     /// The name of the master with this number.
     pub(crate) fn name_of(&self, master: u16) -> Option<Name> {
         Some(self.cell.roster().masters().get(master as usize)?.name)
@@ -170,6 +191,21 @@ impl<J: Which, S: ConfStore> Member<J, S> {
     /// The stored configuration of the master with this number: its epoch and its address.
     pub(crate) fn address(&self, seat: &mut ThreadSeat<J>, master: u16) -> Option<(u64, Addr)> {
         self.cell.address(&mut seat.seat, master)
+    }
+
+    /// Has the Sentinel take a command, whose answer the seat then has.
+    fn give<R: Wait>(
+        &self,
+        rt: &R,
+        seat: &mut ThreadSeat<J>,
+        now: u64,
+        command: Command,
+    ) -> Result<u64, ActFault>
+        requires { IsWithinEvent (Event.Command (NodeName.PortAt 0) command) }
+    {
+        let sender = NodeName::PortAt(0);
+        let event = Event::Command { sender, command };
+        self.turn(rt, seat, &Input { now, event })
     }
 
     /// What the Sentinel answers to a command; none at a fault.
@@ -182,13 +218,8 @@ impl<J: Which, S: ConfStore> Member<J, S> {
     ) -> Option<&'a Body>
         requires { IsWithinEvent (Event.Command (NodeName.PortAt 0) command) }
     {
-        let sender = NodeName::PortAt(0);
-        let event = Event::Command { sender, command };
-        self.turn(rt, seat, &Input { now, event }).ok()?;
-        match seat.outbox.outputs().first() {
-            Some(Output::Send(message)) => Some(&message.body),
-            _ => None,
-        }
+        self.give(rt, seat, now, command).ok()?;
+        seat.answer()
     }
 
     /// The notes for the subscribers of the port that nobody took yet, in the order in which they came.
@@ -218,16 +249,11 @@ impl<J: Which, S: ConfStore> Member<J, S> {
     ) -> Option<&'a Body>
         requires { IsWithinEvent (Event.Command (NodeName.PortAt 0) command) }
     {
-        let sender = NodeName::PortAt(0);
-        let event = Event::Command { sender, command };
-        self.turn(rt, seat, &Input { now, event }).ok()?;
+        self.give(rt, seat, now, command).ok()?;
         if self.address(seat, master)? != (card.epoch, card.addr) {
             return None;
         }
-        match seat.outbox.outputs().first() {
-            Some(Output::Send(message)) => Some(&message.body),
-            _ => None,
-        }
+        seat.answer()
     }
 
     /// Hands a session the next piece of its stream, at a reading of the clock in milliseconds.

@@ -64,7 +64,14 @@ fn tick_all<J: Which, S: ConfStore, R: Wait + Clock + Log>(
     true
 }
 
-/// Ticks each master every 100 ms and has the lookout note what became different, until `ending` isn't 0 or the Sentinel is halted.
+/// How long it is from this reading of the clock to the next tick of a timer with this phase, in milliseconds.
+fn until_tick(now: u64, phase: u64) -> u64 {
+    let passed = (now % TICK_MS + TICK_MS - phase % TICK_MS) % TICK_MS;
+    TICK_MS - passed
+}
+
+/// Ticks each master every 100 ms, in the Sentinel's own part of them, and has the lookout note what became different, until `ending` isn't 0 or
+/// the Sentinel is halted.
 pub fn run_timer<J: Which, S: ConfStore, R: Wait + Clock + Log>(
     rt: &R,
     alloc: Global,
@@ -74,6 +81,7 @@ pub fn run_timer<J: Which, S: ConfStore, R: Wait + Clock + Log>(
     ending: &AtomicU64,
 ) {
     let mut lookout = Lookout::new(alloc, member.masters());
+    let phase = member.phase(TICK_MS);
     for _ in rt.forever() {
         if ending.load(Ordering::SeqCst) != 0 {
             return;
@@ -81,7 +89,8 @@ pub fn run_timer<J: Which, S: ConfStore, R: Wait + Clock + Log>(
         if !tick_all(rt, group, member, seat, &mut lookout) {
             return;
         }
-        thread::sleep(rt, Duration::from_millis(TICK_MS));
+        let pause = until_tick(group.clock.now(rt), phase);
+        thread::sleep(rt, Duration::from_millis(pause));
     }
 }
 

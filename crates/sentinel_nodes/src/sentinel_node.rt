@@ -34,6 +34,7 @@ impl SentinelNode {
         ensures text { IfOk result (λ node. node.file.text ≡ bytes.now) }
         ensures read { IfOk result (λ node. conf_of_bytes bytes.now ≡ Ok node.sentinel.plan.conf) }
         ensures fresh { IfOk result (λ node. IsFresh (λ roster. roster_of node.sentinel.plan ≡ roster) (IsImageOf node.sentinel node.file.text)) }
+        ensures fault { IfErr result (λ fault. (fault ≡ record { line = 0; kind = ConfKind.NoMemory }) ⊎ (conf_of_bytes bytes.now ≡ Err fault)) }
     {
         law_opening_is_sound();
         let conf = read(alloc, bytes)?;
@@ -80,7 +81,9 @@ impl SentinelNode {
     }
 }
 
-fn no_memory() -> ConfFault {
+fn no_memory() -> ConfFault
+    ensures { result ≡ record { line = 0; kind = ConfKind.NoMemory } }
+{
     ConfFault {
         line: 0,
         kind: ConfKind::NoMemory,
