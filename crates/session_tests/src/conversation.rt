@@ -3,6 +3,7 @@
 ghost use Rattle.std.specs.Prelude.{◌≡◌, IfSome};
 ghost use Rattle.sentinel_outbox.specs.declared.phase.Phase.TheVariants.{Ready};
 
+use ballot_law::{NoMemory, Note};
 use port_sessions::{ServeFault, Session};
 use sentinel_cell::{Seat, SharedSentinel};
 use sentinel_conf::{MemoryStore, read};
@@ -68,6 +69,15 @@ impl Conversation {
     pub(crate) fn other_says<R: Wait>(&mut self, rt: &R, piece: &[u8]) -> Result<(), ServeFault> {
         self.other
             .received(rt, &self.cell, &mut self.seat, 0, piece)
+    }
+
+    /// The client is told of a note where it is due; false where no master has its number.
+    pub(crate) fn hears(&mut self, note: &Note, entry: u64) -> Result<bool, NoMemory> {
+        let roster = self.cell.roster();
+        if note.master as usize >= roster.masters().len() {
+            return Ok(false);
+        }
+        self.session.notify(roster, note, entry)
     }
 
     /// What the client wasn't sent yet.

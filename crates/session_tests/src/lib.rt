@@ -7,6 +7,8 @@ mod conversation;
 #[cfg(test)]
 mod endings;
 #[cfg(test)]
+mod listeners;
+#[cfg(test)]
 mod refused_memory;
 #[cfg(test)]
 mod single_answers;

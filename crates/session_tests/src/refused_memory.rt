@@ -2,6 +2,7 @@
 //! refused in turn.
 
 use crate::conversation::Conversation;
+use ballot_law::{Addr, Card, Note};
 use port_sessions::ServeFault;
 use std::alloc::Global;
 use std::process::Abort;
@@ -10,6 +11,13 @@ use std::sync::Wait;
 /// A command that takes a turn, one that takes none, and one that stores the file.
 const ASKED: &[u8] =
     b"*1\r\n$4\r\nPING\r\n*3\r\n$8\r\nSENTINEL\r\n$23\r\nGET-MASTER-ADDR-BY-NAME\r\n$8\r\nmymaster\r\n*2\r\n$8\r\nSENTINEL\r\n$11\r\nFLUSHCONFIG\r\n";
+
+const SUBSCRIBE: &[u8] = b"*2\r\n$9\r\nSUBSCRIBE\r\n$14\r\n+switch-master\r\n";
+
+const SUBSCRIBED: &[u8] = b"*3\r\n$9\r\nsubscribe\r\n$14\r\n+switch-master\r\n:1\r\n";
+
+const TOLD: &[u8] =
+    b"*3\r\n$7\r\nmessage\r\n$14\r\n+switch-master\r\n$38\r\nmymaster 127.0.0.1 6379 127.0.0.1 6381\r\n";
 
 const ANSWERED: &[u8] = b"+PONG\r\n*2\r\n$9\r\n127.0.0.1\r\n$4\r\n6379\r\n+OK\r\n";
 
@@ -46,4 +54,35 @@ fn refused_memory_ends_a_session_and_the_next_is_answered(rt: HostRuntime) {
             ask(&rt, &mut begun(&rt, rt.alloc()));
         }
     }
+}
+
+/// The note that the master moved from its first node to the third.
+fn moved() -> Note {
+    let ip = 2_130_706_433;
+    Note {
+        master: 0,
+        old: Addr { ip, port: 6379 },
+        card: Card {
+            epoch: 1,
+            addr: Addr { ip, port: 6381 },
+        },
+    }
+}
+
+/// A note for which there was no memory leaves all as it was, and is told where it comes again.
+#[test]
+fn refused_memory_leaves_a_note_untold(rt: HostRuntime) {
+    let mut conversation = begun(&rt, rt.alloc());
+    if conversation.says(&rt, SUBSCRIBE).is_err() {
+        conversation.begin_anew();
+        assert!(rt; conversation.says(&rt, SUBSCRIBE).is_ok());
+    }
+    assert!(rt; conversation.unsent() == SUBSCRIBED);
+    if conversation.hears(&moved(), 9).is_err() {
+        assert!(rt; conversation.unsent() == SUBSCRIBED);
+        assert!(rt; conversation.hears(&moved(), 9) == Ok(true));
+    }
+    assert!(rt; conversation.send(SUBSCRIBED.len()));
+    assert!(rt; conversation.unsent() == TOLD);
+    assert!(rt; conversation.hears(&moved(), 9) == Ok(false));
 }
