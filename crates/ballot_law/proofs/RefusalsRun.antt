@@ -462,9 +462,9 @@ filed_are v is_filed = of_voter v.voter v.master refl refl is_filed.place is_fil
       0,
       lit< tt,
       ap (λ (i : ℕ). vote i 1 5 own_id) e
-      ∙ ap (λ (m : ℕ). vote v.voter m 5 own_id) f
-      ∙ ap (λ (n : ℕ). vote v.voter v.master n own_id) voted
-      ∙ ap (λ (c : Option RunId). vote v.voter v.master v.epoch (unwrap_or c own_id)) candidate,
+          ∙ ap (λ (m : ℕ). vote v.voter m 5 own_id) f
+          ∙ ap (λ (n : ℕ). vote v.voter v.master n own_id) voted
+          ∙ ap (λ (c : Option RunId). vote v.voter v.master v.epoch (unwrap_or c own_id)) candidate,
     )
     of_voter zero (suc (suc m)) e f l voted candidate = absurd (cc)
     of_voter (suc i) m e f l voted candidate = absurd (omega arith)

@@ -49,9 +49,9 @@ file_at_start roster w i begins place =
       each = λ m.
           record {
             one_vote = λ e c d x y.
-              let a : (kept_of file m).candidate ≡ Some c = (begins.votes (vote i m e c) x).candidate in
-              let b : (kept_of file m).candidate ≡ Some d = (begins.votes (vote i m e d) y).candidate in
-              cc;
+                let a : (kept_of file m).candidate ≡ Some c = (begins.votes (vote i m e c) x).candidate in
+                let b : (kept_of file m).candidate ≡ Some d = (begins.votes (vote i m e d) y).candidate in
+                cc;
             vote_bound = λ e c x. let s : voted_of file m ≡ e = (begins.votes (vote i m e c) x).voted in omega arith;
             one_pick = λ e a b x y. absurd (no_member [] (record { sentinel = i; master = m; epoch = e; choice = a }) refl x);
             pick_bound = λ e a x. absurd (no_member [] (record { sentinel = i; master = m; epoch = e; choice = a }) refl x);

@@ -71,9 +71,9 @@ told_it i m voted (Some c) v is = (
   0,
   lit< tt,
   ap (λ (j : ℕ). vote j m voted c) is.voter
-  ∙ ap (λ (n : ℕ). vote v.voter n voted c) is.master
-  ∙ ap (λ (e : ℕ). vote v.voter v.master e c) is.epoch
-  ∙ ap (λ (d : Option RunId). vote v.voter v.master v.epoch (unwrap_or d c)) is.whom,
+      ∙ ap (λ (n : ℕ). vote v.voter n voted c) is.master
+      ∙ ap (λ (e : ℕ). vote v.voter v.master e c) is.epoch
+      ∙ ap (λ (d : Option RunId). vote v.voter v.master v.epoch (unwrap_or d c)) is.whom,
 )
 
 pub are_filed : (w : World) (v : Vote) → Contains (filed_votes w.sentinels) v → IsFiled w v
