@@ -7,7 +7,7 @@ use Rattle.boxed_nodes.specs.Sendable.{IsSendableOutput}
 use Rattle.sentinel_rules.specs.Facts.{IsWithinEvent}
 use Rattle.sentinel_rules.specs.Limits.{OutputsAreWithin}
 use Rattle.sentinel_conf.specs.Rewritten.{IsKeptPart}
-use Rattle.sentinel_nodes.proofs.Sending.{outputs_sendable}
+use Rattle.boxed_nodes.proofs.Sending.{outputs_sendable}
 use Rattle.sentinel_cell.specs.declared.entry.Entry.{Entry}
 use Rattle.sentinel_cell.specs.declared.entry.Outcome.{Outcome}
 use Rattle.sentinel_cell.specs.declared.entry.Outcome.TheVariants.{Stored}

@@ -14,9 +14,10 @@ mod switches;
 mod workers;
 
 pub use clock::GroupClock;
+pub use group_links::{Deed, Ends, Errand, Letter, Links};
 pub use group_state::GroupState;
 pub use member::{Member, ThreadSeat, Which};
 pub use port_sessions::{ServeFault, Session};
-pub use sentinel_cell::{ActFault, Seat, SharedSentinel};
+pub use sentinel_cell::{ActFault, Seat, Sentinel, SharedSentinel};
 pub use switches::Switch;
 pub use workers::{run_link, run_timer};

@@ -14,8 +14,7 @@ use crate::rows::{
 };
 use ballot_law::{Addr, Body, Command, Name, RunId, ShortText, Shown, ShownList};
 use port_answers::AnswerText;
-use sentinel_plan::Plan;
-use sentinel_state::Core;
+use sentinel_state::{Core, Plan};
 
 /// What a command asks about one master.
 #[derive(Clone, Copy)]

@@ -14,9 +14,8 @@ ghost use Rattle.sentinel_rules.specs.Plans.{roster_of, master_count, nodes_of, 
 
 use ballot_law::{Addr, Member, RunId, Shown};
 use port_answers::{AnswerText, MasterRow, ReplicaRow, SentinelRow};
-use sentinel_plan::Plan;
 use sentinel_rules::ASSUMED_INFO;
-use sentinel_state::Core;
+use sentinel_state::{Core, Plan};
 
 /// The number of places, the one left out not counted.
 #[tactic(auto, using(crate::proofs::AnswerRows::but_within, crate::proofs::AnswerRows::but_without))]

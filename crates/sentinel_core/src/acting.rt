@@ -22,11 +22,10 @@ use node_texts::{TextFault, read_hello, read_info};
 use sentinel_answers::{answer_by_text, answer_plainly};
 use sentinel_news::{hear_answer, hear_pong, take_hello, take_info};
 use sentinel_outbox::Outbox;
-use sentinel_plan::Plan;
 use sentinel_rules::{
     Frame, law_hellos_name_masters, law_inputs_change_one_card, law_inputs_keep_sound,
 };
-use sentinel_state::{Core, State};
+use sentinel_state::{Core, Plan, State};
 use sentinel_ticks::tick;
 
 /// A message of this Sentinel.

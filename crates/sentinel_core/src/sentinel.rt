@@ -19,12 +19,11 @@ use crate::former::Former;
 use ballot_law::{Card, Command, Event, Input, Roster};
 use sentinel_conf::{Conf, ConfStore, ConfText, law_run_ids, rewrite_into};
 use sentinel_outbox::{Outbox, Phase, Room};
-use sentinel_plan::Plan;
 use sentinel_rules::{
     law_ignored_inputs_change_nothing, law_inputs_are_steps, law_inputs_change_one_card,
     law_opening_is_sound,
 };
-use sentinel_state::{Core, State};
+use sentinel_state::{Core, Plan, State};
 use std::alloc::Global;
 use std::marker::Model;
 use watched_nodes::FrameList;

@@ -2,6 +2,5 @@ mod Few
 mod Fresh
 mod Listed
 mod Same
-pub mod Sending
 mod SentinelMoves
 mod Wins

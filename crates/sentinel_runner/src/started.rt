@@ -4,14 +4,13 @@ ghost use Rattle.std.specs.Prelude.{◌≡◌, ◌<◌, ◌-◌, ◌^◌};
 
 use crate::group_fault::GroupFault;
 use crossbeam_channel::Receiver;
-use group_links::{Ends, Letter};
 use group_ports::Port;
 use group_sentinels::{
-    GroupState, Member, Seat, SharedSentinel, ThreadSeat, Which, run_link, run_timer,
+    Ends, GroupState, Letter, Member, Seat, Sentinel, SharedSentinel, ThreadSeat, Which, run_link,
+    run_timer,
 };
 use log::{Log, warn};
 use sentinel_conf::{Conf, ConfStore};
-use sentinel_core::Sentinel;
 use std::alloc::{AllocError, Global};
 use std::io::{self, ErrorKind};
 use std::marker::Brand;

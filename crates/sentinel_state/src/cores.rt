@@ -12,11 +12,10 @@ use crate::masters::Master;
 use ballot_law::{Addr, Card, Info, Kept, KeptMaster, KeptMasters, NoMemory, RunId, Win};
 use down_detector::{Tilt, is_odown};
 use failover_states::State as Stage;
-use sentinel_plan::Plan;
 use std::alloc::{AllocError, Global};
 use std::marker::Model;
 use std::mem;
-use watched_nodes::{Node, Peer};
+use watched_nodes::{Node, Peer, Plan};
 
 /// What a Sentinel keeps while it runs: what its file is to hold, and what it heard, found and sent since its start, which a stop
 /// loses.

@@ -16,3 +16,4 @@ mod votes;
 
 pub use cores::Core;
 pub use states::State;
+pub use watched_nodes::Plan;

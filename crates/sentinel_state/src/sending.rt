@@ -10,8 +10,7 @@ ghost use Rattle.sentinel_rules.specs.Ticks.{node_after, node_frames, nodes_part
 use crate::cores::Core;
 use crate::masters::Master;
 use ballot_law::clock_of;
-use sentinel_plan::Plan;
-use watched_nodes::{FrameList, Sending, ping_period, send_each_node};
+use watched_nodes::{FrameList, Plan, Sending, ping_period, send_each_node};
 
 impl Master {
     /// Sends each of its nodes what is due.

@@ -8,8 +8,7 @@ ghost use Rattle.sentinel_state.specs.Parts.{with_part};
 
 use crate::cores::Core;
 use ballot_law::clock_of;
-use sentinel_plan::Plan;
-use watched_nodes::{FrameList, send_each_peer};
+use watched_nodes::{FrameList, Plan, send_each_peer};
 
 /// A Sentinel at work.
 #[derive(Drop)]

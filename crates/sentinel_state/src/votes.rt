@@ -10,8 +10,8 @@ ghost use Rattle.sentinel_rules.specs.Votes.{book_of, with_book, mark_for, reque
 use crate::cores::Core;
 use ballot_law::{RunId, clock_of};
 use failover_states::SPREAD_MS;
-use sentinel_plan::Plan;
 use vote_book::VoteBook;
+use watched_nodes::Plan;
 
 impl Core {
     /// A candidate's request for the vote of an epoch: the vote is given where none was in this epoch or a later one and the

@@ -9,9 +9,8 @@ ghost use Rattle.sentinel_rules.specs.Ticks.{is_ask_due, ask_candidate, ask_fram
 ghost use Rattle.sentinel_state.specs.Parts.{with_part};
 
 use ballot_law::{RunId, clock_of};
-use sentinel_plan::Plan;
 use sentinel_rules::{ASK_MS, Frame};
-use sentinel_state::{Core, State};
+use sentinel_state::{Core, Plan, State};
 use watched_nodes::{FrameList, Peer};
 
 /// Asks each other Sentinel whether a master is down, and for its vote where there is a candidate.

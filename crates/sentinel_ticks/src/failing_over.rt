@@ -17,9 +17,8 @@ ghost use Rattle.sentinel_ticks.specs.Rows.{is_promotion, looked_at};
 use crate::facts::{best_for, card_place_for, count_for, down_for_rows, pick_for};
 use ballot_law::Win;
 use failover_states::{Act, Facts, Row, State as Stage};
-use sentinel_plan::Plan;
 use sentinel_rules::Frame;
-use sentinel_state::{Core, State};
+use sentinel_state::{Core, Plan, State};
 use watched_nodes::FrameList;
 
 /// Whether the row tells the choice that it is the master.

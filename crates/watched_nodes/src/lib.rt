@@ -13,3 +13,4 @@ pub use frame_list::FrameList;
 pub use nodes::{Node, greet_soon, move_all};
 pub use peers::Peer;
 pub use sending::{Sending, ping_period, send_each_node, send_each_peer};
+pub use sentinel_plan::Plan;
