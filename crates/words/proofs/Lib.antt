@@ -2,3 +2,4 @@ pub mod NumberLemmas
 pub mod DotLemmas
 pub mod HexLemmas
 pub mod PartDigits
+pub mod Weights
