@@ -1,5 +1,5 @@
 -- Hex digits, read one at a time.
-use Rattle.std.proofs.Common.{◌≡◌, ℕ, zero, suc, ◌+◌, ◌*◌, ◌/◌, ◌%◌, ◌^◌, ◌≤◌, ◌<◌, Bool, true, false, ◌&&◌, List, [], ◌∷◌, ◌++◌, length, get_or, append_assoc, append-nil, refl, ap, sym, ◌∙◌, arith, Option, Some, None}
+use Rattle.std.proofs.Common.{◌≡◌, ℕ, zero, suc, ◌+◌, ◌*◌, ◌/◌, ◌%◌, ◌^◌, ◌≤◌, ◌<◌, Bool, true, false, ◌&&◌, List, [], ◌∷◌, ◌++◌, length, append_assoc, append-nil, refl, ap, sym, ◌∙◌, arith, Option, Some, None}
 use Rattle.std.specs.List.{list_all}
 use Rattle.std.proofs.Math.Nat.{pow-le-pow_right, pow-suc, add-mul, add_assoc, mul_assoc, mul_comm}
 use Rattle.ballot_law.specs.Words.{some_if, is_hex, hex_value, hex_on, hex, hex_digit}
@@ -47,25 +47,6 @@ hex_on-behind n (b ∷ bs) =
 hex_on-append : (n : ℕ) (xs ys : List ℕ) → hex_on n (xs ++ ys) ≡ hex_on (hex_on n xs) ys
 hex_on-append n [] ys = refl
 hex_on-append n (x ∷ xs) ys = hex_on-append (n * 16 + hex_value x) xs ys
-
-pub digit_text : (d : ℕ) → d < 16 → get_or (48 ∷ 49 ∷ 50 ∷ 51 ∷ 52 ∷ 53 ∷ 54 ∷ 55 ∷ 56 ∷ 57 ∷ 97 ∷ 98 ∷ 99 ∷ 100 ∷ 101 ∷ 102 ∷ []) d 0 ≡ hex_digit d
-digit_text zero h = refl
-digit_text (suc zero) h = refl
-digit_text (suc (suc zero)) h = refl
-digit_text (suc (suc (suc zero))) h = refl
-digit_text (suc (suc (suc (suc zero)))) h = refl
-digit_text (suc (suc (suc (suc (suc zero))))) h = refl
-digit_text (suc (suc (suc (suc (suc (suc zero)))))) h = refl
-digit_text (suc (suc (suc (suc (suc (suc (suc zero))))))) h = refl
-digit_text (suc (suc (suc (suc (suc (suc (suc (suc zero)))))))) h = refl
-digit_text (suc (suc (suc (suc (suc (suc (suc (suc (suc zero))))))))) h = refl
-digit_text (suc (suc (suc (suc (suc (suc (suc (suc (suc (suc zero)))))))))) h = refl
-digit_text (suc (suc (suc (suc (suc (suc (suc (suc (suc (suc (suc zero))))))))))) h = refl
-digit_text (suc (suc (suc (suc (suc (suc (suc (suc (suc (suc (suc (suc zero)))))))))))) h = refl
-digit_text (suc (suc (suc (suc (suc (suc (suc (suc (suc (suc (suc (suc (suc zero))))))))))))) h = refl
-digit_text (suc (suc (suc (suc (suc (suc (suc (suc (suc (suc (suc (suc (suc (suc zero)))))))))))))) h = refl
-digit_text (suc (suc (suc (suc (suc (suc (suc (suc (suc (suc (suc (suc (suc (suc (suc zero))))))))))))))) h = refl
-digit_text (suc (suc (suc (suc (suc (suc (suc (suc (suc (suc (suc (suc (suc (suc (suc (suc d)))))))))))))))) h = absurd (omega arith)
 
 -- 32 digits are twice 16
 pub hex_halves : (xs ys : List ℕ) → length ys ≡ 16 → hex_on 0 (xs ++ ys) ≡ hex_on 0 xs * 2 ^ 64 + hex_on 0 ys

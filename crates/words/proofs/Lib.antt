@@ -2,4 +2,4 @@ pub mod NumberLemmas
 pub mod DotLemmas
 pub mod HexLemmas
 pub mod PartDigits
-pub mod Weights
+pub mod HexTables

@@ -79,22 +79,32 @@ pub fn run_id_of(bytes: &[u8]) -> Option<RunId>
     Some(RunId { hi, lo: lo as u32 })
 }
 
-/// The lower case hex digits, each at its value.
-const HEX_DIGITS: [u8; 16] = *b"0123456789abcdef";
+/// The two lower case hex digits of each byte, one behind the other.
+const PAIRS: [u8; 512] = *b"\
+000102030405060708090a0b0c0d0e0f\
+101112131415161718191a1b1c1d1e1f\
+202122232425262728292a2b2c2d2e2f\
+303132333435363738393a3b3c3d3e3f\
+404142434445464748494a4b4c4d4e4f\
+505152535455565758595a5b5c5d5e5f\
+606162636465666768696a6b6c6d6e6f\
+707172737475767778797a7b7c7d7e7f\
+808182838485868788898a8b8c8d8e8f\
+909192939495969798999a9b9c9d9e9f\
+a0a1a2a3a4a5a6a7a8a9aaabacadaeaf\
+b0b1b2b3b4b5b6b7b8b9babbbcbdbebf\
+c0c1c2c3c4c5c6c7c8c9cacbcccdcecf\
+d0d1d2d3d4d5d6d7d8d9dadbdcdddedf\
+e0e1e2e3e4e5e6e7e8e9eaebecedeeef\
+f0f1f2f3f4f5f6f7f8f9fafbfcfdfeff";
 
-/// A lower case hex digit.
-fn hex_digit(digit: u8) -> u8
-    requires { digit < 16 }
-    ensures { result ≡ hex_digit digit }
+/// The last two hex digits of a number.
+fn last_two(number: u128) -> (u8, u8)
+    ensures first { result.0 ≡ hex_digit (number / 16 % 16) }
+    ensures second { result.1 ≡ hex_digit (number % 16) }
 {
-    HEX_DIGITS[digit as usize]
-}
-
-/// The last hex digit of a number.
-fn last_digit(number: u128) -> u8
-    ensures { result ≡ hex_digit (number % 16) }
-{
-    hex_digit((number % 16) as u8)
+    let at = (number % 256) as usize * 2;
+    (PAIRS[at], PAIRS[at + 1])
 }
 
 /// What stands before the last eight hex digits of a number.
@@ -109,21 +119,21 @@ fn before_eight(number: u128) -> u128
 fn eight_digits(number: u128) -> [u8; 8]
     ensures { result ≡ hex 8 number }
 {
-    let second = number / 16;
-    let third = second / 16;
-    let fourth = third / 16;
-    let fifth = fourth / 16;
-    let sixth = fifth / 16;
-    let seventh = sixth / 16;
+    let third = number / 16 / 16;
+    let second = third / 16 / 16;
+    let (first_digit, second_digit) = last_two(second / 16 / 16);
+    let (third_digit, fourth_digit) = last_two(second);
+    let (fifth_digit, sixth_digit) = last_two(third);
+    let (seventh_digit, eighth_digit) = last_two(number);
     [
-        last_digit(seventh / 16),
-        last_digit(seventh),
-        last_digit(sixth),
-        last_digit(fifth),
-        last_digit(fourth),
-        last_digit(third),
-        last_digit(second),
-        last_digit(number),
+        first_digit,
+        second_digit,
+        third_digit,
+        fourth_digit,
+        fifth_digit,
+        sixth_digit,
+        seventh_digit,
+        eighth_digit,
     ]
 }
 

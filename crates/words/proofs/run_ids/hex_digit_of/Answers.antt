@@ -1,6 +1,6 @@
 use Rattle.std.proofs.Common.{refl}
 use Rattle.words.specs.declared.run_ids.TheConstants.{WEIGHTS}
-use Rattle.words.proofs.Weights.{digit_told, none_told}
+use Rattle.words.proofs.HexTables.{digit_told, none_told}
 use Rattle.words.proofs.run_ids.hex_digit_of.Goals as goal
 
 pub returns-then-weight-lt16-clause-value : goal.returns-then-weight-lt16-clause-value
