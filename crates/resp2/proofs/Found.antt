@@ -1,6 +1,6 @@
 -- The commands that are read where their bytes stand are those of the values there.
 use Rattle.std.proofs.Common.{◌≡◌, ◌≢◌, ℕ, ◌+◌, ◌*◌, ◌/◌, ◌%◌, ◌≤◌, ◌<◌, ◌-◌, List, [], ◌∷◌, ◌++◌, length, drop, refl, sym, ap, ◌∙◌, arith, append_assoc, Option, Some, None, Result, Ok, Err, decimal}
-use Rattle.std.specs.Prelude.{bytes_eq, codes, if◌then◌else◌, IfOk, IfSome, OnOk}
+use Rattle.std.specs.Prelude.{bytes_eq, codes, if◌then◌else◌, IfOk, IfSome}
 use Rattle.std.proofs.lemmas.Fmt.{decimal_digit, decimal_step}
 use Rattle.std.proofs.lemmas.List.{drop_at, length-append}
 use Rattle.ballot_law.specs.declared.commands.Command.{Command}
@@ -8,7 +8,7 @@ use Rattle.ballot_law.specs.declared.commands.Command.TheVariants.{Ping, GetMast
 use Rattle.ballot_law.specs.Words.{lower, name}
 use Rattle.resp2.specs.declared.command.CommandFault.{CommandFault}
 use Rattle.resp2.specs.declared.command.CommandFault.TheVariants.{UnknownCommand}
-use Rattle.resp2.specs.Asked.{Found, Asks, Reads, IsBehindPing, IsBehindNames}
+use Rattle.resp2.specs.Asked.{Found, Asks, IsBehindPing, IsBehindNames}
 use Rattle.resp2.specs.Commands.{Entry, bulks, called_in, commands, subcommands, command_of, is_master_down_by_addr}
 use Rattle.resp2_frames.specs.declared.fault.FrameFault.{FrameFault}
 use Rattle.resp2_frames.specs.declared.fault.FrameFault.TheVariants.{BadKind, BadLength, BadNumber, MissingEnd, TooLong, TooDeep, TooMany, NoMemory}
@@ -208,11 +208,3 @@ asks_fewer (reading bytes) after (Ok None) h = tt
 asks_fewer (reading bytes) after (Err f) h = tt
 asks_fewer (ended f) after (Ok given) h = absurd (let d = h.1.0 in cc)
 asks_fewer (ended f) after (Err g) h = tt
-
-pub asks_no_more : (before after : Held) (answer : Result (Option (Result Command CommandFault)) FrameFault) → Asks before answer after
-    → OnOk answer (held_size after ≤ held_size before)
-asks_no_more (reading bytes) after (Ok (Some asked)) h = let less : held_size after < length bytes = asks_fewer (reading bytes) after (Ok (Some asked)) h in omega (arith, less)
-asks_no_more (reading bytes) after (Ok None) h = let same : held_size after ≡ length bytes = ap held_size h.1.1 in omega (arith, same)
-asks_no_more (reading bytes) after (Err f) h = tt
-asks_no_more (ended f) after (Ok given) h = absurd (let d = h.1.0 in cc)
-asks_no_more (ended f) after (Err g) h = tt

@@ -26,13 +26,6 @@ pub fn next_command(
     ensures fewer { IfOk result (λ given. IfSome given (λ asked. held_size frames.new < held_size frames.old)) }
     ensures no_more { OnOk result (held_size frames.new ≤ held_size frames.old) }
 {
-    take_command(frames)
-}
-
-fn take_command(frames: &mut Frames) -> Result<Option<Result<Command, CommandFault>>, FrameFault>
-    ensures exact { Asks frames.old result frames.new }
-    ensures within { IfOk result (λ given. IfSome given (λ asked. IfOk asked IsWithin)) }
-{
     if let Some((asked, count)) = asked_of(frames.held()) {
         frames.skip(count);
         return Ok(Some(asked));
