@@ -137,6 +137,34 @@ fn add_role(role: &Role, text: &mut OutText) -> Result<(), NoMemory>
     write_role(role, text).map_err(|_| NoMemory)
 }
 
+/// Adds a message, of which a value is made where it isn't one of the answers that a port gives most often; `NoMemory` leaves the text unchanged.
+fn add_made(alloc: Global, body: &Body, text: &mut OutText) -> Result<(), NoMemory>
+    requires writable { IsWritable body.now }
+    ensures ok { OnOk result (text.new ≡ text.old ++ message_bytes body.now) }
+    ensures err { OnErr result (text.new ≡ text.old) }
+{
+    match body {
+        Body::Ask {
+            addr,
+            epoch,
+            candidate,
+            ..
+        } => write_value(&ask(alloc, *addr, *epoch, *candidate)?, text),
+        Body::Ping => write_value(&command(alloc, b"PING")?, text),
+        Body::InfoAsk => write_value(&command(alloc, b"INFO")?, text),
+        Body::InfoText(info) => write_value(&info_answer(alloc, info)?, text),
+        Body::Publish(hello) => write_value(&hello_array(alloc, b"PUBLISH", hello)?, text),
+        Body::HelloText(hello) => write_value(&hello_array(alloc, b"message", hello)?, text),
+        Body::ReplicaOf(addr) => write_value(&replica_of(alloc, *addr)?, text),
+        Body::AddressAsk(name) => write_value(&address_ask(alloc, name)?, text),
+        Body::PortReply { text: bytes, .. } => text.add(bytes.as_slice()),
+        Body::RoleAsk => write_value(&command(alloc, b"ROLE")?, text),
+        Body::RoleText(role) => add_role(role, text),
+        Body::Done => write_value(&Value::Simple(Text::from_slice(alloc, b"OK")?), text),
+        _ => add_straight(body, text),
+    }
+}
+
 /// Adds a message as it stands on the wire: a command as a RESP2 array of bulk strings, a reply as a RESP2 value.
 ///
 /// The master of an Ask isn't written, nor are the master and the address of the answer to it: the link knows them. The
@@ -148,25 +176,9 @@ pub fn message_text(alloc: Global, message: &Message, text: &mut OutText) -> Res
     ensures err { OnErr result (text.new ≡ text.old) }
 {
     match &message.body {
-        Body::Ask {
-            addr,
-            epoch,
-            candidate,
-            ..
-        } => write_value(&ask(alloc, *addr, *epoch, *candidate)?, text),
         Body::Answer { .. } => add_straight(&message.body, text),
-        Body::Ping => write_value(&command(alloc, b"PING")?, text),
         Body::PingText { .. } => add_straight(&message.body, text),
-        Body::InfoAsk => write_value(&command(alloc, b"INFO")?, text),
-        Body::InfoText(info) => write_value(&info_answer(alloc, info)?, text),
-        Body::Publish(hello) => write_value(&hello_array(alloc, b"PUBLISH", hello)?, text),
-        Body::HelloText(hello) => write_value(&hello_array(alloc, b"message", hello)?, text),
-        Body::ReplicaOf(addr) => write_value(&replica_of(alloc, *addr)?, text),
-        Body::AddressAsk(name) => write_value(&address_ask(alloc, name)?, text),
         Body::AddressAnswer(_) => add_straight(&message.body, text),
-        Body::PortReply { text: bytes, .. } => text.add(bytes.as_slice()),
-        Body::RoleAsk => write_value(&command(alloc, b"ROLE")?, text),
-        Body::RoleText(role) => add_role(role, text),
-        Body::Done => write_value(&Value::Simple(Text::from_slice(alloc, b"OK")?), text),
+        body => add_made(alloc, body, text),
     }
 }
