@@ -1,6 +1,6 @@
 //! The room for a rewritten file.
 
-ghost use Rattle.std.specs.Prelude.{◌≡◌, ◌++◌, [], nat_lt, length, IfOk};
+ghost use Rattle.std.specs.Prelude.{◌≡◌, ◌∷◌, ◌++◌, [], nat_lt, length, IfOk};
 ghost use Rattle.sentinel_conf.specs.Room.{bounded};
 ghost use Rattle.sentinel_conf.specs.Reading.{FILE_MAX};
 
@@ -63,6 +63,15 @@ impl ConfText {
         ensures whole { bounded self.now ≡ self.now }
     {
         self.bytes.len() > FILE_MAX
+    }
+
+    /// Adds a byte, where there is room for one.
+    pub(crate) fn add_byte(&mut self, byte: u8)
+        ensures { self.new ≡ bounded (self.old ++ byte ∷ []) }
+    {
+        if self.bytes.len() < ROOM {
+            let _ = self.bytes.push(byte);
+        }
     }
 
     /// Adds what there is room for.

@@ -21,7 +21,7 @@ use words::{ip_text, run_id_text};
 fn add_word(out: &mut ConfText, word: &[u8])
     ensures { out.new ≡ bounded (out.old ++ 32 ∷ word.now) }
 {
-    out.add(b" ");
+    out.add_byte(b' ');
     out.add(word);
 }
 
@@ -126,7 +126,7 @@ pub fn add_state(out: &mut ConfText, state: &StateLine)
     ensures { out.new ≡ bounded (out.old ++ ended (spelled state.now)) }
 {
     add_spelled(out, state);
-    out.add(b"\n");
+    out.add_byte(b'\n');
 }
 
 /// Adds the line of the candidate of a master's last vote, where there is one.
