@@ -137,28 +137,25 @@ fn told_of(plan: &Plan, hello: &Result<Hello, TextFault>) -> Option<u16>
     }
 }
 
-/// Has the state take an event that is no command, and answers what it may overwrite of what is kept.
-fn hear(state: &mut State, now: u64, event: &Event) -> Former
-    ensures former { result ≡ former_of state.old.core.kept (concerned state.old.plan event.now state.old.core.kept) }
+/// Has the state take an event that is no command, and takes down what it may overwrite of what is kept.
+fn hear(state: &mut State, now: u64, event: &Event, former: &mut Former)
+    ensures former { former.new ≡ former_of state.old.core.kept (concerned state.old.plan event.now state.old.core.kept) }
     ensures state { state.new ≡ with_part state.old (part_of state.old.plan (clock now) event.now state.old.core) }
 {
     let kept = state.core.kept();
     match event {
         Event::Tick { master, random } => {
-            let former = Former::of(kept, Some(*master));
+            former.begin(kept, Some(*master));
             tick(state, *master, *random, now);
-            former
         }
         Event::InfoRead { node, text } => {
-            let former = Former::of(kept, listed_by(&state.plan, *node));
+            former.begin(kept, listed_by(&state.plan, *node));
             take_info(state, *node, now, read_info(text.as_slice()));
-            former
         }
         Event::HelloRead { text } => {
             let hello = read_hello(text.as_slice());
-            let former = Former::of(kept, told_of(&state.plan, &hello));
+            former.begin(kept, told_of(&state.plan, &hello));
             take_hello(state, now, hello);
-            former
         }
         Event::Answered {
             voter,
@@ -168,31 +165,32 @@ fn hear(state: &mut State, now: u64, event: &Event) -> Former
             leader,
             epoch,
         } => {
-            let former = Former::of(kept, None);
+            former.begin(kept, None);
             hear_answer(state, *voter, *master, now, *addr, *down, *leader, *epoch);
-            former
         }
         Event::Pinged { node, reply } => {
-            let former = Former::of(kept, None);
+            former.begin(kept, None);
             hear_pong(state, *node, now, *reply);
-            former
         }
-        Event::Command { command, .. } => Former::of(kept, asked_about(command, &state.core)),
-        Event::Become { .. } => Former::of(kept, None),
-        Event::Handed(_) => Former::of(kept, None),
+        Event::Command { command, .. } => {
+            former.begin(kept, asked_about(command, &state.core));
+        }
+        Event::Become { .. } => former.begin(kept, None),
+        Event::Handed(_) => former.begin(kept, None),
     }
 }
 
-/// Holds the answer to a command, and answers what it may overwrite of what is kept.
+/// Holds the answer to a command, and takes down what it may overwrite of what is kept.
 fn hold_answer(
     state: &mut State,
     now: u64,
     sender: NodeName,
     command: &Command,
     outbox: &mut Outbox,
-) -> Former
+    former: &mut Former,
+)
     requires { Fits outbox.old room_of_sentinel }
-    ensures former { result ≡ former_of state.old.core.kept (asked_about command.now state.old.core.kept) }
+    ensures former { former.new ≡ former_of state.old.core.kept (asked_about command.now state.old.core.kept) }
     ensures plan { state.new.plan ≡ state.old.plan }
     ensures core { state.new.core
         ≡ (answer_to state.old.plan sender (commanded state.old.plan (clock now) command.now state.old.core)).core }
@@ -201,10 +199,9 @@ fn hold_answer(
     ensures shown { outbox.new.shown ≡ outbox.old.shown }
     ensures room { length outbox.new.held ≤ outbox.new.shown_room }
 {
-    let former = Former::of(state.core.kept(), asked_about(command, &state.core));
+    former.begin(state.core.kept(), asked_about(command, &state.core));
     let body = answer(state, now, command, outbox);
     outbox.hold_output(send(&state.plan, sender, body));
-    former
 }
 
 /// Holds what each frame shows now.
@@ -223,12 +220,12 @@ fn hold_frames(state: &State, outbox: &mut Outbox)
     }
 }
 
-/// What an event does that is no command, and what it may overwrite of what is kept.
-fn act_on_news(state: &mut State, input: &Input, outbox: &mut Outbox) -> Former
+/// What an event does that is no command. What it may overwrite of what is kept is taken down.
+fn act_on_news(state: &mut State, input: &Input, outbox: &mut Outbox, former: &mut Former)
     requires kind { is_command input.now.event ≡ false }
     requires few { length (part_of state.old.plan (clock input.now.now) input.now.event state.old.core).frames ≤ 1536 }
     requires fits { Fits outbox.old room_of_sentinel }
-    ensures former { result
+    ensures former { former.new
         ≡ former_of state.old.core.kept (concerned state.old.plan input.entry.now.event state.old.core.kept) }
     ensures plan { state.new.plan ≡ state.old.plan }
     ensures core { state.new.core
@@ -240,16 +237,15 @@ fn act_on_news(state: &mut State, input: &Input, outbox: &mut Outbox) -> Former
 {
     law_hellos_name_masters();
     state.frames.clear();
-    let former = hear(state, input.now, &input.event);
+    hear(state, input.now, &input.event, former);
     hold_frames(state, outbox);
-    former
 }
 
-/// What an event does that may be a command, and what it may overwrite of what is kept.
-fn act_on(state: &mut State, input: &Input, outbox: &mut Outbox) -> Former
+/// What an event does that may be a command. What it may overwrite of what is kept is taken down.
+fn act_on(state: &mut State, input: &Input, outbox: &mut Outbox, former: &mut Former)
     requires few { length (part_of state.old.plan (clock input.now.now) input.now.event state.old.core).frames ≤ 1536 }
     requires fits { Fits outbox.old room_of_sentinel }
-    ensures former { result
+    ensures former { former.new
         ≡ former_of state.old.core.kept (concerned state.old.plan input.entry.now.event state.old.core.kept) }
     ensures plan { state.new.plan ≡ state.old.plan }
     ensures core { state.new.core
@@ -261,14 +257,14 @@ fn act_on(state: &mut State, input: &Input, outbox: &mut Outbox) -> Former
 {
     match &input.event {
         Event::Command { sender, command } => {
-            hold_answer(state, input.now, *sender, command, outbox)
+            hold_answer(state, input.now, *sender, command, outbox, former)
         }
-        _ => act_on_news(state, input, outbox),
+        _ => act_on_news(state, input, outbox, former),
     }
 }
 
-/// What an input does: the state after it, and its outputs, held in the outbox. It answers what the input overwrote of what is kept.
-pub(crate) fn act(state: &mut State, input: &Input, outbox: &mut Outbox) -> Former
+/// What an input does: the state after it, and its outputs, held in the outbox. What the input overwrote of what is kept is taken down.
+pub(crate) fn act(state: &mut State, input: &Input, outbox: &mut Outbox, former: &mut Former)
     requires plan { IsSoundPlan state.old.plan }
     requires sound { IsSound state.old.plan state.old.core }
     requires within { IsWithinEvent input.now.event }
@@ -280,10 +276,10 @@ pub(crate) fn act(state: &mut State, input: &Input, outbox: &mut Outbox) -> Form
     ensures room { length outbox.new.held ≤ outbox.new.shown_room }
     ensures sound_after { IsSound state.new.plan state.new.core }
     ensures ahead { IsAhead state.old.core → IsAhead state.new.core }
-    ensures former { put_back state.new.core.kept result ≡ state.old.core.kept }
+    ensures former { put_back state.new.core.kept former.new ≡ state.old.core.kept }
 {
     law_inputs_keep_sound();
     law_inputs_change_one_card();
     state.core.forget_win();
-    act_on(state, input, outbox)
+    act_on(state, input, outbox, former)
 }

@@ -70,6 +70,14 @@ impl Former {
         }
     }
 
+    /// Takes down what is kept before an input that concerns this master, or none.
+    pub(crate) fn begin(&mut self, kept: &Kept, master: Option<u16>)
+        ensures { self.new ≡ former_of kept.now master }
+    {
+        self.current = kept.current;
+        self.entry = entry_of(kept, master);
+    }
+
     /// Whether what is kept is another than it was.
     pub(crate) fn is_changed(&self, kept: &Kept) -> bool
         ensures other { IsTrue result → kept.now ≢ put_back kept.now self.now }

@@ -265,7 +265,7 @@ impl Sentinel {
         self.check_taking(outbox)?;
         law_inputs_are_steps();
         law_ignored_inputs_change_nothing();
-        self.former = act(&mut self.state, input, outbox);
+        act(&mut self.state, input, outbox, &mut self.former);
         let changed = self.former.is_changed(self.state.core.kept());
         self.change = self.former.changed_card(self.state.core.kept());
         self.phase = Phase::Pending {
@@ -314,7 +314,7 @@ impl Sentinel {
                 return Err(StoreFault::Refused);
             }
         }
-        self.former = Former::of(self.state.core.kept(), None);
+        self.former.begin(self.state.core.kept(), None);
         self.phase = Phase::Stored;
         Ok(())
     }

@@ -24,7 +24,7 @@ returns-clause-former c =
     let f = c.act_on.ensures.former ∙ ap (λ (s : Core). former_of s.kept (concerned plan input.event s.kept)) c.forget_win.ensures in
     let sound : IsSound plan (next plan old input.now input.event).core = (c.law_inputs_keep_sound.ensures plan old input.now input.event c.requires.plan c.requires.sound c.requires.within).0 in
     let long = sound.kept_masters ∙ sym c.requires.sound.kept_masters in
-    ap (λ (s : Core). put_back s.kept c.act_on.result) e
+    ap (λ (s : Core). put_back s.kept c.act_on.new.former) e
     ∙ ap (λ (f : Former). put_back (next plan old input.now input.event).core.kept f) f
     ∙ before_is old.kept (next plan old input.now input.event).core.kept (concerned plan input.event old.kept) long
     (c.law_inputs_change_one_card.ensures.at plan old input.now input.event)
