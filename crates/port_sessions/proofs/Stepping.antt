@@ -141,3 +141,12 @@ module _ (start : World) (now : ℕ) where
       → Drains start now stream p answer held bytes q → Takes start now stream p answer (bytes_in held) bytes q
   was_received (Ok x) stream p held bytes q h = subst (λ (rest : List ℕ). IsAnswered start now stream p rest bytes q) (sym (ap bytes_in h.1)) h.2
   was_received (Err fault) stream p held bytes q h = h
+
+  -- all that was whole with a piece was answered
+  pub piece_drained : {X Y : Type 0} (fed : Result X FrameFault) (answer : Result Y ServeFault) (held between after : Held) (piece unsent put_out : List ℕ) (p q : Party)
+      → held ≡ reading (bytes_in held) → is_err fed ≡ false → Feeds held piece fed between
+      → ((stream before bytes : List ℕ) (first : Party) → unsent ≡ before ++ bytes → IsOnTheWay start now stream first between bytes p
+      → (more : List ℕ) × (put_out ≡ before ++ more) × Drains start now stream first answer after more q)
+      → (more : List ℕ) × (put_out ≡ unsent ++ more) × Drains start now (bytes_in held ++ piece) p answer after more q
+  piece_drained fed answer held between after piece unsent put_out p q open_is ok feeds answered =
+      answered (bytes_in held ++ piece) unsent [] p (sym (append-nil unsent)) (begun fed held between piece p open_is ok feeds)

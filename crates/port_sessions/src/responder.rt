@@ -1,8 +1,10 @@
 //! The answer to one value.
 
-ghost use Rattle.std.specs.Prelude.{◌≡◌, ◌<◌, ◌+◌, ℕ, [], None, Ok, Err, true, length, IfSome, OnOk, OnErr, IfOk, IfErr, IsOk, IsErr};
+ghost use Rattle.std.specs.Prelude.{◌≡◌, ◌<◌, ◌+◌, ◌∷◌, ℕ, [], None, Ok, Err, true, length, IfSome, OnOk, OnErr, IfOk, IfErr, IsOk, IsErr};
 ghost use Rattle.std.specs.Bool.{then_some};
 ghost use Rattle.ballot_law.specs.declared.messages.Body.TheVariants.{AddressAnswer};
+ghost use Rattle.ballot_law.specs.declared.messages.Message.{Message};
+ghost use Rattle.ballot_law.specs.declared.messages.Output.TheVariants.{Send};
 ghost use Rattle.message_texts.specs.MessageTexts.{message_bytes, IsWritable};
 ghost use Rattle.port_answers.specs.Answers.{command_fault};
 ghost use Rattle.port_serving.specs.Serving.{last_line};
@@ -211,40 +213,20 @@ impl Responder {
         write_message(self.alloc, &address_answer(shown), &mut self.text)
     }
 
-    /// Has a command take its turn, after which the outbox shows its answer alone, and the client listens where it was SUBSCRIBE.
-    fn take_turn<S: ConfStore, R: Wait>(
-        &mut self,
-        rt: &R,
-        cell: &SharedSentinel<S>,
-        seat: &mut Seat,
-        now: u64,
-        command: Command,
-    ) -> Result<(), ServeFault>
-        requires own { seat.old.cell ≡ cell.now.id }
-        requires within { IsWithin command }
-        requires silent { self.old.listens ≡ None }
-        ensures own { seat.new.cell ≡ seat.old.cell }
-        ensures turned { Turns cell.now.start now seat.old.view command result self.new.outbox.shown seat.new.view }
-        ensures listens { OnOk result (self.new.listens ≡ listens_after (Ok command) seat.new.view) }
-        ensures silent { OnErr result (self.new.listens ≡ None) }
+    /// The text is the one message that the outbox shows.
+    fn write_shown(&mut self) -> Result<(), ServeFault>
+        requires { (message : Message) × (self.old.outbox.shown ≡ Send message ∷ []) × IsWritable message.body }
+        ensures same { self.new.listens ≡ self.old.listens }
+        ensures ok { (message : Message) → self.old.outbox.shown ≡ Send message ∷ [] → OnOk result (self.new.text ≡ message_bytes message.body) }
+        ensures fault { IfErr result (λ fault. fault ≡ ServeFault.NoMemory) }
     {
-        self.outbox.clear();
-        let subscribes = subscribes(&command);
-        let sender = NodeName::PortAt(0);
-        let input = Input {
-            now,
-            event: Event::Command { sender, command },
+        let Some(Output::Send(message)) = self.outbox.outputs().first() else {
+            unreachable!()
         };
-        match cell.act(rt, seat, &input, &mut self.outbox) {
-            Ok(reply) => {
-                self.listens = subscribes.then_some(reply.entry);
-                Ok(())
-            }
-            Err(fault) => Err(of_act(fault)),
-        }
+        write_message(self.alloc, message, &mut self.text)
     }
 
-    /// The answer to a command that takes a turn.
+    /// The answer to a command that takes a turn, which the outbox then shows alone; the client listens where it was SUBSCRIBE.
     fn answer_in_turn<S: ConfStore, R: Wait>(
         &mut self,
         rt: &R,
@@ -260,36 +242,18 @@ impl Responder {
         ensures own { seat.new.cell ≡ seat.old.cell }
         ensures answered { Ends cell.now.start now (party seat.old.view self.old.listens) (Ok command) result self.new.text (party seat.new.view self.new.listens) }
     {
-        if let Err(fault) = self.take_turn(rt, cell, seat, now, command) {
-            return Err(fault);
-        }
-        let Some(Output::Send(message)) = self.outbox.outputs().first() else {
-            unreachable!()
+        self.outbox.clear();
+        let subscribes = subscribes(&command);
+        let sender = NodeName::PortAt(0);
+        let input = Input {
+            now,
+            event: Event::Command { sender, command },
         };
-        write_message(self.alloc, message, &mut self.text)
-    }
-
-    /// The answer to a value of a client that doesn't listen, by the command that it spells or the reason why it is none: what it asks for, or
-    /// the line of its fault.
-    fn answer_silent<S: ConfStore, R: Wait>(
-        &mut self,
-        rt: &R,
-        cell: &SharedSentinel<S>,
-        seat: &mut Seat,
-        now: u64,
-        asked: Result<Command, CommandFault>,
-    ) -> Result<(), ServeFault>
-        requires within { IfOk asked IsWithin }
-        requires own { seat.old.cell ≡ cell.now.id }
-        requires silent { self.old.listens ≡ None }
-        ensures own { seat.new.cell ≡ seat.old.cell }
-        ensures answered { Ends cell.now.start now (party seat.old.view self.old.listens) asked result self.new.text (party seat.new.view self.new.listens) }
-    {
-        match asked {
-            Ok(Command::GetMasterAddrByName(name)) => self.answer_address(cell, seat, name),
-            Ok(command) => self.answer_in_turn(rt, cell, seat, now, command),
-            Err(fault) => self.answer_fault(fault),
+        match cell.act(rt, seat, &input, &mut self.outbox) {
+            Ok(reply) => self.listens = subscribes.then_some(reply.entry),
+            Err(fault) => return Err(of_act(fault)),
         }
+        self.write_shown()
     }
 
     /// The answer to a value of a client that listens, which is the same at every Sentinel.
@@ -304,7 +268,8 @@ impl Responder {
         }
     }
 
-    /// The answer to a value.
+    /// The answer to a value, by the command that it spells or the reason why it is none: what a client is told that listens, or else what it
+    /// asks for, or the line of its fault.
     pub(crate) fn answer<S: ConfStore, R: Wait>(
         &mut self,
         rt: &R,
@@ -321,7 +286,11 @@ impl Responder {
         if self.listens.is_some() {
             return self.answer_listener(asked);
         }
-        self.answer_silent(rt, cell, seat, now, asked)
+        match asked {
+            Ok(Command::GetMasterAddrByName(name)) => self.answer_address(cell, seat, name),
+            Ok(command) => self.answer_in_turn(rt, cell, seat, now, command),
+            Err(fault) => self.answer_fault(fault),
+        }
     }
 
     /// The client listens no more.
