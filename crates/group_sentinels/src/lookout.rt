@@ -7,7 +7,7 @@ use crate::member::{Member, ThreadSeat, Which};
 use crate::named::{NamedId, NamedMaster, NamedNode, node_numbered};
 use crate::rows::{Row, RowReader};
 use ballot_law::{
-    Addr, Body, Card, Command, Event, Message, NodeName, Output, Roster, RunId, Text,
+    Addr, Body, Card, Command, Event, Message, Name, NodeName, Output, Roster, RunId, Text,
 };
 use down_detector::Tilt;
 use log::{Log, info};
@@ -15,6 +15,15 @@ use sentinel_conf::ConfStore;
 use std::alloc::Global;
 use std::str::from_utf8;
 use std::sync::Wait;
+
+/// A master that is looked at: its number and name, its configuration, and how notes name it.
+#[derive(Clone, Copy)]
+struct Subject<'a> {
+    master: u16,
+    name: Name,
+    card: Card,
+    named: NamedMaster<'a>,
+}
 
 /// What the outputs of a tick tell: the greatest epoch in a hello or a question, and the data node that is told to be a master.
 #[derive(Clone, Copy)]
@@ -366,7 +375,13 @@ impl Lookout {
         self.note_epoch(rt, told.epoch.max(vote.epoch));
         let promoted = node_of(member.roster(), told.promoted);
         self.note_failover(rt, master, flags, vote, promoted, named);
-        self.look_around(rt, member, seat, now, master, card, named);
+        let subject = Subject {
+            master,
+            name,
+            card,
+            named,
+        };
+        self.look_around(rt, member, seat, now, subject);
     }
 
     /// Notes whether a master with this configuration is down.
@@ -412,13 +427,14 @@ impl Lookout {
         member: &Member<J, S>,
         seat: &mut ThreadSeat<J>,
         now: u64,
-        master: u16,
-        card: Card,
-        named: NamedMaster<'_>,
+        subject: Subject<'_>,
     ) {
-        let Some(name) = member.name_of(master) else {
-            return;
-        };
+        let Subject {
+            master,
+            name,
+            card,
+            named,
+        } = subject;
         let Some(seen) = self.masters.get_mut(master as usize) else {
             return;
         };
