@@ -1,6 +1,6 @@
 //! One client's connection.
 
-ghost use Rattle.std.specs.Prelude.{◌≤◌, length};
+ghost use Rattle.std.specs.Prelude.{◌≤◌, IfOk};
 
 use group_sentinels::{GroupState, Member, ServeFault, Session, Switch, ThreadSeat, Which};
 use mio::net::TcpStream;
@@ -73,23 +73,29 @@ impl Connection {
         self.half = true;
     }
 
-    /// Reads one piece into the room, and has the session answer it. A piece that leaves room was the last, unless the stream has ended.
-    fn hear<J: Which, S: ConfStore, R: Wait + Clock>(
+    /// Reads one piece into the room: how long it is, or what became of the read where there is none.
+    fn read_piece(&mut self, room: &mut [u8; PIECE]) -> Result<usize, Heard>
+        ensures { IfOk result (λ count. count ≤ PIECE) }
+    {
+        match self.stream.read(room) {
+            Ok(0) => Err(Heard::End),
+            Ok(count) => Ok(count),
+            Err(error) => Err(heard_of(error.kind())),
+        }
+    }
+
+    /// Has the session answer a piece. One that left room was the last, unless the stream has ended.
+    fn take_piece<J: Which, S: ConfStore, R: Wait + Clock>(
         &mut self,
         rt: &R,
         group: &GroupState,
         member: &Member<J, S>,
         seat: &mut ThreadSeat<J>,
-        room: &mut [u8; PIECE],
+        piece: &[u8],
     ) -> Heard {
-        let count = match self.stream.read(room) {
-            Ok(0) => return Heard::End,
-            Ok(count) => count,
-            Err(error) => return heard_of(error.kind()),
-        };
         let now = group.clock.now(rt);
-        match member.receive(rt, seat, &mut self.session, now, &room[..count]) {
-            Ok(()) if count < PIECE && !self.half => Heard::LastPiece,
+        match member.receive(rt, seat, &mut self.session, now, piece) {
+            Ok(()) if piece.len() < PIECE && !self.half => Heard::LastPiece,
             Ok(()) => Heard::Piece,
             Err(ServeFault::Halted) => {
                 group.note_halted();
@@ -178,7 +184,11 @@ impl Connection {
             if !self.may_read() {
                 return self.fate(false);
             }
-            match self.hear(rt, group, member, seat, room) {
+            let heard = match self.read_piece(room) {
+                Ok(count) => self.take_piece(rt, group, member, seat, &room[..count]),
+                Err(heard) => heard,
+            };
+            match heard {
                 Heard::Piece => {}
                 Heard::LastPiece => return self.last_piece_taken(),
                 Heard::Nothing => return self.fate(false),
