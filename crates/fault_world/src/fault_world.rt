@@ -6,7 +6,7 @@ ghost use Rattle.boxed_nodes.specs.Images.{how_left};
 ghost use Rattle.boxed_nodes.specs.Sendable.{IsTakeable};
 ghost use Rattle.scenarios.specs.Within.{IsWithinStep};
 ghost use Rattle.boxed_nodes.specs.Moves.{IsFresh};
-ghost use Rattle.world_members.specs.Standing.{IsShown, IsReached, Stands};
+ghost use Rattle.world_members.specs.Standing.{IsShown, IsReached, Begins, Stands};
 ghost use Rattle.world_members.specs.Groups.{IsGroupOf, BeginAlike};
 ghost use Rattle.world_members.specs.Refusals.{IsRefusal};
 ghost use Rattle.fault_world.specs.Laws.{RunsSafely};
@@ -74,6 +74,8 @@ impl FaultWorld {
         nodes: Vec<Box<dyn Node>>,
     ) -> Result<FaultWorld, (WorldFault, Vec<Box<dyn Node>>)>
         requires { All (λ b. IsFresh (is_known b) (shows b)) nodes.items }
+        ensures begins { IfOk result (λ world. Begins roster
+            (IsShown (λ m. m.name) (λ m. IsSeat m.name (name m.node) (shows m.node) m.outbox.held m.stopped) roster world.members.items world.messages.items)) }
         ensures stands { IfOk result (λ world. Stands roster
             (IsShown (λ m. m.name) (λ m. IsSeat m.name (name m.node) (shows m.node) m.outbox.held m.stopped) roster world.members.items world.messages.items)) }
         ensures roster { IfOk result (λ world. world.roster ≡ roster) }

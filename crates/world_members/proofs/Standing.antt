@@ -14,7 +14,7 @@ use Rattle.boxed_nodes.specs.Images.{Image, OfSentinel, OfOther, image_at, state
 use Rattle.boxed_nodes.specs.Moves.{Shows, ShowsKind, IsFresh}
 use Rattle.boxed_nodes.specs.Sendable.{IsHeldBy, AreListed, IsSendableOutput}
 use Rattle.world_members.specs.Seats.{IsSeat}
-use Rattle.world_members.specs.Standing.{IsShown, Stands}
+use Rattle.world_members.specs.Standing.{IsShown, Begins, Stands}
 use Rattle.world_members.specs.Groups.{IsGroupOf, BeginAlike, IsPlaced}
 use Rattle.world_members.specs.NewMembers.{IsNewMember}
 use Rattle.world_members.proofs.Beginning.{Begun, beginning, named_here, seated, starts}
@@ -78,12 +78,12 @@ module _ {M N : Type 0} (roster : Roster) (nodes : List N) (members : List M) (n
   made_at : AreMadeOf → (k : ℕ) (m : M) → slice_get members k ≡ Some m → IsNewMember (own m) (name (node m)) (held m) (stopped m)
   made_at made k m e = each_from_all (λ m. IsNewMember (own m) (name (node m)) (held m) (stopped m)) members made.each k m e
 
-  pub stands : HasDistinctIds roster → HasDistinctNames roster → All (λ n. ShowsKind (name n) (shows n)) nodes → All (λ n. IsFresh (knows n) (shows n)) nodes → IsGroupOf name (λ n. knows n roster) roster nodes → BeginAlike name shows roster nodes → AreMadeOf
-      → Stands roster (IsShown own (λ m. IsSeat (own m) (name (node m)) (shows (node m)) (held m) (stopped m)) roster members [])
-  stands distinct names kinds fresh group alike made =
+  pub begins : HasDistinctNames roster → All (λ n. ShowsKind (name n) (shows n)) nodes → All (λ n. IsFresh (knows n) (shows n)) nodes → IsGroupOf name (λ n. knows n roster) roster nodes → BeginAlike name shows roster nodes → AreMadeOf
+      → Begins roster (IsShown own (λ m. IsSeat (own m) (name (node m)) (shows (node m)) (held m) (stopped m)) roster members [])
+  begins names kinds fresh group alike made =
       record {
         world = w;
-        reached = record { distinct = distinct; start = w; begins = start; steps = []; run = refl };
+        begins = start;
         shows = record {
           each = each;
           apart = λ j k m n e f same. group.apart j k (node m) (node n) (node_at made j m e) (node_at made k n f) ((made_at made j m e).goes_by ∙ same ∙ sym (made_at made k n f).goes_by);
@@ -124,3 +124,12 @@ module _ {M N : Type 0} (roster : Roster) (nodes : List N) (members : List M) (n
           let found = named_here name seat roster nodes begun group.sentinels group.stores x is in
           let member = member_at made found.0 found.1 found.2 in
           (found.0, member.0, member.1, sym (made_at made found.0 member.0 member.1).goes_by ∙ ap name member.2 ∙ found.3)
+
+-- a start is reached by no steps
+pub stands : (roster : Roster) (shown : World → Type 0) → HasDistinctIds roster → Begins roster shown → Stands roster shown
+stands roster shown distinct b =
+    record {
+      world = b.world;
+      reached = record { distinct = distinct; start = b.world; begins = b.begins; steps = []; run = refl };
+      shows = b.shows;
+    }

@@ -30,6 +30,12 @@ pub record IsReached (roster : Roster) (w : World) : Type 0 where
   pub steps : List Step
   pub run : Run roster steps start w
 
+-- the group stands for a start of the model: nothing was sent, elected or said
+pub record Begins (roster : Roster) (shown : World → Type 0) : Type 0 where
+  pub world : World
+  pub begins : IsStart roster world
+  pub shows : shown world
+
 -- the group stands for a world that was reached
 pub record Stands (roster : Roster) (shown : World → Type 0) : Type 0 where
   pub world : World

@@ -3,7 +3,7 @@
 ghost use Rattle.std.specs.Prelude.{◌≡◌, ℕ, ◌<◌, ◌≤◌, [], All, map, length, IfOk, IfErr, vec_len, vec_capacity};
 ghost use Rattle.boxed_nodes.specs.Moves.{IsFresh, ShowsKind};
 ghost use Rattle.world_members.specs.Seats.{IsSeat};
-ghost use Rattle.world_members.specs.Standing.{IsShown, Stands};
+ghost use Rattle.world_members.specs.Standing.{IsShown, Begins, Stands};
 ghost use Rattle.world_members.specs.Groups.{IsGroupOf, BeginAlike};
 ghost use Rattle.world_members.specs.NewMembers.{IsNewMember};
 ghost use Rattle.world_members.specs.Refusals.{IsRefusal};
@@ -40,6 +40,8 @@ pub fn members_of(
     nodes: Vec<Box<dyn Node>>,
 ) -> Result<Vec<Member>, (WorldFault, Vec<Box<dyn Node>>)>
     requires { All (λ b. IsFresh (is_known b) (shows b)) nodes.items }
+    ensures begins { IfOk result (λ members. Begins roster.now
+        (IsShown (λ m. m.name) (λ m. IsSeat m.name (name m.node) (shows m.node) m.outbox.held m.stopped) roster.now members.items [])) }
     ensures stands { IfOk result (λ members. Stands roster.now
         (IsShown (λ m. m.name) (λ m. IsSeat m.name (name m.node) (shows m.node) m.outbox.held m.stopped) roster.now members.items [])) }
     ensures nodes { IfOk result (λ members. map (λ m. m.node) members.items ≡ nodes.items) }
