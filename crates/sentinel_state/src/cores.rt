@@ -17,6 +17,16 @@ use std::marker::Model;
 use std::mem;
 use watched_nodes::{Node, Peer, Plan};
 
+/// What is kept of a master that there is none of.
+const NO_ENTRY: KeptMaster = KeptMaster {
+    card: Card {
+        epoch: 0,
+        addr: Addr { ip: 0, port: 0 },
+    },
+    voted: 0,
+    candidate: None,
+};
+
 /// What a Sentinel keeps while it runs: what its file is to hold, and what it heard, found and sent since its start, which a stop
 /// loses.
 #[derive(Drop)]
@@ -158,13 +168,7 @@ impl Core {
     pub fn card(&self, m: u16) -> Card
         ensures { result ≡ card_of self.now.kept m }
     {
-        match self.kept.masters.as_slice().get(m as usize) {
-            Some(master) => master.card,
-            None => Card {
-                epoch: 0,
-                addr: Addr { ip: 0, port: 0 },
-            },
-        }
+        self.entry(m).card
     }
 
     /// The number of the first master whose configuration has the address.
@@ -263,31 +267,19 @@ impl Core {
     pub fn set_card(&mut self, m: u16, card: Card)
         ensures { self.new ≡ with_card self.old m card }
     {
-        let voted = self.voted(m);
-        let candidate = self.leader(m);
-        self.set_kept(
-            m,
-            KeptMaster {
-                card,
-                voted,
-                candidate,
-            },
-        );
+        let mut entry = self.entry(m);
+        entry.card = card;
+        self.set_entry(m, entry);
     }
 
     /// The epoch and the candidate of the last vote for a master.
     pub(crate) fn set_vote(&mut self, m: u16, voted: u64, candidate: Option<RunId>)
         ensures { self.new ≡ record self.old { kept = record self.old.kept { masters = slice_set self.old.kept.masters m (record (kept_of self.old.kept m) { voted = voted; candidate = candidate }) } } }
     {
-        let card = self.card(m);
-        self.set_kept(
-            m,
-            KeptMaster {
-                card,
-                voted,
-                candidate,
-            },
-        );
+        let mut entry = self.entry(m);
+        entry.voted = voted;
+        entry.candidate = candidate;
+        self.set_entry(m, entry);
     }
 
     /// What is kept of a data node; none where there is no such node.
@@ -335,10 +327,7 @@ impl Core {
     pub fn voted(&self, m: u16) -> u64
         ensures { result ≡ voted_of self.now.kept m }
     {
-        match self.kept.masters.as_slice().get(m as usize) {
-            Some(master) => master.voted,
-            None => 0,
-        }
+        self.entry(m).voted
     }
 
     /// The clock takes a turn, and the tick's random number counts until the next one.
@@ -391,8 +380,18 @@ impl Core {
         }
     }
 
+    /// What the file is to hold of a master; no vote, and no address, where there is no such master.
+    pub(crate) fn entry(&self, m: u16) -> KeptMaster
+        ensures { result ≡ kept_of self.now.kept m }
+    {
+        match self.kept.masters.as_slice().get(m as usize) {
+            Some(master) => *master,
+            None => NO_ENTRY,
+        }
+    }
+
     /// Keeps this of a master; nothing where there is no such master.
-    fn set_kept(&mut self, m: u16, entry: KeptMaster)
+    fn set_entry(&mut self, m: u16, entry: KeptMaster)
         ensures { self.new ≡ record self.old { kept = record self.old.kept { masters = slice_set self.old.kept.masters m entry } } }
     {
         let none = KeptMasters::from_vec(Vec::new(*self.masters.allocator()));

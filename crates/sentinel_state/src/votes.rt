@@ -72,10 +72,7 @@ impl Core {
     pub fn leader(&self, m: u16) -> Option<RunId>
         ensures { result ≡ (kept_of self.now.kept m).candidate }
     {
-        match self.kept.masters.as_slice().get(m as usize) {
-            Some(master) => master.candidate,
-            None => None,
-        }
+        self.entry(m).candidate
     }
 
     /// Takes the vote of the Sentinel at a place for a master.
