@@ -1,5 +1,5 @@
 -- The commands that are read where their bytes stand are those of the values there.
-use Rattle.std.proofs.Common.{◌≡◌, ◌≢◌, ℕ, ◌+◌, ◌*◌, ◌/◌, ◌%◌, ◌≤◌, ◌<◌, ◌-◌, List, [], ◌∷◌, ◌++◌, length, drop, refl, sym, ap, ◌∙◌, arith, append_assoc, Option, Some, None, Result, Ok, Err, decimal}
+use Rattle.std.proofs.Common.{◌≡◌, ◌≢◌, ℕ, ◌+◌, ◌*◌, ◌/◌, ◌%◌, ◌≤◌, ◌<◌, ◌-◌, ◌⊎◌, inl, inr, List, [], ◌∷◌, ◌++◌, length, drop, refl, sym, ap, ◌∙◌, arith, append_assoc, Option, Some, None, Result, Ok, Err, decimal}
 use Rattle.std.specs.Prelude.{bytes_eq, codes, if◌then◌else◌, IfOk, IfSome}
 use Rattle.std.proofs.lemmas.Fmt.{decimal_digit, decimal_step}
 use Rattle.std.proofs.lemmas.List.{drop_at, length-append}
@@ -64,7 +64,7 @@ ping_behind bytes word rest e four is =
 abbrev pub names_text : List ℕ → List ℕ → List ℕ → List ℕ → List ℕ → List ℕ → List ℕ
 names_text n a b first second rest = 42 ∷ ((n ++ line_end) ++ (word_text a first ++ (word_text b second ++ rest)))
 
-pub names_behind : (n tens ones : ℕ) (name bytes first second rest : List ℕ)
+names_behind : (n tens ones : ℕ) (name bytes first second rest : List ℕ)
     → bytes ≡ names_text ((48 + n) ∷ []) (56 ∷ []) ((48 + tens) ∷ (48 + ones) ∷ []) first second rest
     → n < 10 → tens ≤ 9 → tens ≢ 0 → ones ≤ 9 → length first ≡ 8 → length second ≡ tens * 10 + ones
     → lower first ≡ codes "sentinel" → lower second ≡ name → IsBehindNames n name bytes rest
@@ -79,6 +79,20 @@ names_behind n tens ones name bytes first second rest e one low some small eight
       (is_first, omega arith),
       (is_second, omega arith),
     )
+
+-- in capitals, in small letters, or with SENTINEL alone in capitals
+pub spelled_names_behind : (n tens ones : ℕ) (capitals name bytes rest : List ℕ)
+    → (bytes ≡ names_text ((48 + n) ∷ []) (56 ∷ []) ((48 + tens) ∷ (48 + ones) ∷ []) (codes "SENTINEL") capitals rest)
+    ⊎ ((bytes ≡ names_text ((48 + n) ∷ []) (56 ∷ []) ((48 + tens) ∷ (48 + ones) ∷ []) (codes "sentinel") name rest)
+    ⊎ (bytes ≡ names_text ((48 + n) ∷ []) (56 ∷ []) ((48 + tens) ∷ (48 + ones) ∷ []) (codes "SENTINEL") name rest))
+    → n < 10 → tens ≤ 9 → tens ≢ 0 → ones ≤ 9 → length capitals ≡ tens * 10 + ones → length name ≡ tens * 10 + ones
+    → lower capitals ≡ name → lower name ≡ name → IsBehindNames n name bytes rest
+spelled_names_behind n tens ones capitals name bytes rest (inl e) one low some small many as_many is_capitals is_name =
+    names_behind n tens ones name bytes (codes "SENTINEL") capitals rest e one low some small refl many refl is_capitals
+spelled_names_behind n tens ones capitals name bytes rest (inr (inl e)) one low some small many as_many is_capitals is_name =
+    names_behind n tens ones name bytes (codes "sentinel") name rest e one low some small refl as_many refl is_name
+spelled_names_behind n tens ones capitals name bytes rest (inr (inr e)) one low some small many as_many is_capitals is_name =
+    names_behind n tens ones name bytes (codes "SENTINEL") name rest e one low some small refl as_many refl is_name
 
 -- ---- an array of words
 

@@ -1,5 +1,5 @@
 -- A command that stands at the front of a list of bytes, apart from the value that it is.
-use Rattle.std.specs.Prelude.{◌≡◌, ◌≤◌, ℕ, List, [], ◌∷◌, ◌++◌, length, decimal, codes, Option, Some, None, Result, Ok, Err, IfOk, IfSome}
+use Rattle.std.specs.Prelude.{◌≡◌, ◌≤◌, ℕ, List, ◌∷◌, ◌++◌, length, decimal, codes, Option, Result, Ok, IfOk, IfSome}
 use Rattle.ballot_law.specs.declared.commands.Command.{Command}
 use Rattle.ballot_law.specs.Words.{lower}
 use Rattle.resp2.specs.declared.command.CommandFault.{CommandFault}

@@ -3,7 +3,7 @@
 //! Each is known by all the bytes before its own words, with its names in capitals, in small letters, or `SENTINEL` in capitals and its subcommand in
 //! small letters, as client libraries spell them. What these functions don't know is left to the reader of values.
 
-ghost use Rattle.std.specs.Prelude.{◌≡◌, ◌≤◌, ◌+◌, ◌∷◌, ◌++◌, ℕ, length, drop, decimal, codes, IfOk, IfSome};
+ghost use Rattle.std.specs.Prelude.{◌≡◌, ◌≤◌, ◌+◌, ◌⊎◌, ◌∷◌, ◌++◌, ℕ, length, drop, decimal, codes, IfOk, IfSome};
 ghost use Rattle.resp2.specs.Asked.{Found, IsBehindPing, IsBehindNames};
 ghost use Rattle.resp2.specs.Commands as commands;
 ghost use Rattle.resp2_frames.specs.Frame.{bulk, spelling, line_end};
@@ -118,62 +118,56 @@ fn letters_of(bytes: &[u8]) -> Letters {
     }
 }
 
+/// What stands behind the names of a command, which are spelled as their first letters tell.
+fn behind_names<'a>(
+    capitals: &[u8],
+    small: &[u8],
+    capitals_then_small: &[u8],
+    bytes: &'a [u8],
+) -> Option<&'a [u8]>
+    ensures { IfSome result (λ rest. (bytes.now ≡ capitals.now ++ rest.now)
+        ⊎ ((bytes.now ≡ small.now ++ rest.now) ⊎ (bytes.now ≡ capitals_then_small.now ++ rest.now))) }
+{
+    match letters_of(bytes) {
+        Letters::Capitals => {
+            let rest = behind_all(capitals, bytes)?;
+            Some(rest)
+        }
+        Letters::Small => {
+            let rest = behind_all(small, bytes)?;
+            Some(rest)
+        }
+        Letters::CapitalsThenSmall => {
+            let rest = behind_all(capitals_then_small, bytes)?;
+            Some(rest)
+        }
+    }
+}
+
 /// What stands behind the names of a question for an address.
 fn behind_address(bytes: &[u8]) -> Option<&[u8]>
     ensures { IfSome result (λ rest. IsBehindNames 3 (codes "get-master-addr-by-name") bytes.now rest.now) }
 {
-    match letters_of(bytes) {
-        Letters::Capitals => {
-            let rest = behind_all(
-                b"*3\r\n$8\r\nSENTINEL\r\n$23\r\nGET-MASTER-ADDR-BY-NAME\r\n",
-                bytes,
-            )?;
-            Some(rest)
-        }
-        Letters::Small => {
-            let rest = behind_all(
-                b"*3\r\n$8\r\nsentinel\r\n$23\r\nget-master-addr-by-name\r\n",
-                bytes,
-            )?;
-            Some(rest)
-        }
-        Letters::CapitalsThenSmall => {
-            let rest = behind_all(
-                b"*3\r\n$8\r\nSENTINEL\r\n$23\r\nget-master-addr-by-name\r\n",
-                bytes,
-            )?;
-            Some(rest)
-        }
-    }
+    let rest = behind_names(
+        b"*3\r\n$8\r\nSENTINEL\r\n$23\r\nGET-MASTER-ADDR-BY-NAME\r\n",
+        b"*3\r\n$8\r\nsentinel\r\n$23\r\nget-master-addr-by-name\r\n",
+        b"*3\r\n$8\r\nSENTINEL\r\n$23\r\nget-master-addr-by-name\r\n",
+        bytes,
+    )?;
+    Some(rest)
 }
 
 /// What stands behind the names of the question whether a master is down.
 fn behind_question(bytes: &[u8]) -> Option<&[u8]>
     ensures { IfSome result (λ rest. IsBehindNames 6 (codes "is-master-down-by-addr") bytes.now rest.now) }
 {
-    match letters_of(bytes) {
-        Letters::Capitals => {
-            let rest = behind_all(
-                b"*6\r\n$8\r\nSENTINEL\r\n$22\r\nIS-MASTER-DOWN-BY-ADDR\r\n",
-                bytes,
-            )?;
-            Some(rest)
-        }
-        Letters::Small => {
-            let rest = behind_all(
-                b"*6\r\n$8\r\nsentinel\r\n$22\r\nis-master-down-by-addr\r\n",
-                bytes,
-            )?;
-            Some(rest)
-        }
-        Letters::CapitalsThenSmall => {
-            let rest = behind_all(
-                b"*6\r\n$8\r\nSENTINEL\r\n$22\r\nis-master-down-by-addr\r\n",
-                bytes,
-            )?;
-            Some(rest)
-        }
-    }
+    let rest = behind_names(
+        b"*6\r\n$8\r\nSENTINEL\r\n$22\r\nIS-MASTER-DOWN-BY-ADDR\r\n",
+        b"*6\r\n$8\r\nsentinel\r\n$22\r\nis-master-down-by-addr\r\n",
+        b"*6\r\n$8\r\nSENTINEL\r\n$22\r\nis-master-down-by-addr\r\n",
+        bytes,
+    )?;
+    Some(rest)
 }
 
 fn ping_at(bytes: &[u8]) -> Option<(Result<Command, CommandFault>, &[u8])>
