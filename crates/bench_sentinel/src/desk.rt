@@ -1,44 +1,41 @@
-//! A Sentinel that is measured, with its file and its outputs.
+//! A Sentinel that is lent for its ticks, with its file and its outputs.
 
 ghost use Rattle.sentinel_rules.specs.Facts.{IsWithinEvent};
 
 use ballot_law::{Addr, Event, Input};
-use sentinel_conf::{Conf, ConfStore, MemoryStore};
+use conf_store::{ConfStore, MemoryStore};
 use sentinel_core::{Outbox, Sentinel};
-use std::alloc::Global;
 use std::marker::Model;
 
-/// A Sentinel with its file and its outputs. Contracts see nothing of it, so that what measures it is proved without the
-/// rules in sight.
+/// A Sentinel with its file and its outputs. All three are lent, so that only their owner has a place where they are dropped, which
+/// takes some ten seconds to prove. Contracts see nothing of them, so that what measures them is proved without the rules in sight.
 #[derive(Drop)]
-pub struct Bench {
-    sentinel: Sentinel,
-    store: MemoryStore,
-    outbox: Outbox,
+pub struct Desk<'a> {
+    sentinel: &'a mut Sentinel,
+    store: &'a mut MemoryStore,
+    outbox: &'a mut Outbox,
 }
 
-impl Model for Bench {
-    ghost use Rattle.std.specs.Prelude.{ℕ, ◌≤◌, length};
+impl<'a> Model for Desk<'a> {
+    ghost use Rattle.std.specs.Prelude.{ℕ};
 
     ghost Value = { ℕ };
 
     ghost view = { λ _. 0 };
-
-    ghost invariant = { λ bench. length bench.outbox.held ≤ bench.outbox.shown_room };
 }
 
-impl Bench {
-    /// A Sentinel of this file at clock 0, with room for its outputs; none where it is refused, or memory is.
-    pub fn open(alloc: Global, conf: Conf, text: &[u8]) -> Option<Bench> {
-        let store = MemoryStore::holding(alloc, text).ok()?;
-        let sentinel = Sentinel::open(alloc, conf, 0).ok()?;
-        let mut outbox = Outbox::new(alloc);
-        outbox.reserve(&sentinel.room()).ok()?;
-        Some(Bench {
+impl<'a> Desk<'a> {
+    /// This Sentinel with its file, and an outbox that has room for its outputs.
+    pub fn of(
+        sentinel: &'a mut Sentinel,
+        store: &'a mut MemoryStore,
+        outbox: &'a mut Outbox,
+    ) -> Desk<'a> {
+        Desk {
             sentinel,
             store,
             outbox,
-        })
+        }
     }
 
     /// Where a master is now.
@@ -60,15 +57,15 @@ impl Bench {
     fn take(&mut self, input: &Input) -> bool
         requires { IsWithinEvent input.now.event }
     {
-        self.sentinel.take(input, &mut self.outbox).is_ok()
+        self.sentinel.take(input, self.outbox).is_ok()
     }
 
     fn store(&mut self) -> bool {
-        self.store.failures() < u64::MAX && self.sentinel.store(&mut self.store).is_ok()
+        self.store.failures() < u64::MAX && self.sentinel.store(self.store).is_ok()
     }
 
     fn release(&mut self) -> bool {
-        self.sentinel.release(&mut self.outbox).is_ok()
+        self.sentinel.release(self.outbox).is_ok()
     }
 
     /// Drops the outputs, and tells how many they were.

@@ -1,22 +1,18 @@
-//! Shares a Sentinel with the sentinel.conf of standard input among threads, and prints for each thread how many calls it made and how
-//! many nanoseconds they took; with no text it prints nothing. The words say what the threads do: `address 4` has four threads ask for
-//! the address of the first master, `ping 4` has four threads ask PING, and with `store` behind these one thread more asks for votes,
-//! each of which is stored, until the others are done; a path behind `store` names the file that holds them, else memory does. `bench/shared` runs it.
-#![tactic(auto)]
+//! Shares a Sentinel among threads, and prints for each thread how many calls it made and how many nanoseconds they took. The words say
+//! what the threads do: `address 4` has four threads ask for the address of the first master, `ping 4` has four threads ask PING, and
+//! with `store` behind these one thread more asks for votes, each of which is stored, until the others are done; a path behind `store`
+//! names the file that holds them, else memory does.
 
 ghost use Rattle.std.specs.Prelude.{◌≡◌, ◌<◌, ◌-◌, ◌^◌, IfSome};
 
-mod bench;
-
-use crate::bench::{Bench, Task, Which, Worker};
+use crate::threads::{Bench, Task, Which, Worker};
 use conf_store::{ConfStore, MemoryStore};
 use sentinel_cell::{MOST_SEATS, Seat, SharedSentinel};
 use sentinel_conf::read;
 use sentinel_core::Sentinel;
 use sentinel_runner::FileStore;
 use std::alloc::Global;
-use std::env;
-use std::io::{self, Read};
+use std::io;
 use std::marker::Brand;
 use std::rt::Clock;
 use std::sync::Wait;
@@ -74,8 +70,8 @@ fn run_all<J: Which + Send + Sync, S: ConfStore + Drop + Send, R: Threads + Wait
     thread::for_each_mut(rt, workers, 16, &|_, worker| drop(worker.run(rt, bench)));
 }
 
-/// Measures the tasks, and gives the calls of each thread and the nanoseconds that they took.
-fn measure<J: Which + Send + Sync, S: ConfStore + Drop + Send, R: Threads + Wait + Clock + Sync>(
+/// Does the tasks, and gives the calls of each thread and the nanoseconds that they took.
+fn run<J: Which + Send + Sync, S: ConfStore + Drop + Send, R: Threads + Wait + Clock + Sync>(
     rt: &R,
     alloc: Global,
     cell: SharedSentinel<S>,
@@ -95,7 +91,7 @@ fn measure<J: Which + Send + Sync, S: ConfStore + Drop + Send, R: Threads + Wait
     Ok(figures)
 }
 
-/// Shares a Sentinel of this text over this store, and measures the tasks. Nothing, where the text makes none.
+/// Shares a Sentinel of this text over this store, and measures the tasks; nothing, where the text makes none.
 fn figures<S: ConfStore + Drop + Send, R: Threads + Wait + Clock + Sync>(
     rt: &R,
     alloc: Global,
@@ -106,26 +102,24 @@ fn figures<S: ConfStore + Drop + Send, R: Threads + Wait + Clock + Sync>(
     requires { S.failure_count store < 2 ^ 64 - 1 }
 {
     match shared(alloc, text, store) {
-        Some((cell, seat)) => measure::<Brand, S, R>(rt, alloc, cell, seat, tasks),
+        Some((cell, seat)) => run::<Brand, S, R>(rt, alloc, cell, seat, tasks),
         None => Ok(Vec::new(alloc)),
     }
 }
 
-fn main(rt: HostRuntime) -> io::Result<()> {
-    let words: Vec<String> = env::args(&rt)?.collect(rt.alloc())?;
-    let tasks = tasks_of(rt.alloc(), words.as_slice())?;
-    let mut text = Vec::new(rt.alloc());
-    rt.stdin().read_to_end(&mut text)?;
+/// Measures what the words say of the Sentinel of this text, and prints the figures.
+pub fn measure(rt: &HostRuntime, text: &[u8], words: &[String]) -> io::Result<()> {
+    let tasks = tasks_of(rt.alloc(), words)?;
     let told = match words.get(4) {
         Some(path) => {
-            let store = FileStore::at(&rt, rt.alloc(), path.as_str())?;
-            figures(&rt, rt.alloc(), text.as_slice(), store, tasks.as_slice())?
+            let store = FileStore::at(rt, rt.alloc(), path.as_str())?;
+            figures(rt, rt.alloc(), text, store, tasks.as_slice())?
         }
         None => {
-            let Ok(store) = MemoryStore::holding(rt.alloc(), text.as_slice()) else {
+            let Ok(store) = MemoryStore::holding(rt.alloc(), text) else {
                 return Ok(());
             };
-            figures(&rt, rt.alloc(), text.as_slice(), store, tasks.as_slice())?
+            figures(rt, rt.alloc(), text, store, tasks.as_slice())?
         }
     };
     for (calls, nanos) in told {

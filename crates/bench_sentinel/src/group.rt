@@ -1,6 +1,6 @@
 //! The nodes of a group, which answer a Sentinel as nodes that are well do.
 
-use crate::bench::Bench;
+use crate::desk::Desk;
 use ballot_law::{Addr, Event, NodeName, PingReply, Roster, Text};
 use std::alloc::Global;
 use std::io;
@@ -66,26 +66,26 @@ impl Group {
     }
 
     /// Each node answers a PING.
-    pub fn answer_pings(&self, bench: &mut Bench, now: u64) {
+    pub fn answer_pings(&self, desk: &mut Desk<'_>, now: u64) {
         let reply = PingReply::Pong;
         for place in 0..place_of(self.nodes.len()) {
             let node = NodeName::StoreAt(place);
-            let _ = bench.give(now, Event::Pinged { node, reply });
+            let _ = desk.give(now, Event::Pinged { node, reply });
         }
         for place in 0..self.sentinels {
             let node = NodeName::SentinelAt(place);
-            let _ = bench.give(now, Event::Pinged { node, reply });
+            let _ = desk.give(now, Event::Pinged { node, reply });
         }
     }
 
     /// Each data node answers an INFO.
-    pub fn answer_infos(&self, alloc: Global, bench: &mut Bench, now: u64) -> io::Result<()> {
+    pub fn answer_infos(&self, alloc: Global, desk: &mut Desk<'_>, now: u64) -> io::Result<()> {
         let mut place: u16 = 0;
         for node in &self.nodes {
-            if let Some(master) = bench.address(node.master) {
+            if let Some(master) = desk.address(node.master) {
                 let text = info_text(alloc, node.addr, master)?;
                 let node = NodeName::StoreAt(place);
-                let _ = bench.give(now, Event::InfoRead { node, text });
+                let _ = desk.give(now, Event::InfoRead { node, text });
             }
             place = place.saturating_add(1);
         }

@@ -1,0 +1,27 @@
+//! Measures a Sentinel with the sentinel.conf of standard input, as the words say; with no words or no text it prints nothing.
+//!
+//! - `ticks` has it tick its masters while all nodes are well, `ticks silent` while none ever answers: see `ticks`. `bench/ticks` runs these.
+//! - `address 4` and `ping 4` share it among four threads: see `shared`. `bench/shared` runs these.
+#![tactic(auto)]
+
+mod desk;
+mod group;
+mod shared;
+mod threads;
+mod ticks;
+
+use std::env;
+use std::io::{self, Read};
+
+fn main(rt: HostRuntime) -> io::Result<()> {
+    let words: Vec<String> = env::args(&rt)?.collect(rt.alloc())?;
+    let mut text = Vec::new(rt.alloc());
+    rt.stdin().read_to_end(&mut text)?;
+    let Some(word) = words.get(1) else {
+        return Ok(());
+    };
+    if word.as_str() == "ticks" {
+        return ticks::measure(&rt, text.as_slice(), words.len() > 2);
+    }
+    shared::measure(&rt, text.as_slice(), words.as_slice())
+}
