@@ -11,6 +11,20 @@ ghost use Rattle.resp2_frames.specs.Frame.{bulk, spelling, line_end};
 use crate::command::{CommandFault, name_of, question_of};
 use ballot_law::Command;
 
+/// The beginning of a question for an address, in capitals, in small letters, and with `SENTINEL` alone in capitals.
+const ADDRESS: &[u8] = b"*3\r\n$8\r\nSENTINEL\r\n$23\r\nGET-MASTER-ADDR-BY-NAME\r\n";
+
+const ADDRESS_SMALL: &[u8] = b"*3\r\n$8\r\nsentinel\r\n$23\r\nget-master-addr-by-name\r\n";
+
+const ADDRESS_THEN_SMALL: &[u8] = b"*3\r\n$8\r\nSENTINEL\r\n$23\r\nget-master-addr-by-name\r\n";
+
+/// The beginning of the question whether a master is down, spelled so too.
+const QUESTION: &[u8] = b"*6\r\n$8\r\nSENTINEL\r\n$22\r\nIS-MASTER-DOWN-BY-ADDR\r\n";
+
+const QUESTION_SMALL: &[u8] = b"*6\r\n$8\r\nsentinel\r\n$22\r\nis-master-down-by-addr\r\n";
+
+const QUESTION_THEN_SMALL: &[u8] = b"*6\r\n$8\r\nSENTINEL\r\n$22\r\nis-master-down-by-addr\r\n";
+
 /// How the names of a command may be spelled.
 #[derive(Clone, Copy)]
 enum Letters {
@@ -148,12 +162,7 @@ fn behind_names<'a>(
 fn behind_address(bytes: &[u8]) -> Option<&[u8]>
     ensures { IfSome result (λ rest. IsBehindNames 3 (codes "get-master-addr-by-name") bytes.now rest.now) }
 {
-    let rest = behind_names(
-        b"*3\r\n$8\r\nSENTINEL\r\n$23\r\nGET-MASTER-ADDR-BY-NAME\r\n",
-        b"*3\r\n$8\r\nsentinel\r\n$23\r\nget-master-addr-by-name\r\n",
-        b"*3\r\n$8\r\nSENTINEL\r\n$23\r\nget-master-addr-by-name\r\n",
-        bytes,
-    )?;
+    let rest = behind_names(ADDRESS, ADDRESS_SMALL, ADDRESS_THEN_SMALL, bytes)?;
     Some(rest)
 }
 
@@ -161,12 +170,7 @@ fn behind_address(bytes: &[u8]) -> Option<&[u8]>
 fn behind_question(bytes: &[u8]) -> Option<&[u8]>
     ensures { IfSome result (λ rest. IsBehindNames 6 (codes "is-master-down-by-addr") bytes.now rest.now) }
 {
-    let rest = behind_names(
-        b"*6\r\n$8\r\nSENTINEL\r\n$22\r\nIS-MASTER-DOWN-BY-ADDR\r\n",
-        b"*6\r\n$8\r\nsentinel\r\n$22\r\nis-master-down-by-addr\r\n",
-        b"*6\r\n$8\r\nSENTINEL\r\n$22\r\nis-master-down-by-addr\r\n",
-        bytes,
-    )?;
+    let rest = behind_names(QUESTION, QUESTION_SMALL, QUESTION_THEN_SMALL, bytes)?;
     Some(rest)
 }
 
