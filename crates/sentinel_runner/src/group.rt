@@ -19,14 +19,20 @@ use std::sync::Wait;
 use std::sync::atomic::{AtomicU64, Ordering};
 use std::thread::{self, Threads};
 
-/// A group whose Sentinels are open and whose ports are taken, before its threads run.
+/// What the threads of a group begin with.
 #[derive(Drop)]
-pub struct Group<S: ConfStore> {
+struct Beginning<S: ConfStore> {
     sentinels: Vec<Started<S>>,
     nodes: DataNodes,
     errands: Receiver<Errand>,
-    state: GroupState,
     alloc: Global,
+}
+
+/// A group whose Sentinels are open and whose ports are taken, before its threads run.
+#[derive(Drop)]
+pub struct Group<S: ConfStore> {
+    threads: Beginning<S>,
+    state: GroupState,
 }
 
 /// Opens the Sentinel of each conf with the store at the same place.
@@ -67,19 +73,22 @@ impl<S: ConfStore + Drop> Group<S> {
         let Ok(clock) = GroupClock::start(rt) else {
             return Err(GroupFault::NoMemory);
         };
+        let sentinels = open_all(rt, alloc, confs, stores, &mut ends)?;
         Ok(Group {
-            sentinels: open_all(rt, alloc, confs, stores, &mut ends)?,
-            nodes,
-            errands: ends.stores,
+            threads: Beginning {
+                sentinels,
+                nodes,
+                errands: ends.stores,
+                alloc,
+            },
             state: GroupState::new(links, clock),
-            alloc,
         })
     }
 
     /// Takes lines that stop, start or set a data node while the group runs.
     fn orders(&self) -> Result<Orders, GroupFault> {
         let errands = self.state.links.errands()?;
-        Ok(Orders::new(self.alloc, errands, self.nodes.count()))
+        Ok(Orders::new(self.threads.alloc, errands, self.threads.nodes.count()))
     }
 }
 
@@ -90,14 +99,8 @@ impl<S: ConfStore + Drop + Send> Group<S> {
         rt: &R,
         ending: &AtomicU64,
     ) -> Result<(), GroupFault> {
-        let Group {
-            sentinels,
-            nodes,
-            errands,
-            state,
-            alloc,
-        } = self;
-        run_threads(rt, alloc, sentinels, nodes, errands, &state, ending);
+        let Group { threads, state } = self;
+        run_threads(rt, threads, &state, ending);
         outcome(&state)
     }
 
@@ -109,31 +112,10 @@ impl<S: ConfStore + Drop + Send> Group<S> {
         ending: &AtomicU64,
     ) -> Result<(), GroupFault> {
         let orders = self.orders()?;
-        let Group {
-            sentinels,
-            nodes,
-            errands,
-            state,
-            alloc,
-        } = self;
-        let threads = Beginning {
-            sentinels,
-            nodes,
-            errands,
-            alloc,
-        };
+        let Group { threads, state } = self;
         follow_beside(rt, threads, orders, input, &state, ending);
         outcome(&state)
     }
-}
-
-/// What the threads of a group begin with.
-#[derive(Drop)]
-struct Beginning<S: ConfStore> {
-    sentinels: Vec<Started<S>>,
-    nodes: DataNodes,
-    errands: Receiver<Errand>,
-    alloc: Global,
 }
 
 /// Runs all threads, beside which this one follows the orders of the input to its end.
@@ -150,29 +132,13 @@ where
     R: Threads + Wait + Clock + Log + Sync,
 {
     thread::scope(thread::scope_env(), rt, |scope| {
-        let begun = scope.spawn(move || run_beginning(rt, threads, state, ending));
+        let begun = scope.spawn(move || run_threads(rt, threads, state, ending));
         if begun.is_err() {
             state.note_short();
             return;
         }
         orders.follow(rt, input, ending);
     })
-}
-
-/// Runs all threads.
-fn run_beginning<S: ConfStore + Drop + Send, R: Threads + Wait + Clock + Log + Sync>(
-    rt: &R,
-    threads: Beginning<S>,
-    state: &GroupState,
-    ending: &AtomicU64,
-) {
-    let Beginning {
-        sentinels,
-        nodes,
-        errands,
-        alloc,
-    } = threads;
-    run_threads(rt, alloc, sentinels, nodes, errands, state, ending);
 }
 
 /// How a group ended.
@@ -192,13 +158,16 @@ fn outcome(state: &GroupState) -> Result<(), GroupFault> {
 /// Runs the data nodes in a thread, and each Sentinel in one that starts its others. Where one can't be made, all end.
 fn run_threads<'a, S: ConfStore + Drop + Send, R: Threads + Wait + Clock + Log + Sync>(
     rt: &'a R,
-    alloc: Global,
-    sentinels: Vec<Started<S>>,
-    mut nodes: DataNodes,
-    errands: Receiver<Errand>,
+    threads: Beginning<S>,
     state: &'a GroupState,
     ending: &'a AtomicU64,
 ) {
+    let Beginning {
+        sentinels,
+        mut nodes,
+        errands,
+        alloc,
+    } = threads;
     thread::scope(thread::scope_env(), rt, |scope| {
         let mut refused = scope
             .spawn(move || nodes.run(rt, state, &errands, ending))

@@ -35,6 +35,30 @@ pub(crate) struct Paired {
 }
 
 impl Paired {
+    /// The first of a pair at these ports, with quorum 1, of epoch 0.
+    pub(crate) fn at(ports: (u16, u16), after_ms: u64) -> Paired {
+        Paired {
+            id: "aaaaaaaaaaaaaaaaaaaaaaaaaaaaaaaaaaaaaaaa",
+            other: "bbbbbbbbbbbbbbbbbbbbbbbbbbbbbbbbbbbbbbbb",
+            port: ports.0,
+            other_port: ports.1,
+            quorum: 1,
+            after_ms,
+            epoch: 0,
+        }
+    }
+
+    /// The other one of the pair, with the same settings.
+    pub(crate) fn counterpart(self) -> Paired {
+        Paired {
+            id: self.other,
+            other: self.id,
+            port: self.other_port,
+            other_port: self.port,
+            ..self
+        }
+    }
+
     /// Its file.
     pub(crate) fn text(&self, alloc: Global) -> Result<String, NoMemory> {
         let (id, other) = (self.id, self.other);
@@ -51,9 +75,9 @@ sentinel known-sentinel mymaster 127.0.0.1 {} {other}\n",
     }
 }
 
-/// The confs of two files.
-pub(crate) fn both_of(alloc: Global, one: &str, other: &str) -> Option<Vec<Conf>> {
-    let one = read(alloc, one.as_bytes()).ok()?;
-    let other = read(alloc, other.as_bytes()).ok()?;
+/// The confs of a pair.
+pub(crate) fn both_of(alloc: Global, one: Paired, other: Paired) -> Option<Vec<Conf>> {
+    let one = read(alloc, one.text(alloc).ok()?.as_bytes()).ok()?;
+    let other = read(alloc, other.text(alloc).ok()?.as_bytes()).ok()?;
     vec![in alloc; one, other].ok()
 }

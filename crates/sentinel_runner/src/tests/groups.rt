@@ -4,10 +4,15 @@ ghost use Rattle.std.specs.Prelude.{◌≡◌, All, IfSome};
 
 use crate::tests::confs::{Paired, both_of, free_port, text_of_one};
 use crate::{GroupFault, run_group};
+use log::Log;
 use sentinel_conf::{Conf, MemoryStore, read};
 use std::alloc::Global;
+use std::net::Net;
+use std::rt::Clock;
+use std::sync::Wait;
 use std::sync::atomic::AtomicU64;
 use std::test::Fail;
+use std::thread::Threads;
 
 /// A store in memory that has failed no call.
 fn one_store(alloc: Global) -> Option<Vec<MemoryStore>>
@@ -28,57 +33,50 @@ fn two_stores(alloc: Global) -> Option<Vec<MemoryStore>>
     Some(stores)
 }
 
-/// The confs of a pair with these quorums.
-fn pair(alloc: Global, ports: (u16, u16), quorums: (u32, u32)) -> Option<Vec<Conf>> {
+/// The confs of a pair with these quorums, at ports that nobody has.
+fn pair<R: Net>(rt: &R, alloc: Global, quorums: (u32, u32)) -> Option<Vec<Conf>> {
+    let ports = (free_port(rt).ok()?, free_port(rt).ok()?);
     let one = Paired {
-        id: "aaaaaaaaaaaaaaaaaaaaaaaaaaaaaaaaaaaaaaaa",
-        other: "bbbbbbbbbbbbbbbbbbbbbbbbbbbbbbbbbbbbbbbb",
-        port: ports.0,
-        other_port: ports.1,
         quorum: quorums.0,
-        after_ms: 3000,
-        epoch: 0,
+        ..Paired::at(ports, 3000)
     };
     let other = Paired {
-        id: one.other,
-        other: one.id,
-        port: ports.1,
-        other_port: ports.0,
         quorum: quorums.1,
-        ..one
+        ..one.counterpart()
     };
-    both_of(
-        alloc,
-        one.text(alloc).ok()?.as_str(),
-        other.text(alloc).ok()?.as_str(),
-    )
+    both_of(alloc, one, other)
+}
+
+/// Runs a group that is to end at once.
+fn run_to_end<R: Threads + Wait + Net + Clock + Log + Sync>(
+    rt: &R,
+    alloc: Global,
+    confs: Vec<Conf>,
+    stores: Vec<MemoryStore>,
+) -> Result<(), GroupFault>
+    requires { All (λ store. store.failed ≡ 0) stores.items }
+{
+    let ending = AtomicU64::new(1);
+    run_group(rt, alloc, confs, stores, &ending)
 }
 
 #[test]
 fn confs_of_different_quorums_are_no_group(rt: HostRuntime) -> Result<(), Fail> {
     let alloc = rt.alloc();
-    let ports = (free_port(&rt)?, free_port(&rt)?);
-    let confs = pair(alloc, ports, (1, 2)).ok_or("no confs")?;
+    let confs = pair(&rt, alloc, (1, 2)).ok_or("no confs")?;
     let stores = two_stores(alloc).ok_or("no stores")?;
-    let ending = AtomicU64::new(1);
-    assert_eq!(rt;
-        run_group(&rt, alloc, confs, stores, &ending),
-        Err(GroupFault::NotOneRoster)
-    );
+    let ended = run_to_end(&rt, alloc, confs, stores);
+    assert_eq!(rt; ended, Err(GroupFault::NotOneRoster));
     Ok(())
 }
 
 #[test]
 fn a_store_too_few_is_no_group(rt: HostRuntime) -> Result<(), Fail> {
     let alloc = rt.alloc();
-    let ports = (free_port(&rt)?, free_port(&rt)?);
-    let confs = pair(alloc, ports, (1, 1)).ok_or("no confs")?;
+    let confs = pair(&rt, alloc, (1, 1)).ok_or("no confs")?;
     let stores = one_store(alloc).ok_or("no stores")?;
-    let ending = AtomicU64::new(1);
-    assert_eq!(rt;
-        run_group(&rt, alloc, confs, stores, &ending),
-        Err(GroupFault::NotOneRoster)
-    );
+    let ended = run_to_end(&rt, alloc, confs, stores);
+    assert_eq!(rt; ended, Err(GroupFault::NotOneRoster));
     Ok(())
 }
 
@@ -89,7 +87,6 @@ fn a_group_ends_where_it_is_to_end(rt: HostRuntime) -> Result<(), Fail> {
     let conf = read(alloc, text.as_bytes()).map_err(|_| "no conf")?;
     let confs = vec![in alloc; conf]?;
     let stores = one_store(alloc).ok_or("no stores")?;
-    let ending = AtomicU64::new(1);
-    assert_eq!(rt; run_group(&rt, alloc, confs, stores, &ending), Ok(()));
+    assert_eq!(rt; run_to_end(&rt, alloc, confs, stores), Ok(()));
     Ok(())
 }

@@ -96,28 +96,8 @@ fn files<'a, R: Clock>(
 fn store_held_until_other_answers(rt: HostRuntime) -> Result<(), Fail> {
     let alloc = rt.alloc();
     let (port, other_port) = (free_port(&rt)?, free_port(&rt)?);
-    let one = Paired {
-        id: "aaaaaaaaaaaaaaaaaaaaaaaaaaaaaaaaaaaaaaaa",
-        other: "bbbbbbbbbbbbbbbbbbbbbbbbbbbbbbbbbbbbbbbb",
-        port,
-        other_port,
-        quorum: 1,
-        after_ms: 4_294_967_295,
-        epoch: 0,
-    };
-    let other = Paired {
-        id: one.other,
-        other: one.id,
-        port: other_port,
-        other_port: port,
-        ..one
-    };
-    let confs = both_of(
-        alloc,
-        one.text(alloc)?.as_str(),
-        other.text(alloc)?.as_str(),
-    )
-    .ok_or("no confs")?;
+    let one = Paired::at((port, other_port), 4_294_967_295);
+    let confs = both_of(alloc, one, one.counterpart()).ok_or("no confs")?;
     let (told, answered) = (Told::new(), AtomicU64::new(0));
     let stores = files(alloc, &rt, &told, &answered).ok_or("no files")?;
     let Ok(group) = Group::open(&rt, alloc, confs, stores) else {

@@ -112,30 +112,13 @@ fn files<'a, R: Clock>(
 fn group_talks(rt: HostRuntime) -> Result<(), Fail> {
     let alloc = rt.alloc();
     let (port, other_port) = (free_port(&rt)?, free_port(&rt)?);
-    let one = Paired {
-        id: "aaaaaaaaaaaaaaaaaaaaaaaaaaaaaaaaaaaaaaaa",
-        other: "bbbbbbbbbbbbbbbbbbbbbbbbbbbbbbbbbbbbbbbb",
-        port,
-        other_port,
-        quorum: 1,
-        after_ms: 50,
-        epoch: 0,
-    };
+    let one = Paired::at((port, other_port), 50);
     let other = Paired {
-        id: one.other,
-        other: one.id,
-        port: other_port,
-        other_port: port,
         after_ms: 4_294_967_295,
         epoch: 5,
-        ..one
+        ..one.counterpart()
     };
-    let confs = both_of(
-        alloc,
-        one.text(alloc)?.as_str(),
-        other.text(alloc)?.as_str(),
-    )
-    .ok_or("no confs")?;
+    let confs = both_of(alloc, one, other).ok_or("no confs")?;
     let (first, second) = (Told::new(), Told::new());
     let stores = files(alloc, &first, &second).ok_or("no files")?;
     let Ok(group) = Group::open(&rt, alloc, confs, stores) else {
