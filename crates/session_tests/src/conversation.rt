@@ -11,13 +11,12 @@ use sentinel_core::Sentinel;
 use std::alloc::Global;
 use std::sync::Wait;
 
-/// A Sentinel that watches a master with two replicas, with three others.
+/// A Sentinel that watches a master with a replica, with three others.
 const FOUR_SENTINELS: &[u8] = b"sentinel myid 0000000000000000000000000000000000000000\n\
 sentinel monitor mymaster 127.0.0.1 6379 2\n\
 sentinel down-after-milliseconds mymaster 1000\n\
 sentinel failover-timeout mymaster 3000\n\
 sentinel known-replica mymaster 127.0.0.1 6380\n\
-sentinel known-replica mymaster 127.0.0.1 6381\n\
 sentinel known-sentinel mymaster 127.0.0.1 26380 bbbbbbbbbbbbbbbbbbbbbbbbbbbbbbbbbbbbbbbb\n\
 sentinel known-sentinel mymaster 127.0.0.1 26381 cccccccccccccccccccccccccccccccccccccccc\n\
 sentinel known-sentinel mymaster 127.0.0.1 26382 dddddddddddddddddddddddddddddddddddddddd\n";
