@@ -1,7 +1,7 @@
 -- Answers that have a spelling, and lines that have room.
 use Rattle.std.proofs.Common.{◌≡◌, ◌≢◌, ◌≤◌, ◌<◌, ℕ, zero, suc, List, [], ◌∷◌, slice_index_or, Option, Some, None, refl, sym, ap, ◌∙◌, subst, arith, ◌++◌}
 use Rattle.std.specs.List.{AllZip}
-use Rattle.std.specs.Prelude.{false, codes, slice_get}
+use Rattle.std.specs.Prelude.{codes, slice_get}
 use Rattle.ballot_law.specs.declared.addresses.Addr.{Addr}
 use Rattle.ballot_law.specs.declared.addresses.RunId.{RunId}
 use Rattle.ballot_law.specs.declared.cards.Kept.{Kept}
@@ -27,7 +27,7 @@ use Rattle.resp2_frames.specs.Frame.{Frame, spelling, IsLine}
 use Rattle.sentinel_conf.specs.Meaning.{ConfPlan}
 use Rattle.sentinel_conf.specs.Rewritten.{IsKeptMaster, IsKeptPart}
 use Rattle.sentinel_rules.specs.Answers.{commanded, asked_of, master_with_card, named, about, reply, master_row, replica_rows, sentinel_rows, quorum_frame}
-use Rattle.sentinel_rules.specs.Plans.{Plan, roster_of}
+use Rattle.sentinel_rules.specs.Plans.{Plan}
 use Rattle.sentinel_rules.specs.States.{Core}
 use Rattle.sentinel_rules.specs.Takes.{next, cleared}
 use Rattle.message_texts.specs.MessageTexts.{IsWritable}

@@ -1,14 +1,12 @@
 -- One value more, one piece more, and the ends of both.
-use Rattle.std.proofs.Common.{◌≡◌, ◌≢◌, ◌<◌, ◌≤◌, ◌+◌, ◌⊎◌, ℕ, Bool, List, [], ◌∷◌, ◌++◌, length, take, drop, Option, Some, None, Result, Ok, Err, refl, sym, ap, ◌∙◌, subst, inl, inr, arith, append_assoc, length-append}
+use Rattle.std.proofs.Common.{◌≡◌, ◌≢◌, ◌+◌, ◌⊎◌, ℕ, List, [], ◌∷◌, ◌++◌, length, take, Option, Some, None, Result, Ok, Err, refl, sym, ap, ◌∙◌, subst, inl, inr, arith, append_assoc, length-append}
 use Rattle.std.proofs.lemmas.List.{append-nil}
 use Rattle.std.proofs.Math.Seq.{take-append-add}
-use Rattle.ballot_law.specs.declared.cards.Kept.{Kept}
 use Rattle.resp2_frames.specs.declared.fault.FrameFault.{FrameFault}
 use Rattle.resp2_frames.specs.declared.fault.FrameFault.TheVariants.{BadKind, BadLength, BadNumber, MissingEnd, TooLong, TooDeep, TooMany, NoMemory}
-use Rattle.resp2_frames.specs.declared.fault.Unread.TheVariants.{NeedsMore}
 use Rattle.resp2_frames.specs.Frame.{Frame}
 use Rattle.resp2_frames.specs.Reading.{frame_at}
-use Rattle.resp2_frames.specs.Stream.{Held, reading, ended, Feeds, Parts, Splits, SoFar}
+use Rattle.resp2_frames.specs.Stream.{Held, reading, Feeds, Parts, SoFar}
 use Rattle.resp2_frames.proofs.Drains.{fed_so_far, nothing_waits}
 use Rattle.resp2.proofs.Streams.{fault_asked, value_asked, end_asked}
 use Rattle.resp2.specs.Asked.{Asks}
@@ -22,7 +20,7 @@ use Rattle.sentinel_rules.specs.Plans.{Plan}
 use Rattle.sentinel_rules.specs.States.{Core}
 use Rattle.port_serving.specs.declared.fault.ServeFault.{ServeFault}
 use Rattle.port_serving.specs.declared.fault.ServeFault.TheVariants.{Frame as FaultyFrame, Read, Write, Halted, NoMemory as NoMemoryLeft}
-use Rattle.port_serving.specs.Serving.{replied, replied_to, answers_to, core_after, last_line, Holds, HoldsAfter, IsLeft, IsServed, IsRefused, IsCut, IsCutAtRefusal, IsAnswered, IsIdle, IsFaulted, IsStuck, IsRefusal, EndsWith, Breaks, Steps, Takes, Waits, of_frame}
+use Rattle.port_serving.specs.Serving.{replied, replied_to, answers_to, core_after, last_line, Holds, HoldsAfter, IsLeft, IsServed, IsRefused, IsCut, IsCutAtRefusal, IsAnswered, IsIdle, IsFaulted, IsStuck, IsRefusal, EndsWith, Breaks, Takes, Waits, of_frame}
 use Rattle.port_serving.proofs.KnownBytes.{appends_twice, appends_nothing, consumes_twice}
 
 -- ---- reading
@@ -423,20 +421,6 @@ module _ (plan : Plan) (now : ℕ) (first : Core) (before : Option (List ℕ)) w
 -- ---- the plan and the reading of the clock stay
 
 module _ (plan later : Plan) (now at : ℕ) (same_plan : later ≡ plan) (same_now : at ≡ now) (first : Core) (before : Option (List ℕ)) where
-  pub answered_later : (input written : List ℕ) (held : Held) (core : Core) (text : List ℕ) (answers : ℕ) (stored : Option (List ℕ))
-      → IsAnswered plan now first before input written held core text answers stored → IsAnswered later at first before input written held core text answers stored
-  answered_later input written held core text answers stored a =
-      subst (λ (p : Plan). IsAnswered p at first before input written held core text answers stored) (sym same_plan)
-      (subst (λ (n : ℕ). IsAnswered plan n first before input written held core text answers stored) (sym same_now) a)
-
-  pub drained : (more : Bool) (input written : List ℕ) (held : Held) (core : Core) (text : List ℕ) (answers : ℕ) (stored : Option (List ℕ))
-      → more ≡ false → Steps later at first before input written (Ok more) held core text answers stored
-      → IsAnswered plan now first before input written held core text answers stored × Waits held
-  drained more input written held core text answers stored none a =
-      subst (λ (p : Plan). IsAnswered p now first before input written held core text answers stored × Waits held) same_plan
-      (subst (λ (n : ℕ). IsAnswered later n first before input written held core text answers stored × Waits held) same_now
-      (subst (λ (b : Bool). Steps later at first before input written (Ok b) held core text answers stored) none a))
-
   pub idle_later : (input written : List ℕ) (held : Held) (core : Core) (text : List ℕ) (answers : ℕ) (stored : Option (List ℕ))
       → IsIdle plan now first before input written held core text answers stored → IsIdle later at first before input written held core text answers stored
   idle_later input written held core text answers stored a =

@@ -1,6 +1,6 @@
 -- What a stream of values is answered, and how the serving of it ends: what was written for what was read, what the Sentinel keeps
 -- by then, and what its store holds.
-use Rattle.std.specs.Prelude.{◌≡◌, ◌⊎◌, ◌≤◌, ◌++◌, ◌∷◌, ℕ, Bool, true, false, Option, None, Some, List, [], length, take, Result, Ok, Err}
+use Rattle.std.specs.Prelude.{◌≡◌, ◌⊎◌, ◌≤◌, ◌++◌, ◌∷◌, ℕ, Option, None, Some, List, [], length, take, Result, Ok, Err}
 use Rattle.std.specs.List.{flat_map}
 use Rattle.ballot_law.specs.declared.cards.Kept.{Kept}
 use Rattle.ballot_law.specs.declared.commands.Command.{Command}
@@ -196,12 +196,6 @@ module _ (plan : Plan) (now : ℕ) (first : Core) (before : Option (List ℕ)) w
     pub answered : IsAnswered plan now first before input written held core text answers stored
     pub waits : Waits held
     pub none_left : text ≡ []
-
-  -- how the answering of the first whole value ends: it was answered, or there is none
-  abbrev pub Steps : (input written : List ℕ) → Result Bool ServeFault → Held → Core → (text : List ℕ) → (answers : ℕ) → (stored : Option (List ℕ)) → Type 0
-  Steps input written (Ok true) held core text answers stored = IsAnswered plan now first before input written held core text answers stored
-  Steps input written (Ok false) held core text answers stored = IsAnswered plan now first before input written held core text answers stored × Waits held
-  Steps input written (Err fault) held core text answers stored = Breaks plan now first before input written fault text core stored
 
   -- how the answering of all whole values ends
   abbrev pub Drains : {X : Type 0} → (input written : List ℕ) → Result X ServeFault → Held → Core → (text : List ℕ) → (answers : ℕ) → (stored : Option (List ℕ)) → Type 0

@@ -1,6 +1,6 @@
 //! Serves a stream of commands.
 
-ghost use Rattle.std.specs.Prelude.{◌≡◌, ◌≤◌, ◌<◌, ◌+◌, ◌-◌, ◌^◌, ◌⊎◌, ◌++◌, ℕ, List, Option, [], OnOk, OnErr, Err, IfOk, IfErr, IsErrOf, IsTrue, length, take};
+ghost use Rattle.std.specs.Prelude.{◌≡◌, ◌≤◌, ◌<◌, ◌+◌, ◌-◌, ◌^◌, ◌⊎◌, ◌++◌, ℕ, List, Option, [], OnOk, OnErr, Err, IfOk, IfErr, IsErrOf, length, take};
 ghost use Rattle.std.specs.Io.KnownBytes.{Consumes, Appends, IsAtEnd};
 ghost use Rattle.ballot_law.specs.declared.cards.Kept.{Kept};
 ghost use Rattle.port_answers.specs.Answers.{command_fault};
@@ -10,7 +10,7 @@ ghost use Rattle.resp2_frames.specs.Stream.{held_size, reading};
 ghost use Rattle.sentinel_outbox.specs.Outboxes.{Fits, room_of_sentinel};
 ghost use Rattle.sentinel_rules.specs.Plans.{Plan};
 ghost use Rattle.sentinel_rules.specs.States.{Core};
-ghost use Rattle.port_serving.specs.Serving.{Holds, EndsWith, IsAnswered, IsIdle, IsFaulted, Breaks, IsRefusal, Steps, Drains, Takes, of_frame, phase_of, phase_after, replied_to};
+ghost use Rattle.port_serving.specs.Serving.{Holds, EndsWith, IsAnswered, IsIdle, IsFaulted, Breaks, IsRefusal, Drains, Takes, of_frame, phase_of, phase_after, replied_to};
 
 use crate::fault::ServeFault;
 use crate::port_sentinel::PortSentinel;
@@ -119,11 +119,11 @@ impl Connection {
     fn answer<N: PortSentinel, S: ConfStore>(
         &mut self,
         sentinel: &mut N,
-        asked: Result<Command, CommandFault>,
+        asked: &Result<Command, CommandFault>,
         store: &mut S,
     ) -> Result<(), ServeFault>
         requires room { self.old.answers < 2 ^ 64 - 1 }
-        requires within { IfOk asked IsWithin }
+        requires within { IfOk asked.now IsWithin }
         requires ready { N.phase sentinel.old ≡ Phase.Ready }
         requires failures { S.failure_count store.old < 2 ^ 64 - 1 }
         ensures clock { self.new.clock ≡ self.old.clock }
@@ -131,11 +131,11 @@ impl Connection {
         ensures plan { N.plan sentinel.new ≡ N.plan sentinel.old }
         ensures core { OnErr result ((N.core sentinel.new ≡ N.core sentinel.old)
             ⊎ (N.core sentinel.new
-            ≡ (replied_to (N.plan sentinel.old) self.old.clock (N.core sentinel.old) asked).core)) }
+            ≡ (replied_to (N.plan sentinel.old) self.old.clock (N.core sentinel.old) asked.now).core)) }
         ensures taken { OnOk result (N.core sentinel.new
-            ≡ (replied_to (N.plan sentinel.old) self.old.clock (N.core sentinel.old) asked).core) }
+            ≡ (replied_to (N.plan sentinel.old) self.old.clock (N.core sentinel.old) asked.now).core) }
         ensures answered { OnOk result (self.new.text ≡ self.old.text
-            ++ (replied_to (N.plan sentinel.old) self.old.clock (N.core sentinel.old) asked).bytes) }
+            ++ (replied_to (N.plan sentinel.old) self.old.clock (N.core sentinel.old) asked.now).bytes) }
         ensures answers { OnOk result (self.new.answers ≡ self.old.answers + 1) }
         ensures text { OnErr result (self.new.text ≡ self.old.text) }
         ensures phase { N.phase sentinel.new ≡ phase_after result }
@@ -152,9 +152,9 @@ impl Connection {
             ⊎ Holds (N.plan sentinel.old).conf first before (N.core sentinel.new).kept (S.held store.new)) }
     {
         let command = match asked {
-            Ok(command) => command,
+            Ok(command) => *command,
             Err(fault) => {
-                add_fault(self.alloc, fault, &mut self.text)?;
+                add_fault(self.alloc, *fault, &mut self.text)?;
                 self.answers += 1;
                 return Ok(());
             }
@@ -174,42 +174,6 @@ impl Connection {
         }
         self.answers += 1;
         Ok(())
-    }
-
-    /// Answers the first value that is whole, and tells whether there was one.
-    fn answer_next<N: PortSentinel, S: ConfStore>(
-        &mut self,
-        sentinel: &mut N,
-        store: &mut S,
-    ) -> Result<bool, ServeFault>
-        requires room { self.old.answers + held_size self.old.frames < 2 ^ 64 }
-        requires ready { N.phase sentinel.old ≡ Phase.Ready }
-        requires failures { S.failure_count store.old < 2 ^ 64 - 1 }
-        ensures clock { self.new.clock ≡ self.old.clock }
-        ensures plan { N.plan sentinel.new ≡ N.plan sentinel.old }
-        ensures phase { N.phase sentinel.new ≡ phase_after result }
-        ensures counted { OnOk result (self.new.answers + held_size self.new.frames
-            ≤ self.old.answers + held_size self.old.frames) }
-        ensures smaller { IfOk result (λ more. IsTrue more →
-            held_size self.new.frames < held_size self.old.frames) }
-        ensures as_many { OnOk result (S.failure_count store.new ≡ S.failure_count store.old) }
-        ensures halted { IsErrOf result ServeFault.Halted →
-            S.failure_count store.old < S.failure_count store.new }
-        ensures answered { (first : Core) (before : Option (List ℕ)) (input written : List ℕ) →
-            IsAnswered (N.plan sentinel.old) self.old.clock first before input written
-            self.old.frames (N.core sentinel.old) self.old.text self.old.answers (S.held store.old) →
-            Steps (N.plan sentinel.old) self.old.clock first before input written result
-            self.new.frames (N.core sentinel.new) self.new.text self.new.answers (S.held store.new) }
-    {
-        let asked = match next_command(&mut self.frames) {
-            Ok(Some(asked)) => asked,
-            Ok(None) => return Ok(false),
-            Err(fault) => return Err(of_frame(fault)),
-        };
-        match self.answer(sentinel, asked, store) {
-            Ok(()) => Ok(true),
-            Err(fault) => Err(fault),
-        }
     }
 
     /// Answers each value that is whole.
@@ -236,10 +200,10 @@ impl Connection {
             self.new.frames (N.core sentinel.new) self.new.text self.new.answers (S.held store.new) }
     {
         loop {
-            match self.answer_next(sentinel, store) {
-                Ok(true) => {}
-                Ok(false) => return Ok(()),
-                Err(fault) => return Err(fault),
+            match next_command(&mut self.frames) {
+                Ok(Some(asked)) => self.answer(sentinel, &asked, store)?,
+                Ok(None) => return Ok(()),
+                Err(fault) => return Err(of_frame(fault)),
             }
         }
     }

@@ -1,4 +1,4 @@
-use Rattle.std.proofs.Common.{◌++◌, ◌≡◌, ◌∙◌, [], arith, rules, take, refl, subst}
+use Rattle.std.proofs.Common.{◌++◌, ◌∙◌, [], arith, rules, take, refl, subst}
 use Rattle.std.proofs.lemmas.Result.{err_from_is_err_and}
 use Rattle.std.proofs.lemmas.List.{append-nil}
 use Rattle.std.specs.Io.KnownBytes.{Consumes}

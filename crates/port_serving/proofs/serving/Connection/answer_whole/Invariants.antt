@@ -5,8 +5,8 @@ use Rattle.sentinel_outbox.specs.declared.phase.Phase.TheVariants.{Ready}
 use Rattle.port_serving.specs.Serving.{IsAnswered}
 use Rattle.port_serving.proofs.serving.Connection.answer_whole.Given as goal
 
-abbrev pub invariant-loop-fault : goal.invariant-loop-fault
-invariant-loop-fault g l =
+abbrev pub invariant-loop-asked : goal.invariant-loop-asked
+invariant-loop-asked g l =
     (l.self.answers + held_size l.self.frames ≤ l.initial.self.answers + held_size l.initial.self.frames)
     × ((first : Core) (before : Option (List ℕ)) (input written : List ℕ)
     → IsAnswered (g.N.PortSentinel.plan l.initial.sentinel) l.initial.self.clock first before input written l.initial.self.frames (g.N.PortSentinel.core l.initial.sentinel) l.initial.self.text l.initial.self.answers (g.S.ConfStore.held l.initial.store)
@@ -16,5 +16,5 @@ invariant-loop-fault g l =
     × (g.N.PortSentinel.phase l.sentinel ≡ Ready)
     × (g.S.ConfStore.failure_count l.store ≡ g.S.ConfStore.failure_count l.initial.store)
 
-abbrev pub decreases-loop-fault : goal.decreases-loop-fault
-decreases-loop-fault g l = held_size l.self.frames
+abbrev pub decreases-loop-asked : goal.decreases-loop-asked
+decreases-loop-asked g l = held_size l.self.frames

@@ -1,4 +1,4 @@
-use Rattle.std.proofs.Common.{◌≡◌, ◌++◌, sym, ◌∙◌}
+use Rattle.std.proofs.Common.{◌++◌, sym, ◌∙◌}
 use Rattle.port_serving.proofs.Steps.{fed_by, unfed, wrote_by}
 use Rattle.port_serving.proofs.serving.Connection.take_piece.Goals as goal
 
