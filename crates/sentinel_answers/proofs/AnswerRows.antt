@@ -5,7 +5,6 @@ use Rattle.std.specs.List.{flat_map, AllByRecursion}
 use Rattle.ballot_law.specs.declared.addresses.RunId.{RunId}
 use Rattle.resp2_frames.specs.Frame.{Frame, items, frames_of, spelling}
 use Rattle.port_answers.specs.declared.rows.MasterRow.{MasterRow}
-use Rattle.port_answers.specs.declared.rows.ReplicaRow.{ReplicaRow}
 use Rattle.port_answers.specs.declared.rows.SentinelRow.{SentinelRow}
 use Rattle.port_answers.specs.Room.{ANSWER_MAX, bounded}
 use Rattle.port_answers.specs.Answers.{header, master_frame, masters_frame, replica_frame, replicas_frame, sentinel_frame, sentinels_frame, no_such_master, ok_line, quorum_reached, no_quorum, id_frame, subscribed}

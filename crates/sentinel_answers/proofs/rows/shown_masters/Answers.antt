@@ -1,4 +1,4 @@
-use Rattle.std.proofs.Common.{◌≡◌, ◌+◌, ◌++◌, ◌∷◌, [], map, ap, sym, ◌∙◌, arith}
+use Rattle.std.proofs.Common.{◌+◌, ◌++◌, ◌∷◌, [], map, ap, sym, ◌∙◌, arith}
 use Rattle.sentinel_rules.specs.Parts.{shown_of}
 use Rattle.sentinel_rules.specs.Answers.{numbers_from}
 use Rattle.sentinel_answers.proofs.AnswerRows.{shown_more}
