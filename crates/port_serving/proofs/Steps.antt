@@ -1,12 +1,13 @@
 -- One value more, one piece more, and the ends of both.
-use Rattle.std.proofs.Common.{◌≡◌, ◌≢◌, ◌+◌, ◌⊎◌, ℕ, List, [], ◌∷◌, ◌++◌, length, take, Option, Some, None, Result, Ok, Err, refl, sym, ap, ◌∙◌, subst, inl, inr, arith, append_assoc, length-append}
+use Rattle.std.proofs.Common.{◌≡◌, ◌≢◌, ◌≤◌, ◌+◌, ◌⊎◌, ℕ, List, [], ◌∷◌, ◌++◌, length, take, Option, Some, None, Result, Ok, Err, refl, sym, ap, ◌∙◌, subst, inl, inr, arith, append_assoc, length-append}
 use Rattle.std.proofs.lemmas.List.{append-nil}
 use Rattle.std.proofs.Math.Seq.{take-append-add}
 use Rattle.resp2_frames.specs.declared.fault.FrameFault.{FrameFault}
 use Rattle.resp2_frames.specs.declared.fault.FrameFault.TheVariants.{BadKind, BadLength, BadNumber, MissingEnd, TooLong, TooDeep, TooMany, NoMemory}
-use Rattle.resp2_frames.specs.Frame.{Frame}
+use Rattle.std.specs.List.{flat_map}
+use Rattle.resp2_frames.specs.Frame.{Frame, simple, fault, int, bulk, null_bulk, items, null_items, spelling}
 use Rattle.resp2_frames.specs.Reading.{frame_at}
-use Rattle.resp2_frames.specs.Stream.{Held, reading, Feeds, Parts, SoFar}
+use Rattle.resp2_frames.specs.Stream.{Held, reading, held_size, Feeds, Parts, SoFar}
 use Rattle.resp2_frames.proofs.Drains.{fed_so_far, nothing_waits}
 use Rattle.resp2.proofs.Streams.{fault_asked, value_asked, end_asked}
 use Rattle.resp2.specs.Asked.{Asks}
@@ -417,6 +418,29 @@ module _ (plan : Plan) (now : ℕ) (first : Core) (before : Option (List ℕ)) w
     waits = λ rest is. let same : rest ≡ [] = cc in ap frame_at same ∙ nothing_waits;
     none_left = refl;
   }
+
+-- ---- how many values are answered
+
+first_byte : (value : Frame) → (kind : ℕ) × (after : List ℕ) × (spelling value ≡ kind ∷ after)
+first_byte (simple text) = (43, _, refl)
+first_byte (fault text) = (45, _, refl)
+first_byte (int n) = (58, _, refl)
+first_byte (bulk bytes) = (36, _, refl)
+first_byte null_bulk = (36, _, refl)
+first_byte (items fs) = (42, _, refl)
+first_byte null_items = (42, _, refl)
+
+spelled_longer : (values : List Frame) → length values ≤ length (flat_map spelling values)
+spelled_longer [] = omega arith
+spelled_longer (value ∷ values) = omega (arith, ap length (first_byte value).2, spelled_longer values, length-append (spelling value) (flat_map spelling values))
+
+-- each answer and each byte held has a byte of the input
+pub answers_counted : (plan : Plan) (now : ℕ) (first : Core) (before : Option (List ℕ)) (input written : List ℕ) (held : Held) (core : Core) (text : List ℕ) (answers : ℕ) (stored : Option (List ℕ))
+    → IsAnswered plan now first before input written held core text answers stored → answers + held_size held ≤ length input
+answers_counted plan now first before input written held core text answers stored a =
+    let size : held_size held ≡ length a.rest = ap held_size a.held_is in
+    let whole : length input ≡ length (flat_map spelling a.values) + length a.rest = ap length a.parts.0 ∙ length-append (flat_map spelling a.values) a.rest in
+    omega (arith, a.answers_is, size, whole, spelled_longer a.values)
 
 -- ---- the plan and the reading of the clock stay
 

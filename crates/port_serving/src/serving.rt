@@ -275,8 +275,6 @@ impl Connection {
         ensures clock { self.new.clock ≡ self.old.clock }
         ensures plan { N.plan sentinel.new ≡ N.plan sentinel.old }
         ensures phase { N.phase sentinel.new ≡ phase_after result }
-        ensures counted { OnOk result (self.new.answers + held_size self.new.frames
-            ≤ self.old.answers + held_size self.old.frames + length piece.now) }
         ensures as_many { OnOk result (S.failure_count store.new ≡ S.failure_count store.old) }
         ensures halted { IsErrOf result ServeFault.Halted →
             S.failure_count store.old < S.failure_count store.new }

@@ -1,9 +1,9 @@
-use Rattle.std.proofs.Common.{◌++◌, ◌∙◌, [], arith, rules, take, refl, subst}
+use Rattle.std.proofs.Common.{◌++◌, ◌∙◌, ◌≤◌, ◌*◌, ◌+◌, [], arith, length, length-append, length-take, take, refl, subst}
 use Rattle.std.proofs.lemmas.Result.{err_from_is_err_and}
 use Rattle.std.proofs.lemmas.List.{append-nil}
 use Rattle.std.specs.Io.KnownBytes.{Consumes}
 use Rattle.port_serving.proofs.KnownBytes.{appends_twice, appends_nothing}
-use Rattle.port_serving.proofs.Steps.{opened_idle, nothing_read, read_more, read_none, idle_cut, served, idle_later, ends_here}
+use Rattle.port_serving.proofs.Steps.{opened_idle, nothing_read, read_more, read_none, idle_cut, served, idle_later, ends_here, answers_counted}
 use Rattle.port_serving.proofs.serving.serve_stream.Goals as goal
 use Rattle.port_serving.proofs.serving.serve_stream.Goals.{in-Ok+in_ok-take_piece-in-Ok, in-Err+else-ne}
 
@@ -14,7 +14,7 @@ loop-turn-init g c =
     let held = g.S.ConfStore.held c.args.store.now in
     let new = c.new-connection.ensures in
     rw (new.frames, new.text, new.answers)
-    (omega arith, ([], [], nothing_read _, appends_nothing _, opened_idle plan c.args.now core held _ refl), new.clock, refl, c.requires.ready, refl)
+    (omega arith, ([], [], nothing_read _, appends_nothing _, opened_idle plan c.args.now core held _ refl, omega arith), new.clock, refl, c.requires.ready, refl)
 
 pub returns-in-Ok-eq0-clause-served : goal.returns-in-Ok-eq0-clause-served
 returns-in-Ok-eq0-clause-served g c =
@@ -67,6 +67,9 @@ returns-then-ne-clause-served g c =
 
 pub loop-turn-preserved : goal.loop-turn-preserved
 loop-turn-preserved g c =
+    let plan = g.N.PortSentinel.plan c.args.sentinel.now in
+    let core = g.N.PortSentinel.core c.args.sentinel.now in
+    let held = g.S.ConfStore.held c.args.store.now in
     let so_far = c.loop-turn.invariant.1 in
     elim c.match-read.branch [
       | in-Ok+in_ok-take_piece-in-Ok w ↦
@@ -74,14 +77,17 @@ loop-turn-preserved g c =
           let done = w.in_ok-take_piece-in-Ok.ensures in
           let took_all = rw (c.loop-turn.invariant.2, c.loop-turn.invariant.3) at done.took in
           let took = took_all (g.N.PortSentinel.core c.args.sentinel.now) (g.S.ConfStore.held c.args.store.now) so_far.0 so_far.1 so_far.4 in
-          let count = done.counted in (
-            rw w.connection-is (search rules),
+          let input = so_far.0 ++ take w.in-Ok.count c.read.new.buf in
+          let longer : length input ≤ (c.loop-turn.turn + 1) * 16384 = omega (arith, so_far.5, length-append so_far.0 (take w.in-Ok.count c.read.new.buf), length-take w.in-Ok.count c.read.new.buf, w.in-Ok.ensures) in
+          let counted = answers_counted plan c.args.now core held input (so_far.1 ++ took.0) _ _ _ _ _ took.2.answered in (
+            rw w.connection-is (omega (arith, counted, longer)),
             (
               so_far.0 ++ take w.in-Ok.count c.read.new.buf,
               so_far.1 ++ took.0,
               read_more _ _ _ _ _ so_far.2 read.0,
               rw w.writer-is (appends_twice _ _ _ _ _ so_far.3 took.1),
               rw (w.connection-is, w.sentinel-is, w.store-is) took.2,
+              longer,
             ),
             rw w.connection-is (done.clock ∙ c.loop-turn.invariant.2),
             rw w.sentinel-is (done.plan ∙ c.loop-turn.invariant.3),
@@ -90,7 +96,7 @@ loop-turn-preserved g c =
           )
       | in-Err+else-ne w ↦ (
         rw w.connection-is (omega (arith, c.loop-turn.invariant.0)),
-        (so_far.0, so_far.1, read_none _ _ _ _ so_far.2 (rw w.in-Err.is at c.read.ensures.bytes), rw w.writer-is so_far.3, rw (w.connection-is, w.sentinel-is, w.store-is) so_far.4),
+        (so_far.0, so_far.1, read_none _ _ _ _ so_far.2 (rw w.in-Err.is at c.read.ensures.bytes), rw w.writer-is so_far.3, rw (w.connection-is, w.sentinel-is, w.store-is) so_far.4, omega (arith, so_far.5)),
         rw w.connection-is c.loop-turn.invariant.2,
         rw w.sentinel-is c.loop-turn.invariant.3,
         rw w.sentinel-is c.loop-turn.invariant.4,
