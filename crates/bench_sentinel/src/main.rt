@@ -10,6 +10,9 @@ mod shared;
 mod threads;
 mod ticks;
 
+use crate::shared::{figures, tasks_of};
+use conf_store::{ConfStore, MemoryStore};
+use sentinel_runner::FileStore;
 use std::env;
 use std::io::{self, Read};
 
@@ -23,5 +26,21 @@ fn main(rt: HostRuntime) -> io::Result<()> {
     if word.as_str() == "ticks" {
         return ticks::measure(&rt, text.as_slice(), words.len() > 2);
     }
-    shared::measure(&rt, text.as_slice(), words.as_slice())
+    let tasks = tasks_of(rt.alloc(), words.as_slice())?;
+    let told = match words.get(4) {
+        Some(path) => {
+            let store = FileStore::at(&rt, rt.alloc(), path.as_str())?;
+            figures(&rt, rt.alloc(), text.as_slice(), store, tasks.as_slice())?
+        }
+        None => {
+            let Ok(store) = MemoryStore::holding(rt.alloc(), text.as_slice()) else {
+                return Ok(());
+            };
+            figures(&rt, rt.alloc(), text.as_slice(), store, tasks.as_slice())?
+        }
+    };
+    for (calls, nanos) in told {
+        println!(rt; "{calls} {nanos}")?;
+    }
+    Ok(())
 }

@@ -6,11 +6,10 @@
 ghost use Rattle.std.specs.Prelude.{◌≡◌, ◌<◌, ◌-◌, ◌^◌, IfSome};
 
 use crate::threads::{Bench, Task, Which, Worker};
-use conf_store::{ConfStore, MemoryStore};
+use conf_store::ConfStore;
 use sentinel_cell::{MOST_SEATS, Seat, SharedSentinel};
 use sentinel_conf::read;
 use sentinel_core::Sentinel;
-use sentinel_runner::FileStore;
 use std::alloc::Global;
 use std::io;
 use std::marker::Brand;
@@ -28,7 +27,7 @@ const PINGS: u64 = 100_000;
 const MOST_THREADS: u64 = 8;
 
 /// The tasks that the words name.
-fn tasks_of(alloc: Global, words: &[String]) -> io::Result<Vec<Task>> {
+pub fn tasks_of(alloc: Global, words: &[String]) -> io::Result<Vec<Task>> {
     let mut tasks = Vec::new(alloc);
     let (Some(what), Some(count)) = (words.get(1), words.get(2)) else {
         return Ok(tasks);
@@ -92,7 +91,7 @@ fn run<J: Which + Send + Sync, S: ConfStore + Drop + Send, R: Threads + Wait + C
 }
 
 /// Shares a Sentinel of this text over this store, and measures the tasks; nothing, where the text makes none.
-fn figures<S: ConfStore + Drop + Send, R: Threads + Wait + Clock + Sync>(
+pub fn figures<S: ConfStore + Drop + Send, R: Threads + Wait + Clock + Sync>(
     rt: &R,
     alloc: Global,
     text: &[u8],
@@ -105,25 +104,4 @@ fn figures<S: ConfStore + Drop + Send, R: Threads + Wait + Clock + Sync>(
         Some((cell, seat)) => run::<Brand, S, R>(rt, alloc, cell, seat, tasks),
         None => Ok(Vec::new(alloc)),
     }
-}
-
-/// Measures what the words say of the Sentinel of this text, and prints the figures.
-pub fn measure(rt: &HostRuntime, text: &[u8], words: &[String]) -> io::Result<()> {
-    let tasks = tasks_of(rt.alloc(), words)?;
-    let told = match words.get(4) {
-        Some(path) => {
-            let store = FileStore::at(rt, rt.alloc(), path.as_str())?;
-            figures(rt, rt.alloc(), text, store, tasks.as_slice())?
-        }
-        None => {
-            let Ok(store) = MemoryStore::holding(rt.alloc(), text) else {
-                return Ok(());
-            };
-            figures(rt, rt.alloc(), text, store, tasks.as_slice())?
-        }
-    };
-    for (calls, nanos) in told {
-        println!(rt; "{calls} {nanos}")?;
-    }
-    Ok(())
 }
