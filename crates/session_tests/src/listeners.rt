@@ -1,10 +1,9 @@
 //! Clients that have subscribed: what they are answered, and which notes they are told.
 
-use crate::conversation::Conversation;
-use ballot_law::{Addr, Card, Note};
+use crate::conversation::Move::{BeginsAnew, Hears, OtherSays, OtherUnsent, Says, Sent, Unsent};
+use crate::conversation::{first_other, moved};
 use port_sessions::ServeFault;
 use resp2::FrameFault;
-use std::test::Fail;
 
 const SUBSCRIBE: &[u8] = b"*2\r\n$9\r\nSUBSCRIBE\r\n$14\r\n+switch-master\r\n";
 
@@ -16,6 +15,10 @@ const PONG: &[u8] = b"*2\r\n$4\r\npong\r\n$0\r\n\r\n";
 
 const NOT_ALLOWED: &[u8] = b"-ERR not allowed while subscribed\r\n";
 
+const UNKNOWN: &[u8] = b"*2\r\n$9\r\nSUBSCRIBE\r\n$1\r\nx\r\n";
+
+const UNKNOWN_CHANNEL: &[u8] = b"-ERR unknown channel\r\n";
+
 const ADDRESS: &[u8] =
     b"*3\r\n$8\r\nSENTINEL\r\n$23\r\nGET-MASTER-ADDR-BY-NAME\r\n$8\r\nmymaster\r\n";
 
@@ -24,117 +27,102 @@ const FLUSH: &[u8] = b"*2\r\n$8\r\nSENTINEL\r\n$11\r\nFLUSHCONFIG\r\n";
 const TOLD: &[u8] =
     b"*3\r\n$7\r\nmessage\r\n$14\r\n+switch-master\r\n$38\r\nmymaster 127.0.0.1 6379 127.0.0.1 6381\r\n";
 
-/// The note that the master moved to the node with this port.
-fn moved(epoch: u64, port: u16) -> Note {
-    let ip = 2_130_706_433;
-    Note {
-        master: 0,
-        old: Addr { ip, port: 6379 },
-        card: Card {
-            epoch,
-            addr: Addr { ip, port },
-        },
-    }
-}
+const TOLD_LATER: &[u8] =
+    b"*3\r\n$7\r\nmessage\r\n$14\r\n+switch-master\r\n$38\r\nmymaster 127.0.0.1 6379 127.0.0.1 6380\r\n";
 
 #[test]
-fn a_client_that_has_subscribed_is_answered(rt: HostRuntime) -> Result<(), Fail> {
-    let Some(mut conversation) = Conversation::new(rt.alloc(), false) else {
-        panic!(rt; "no memory")
-    };
-    let rows: [(&[u8], &[u8]); 10] = [
-        (PING, b"+PONG\r\n"),
-        (
-            b"*2\r\n$9\r\nSUBSCRIBE\r\n$1\r\nx\r\n",
-            b"-ERR unknown channel\r\n",
-        ),
-        (PING, b"+PONG\r\n"),
-        (SUBSCRIBE, SUBSCRIBED),
-        (PING, PONG),
-        (SUBSCRIBE, SUBSCRIBED),
-        (ADDRESS, NOT_ALLOWED),
-        (FLUSH, NOT_ALLOWED),
-        (
-            b"*2\r\n$9\r\nSUBSCRIBE\r\n$1\r\nx\r\n",
-            b"-ERR unknown channel\r\n",
-        ),
-        (b"*1\r\n$4\r\nWHAT\r\n", b"-ERR unknown command\r\n"),
+fn a_client_that_has_subscribed_is_answered(rt: HostRuntime) {
+    let moves = [
+        Says(PING, Ok(())),
+        Unsent(b"+PONG\r\n"),
+        Sent(7, true),
+        Says(UNKNOWN, Ok(())),
+        Unsent(UNKNOWN_CHANNEL),
+        Sent(UNKNOWN_CHANNEL.len(), true),
+        Says(PING, Ok(())),
+        Unsent(b"+PONG\r\n"),
+        Sent(7, true),
+        Says(SUBSCRIBE, Ok(())),
+        Unsent(SUBSCRIBED),
+        Sent(SUBSCRIBED.len(), true),
+        Says(PING, Ok(())),
+        Unsent(PONG),
+        Sent(PONG.len(), true),
+        Says(SUBSCRIBE, Ok(())),
+        Unsent(SUBSCRIBED),
+        Sent(SUBSCRIBED.len(), true),
+        Says(ADDRESS, Ok(())),
+        Unsent(NOT_ALLOWED),
+        Sent(NOT_ALLOWED.len(), true),
+        Says(FLUSH, Ok(())),
+        Unsent(NOT_ALLOWED),
+        Sent(NOT_ALLOWED.len(), true),
+        Says(UNKNOWN, Ok(())),
+        Unsent(UNKNOWN_CHANNEL),
+        Sent(UNKNOWN_CHANNEL.len(), true),
+        Says(b"*1\r\n$4\r\nWHAT\r\n", Ok(())),
+        Unsent(b"-ERR unknown command\r\n"),
+        OtherSays(PING, Ok(())),
+        OtherUnsent(b"+PONG\r\n"),
     ];
-    for (said, answered) in rows {
-        assert_eq!(rt; conversation.says(&rt, said), Ok(()));
-        assert_eq!(rt; conversation.unsent(), answered);
-        let count = conversation.unsent().len();
-        assert!(rt; conversation.send(count));
-    }
-    assert_eq!(rt; conversation.other_says(&rt, PING), Ok(()));
-    assert_eq!(rt; conversation.other_unsent(), b"+PONG\r\n".as_slice());
-    Ok(())
+    assert_eq!(rt; first_other(&rt, rt.alloc(), false, &moves), None);
 }
 
 #[test]
-fn a_note_is_told_once_and_none_that_is_older(rt: HostRuntime) -> Result<(), Fail> {
-    let Some(mut conversation) = Conversation::new(rt.alloc(), false) else {
-        panic!(rt; "no memory")
-    };
-    assert_eq!(rt; conversation.says(&rt, PING), Ok(()));
-    assert_eq!(rt; conversation.hears(&moved(1, 6381), 7), Ok(false));
-    assert!(rt; conversation.send(7));
-    assert_eq!(rt; conversation.says(&rt, SUBSCRIBE), Ok(()));
-    assert!(rt; conversation.send(SUBSCRIBED.len()));
+fn a_note_is_told_once_and_none_that_is_older(rt: HostRuntime) {
     // its SUBSCRIBE is entry 1, behind the PING
-    assert_eq!(rt; conversation.hears(&moved(1, 6381), 0), Ok(false));
-    assert_eq!(rt; conversation.hears(&moved(1, 6381), 1), Ok(false));
-    assert!(rt; conversation.unsent().is_empty());
-    assert_eq!(rt; conversation.hears(&moved(1, 6381), 2), Ok(true));
-    assert_eq!(rt; conversation.unsent(), TOLD);
-    assert_eq!(rt; conversation.hears(&moved(1, 6381), 3), Ok(false));
-    assert_eq!(rt; conversation.unsent(), TOLD);
-    assert!(rt; conversation.send(TOLD.len()));
-    assert_eq!(rt; conversation.hears(&moved(5, 6380), 9), Ok(true));
-    assert_eq!(rt;
-        conversation.unsent(),
-        b"*3\r\n$7\r\nmessage\r\n$14\r\n+switch-master\r\n$38\r\nmymaster 127.0.0.1 6379 127.0.0.1 6380\r\n".as_slice()
-    );
-    assert_eq!(rt; conversation.hears(&moved(4, 6381), 8), Ok(false));
-    assert_eq!(rt; conversation.says(&rt, PING), Ok(()));
-    assert_eq!(rt; conversation.unsent().len(), TOLD.len() + PONG.len());
-    Ok(())
+    let moves = [
+        Says(PING, Ok(())),
+        Hears(moved(1, 6381), 7, false),
+        Sent(7, true),
+        Says(SUBSCRIBE, Ok(())),
+        Sent(SUBSCRIBED.len(), true),
+        Hears(moved(1, 6381), 0, false),
+        Hears(moved(1, 6381), 1, false),
+        Unsent(b""),
+        Hears(moved(1, 6381), 2, true),
+        Unsent(TOLD),
+        Hears(moved(1, 6381), 3, false),
+        Unsent(TOLD),
+        Sent(TOLD.len(), true),
+        Hears(moved(5, 6380), 9, true),
+        Unsent(TOLD_LATER),
+        Hears(moved(4, 6381), 8, false),
+        Unsent(TOLD_LATER),
+        Says(PING, Ok(())),
+        Sent(TOLD_LATER.len(), true),
+        Unsent(PONG),
+    ];
+    assert_eq!(rt; first_other(&rt, rt.alloc(), false, &moves), None);
 }
 
 #[test]
-fn a_client_whose_session_ended_is_told_nothing(rt: HostRuntime) -> Result<(), Fail> {
-    let Some(mut conversation) = Conversation::new(rt.alloc(), false) else {
-        panic!(rt; "no memory")
-    };
-    assert_eq!(rt; conversation.says(&rt, SUBSCRIBE), Ok(()));
-    assert!(rt; conversation.send(SUBSCRIBED.len()));
+fn a_client_whose_session_ended_is_told_nothing(rt: HostRuntime) {
     let fault = Err(ServeFault::Frame(FrameFault::BadKind));
-    assert_eq!(rt; conversation.says(&rt, b"*1\r\n$4\r\nPING\r\nx"), fault);
-    assert_eq!(rt; conversation.hears(&moved(1, 6381), 1), Ok(false));
-    assert_eq!(rt;
-        conversation.unsent(),
-        b"*2\r\n$4\r\npong\r\n$0\r\n\r\n-ERR Protocol error\r\n".as_slice()
-    );
-    Ok(())
+    let moves = [
+        Says(SUBSCRIBE, Ok(())),
+        Sent(SUBSCRIBED.len(), true),
+        Says(b"*1\r\n$4\r\nPING\r\nx", fault),
+        Hears(moved(1, 6381), 1, false),
+        Unsent(b"*2\r\n$4\r\npong\r\n$0\r\n\r\n-ERR Protocol error\r\n"),
+    ];
+    assert_eq!(rt; first_other(&rt, rt.alloc(), false, &moves), None);
 }
 
 #[test]
-fn a_client_that_has_subscribed_is_answered_after_a_halt(rt: HostRuntime) -> Result<(), Fail> {
-    let Some(mut conversation) = Conversation::new(rt.alloc(), true) else {
-        panic!(rt; "no memory")
-    };
-    assert_eq!(rt; conversation.says(&rt, SUBSCRIBE), Ok(()));
-    assert_eq!(rt;
-        conversation.other_says(&rt, FLUSH),
-        Err(ServeFault::Halted)
-    );
-    assert!(rt; conversation.send(SUBSCRIBED.len()));
-    assert_eq!(rt; conversation.says(&rt, PING), Ok(()));
-    assert_eq!(rt; conversation.unsent(), PONG);
-    assert!(rt; conversation.send(PONG.len()));
-    assert_eq!(rt; conversation.hears(&moved(1, 6381), 1), Ok(true));
-    assert_eq!(rt; conversation.unsent(), TOLD);
-    conversation.begin_anew();
-    assert_eq!(rt; conversation.says(&rt, SUBSCRIBE), Err(ServeFault::Halted));
-    Ok(())
+fn a_client_that_has_subscribed_is_answered_after_a_halt(rt: HostRuntime) {
+    let halted = Err(ServeFault::Halted);
+    let moves = [
+        Says(SUBSCRIBE, Ok(())),
+        OtherSays(FLUSH, halted),
+        Sent(SUBSCRIBED.len(), true),
+        Says(PING, Ok(())),
+        Unsent(PONG),
+        Sent(PONG.len(), true),
+        Hears(moved(1, 6381), 1, true),
+        Unsent(TOLD),
+        BeginsAnew,
+        Says(SUBSCRIBE, halted),
+    ];
+    assert_eq!(rt; first_other(&rt, rt.alloc(), true, &moves), None);
 }

@@ -1,8 +1,7 @@
 //! Sessions that are refused memory. Nothing is refused when the test runs as it is; `checks/refused_memory` runs it with each allocation
 //! refused in turn.
 
-use crate::conversation::Conversation;
-use ballot_law::{Addr, Card, Note};
+use crate::conversation::{Conversation, moved};
 use port_sessions::ServeFault;
 use std::alloc::Global;
 use std::process::Abort;
@@ -56,19 +55,6 @@ fn refused_memory_ends_a_session_and_the_next_is_answered(rt: HostRuntime) {
     }
 }
 
-/// The note that the master moved from its first node to the third.
-fn moved() -> Note {
-    let ip = 2_130_706_433;
-    Note {
-        master: 0,
-        old: Addr { ip, port: 6379 },
-        card: Card {
-            epoch: 1,
-            addr: Addr { ip, port: 6381 },
-        },
-    }
-}
-
 /// A note for which there was no memory leaves all as it was, and is told where it comes again.
 #[test]
 fn refused_memory_leaves_a_note_untold(rt: HostRuntime) {
@@ -78,11 +64,11 @@ fn refused_memory_leaves_a_note_untold(rt: HostRuntime) {
         assert!(rt; conversation.says(&rt, SUBSCRIBE).is_ok());
     }
     assert!(rt; conversation.unsent() == SUBSCRIBED);
-    if conversation.hears(&moved(), 9).is_err() {
+    if conversation.hears(&moved(1, 6381), 9).is_err() {
         assert!(rt; conversation.unsent() == SUBSCRIBED);
-        assert!(rt; conversation.hears(&moved(), 9) == Ok(true));
+        assert!(rt; conversation.hears(&moved(1, 6381), 9) == Ok(true));
     }
     assert!(rt; conversation.send(SUBSCRIBED.len()));
     assert!(rt; conversation.unsent() == TOLD);
-    assert!(rt; conversation.hears(&moved(), 9) == Ok(false));
+    assert!(rt; conversation.hears(&moved(1, 6381), 9) == Ok(false));
 }

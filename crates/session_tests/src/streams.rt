@@ -1,10 +1,9 @@
 //! Streams of commands, cut in any way.
 
-use crate::conversation::Conversation;
+use crate::conversation::Move::{OtherSays, OtherUnsent, Says, Unsent};
+use crate::conversation::{Conversation, first_other};
 use std::alloc::Global;
-use std::process::Abort;
 use std::sync::Wait;
-use std::test::Fail;
 
 /// Four requests for votes: of epoch 1 by `aa..` and by `bb..`, of epoch 2 by `bb..`, of epoch 1 by `cc..`.
 const FOUR_REQUESTS: &[u8] =
@@ -61,51 +60,48 @@ fn is_answered_cut_at<R: Wait>(
 }
 
 #[test]
-fn votes_are_answered_in_order(rt: HostRuntime) -> Result<(), Fail> {
+fn votes_are_answered_in_order(rt: HostRuntime) {
     let size = FOUR_REQUESTS.len();
     assert!(rt; is_answered_in_pieces(&rt, rt.alloc(), FOUR_REQUESTS, size, FOUR_VOTES));
-    Ok(())
 }
 
 #[test]
-fn votes_are_answered_byte_by_byte(rt: HostRuntime) -> Result<(), Fail> {
+fn votes_are_answered_byte_by_byte(rt: HostRuntime) {
     assert!(rt; is_answered_in_pieces(&rt, rt.alloc(), FOUR_REQUESTS, 1, FOUR_VOTES));
-    Ok(())
 }
 
 #[test]
-fn a_stream_may_be_cut_at_any_place(rt: HostRuntime) -> Result<(), Fail> {
+fn a_stream_may_be_cut_at_any_place(rt: HostRuntime) {
     for at in 0..=FOUR_REQUESTS.len() {
         assert!(rt; is_answered_cut_at(&rt, rt.alloc(), FOUR_REQUESTS, at, FOUR_VOTES));
     }
-    Ok(())
 }
 
 #[test]
-fn a_value_that_is_cut_off_waits(rt: HostRuntime) -> Result<(), Fail> {
-    let Some((last, most)) = FOUR_REQUESTS.split_last() else {
+fn a_value_that_is_cut_off_waits(rt: HostRuntime) {
+    let Some((most, last)) = FOUR_REQUESTS.split_at_checked(FOUR_REQUESTS.len() - 1) else {
         panic!(rt; "no bytes")
     };
-    let Some(mut conversation) = Conversation::new(rt.alloc(), false) else {
-        panic!(rt; "no memory")
+    let Some(three) = FOUR_VOTES.get(..THREE_VOTES) else {
+        panic!(rt; "no answers")
     };
-    assert_eq!(rt; conversation.says(&rt, most), Ok(()));
-    assert_eq!(rt; Some(conversation.unsent()), FOUR_VOTES.get(..THREE_VOTES));
-    assert_eq!(rt; conversation.says(&rt, &[*last]), Ok(()));
-    assert_eq!(rt; conversation.unsent(), FOUR_VOTES);
-    Ok(())
+    let moves = [
+        Says(most, Ok(())),
+        Unsent(three),
+        Says(last, Ok(())),
+        Unsent(FOUR_VOTES),
+    ];
+    assert_eq!(rt; first_other(&rt, rt.alloc(), false, &moves), None);
 }
 
 #[test]
-fn two_clients_of_a_seat_are_answered_apart(rt: HostRuntime) -> Result<(), Fail> {
-    let Some(mut conversation) = Conversation::new(rt.alloc(), false) else {
-        panic!(rt; "no memory")
-    };
-    assert_eq!(rt; conversation.says(&rt, b"*1\r\n$4\r\nPI"), Ok(()));
-    let other = conversation.other_says(&rt, b"*2\r\n$8\r\nSENTINEL\r\n$11\r\nFLUSHCONFIG\r\n");
-    assert_eq!(rt; other, Ok(()));
-    assert_eq!(rt; conversation.says(&rt, b"NG\r\n"), Ok(()));
-    assert_eq!(rt; conversation.unsent(), b"+PONG\r\n".as_slice());
-    assert_eq!(rt; conversation.other_unsent(), b"+OK\r\n".as_slice());
-    Ok(())
+fn two_clients_of_a_seat_are_answered_apart(rt: HostRuntime) {
+    let moves = [
+        Says(b"*1\r\n$4\r\nPI", Ok(())),
+        OtherSays(b"*2\r\n$8\r\nSENTINEL\r\n$11\r\nFLUSHCONFIG\r\n", Ok(())),
+        Says(b"NG\r\n", Ok(())),
+        Unsent(b"+PONG\r\n"),
+        OtherUnsent(b"+OK\r\n"),
+    ];
+    assert_eq!(rt; first_other(&rt, rt.alloc(), false, &moves), None);
 }

@@ -7,7 +7,7 @@ ghost use Rattle.sentinel_rules.specs.Facts.{IsWithinEvent};
 use ballot_law::{Addr, Card, Command, Event, Input, NodeName, Output, RunId};
 use sentinel_conf::{ConfStore, FileText, LoadFault, MemoryStore, StoreRefused, read};
 use sentinel_core::{
-    Outbox, ReleaseFault, Sentinel, ServeFault, Served, StoreFault, TakeFault, Took,
+    Outbox, ReleaseFault, Room, Sentinel, ServeFault, Served, StoreFault, TakeFault, Took,
 };
 use std::alloc::Global;
 use std::io::{Read, Write};
@@ -111,19 +111,42 @@ impl Model for LoneSentinel {
     ghost view = { λ _. 0 };
 }
 
+/// A file that was never written.
+fn counted(alloc: Global, file: &[u8]) -> Result<CountedFile, Fail> {
+    Ok(CountedFile {
+        store: MemoryStore::holding(alloc, file)?,
+        writes: 0,
+    })
+}
+
+/// An outbox with the room of a Sentinel.
+fn roomy(alloc: Global) -> Result<Outbox, Fail> {
+    let mut outbox = Outbox::new(alloc);
+    outbox.reserve(&Room::of_sentinel())?;
+    Ok(outbox)
+}
+
+/// A Sentinel with this file, at this reading of its clock. No contract tells what it is like: it is the dearest value of these tests.
+fn opened(alloc: Global, file: &[u8], now: u64) -> Result<Sentinel, Fail> {
+    let Ok(conf) = read(alloc, file) else {
+        return Err(Fail::from("no conf"));
+    };
+    let Ok(sentinel) = Sentinel::open(alloc, conf, now) else {
+        return Err(Fail::from("no memory"));
+    };
+    Ok(sentinel)
+}
+
 impl LoneSentinel {
     /// Opens it with this file, at this reading of its clock.
     pub(crate) fn open(alloc: Global, file: &[u8], now: u64) -> Result<LoneSentinel, Fail> {
-        let sentinel = Sentinel::open(alloc, read(alloc, file)?, now)?;
-        let mut outbox = Outbox::new(alloc);
-        outbox.reserve(&sentinel.room())?;
+        let store = counted(alloc, file)?;
+        let outbox = roomy(alloc)?;
+        let sentinel = opened(alloc, file, now)?;
         Ok(LoneSentinel {
             sentinel,
             outbox,
-            file: CountedFile {
-                store: MemoryStore::holding(alloc, file)?,
-                writes: 0,
-            },
+            file: store,
         })
     }
 
@@ -151,7 +174,7 @@ impl LoneSentinel {
     /// Stops it, and starts it from its file at this reading of its clock, with what it held lost.
     pub(crate) fn start_again(&mut self, alloc: Global, now: u64) -> Result<(), Fail> {
         self.sentinel.stop();
-        self.sentinel = Sentinel::open(alloc, read(alloc, self.file.store.text())?, now)?;
+        self.sentinel = opened(alloc, self.file.store.text(), now)?;
         self.outbox.drop_held();
         Ok(())
     }
