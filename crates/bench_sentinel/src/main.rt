@@ -11,8 +11,7 @@ mod threads;
 mod ticks;
 
 use crate::shared::{figures, tasks_of};
-use conf_store::{ConfStore, MemoryStore};
-use sentinel_runner::FileStore;
+use conf_store::{ConfStore, FileStore, MemoryStore};
 use std::env;
 use std::io::{self, Read};
 

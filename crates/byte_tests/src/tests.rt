@@ -5,6 +5,7 @@ mod bounded_lists;
 mod commands;
 mod conf_files;
 mod conf_stores;
+mod file_stores;
 mod frames;
 mod hellos;
 mod infos;

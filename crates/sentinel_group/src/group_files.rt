@@ -3,9 +3,8 @@
 ghost use Rattle.std.specs.Prelude.{◌≡◌, ◌<◌, ◌-◌, ◌^◌, All, IfOk};
 
 use crate::failures::{fail, refuse_conf, refuse_file};
-use sentinel_conf::{Conf, ConfStore, LoadFault, read};
+use sentinel_conf::{Conf, ConfStore, FileStore, LoadFault, read};
 use sentinel_core::ServeFault;
-use sentinel_runner::FileStore;
 use std::process::ExitCode;
 
 /// What each file of a group says, and each file as the store of its Sentinel, in the order of the words.

@@ -19,9 +19,8 @@ use crate::serving::{level_of, serve as serve_group};
 use clap::ArgMatches;
 use log::Logged;
 use log::sink::Console;
-use sentinel_conf::{Conf, ConfStore, LoadFault, MemoryStore, read};
+use sentinel_conf::{Conf, ConfStore, FileStore, LoadFault, MemoryStore, read};
 use sentinel_core::{Sentinel, ServeFault};
-use sentinel_runner::FileStore;
 use std::process::ExitCode;
 
 /// The configuration of a Sentinel that is given no file: it watches one master with three other Sentinels.

@@ -1,7 +1,6 @@
 //! A file on a disk as a store.
 
-use crate::FileStore;
-use conf_store::{ConfStore, LoadFault, StoreRefused};
+use conf_store::{ConfStore, FileStore, LoadFault, StoreRefused};
 use std::fs::{self, Permissions};
 use std::os::unix::fs::PermissionsExt;
 use std::test::Fail;

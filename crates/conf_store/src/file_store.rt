@@ -2,7 +2,7 @@
 
 ghost use Rattle.std.specs.Prelude.{◌≡◌, IfOk};
 
-use conf_store::{ConfStore, FileText, LoadFault, StoreRefused};
+use crate::{ConfStore, FileText, LoadFault, StoreRefused};
 use std::alloc::{AllocError, Global};
 use std::fs::{self, OpenFile};
 use std::io::{self, ErrorKind, Write};

@@ -1,0 +1,9 @@
+//! The tests, one file for each part.
+
+mod clients;
+mod confs;
+mod groups;
+mod ports;
+mod stores_held;
+mod talks;
+mod told_files;
