@@ -144,22 +144,25 @@ fn greatest_numbers_are_read(rt: HostRuntime) -> Result<(), Fail> {
     Ok(())
 }
 
+/// Eight values that aren't arrays of bulk strings, or are empty ones: a line each.
+const NO_COMMANDS: &[u8] = b"*-1\r\n\
+$-1\r\n\
+*0\r\n\
+$4\r\nPING\r\n\
+*2\r\n$8\r\nSENTINEL\r\n$-1\r\n\
+*2\r\n$7\r\nunknown\r\n:1\r\n\
+*1\r\n+PING\r\n\
+*2\r\n$4\r\nPING\r\n*-1\r\n";
+
 #[test]
 fn other_values_are_no_commands(rt: HostRuntime) -> Result<(), Fail> {
-    let alloc = rt.alloc();
-    let values = vec![in alloc;
-        Value::NullItems,
-        Value::NullBulk,
-        Value::Items(Vec::new(alloc)),
-        bulk(alloc, b"PING")?,
-        Value::Items(vec![in alloc; bulk(alloc, b"SENTINEL")?, Value::NullBulk]?),
-        Value::Items(vec![in alloc; bulk(alloc, b"unknown")?, Value::Int(1)]?),
-        Value::Items(vec![in alloc; Value::Simple(Text::from_slice(alloc, b"PING")?)]?),
-        Value::Items(vec![in alloc; bulk(alloc, b"PING")?, Value::NullItems]?),
-    ]?;
-    for value in &values {
-        assert_eq!(rt; command_of(value), Err(CommandFault::NotACommand));
+    let mut frames = Frames::new(rt.alloc());
+    frames.feed(NO_COMMANDS)?;
+    for _ in 0..8 {
+        let value = frames.next()?.ok_or("no value")?;
+        assert_eq!(rt; command_of(&value), Err(CommandFault::NotACommand));
     }
+    assert!(rt; frames.next()?.is_none());
     Ok(())
 }
 

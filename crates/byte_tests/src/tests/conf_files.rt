@@ -162,6 +162,14 @@ fn candidate_of(alloc: Global, text: &[u8]) -> Result<Option<RunId>, Fail> {
     }
 }
 
+/// This file as it is rewritten with what it holds itself.
+fn rewritten(alloc: Global, file: &str) -> Result<ConfText, Fail> {
+    let conf = read(alloc, file.as_bytes())?;
+    let mut text = ConfText::room_for(alloc, &conf)?;
+    rewrite_into(&conf, conf.kept(), &mut text);
+    Ok(text)
+}
+
 #[test]
 fn group_one_is_rewritten_after_a_failover(rt: HostRuntime) -> Result<(), Fail> {
     let alloc = rt.alloc();
@@ -187,10 +195,7 @@ fn group_one_is_rewritten_with_the_candidate(rt: HostRuntime) -> Result<(), Fail
 
 #[test]
 fn a_file_with_a_candidate_is_rewritten_as_it_is(rt: HostRuntime) -> Result<(), Fail> {
-    let alloc = rt.alloc();
-    let conf = read(alloc, GROUP_ONE_WITH_CANDIDATE.as_bytes())?;
-    let mut text = ConfText::room_for(alloc, &conf)?;
-    rewrite_into(&conf, conf.kept(), &mut text);
+    let text = rewritten(rt.alloc(), GROUP_ONE_WITH_CANDIDATE)?;
     assert_eq!(rt; text.as_slice(), GROUP_ONE_WITH_CANDIDATE.as_bytes());
     Ok(())
 }
@@ -209,13 +214,9 @@ fn a_candidate_of_no_vote_is_left_out(rt: HostRuntime) -> Result<(), Fail> {
     let alloc = rt.alloc();
     let text = format!(in alloc; "{GROUP_ONE}\n{CANDIDATE}")?;
     assert_eq!(rt; candidate_of(alloc, text.as_bytes())?, None);
-    let with_line = read(alloc, text.as_bytes())?;
-    let mut one = ConfText::room_for(alloc, &with_line)?;
-    rewrite_into(&with_line, with_line.kept(), &mut one);
-    let without = read(alloc, GROUP_ONE.as_bytes())?;
-    let mut other = ConfText::room_for(alloc, &without)?;
-    rewrite_into(&without, without.kept(), &mut other);
-    assert_eq!(rt; one.as_slice(), other.as_slice());
+    let with_line = rewritten(alloc, text.as_str())?;
+    let without = rewritten(alloc, GROUP_ONE)?;
+    assert_eq!(rt; with_line.as_slice(), without.as_slice());
     Ok(())
 }
 
@@ -244,43 +245,46 @@ fn a_bad_candidate_is_refused_at_its_line(rt: HostRuntime) -> Result<(), Fail> {
     Ok(())
 }
 
+/// The place of the Sentinel of this file, its port, its current epoch, and how many masters it keeps, Sentinels and masters there are.
+fn numbers_of(alloc: Global, file: &str) -> Result<(u16, u16, u64, [usize; 3]), Fail> {
+    let conf = read(alloc, file.as_bytes())?;
+    let (place, port) = (conf.place(), conf.port());
+    let (current, kept) = (conf.kept().current, conf.kept().masters.as_slice().len());
+    let sentinels = conf.roster().sentinels().len();
+    let masters = conf.into_roster().masters().len();
+    Ok((place, port, current, [kept, sentinels, masters]))
+}
+
+/// The settings of the masters with the numbers 0 and 1 of this file.
+fn settings_of(alloc: Global, file: &str) -> Result<[Option<Settings>; 2], Fail> {
+    let conf = read(alloc, file.as_bytes())?;
+    Ok([conf.settings(0), conf.settings(1)])
+}
+
 #[test]
 fn group_one_says_what_its_lines_say(rt: HostRuntime) -> Result<(), Fail> {
-    let alloc = rt.alloc();
-    let conf = read(alloc, GROUP_ONE.as_bytes())?;
-    assert_eq!(rt; conf.place(), 0);
-    assert_eq!(rt; conf.port(), 26_379);
+    let numbers = numbers_of(rt.alloc(), GROUP_ONE)?;
+    assert!(rt; numbers == (0, 26_379, 0, [1, 2, 1]));
     let settings = Settings {
         after_ms: 5_000,
         parallel_syncs: 1,
         timeout: 180_000,
     };
-    assert_eq!(rt; conf.settings(0), Some(settings));
-    assert_eq!(rt; conf.settings(1), None);
-    let kept = conf.kept();
-    assert_eq!(rt; kept.current, 0);
-    assert_eq!(rt; kept.masters.as_slice().len(), 1);
-    assert_eq!(rt; conf.roster().sentinels().len(), 2);
-    let roster = conf.into_roster();
-    assert_eq!(rt; roster.masters().len(), 1);
+    assert!(rt; settings_of(rt.alloc(), GROUP_ONE)? == [Some(settings), None]);
     Ok(())
 }
 
 #[test]
 fn a_file_from_redis_keeps_its_other_lines(rt: HostRuntime) -> Result<(), Fail> {
-    let alloc = rt.alloc();
-    let conf = read(alloc, FROM_REDIS.as_bytes())?;
-    let mut text = ConfText::room_for(alloc, &conf)?;
-    rewrite_into(&conf, conf.kept(), &mut text);
+    let text = rewritten(rt.alloc(), FROM_REDIS)?;
     assert_eq!(rt; text.as_slice(), FROM_REDIS_REWRITTEN.as_bytes());
     Ok(())
 }
 
 #[test]
 fn tabs_crs_quotes_and_the_last_port_count(rt: HostRuntime) -> Result<(), Fail> {
-    let conf = read(rt.alloc(), ODDLY_WRITTEN.as_bytes())?;
-    assert_eq!(rt; conf.port(), 26_390);
-    assert_eq!(rt; conf.roster().masters().len(), 1);
+    let numbers = numbers_of(rt.alloc(), ODDLY_WRITTEN)?;
+    assert!(rt; numbers == (0, 26_390, 0, [1, 1, 1]));
     Ok(())
 }
 

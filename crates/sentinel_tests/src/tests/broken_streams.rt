@@ -1,6 +1,9 @@
 //! Streams whose reader or writer fails, falls short or is interrupted, at each place: what was written is a first part of the answers, and
 //! the same Sentinel answers all of it afterwards.
 
+ghost use Rattle.std.specs.Prelude.{◌≡◌, IfSome};
+ghost use Rattle.sentinel_outbox.specs.declared.phase.Phase.TheVariants.{Ready};
+
 use super::lone_sentinel::FOUR_SENTINELS;
 use sentinel_conf::{ConfStore, MemoryStore, read};
 use sentinel_core::{Sentinel, ServeFault, Served};
@@ -137,6 +140,14 @@ impl Twice {
     }
 }
 
+/// A Sentinel of four that is ready.
+fn opened(alloc: Global) -> Option<Sentinel>
+    ensures { IfSome result (λ sentinel. sentinel.phase ≡ Ready) }
+{
+    let conf = read(alloc, FOUR_SENTINELS).ok()?;
+    Sentinel::open(alloc, conf, 0).ok()
+}
+
 /// Serves a stream, and then all of the script by the same Sentinel.
 pub(crate) fn serve_twice<R: Read, W: Write>(
     alloc: Global,
@@ -144,9 +155,8 @@ pub(crate) fn serve_twice<R: Read, W: Write>(
     reader: &mut R,
     writer: &mut W,
 ) -> Option<Twice> {
-    let conf = read(alloc, FOUR_SENTINELS).ok()?;
-    let mut sentinel = Sentinel::open(alloc, conf, 0).ok()?;
     let mut store = MemoryStore::holding(alloc, FOUR_SENTINELS).ok()?;
+    let mut sentinel = opened(alloc)?;
     let first = sentinel.serve(0, reader, writer, &mut store);
     if matches!(first, Err(ServeFault::Halted)) || store.failures() == u64::MAX {
         return None;

@@ -91,15 +91,30 @@ const EXCHANGES: [(u64, &str, &str); 10] = [
     (0, "*3\n$SENTINEL\n$MASTER\n$no master", NO_MASTER),
 ];
 
+/// What a Sentinel that opens with this file answers to so many commands.
+fn answered(
+    alloc: Global,
+    file: &[u8],
+    now: u64,
+    asked: &[u8],
+    count: u64,
+) -> Result<Vec<u8>, Fail> {
+    let mut store = MemoryStore::holding(alloc, file)?;
+    let mut written = Vec::new(alloc);
+    let reader = &mut Cursor::new(asked);
+    let result = serve(alloc, file, now, reader, &mut written, &mut store);
+    if result != Ok(Served { answers: count }) {
+        return Err(Fail::from("another number of answers"));
+    }
+    Ok(written)
+}
+
 /// Whether a Sentinel that opens with `WITH_REPLICA` answers this command so.
 fn answers(alloc: Global, now: u64, command: &str, answer: &str) -> Result<bool, Fail> {
-    let mut store = MemoryStore::holding(alloc, WITH_REPLICA)?;
-    let mut written = Vec::new(alloc);
     let asked = resp(alloc, command)?;
-    let reader = &mut Cursor::new(asked.as_slice());
-    let result = serve(alloc, WITH_REPLICA, now, reader, &mut written, &mut store);
+    let written = answered(alloc, WITH_REPLICA, now, asked.as_slice(), 1)?;
     let wanted = resp(alloc, answer)?;
-    Ok(result == Ok(Served { answers: 1 }) && written.as_slice() == wanted.as_slice())
+    Ok(written.as_slice() == wanted.as_slice())
 }
 
 #[test]
@@ -135,12 +150,7 @@ const SHORT_ANSWERS: &[u8] = b"+OK 4 usable Sentinels, quorum and majority can b
 
 #[test]
 fn short_answers_are_single_lines(rt: HostRuntime) -> Result<(), Fail> {
-    let alloc = rt.alloc();
-    let mut store = MemoryStore::holding(alloc, FOUR_SENTINELS)?;
-    let mut written = Vec::new(alloc);
-    let reader = &mut Cursor::new(SHORT_COMMANDS);
-    let result = serve(alloc, FOUR_SENTINELS, 0, reader, &mut written, &mut store);
-    assert!(rt; result == Ok(Served { answers: 5 }));
+    let written = answered(rt.alloc(), FOUR_SENTINELS, 0, SHORT_COMMANDS, 5)?;
     assert!(rt; written.as_slice() == SHORT_ANSWERS);
     Ok(())
 }

@@ -71,11 +71,13 @@ fn requested(alloc: Global) -> Result<LoneSentinel, Fail> {
     Ok(lone)
 }
 
-/// One whose store is refused.
-fn halted(alloc: Global) -> Result<LoneSentinel, Fail> {
+/// One whose store is refused, which leaves the new text or the old one.
+fn halted(alloc: Global, new: bool) -> Result<LoneSentinel, Fail> {
     let mut lone = requested(alloc)?;
-    lone.refuse_next(false);
-    let _ = lone.store();
+    lone.refuse_next(new);
+    if lone.store() != Err(StoreFault::Refused) {
+        return Err(Fail::from("not refused"));
+    }
     Ok(lone)
 }
 
@@ -99,7 +101,7 @@ fn lone_in(alloc: Global, state: Phase) -> Result<LoneSentinel, Fail> {
         Phase::Ready => LoneSentinel::open(alloc, FOUR_SENTINELS, 0),
         Phase::Pending { .. } => requested(alloc),
         Phase::Stored => stored(alloc),
-        Phase::Halted => halted(alloc),
+        Phase::Halted => halted(alloc, false),
         Phase::Stopped => stopped(alloc),
     }
 }
@@ -165,14 +167,11 @@ sentinel known-sentinel mymaster 127.0.0.1 26382 ccccccccccccccccccccccccccccccc
 #[test]
 fn a_refused_store_halts_with_the_old_text_or_the_new(rt: HostRuntime) -> Result<(), Fail> {
     for (new, text) in [(false, FOUR_SENTINELS), (true, VOTED)] {
-        let mut lone = LoneSentinel::open(rt.alloc(), FOUR_SENTINELS, 0)?;
-        lone.take(0, request(1, A))?;
-        lone.refuse_next(new);
-        assert_eq!(rt; lone.store(), Err(StoreFault::Refused));
-        assert_eq!(rt; lone.failures(), 1);
+        let lone = halted(rt.alloc(), new)?;
+        assert!(rt; lone.failures() == 1);
         assert!(rt; lone.text() == text);
-        assert_eq!(rt; lone.address(0), Some(card(0, 6379)));
-        assert_eq!(rt; lone.address(1), None);
+        assert!(rt; lone.address(0) == Some(card(0, 6379)));
+        assert!(rt; lone.address(1).is_none());
         assert!(rt; lone.outputs().is_empty());
     }
     Ok(())
@@ -243,14 +242,17 @@ sentinel known-sentinel mymaster 127.0.0.1 26380 aaaaaaaaaaaaaaaaaaaaaaaaaaaaaaa
 sentinel known-sentinel mymaster 127.0.0.1 26381 0000000000000000000000000000000000000000\n\
 sentinel known-sentinel mymaster 127.0.0.1 26382 cccccccccccccccccccccccccccccccccccccccc\n";
 
+/// What that Sentinel tells: its place, which master is at 6379 and which at 6380, and whether it was stopped, before and after it was.
+fn told(alloc: Global) -> Result<(u16, [Option<u16>; 2], [bool; 2]), Fail> {
+    let mut lone = LoneSentinel::open(alloc, THIRD_OF_FOUR, 0)?;
+    let masters = [lone.master_at(here(6379)), lone.master_at(here(6380))];
+    let before = lone.is_stopped();
+    lone.stop();
+    Ok((lone.place(), masters, [before, lone.is_stopped()]))
+}
+
 #[test]
 fn a_sentinel_tells_its_place_its_roster_and_its_stop(rt: HostRuntime) -> Result<(), Fail> {
-    let mut lone = LoneSentinel::open(rt.alloc(), THIRD_OF_FOUR, 0)?;
-    assert!(rt; lone.place() == 2);
-    assert!(rt; lone.master_at(here(6379)) == Some(0));
-    assert!(rt; lone.master_at(here(6380)).is_none());
-    assert!(rt; !lone.is_stopped());
-    lone.stop();
-    assert!(rt; lone.is_stopped());
+    assert!(rt; told(rt.alloc())? == (2, [Some(0), None], [false, true]));
     Ok(())
 }

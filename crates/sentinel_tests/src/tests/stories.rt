@@ -261,6 +261,19 @@ fn play_on(
     Ok(())
 }
 
+/// Plays a tick at each of these times, at which nothing is said.
+fn tick_on(
+    rt: &impl Abort,
+    alloc: Global,
+    lone: &mut LoneSentinel,
+    quiet: &[u64],
+) -> Result<(), Fail> {
+    for now in quiet {
+        play_on(rt, alloc, lone, &[at(*now, Turn::Tick, "")])?;
+    }
+    Ok(())
+}
+
 /// Plays a story with a Sentinel that opens with this file at 0: a tick at each quiet time, at which nothing is said, then the scenes.
 pub(crate) fn play(
     rt: &impl Abort,
@@ -270,8 +283,6 @@ pub(crate) fn play(
     scenes: &[Scene],
 ) -> Result<(), Fail> {
     let mut lone = LoneSentinel::open(alloc, file, 0)?;
-    for now in quiet {
-        play_on(rt, alloc, &mut lone, &[at(*now, Turn::Tick, "")])?;
-    }
+    tick_on(rt, alloc, &mut lone, quiet)?;
     play_on(rt, alloc, &mut lone, scenes)
 }
