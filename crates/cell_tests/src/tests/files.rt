@@ -84,13 +84,20 @@ impl ConfStore for RefusingFile {
     }
 }
 
+/// A Sentinel that is ready.
+fn ready(alloc: Global) -> Option<Sentinel>
+    ensures { IfSome result (λ sentinel. sentinel.phase ≡ Ready) }
+{
+    let conf = read(alloc, FOUR_SENTINELS).ok()?;
+    Sentinel::open(alloc, conf, 0).ok()
+}
+
 /// A Sentinel with its file, which refuses the write of this number, if it isn't 0, and then holds the new text or the one before.
 pub(crate) fn opened(alloc: Global, number: u64, new: bool) -> Option<(Sentinel, RefusingFile)>
     ensures { IfSome result (λ r. (r.0.phase ≡ Ready) × (r.1.store.failed ≡ 0)) }
 {
-    let conf = read(alloc, FOUR_SENTINELS).ok()?;
-    let sentinel = Sentinel::open(alloc, conf, 0).ok()?;
     let file = RefusingFile::refusing(alloc, FOUR_SENTINELS, number, new).ok()?;
+    let sentinel = ready(alloc)?;
     Some((sentinel, file))
 }
 

@@ -7,7 +7,7 @@ use super::files::{FOUR_SENTINELS, RefusingFile};
 use ballot_law::{Input, NoMemory, Output, Text};
 use sentinel_cell::ActFault;
 use sentinel_conf::{ConfStore, read};
-use sentinel_core::{Outbox, Sentinel, TakeFault};
+use sentinel_core::{Outbox, Room, Sentinel, TakeFault};
 use std::alloc::Global;
 use std::marker::Model;
 use std::test::Fail;
@@ -28,17 +28,23 @@ impl Model for PlainSentinel {
     ghost view = { λ _. 0 };
 }
 
+/// A Sentinel with a file of this text, at clock 0. No contract tells what it is like.
+fn opened(alloc: Global, text: &[u8]) -> Result<Sentinel, NoMemory> {
+    let Ok(conf) = read(alloc, text) else {
+        return Err(NoMemory);
+    };
+    match Sentinel::open(alloc, conf, 0) {
+        Ok(sentinel) => Ok(sentinel),
+        Err(_) => Err(NoMemory),
+    }
+}
+
 impl PlainSentinel {
     /// Opens it at clock 0, with this file for its text.
     pub(crate) fn open(alloc: Global, file: RefusingFile) -> Result<PlainSentinel, NoMemory> {
-        let Ok(conf) = read(alloc, file.text()) else {
-            return Err(NoMemory);
-        };
-        let Ok(sentinel) = Sentinel::open(alloc, conf, 0) else {
-            return Err(NoMemory);
-        };
         let mut outbox = Outbox::new(alloc);
-        outbox.reserve(&sentinel.room())?;
+        outbox.reserve(&Room::of_sentinel())?;
+        let sentinel = opened(alloc, file.text())?;
         Ok(PlainSentinel {
             sentinel,
             outbox,

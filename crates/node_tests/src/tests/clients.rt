@@ -97,6 +97,15 @@ impl Turn {
     }
 }
 
+/// A tick at which the client asks the first Sentinel.
+const ASKED_A: (Turn, &str) = (Turn::Tick, ASKS_A);
+
+/// One at which it asks the second.
+const ASKED_B: (Turn, &str) = (Turn::Tick, ASKS_B);
+
+/// One at which it says nothing.
+const QUIET: (Turn, &str) = (Turn::Tick, NOTHING);
+
 /// The place of the first of these turns at which a client says something else.
 fn first_other(alloc: Global, rows: &[(Turn, &str)]) -> Result<Option<usize>, Fail> {
     let mut client = client(alloc)?;
@@ -112,13 +121,13 @@ fn first_other(alloc: Global, rows: &[(Turn, &str)]) -> Result<Option<usize>, Fa
 #[test]
 fn a_client_is_done_where_a_master_says_so(rt: HostRuntime) -> Result<(), Fail> {
     let rows = [
-        (Turn::Tick, ASKS_A),
+        ASKED_A,
         (Turn::Address(S0, Some(6_381)), NOTHING),
         (Turn::Tick, ASKS_ROLE),
         (Turn::Master, NOTHING),
-        (Turn::Tick, NOTHING),
-        (Turn::Tick, NOTHING),
-        (Turn::Tick, NOTHING),
+        QUIET,
+        QUIET,
+        QUIET,
     ];
     assert_eq!(rt; first_other(rt.alloc(), &rows)?, None);
     Ok(())
@@ -127,14 +136,14 @@ fn a_client_is_done_where_a_master_says_so(rt: HostRuntime) -> Result<(), Fail> 
 #[test]
 fn a_client_waits_at_a_replica_and_asks_again(rt: HostRuntime) -> Result<(), Fail> {
     let rows = [
-        (Turn::Tick, ASKS_A),
+        ASKED_A,
         (Turn::Address(S0, None), NOTHING),
-        (Turn::Tick, ASKS_B),
+        ASKED_B,
         (Turn::Address(S1, Some(6_381)), NOTHING),
         (Turn::Tick, ASKS_ROLE),
         (Turn::Replica, NOTHING),
-        (Turn::Tick, NOTHING),
-        (Turn::Tick, ASKS_B),
+        QUIET,
+        ASKED_B,
     ];
     assert_eq!(rt; first_other(rt.alloc(), &rows)?, None);
     Ok(())
@@ -142,14 +151,7 @@ fn a_client_waits_at_a_replica_and_asks_again(rt: HostRuntime) -> Result<(), Fai
 
 #[test]
 fn a_tick_without_an_answer_is_a_failure(rt: HostRuntime) -> Result<(), Fail> {
-    let rows = [
-        (Turn::Tick, ASKS_A),
-        (Turn::Tick, NOTHING),
-        (Turn::Tick, ASKS_B),
-        (Turn::Tick, NOTHING),
-        (Turn::Tick, NOTHING),
-        (Turn::Tick, ASKS_A),
-    ];
+    let rows = [ASKED_A, QUIET, ASKED_B, QUIET, QUIET, ASKED_A];
     assert_eq!(rt; first_other(rt.alloc(), &rows)?, None);
     Ok(())
 }
@@ -157,12 +159,12 @@ fn a_tick_without_an_answer_is_a_failure(rt: HostRuntime) -> Result<(), Fail> {
 #[test]
 fn an_address_without_a_node_is_never_asked(rt: HostRuntime) -> Result<(), Fail> {
     let rows = [
-        (Turn::Tick, ASKS_A),
+        ASKED_A,
         (Turn::Address(S1, Some(7_000)), NOTHING),
-        (Turn::Tick, NOTHING),
-        (Turn::Tick, NOTHING),
-        (Turn::Tick, NOTHING),
-        (Turn::Tick, ASKS_A),
+        QUIET,
+        QUIET,
+        QUIET,
+        ASKED_A,
     ];
     assert_eq!(rt; first_other(rt.alloc(), &rows)?, None);
     Ok(())

@@ -7,7 +7,7 @@ ghost use Rattle.sentinel_rules.specs.Facts.{IsWithinEvent};
 use ballot_law::{Addr, Card, Command, Event, Input, NodeName, Output, RunId};
 use sentinel_conf::{ConfStore, FileText, LoadFault, MemoryStore, StoreRefused, read};
 use sentinel_core::{
-    Outbox, ReleaseFault, Room, Sentinel, ServeFault, Served, StoreFault, TakeFault, Took,
+    Outbox, ReleaseFault, Sentinel, ServeFault, Served, StoreFault, TakeFault, Took,
 };
 use std::alloc::Global;
 use std::io::{Read, Write};
@@ -120,9 +120,9 @@ fn counted(alloc: Global, file: &[u8]) -> Result<CountedFile, Fail> {
 }
 
 /// An outbox with the room of a Sentinel.
-fn roomy(alloc: Global) -> Result<Outbox, Fail> {
+fn roomy(alloc: Global, sentinel: &Sentinel) -> Result<Outbox, Fail> {
     let mut outbox = Outbox::new(alloc);
-    outbox.reserve(&Room::of_sentinel())?;
+    outbox.reserve(&sentinel.room())?;
     Ok(outbox)
 }
 
@@ -141,8 +141,8 @@ impl LoneSentinel {
     /// Opens it with this file, at this reading of its clock.
     pub(crate) fn open(alloc: Global, file: &[u8], now: u64) -> Result<LoneSentinel, Fail> {
         let store = counted(alloc, file)?;
-        let outbox = roomy(alloc)?;
         let sentinel = opened(alloc, file, now)?;
+        let outbox = roomy(alloc, &sentinel)?;
         Ok(LoneSentinel {
             sentinel,
             outbox,

@@ -48,31 +48,35 @@ fn mymaster() -> Shown {
     shown(1, 2, 6380)
 }
 
-/// Whether a state that was opened at 1,000 ms answers this command so at another time, and shows these configurations.
-fn is_answered(
-    alloc: Global,
-    now: u64,
-    command: &Command,
-    lines: &str,
-    cards: &[Shown],
-) -> Result<bool, Fail>
+/// The lines of an answer, and the configurations that it shows.
+type Shows<'a> = (&'a str, &'a [Shown]);
+
+/// Whether a state that was opened at 1,000 ms answers this command so at another time.
+fn is_answered(alloc: Global, now: u64, command: &Command, wanted: Shows<'_>) -> Result<bool, Fail>
     requires { is_plain command.now ≡ false }
 {
     let state = LoneState::open(alloc, TWO_MASTERS, 1_000)?;
-    state.answers(alloc, now, command, lines, cards)
+    state.answers(alloc, now, command, wanted.0, wanted.1)
 }
 
 #[test]
 fn all_masters_down(rt: HostRuntime) -> Result<(), Fail> {
     let cards = [shown(0, 0, 7000), mymaster()];
-    assert!(rt; is_answered(rt.alloc(), 40_000, &Command::Masters, MASTERS_DOWN, &cards)?);
+    assert!(rt;
+        is_answered(
+            rt.alloc(),
+            40_000,
+            &Command::Masters,
+            (MASTERS_DOWN, &cards)
+        )?
+    );
     Ok(())
 }
 
 #[test]
 fn one_master_up(rt: HostRuntime) -> Result<(), Fail> {
     let command = Command::Master(Name::from_slice(b"mymaster"));
-    assert!(rt; is_answered(rt.alloc(), 2_000, &command, MYMASTER_UP, &[mymaster()])?);
+    assert!(rt; is_answered(rt.alloc(), 2_000, &command, (MYMASTER_UP, &[mymaster()]))?);
     Ok(())
 }
 
@@ -89,23 +93,23 @@ fn a_silent_master_is_down_after_its_own_time(rt: HostRuntime) -> Result<(), Fai
 #[test]
 fn a_silent_sentinel_is_down_after_the_first_master_s_time(rt: HostRuntime) -> Result<(), Fail> {
     let command = Command::Sentinels(Name::from_slice(b"mymaster"));
-    assert!(rt; is_answered(rt.alloc(), 31_000, &command, SENTINELS_UP, &[])?);
-    assert!(rt; !is_answered(rt.alloc(), 31_001, &command, SENTINELS_UP, &[])?);
+    assert!(rt; is_answered(rt.alloc(), 31_000, &command, (SENTINELS_UP, &[]))?);
+    assert!(rt; !is_answered(rt.alloc(), 31_001, &command, (SENTINELS_UP, &[]))?);
     Ok(())
 }
 
 #[test]
 fn replicas_down(rt: HostRuntime) -> Result<(), Fail> {
     let command = Command::Replicas(Name::from_slice(b"mymaster"));
-    assert!(rt; is_answered(rt.alloc(), 40_000, &command, REPLICAS_DOWN, &[])?);
+    assert!(rt; is_answered(rt.alloc(), 40_000, &command, (REPLICAS_DOWN, &[]))?);
     Ok(())
 }
 
 #[test]
 fn quorum_that_is_reached_and_lost(rt: HostRuntime) -> Result<(), Fail> {
     let command = Command::CkQuorum(Name::from_slice(b"mymaster"));
-    assert!(rt; is_answered(rt.alloc(), 2_000, &command, REACHED, &[])?);
-    assert!(rt; is_answered(rt.alloc(), 40_000, &command, LOST, &[])?);
+    assert!(rt; is_answered(rt.alloc(), 2_000, &command, (REACHED, &[]))?);
+    assert!(rt; is_answered(rt.alloc(), 40_000, &command, (LOST, &[]))?);
     Ok(())
 }
 
@@ -113,21 +117,21 @@ fn quorum_that_is_reached_and_lost(rt: HostRuntime) -> Result<(), Fail> {
 fn a_name_that_no_master_has(rt: HostRuntime) -> Result<(), Fail> {
     let name = Name::from_slice(b"mymasters");
     let master = Command::Master(name);
-    assert!(rt; is_answered(rt.alloc(), 2_000, &master, NO_MASTER, &[])?);
+    assert!(rt; is_answered(rt.alloc(), 2_000, &master, (NO_MASTER, &[]))?);
     let replicas = Command::Replicas(name);
-    assert!(rt; is_answered(rt.alloc(), 2_000, &replicas, NO_MASTER, &[])?);
+    assert!(rt; is_answered(rt.alloc(), 2_000, &replicas, (NO_MASTER, &[]))?);
     let sentinels = Command::Sentinels(None);
-    assert!(rt; is_answered(rt.alloc(), 2_000, &sentinels, NO_MASTER, &[])?);
+    assert!(rt; is_answered(rt.alloc(), 2_000, &sentinels, (NO_MASTER, &[]))?);
     let quorum = Command::CkQuorum(None);
-    assert!(rt; is_answered(rt.alloc(), 2_000, &quorum, NO_MASTER, &[])?);
+    assert!(rt; is_answered(rt.alloc(), 2_000, &quorum, (NO_MASTER, &[]))?);
     Ok(())
 }
 
 #[test]
 fn the_own_run_id_and_that_it_is_done_or_heard(rt: HostRuntime) -> Result<(), Fail> {
-    assert!(rt; is_answered(rt.alloc(), 2_000, &Command::MyId, MY_ID, &[])?);
-    assert!(rt; is_answered(rt.alloc(), 2_000, &Command::FlushConfig, "+OK", &[])?);
-    assert!(rt; is_answered(rt.alloc(), 2_000, &Command::Subscribe, SUBSCRIBED, &[])?);
+    assert!(rt; is_answered(rt.alloc(), 2_000, &Command::MyId, (MY_ID, &[]))?);
+    assert!(rt; is_answered(rt.alloc(), 2_000, &Command::FlushConfig, ("+OK", &[]))?);
+    assert!(rt; is_answered(rt.alloc(), 2_000, &Command::Subscribe, (SUBSCRIBED, &[]))?);
     Ok(())
 }
 
