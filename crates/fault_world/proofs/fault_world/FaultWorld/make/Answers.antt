@@ -2,6 +2,9 @@ use Rattle.std.proofs.Common.{rules, ◌∙◌, take}
 use Rattle.fault_world.proofs.Found.{run_more, run_stays, run_whole, shown_in, stands_on}
 use Rattle.fault_world.proofs.fault_world.FaultWorld.make.Goals as goal
 
+pub loop-k-init : goal.loop-k-init
+loop-k-init g c = search rules
+
 pub step-requires-clause-shown : goal.step-requires-clause-shown
 step-requires-clause-shown g c =
     shown_in c.args.self.now.roster c.loop-k.self.roster (take c.loop-k.k c.args.steps.now) c.requires.stands.world c.loop-k.self.members.items c.loop-k.self.messages.items c.loop-k.report.entries c.loop-k.invariant.roster _ _ (c.loop-k.invariant.run c.requires.stands.world c.requires.stands.shows)
