@@ -15,12 +15,12 @@ use Rattle.ballot_law.specs.Worlds.{World, Sentinel, Other, State, Ready, Pendin
 use Rattle.ballot_law.specs.Law.{IsWellFormed}
 use Rattle.boxed_nodes.specs.declared.calls.HowStored.{HowStored}
 use Rattle.boxed_nodes.specs.declared.calls.HowStored.TheVariants as how
-use Rattle.sentinel_core.specs.declared.faults.StoreFault.{StoreFault}
-use Rattle.sentinel_core.specs.declared.faults.StoreFault.TheVariants as store_fault
-use Rattle.sentinel_core.specs.declared.faults.TakeFault.{TakeFault}
-use Rattle.sentinel_core.specs.declared.faults.TakeFault.TheVariants as take_fault
-use Rattle.sentinel_core.specs.declared.faults.ReleaseFault.{ReleaseFault}
-use Rattle.sentinel_core.specs.declared.faults.ReleaseFault.TheVariants as release_fault
+use Rattle.sentinel_outbox.specs.declared.faults.StoreFault.{StoreFault}
+use Rattle.sentinel_outbox.specs.declared.faults.StoreFault.TheVariants as store_fault
+use Rattle.sentinel_outbox.specs.declared.faults.TakeFault.{TakeFault}
+use Rattle.sentinel_outbox.specs.declared.faults.TakeFault.TheVariants as take_fault
+use Rattle.sentinel_outbox.specs.declared.faults.ReleaseFault.{ReleaseFault}
+use Rattle.sentinel_outbox.specs.declared.faults.ReleaseFault.TheVariants as release_fault
 
 -- a Sentinel, or another node
 pub data Image : Type 0 where

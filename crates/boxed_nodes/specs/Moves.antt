@@ -8,10 +8,10 @@ use Rattle.ballot_law.specs.declared.records.Win.{Win}
 use Rattle.ballot_law.specs.declared.steps.KeptText.{KeptText}
 use Rattle.ballot_law.specs.Rosters.{Roster}
 use Rattle.ballot_law.specs.Worlds.{Ready, Pending, Stored, Stopped}
-use Rattle.sentinel_core.specs.declared.faults.StoreFault.{StoreFault}
-use Rattle.sentinel_core.specs.declared.faults.StoreFault.TheVariants as store_fault
-use Rattle.sentinel_core.specs.declared.faults.TakeFault.{TakeFault}
-use Rattle.sentinel_core.specs.declared.faults.ReleaseFault.{ReleaseFault}
+use Rattle.sentinel_outbox.specs.declared.faults.StoreFault.{StoreFault}
+use Rattle.sentinel_outbox.specs.declared.faults.StoreFault.TheVariants as store_fault
+use Rattle.sentinel_outbox.specs.declared.faults.TakeFault.{TakeFault}
+use Rattle.sentinel_outbox.specs.declared.faults.ReleaseFault.{ReleaseFault}
 use Rattle.boxed_nodes.specs.declared.calls.HowStored.{HowStored}
 use Rattle.boxed_nodes.specs.Images.{Image, TakenTo, state_of, after_store, store_answer, released_image, stopped_image, started_image, why_not_taken, why_not_released, card_shown, HasStored, wins_of, IsFreshImage, IsOfKind}
 use Rattle.boxed_nodes.specs.Sendable.{AreListed}

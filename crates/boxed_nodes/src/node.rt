@@ -12,7 +12,7 @@ ghost use Rattle.boxed_nodes.specs.Moves.{Stays, Takes, Refuses, Stores, Release
 
 use crate::calls::HowStored;
 use ballot_law::{Card, Input, KeptText, NodeName, Roster};
-use sentinel_core::{OpenFault, Outbox, ReleaseFault, Room, StoreFault, TakeFault, Took};
+use sentinel_outbox::{OpenFault, Outbox, ReleaseFault, Room, StoreFault, TakeFault, Took};
 
 /// A node of a group: a Sentinel, a data node or a client.
 ///

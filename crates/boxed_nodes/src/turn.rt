@@ -9,7 +9,7 @@ ghost use Rattle.boxed_nodes.specs.Turns.{shown_at};
 
 use crate::calls::HowStored;
 use ballot_law::KeptText;
-use sentinel_core::{Outbox, ReleaseFault, Room, StoreFault, TakeFault};
+use sentinel_outbox::{Outbox, ReleaseFault, Room, StoreFault, TakeFault};
 
 /// How far the last input has come.
 #[derive(Clone, Copy, Debug, PartialEq, Eq)]

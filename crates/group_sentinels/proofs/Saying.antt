@@ -1,13 +1,15 @@
 -- What a turn of a shared Sentinel shows may be sent.
 use Rattle.std.proofs.Common.{◌≡◌, List, [], ◌∷◌, ◌++◌, sym, ap, subst, drop, length}
 use Rattle.std.specs.List.{AllByRecursion}
+use Rattle.std.specs.Prelude.{All}
 use Rattle.ballot_law.specs.declared.events.Input.{Input}
 use Rattle.ballot_law.specs.declared.messages.Output.{Output}
 use Rattle.boxed_nodes.specs.Sendable.{IsSendableOutput}
 use Rattle.sentinel_rules.specs.Facts.{IsWithinEvent}
-use Rattle.sentinel_rules.specs.Limits.{OutputsAreWithin}
+use Rattle.sentinel_rules.specs.Limits.{IsWithinOutput, OutputsAreWithin}
 use Rattle.sentinel_conf.specs.Rewritten.{IsKeptPart}
 use Rattle.boxed_nodes.proofs.Sending.{outputs_sendable}
+use Rattle.port_serving.proofs.Writing.{outputs_writable}
 use Rattle.sentinel_cell.specs.declared.entry.Entry.{Entry}
 use Rattle.sentinel_cell.specs.declared.entry.Outcome.{Outcome}
 use Rattle.sentinel_cell.specs.declared.entry.Outcome.TheVariants.{Stored}
@@ -22,7 +24,8 @@ entry_sendable : OutputsAreWithin → (w : World) (e : Entry) → IsGood w → I
 entry_sendable within w e good step stored takeable =
     let is : IsOutcome w e.input e.outputs e.failures Stored = subst (IsOutcome w e.input e.outputs e.failures) stored step in
     let kept : IsKeptPart w.plan.conf (next_of w e.input).core.kept = subst (λ (v : World). IsKeptPart v.plan.conf v.core.kept) (ap (after_outcome w e.input e.failures) stored) (good_after w e good step).core.kept in
-    subst (AllByRecursion IsSendableOutput) (sym is.1) (outputs_sendable within w.plan w.core e.input.now e.input.event good.plan good.core takeable kept)
+    let numbers : All IsWithinOutput (next_of w e.input).outputs = within w.plan w.core e.input.now e.input.event good.plan good.core takeable in
+    subst (AllByRecursion IsSendableOutput) (sym is.1) (outputs_sendable (next_of w e.input).outputs numbers (outputs_writable w.plan w.core e.input.now e.input.event kept numbers))
 
 pub added_sendable : OutputsAreWithin → (start : World) (v w : View) (input : Input) (outputs : List Output) → Adds start v input Stored outputs w → IsWithinEvent input.event → AllByRecursion IsSendableOutput outputs
 added_sendable within start v w input outputs a takeable =

@@ -6,6 +6,8 @@ use Rattle.ballot_law.specs.declared.cards.Shown.{Shown}
 use Rattle.ballot_law.specs.declared.cards.TheConstants.{MAX_EPOCH}
 use Rattle.ballot_law.specs.declared.messages.Body.{Body}
 use Rattle.ballot_law.specs.declared.messages.Body.TheVariants.{Ask, Answer, Ping, PingText, InfoAsk, InfoText, Publish, HelloText, ReplicaOf, AddressAsk, AddressAnswer, PortReply, RoleAsk, RoleText, Done}
+use Rattle.ballot_law.specs.declared.messages.Output.{Output}
+use Rattle.ballot_law.specs.declared.messages.Output.TheVariants.{Send, Tell}
 use Rattle.ballot_law.specs.Hellos.{hello_text, IsHello}
 use Rattle.ballot_law.specs.Words.{ip_text}
 use Rattle.node_texts.specs.Infos.{info_text, IsInfo}
@@ -79,6 +81,10 @@ IsWritable (Publish hello) = IsHello hello
 IsWritable (HelloText hello) = IsHello hello
 IsWritable (RoleText role) = IsRole role
 IsWritable _ = Unit {0}
+
+abbrev pub IsWritableOutput : Output → Type 0
+IsWritableOutput (Send message) = IsWritable message.body
+IsWritableOutput (Tell note) = Unit {0}
 
 -- the answers of a port that are written with no value made of them
 abbrev pub IsStraight : Body → Type 0

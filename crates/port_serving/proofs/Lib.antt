@@ -1,3 +1,4 @@
 pub mod Answering
 pub mod KnownBytes
 pub mod Steps
+pub mod Writing

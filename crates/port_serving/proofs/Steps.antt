@@ -9,7 +9,7 @@ use Rattle.resp2_frames.specs.Frame.{Frame, simple, fault, int, bulk, null_bulk,
 use Rattle.resp2_frames.specs.Reading.{frame_at}
 use Rattle.resp2_frames.specs.Stream.{Held, reading, held_size, Feeds, Parts, SoFar}
 use Rattle.resp2_frames.proofs.Drains.{fed_so_far, nothing_waits}
-use Rattle.resp2.proofs.Streams.{fault_asked, value_asked, end_asked}
+use Rattle.resp2.proofs.Streams.{fault_asked, value_asked}
 use Rattle.resp2.specs.Asked.{Asks}
 use Rattle.resp2.specs.Commands.{command_of}
 use Rattle.resp2.specs.declared.command.CommandFault.{CommandFault}
@@ -94,15 +94,6 @@ module _ (plan : Plan) (now : ℕ) (first : Core) (before : Option (List ℕ)) w
         answers_is = ap (λ n. n + 1) a.answers_is ∙ sym (length-append a.values (given.0 ∷ []));
         stored_is = h;
       }
-
-  pub none_answered : (input written : List ℕ) (held : Held) (core : Core) (text : List ℕ) (answers : ℕ) (stored : Option (List ℕ)) (after : Held)
-      → IsAnswered plan now first before input written held core text answers stored → Asks held (Ok None) after
-      → IsAnswered plan now first before input written after core text answers stored × Waits after
-  none_answered input written held core text answers stored after a given =
-      let next = end_asked input a.values held after (so_far input written held core text answers stored a) given in (
-        record { values = a.values; rest = next.0; held_is = next.1; parts = next.2; core_is = a.core_is; text_is = a.text_is; answers_is = a.answers_is; stored_is = a.stored_is },
-        (λ rest is. let same : rest ≡ next.0 = let e = next.1 in cc in ap frame_at same ∙ next.3),
-      )
 
   held_after : (values : List Frame) (core : Core) (stored : Option (List ℕ)) → core ≡ core_after plan now first values → Holds plan.conf first.kept before core.kept stored
       → HoldsAfter plan now first before values stored

@@ -16,8 +16,8 @@ use Rattle.sentinel_rules.specs.States.{Core}
 use Rattle.sentinel_rules.specs.Facts.{IsWithinEvent}
 use Rattle.sentinel_rules.specs.Takes.{Next, next}
 use Rattle.sentinel_rules.proofs.Choices.{same_addr-equal}
-use Rattle.sentinel_core.specs.declared.faults.StoreFault.{StoreFault}
-use Rattle.sentinel_core.specs.declared.faults.StoreFault.TheVariants.{Nothing, Refused as WasRefused}
+use Rattle.sentinel_outbox.specs.declared.faults.StoreFault.{StoreFault}
+use Rattle.sentinel_outbox.specs.declared.faults.StoreFault.TheVariants.{Nothing, Refused as WasRefused}
 use Rattle.sentinel_outbox.specs.declared.phase.Phase.TheVariants.{Ready, Halted}
 use Rattle.sentinel_core.specs.Sentinels.{Whole, is_flush}
 use Rattle.sentinel_cell.specs.declared.entry.Entry.{Entry}

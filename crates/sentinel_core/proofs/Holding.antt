@@ -9,8 +9,8 @@ use Rattle.ballot_law.specs.declared.cards.Kept.{Kept}
 use Rattle.ballot_law.specs.declared.cards.KeptMaster.{KeptMaster}
 use Rattle.sentinel_conf.specs.Meaning.{ConfPlan}
 use Rattle.sentinel_conf.specs.Rewritten.{rewritten}
-use Rattle.sentinel_core.specs.declared.faults.StoreFault.{StoreFault}
-use Rattle.sentinel_core.specs.declared.faults.StoreFault.TheVariants.{Nothing, Refused}
+use Rattle.sentinel_outbox.specs.declared.faults.StoreFault.{StoreFault}
+use Rattle.sentinel_outbox.specs.declared.faults.StoreFault.TheVariants.{Nothing, Refused}
 use Rattle.port_serving.specs.Serving.{Holds}
 
 -- ---- what isn't different is the same

@@ -17,14 +17,14 @@
 #![tactic(auto)]
 
 mod acting;
-mod faults;
 mod former;
 mod sentinel;
 mod serving;
 
-pub use faults::{OpenFault, ReleaseFault, StoreFault, TakeFault};
 pub use message_texts::message_text;
 pub use port_serving::{PortSentinel, READS_MAX, ServeFault, Served};
 pub use resp2::NoMemory;
-pub use sentinel::{Sentinel, Took};
-pub use sentinel_outbox::{Outbox, Phase, Room};
+pub use sentinel::Sentinel;
+pub use sentinel_outbox::{
+    OpenFault, Outbox, Phase, ReleaseFault, Room, StoreFault, TakeFault, Took,
+};

@@ -14,11 +14,10 @@ ghost use Rattle.sentinel_outbox.specs.Outboxes.{Fits, room_of_sentinel};
 ghost use Rattle.sentinel_core.specs.Sentinels.{IsWhole, is_busy, is_pending, is_flush};
 
 use crate::acting::act;
-use crate::faults::{OpenFault, ReleaseFault, StoreFault, TakeFault};
 use crate::former::Former;
 use ballot_law::{Card, Command, Event, Input, Roster};
 use sentinel_conf::{Conf, ConfStore, ConfText, law_run_ids, rewrite_into};
-use sentinel_outbox::{Outbox, Phase, Room};
+use sentinel_outbox::{OpenFault, Outbox, Phase, ReleaseFault, Room, StoreFault, TakeFault, Took};
 use sentinel_rules::{
     law_ignored_inputs_change_nothing, law_inputs_are_steps, law_inputs_change_one_card,
     law_opening_is_sound,
@@ -27,13 +26,6 @@ use sentinel_state::{Core, Plan, State};
 use std::alloc::Global;
 use std::marker::Model;
 use watched_nodes::FrameList;
-
-/// What an input did.
-#[derive(Clone, Copy, Debug, PartialEq, Eq)]
-pub struct Took {
-    /// Whether what the file is to hold changed.
-    pub changed: bool,
-}
 
 /// One Sentinel of a group, as Redis Sentinel 7.2 works.
 ///

@@ -13,8 +13,8 @@ use Rattle.ballot_law.specs.declared.messages.Body.{Body}
 use Rattle.ballot_law.specs.declared.messages.Output.{Output}
 use Rattle.ballot_law.specs.Clocks.{clock}
 use Rattle.boxed_nodes.specs.Sendable.{IsFewIn, IsFewShown}
-use Rattle.sentinel_core.specs.declared.faults.TakeFault.{TakeFault}
-use Rattle.sentinel_core.specs.declared.sentinel.Took.{Took}
+use Rattle.sentinel_outbox.specs.declared.faults.TakeFault.{TakeFault}
+use Rattle.sentinel_outbox.specs.declared.took.Took.{Took}
 use Rattle.sentinel_rules.specs.declared.frames.Frame.{Frame}
 use Rattle.sentinel_rules.specs.declared.frames.Frame.TheVariants.{PingTo, InfoTo, HelloTo, AskTo, PromoteTo, FollowTo, NoteOf}
 use Rattle.sentinel_rules.specs.Answers.{commanded, asked_of, asked_at, master_with_card, named, about, numbers_from, all_masters}

@@ -2,5 +2,6 @@ mod Few
 mod Fresh
 mod Listed
 mod Same
+mod Sending
 mod SentinelMoves
 mod Wins

@@ -23,8 +23,8 @@ use Rattle.sentinel_rules.specs.Takes.{next}
 use Rattle.sentinel_core.specs.Sentinels.{Whole, IsWhole, is_flush, is_pending}
 use Rattle.sentinel_outbox.specs.declared.phase.Phase.{Phase}
 use Rattle.sentinel_outbox.specs.declared.phase.Phase.TheVariants as phase
-use Rattle.sentinel_core.specs.declared.faults.StoreFault.{StoreFault}
-use Rattle.sentinel_core.specs.declared.faults.StoreFault.TheVariants as store_fault
+use Rattle.sentinel_outbox.specs.declared.faults.StoreFault.{StoreFault}
+use Rattle.sentinel_outbox.specs.declared.faults.StoreFault.TheVariants as store_fault
 use Rattle.boxed_nodes.specs.declared.calls.HowStored.{HowStored}
 use Rattle.boxed_nodes.specs.declared.calls.HowStored.TheVariants as how
 use Rattle.conf_store.specs.Stores.{Outcome}
@@ -32,8 +32,8 @@ use Rattle.sentinel_nodes.specs.Files.{File, outcome_of, outcome_with, refusal_o
 use Rattle.boxed_nodes.specs.Images.{Image, OfSentinel, OfOther, state_of, after_store, store_answer, stopped_image, stopped_sentinel, started_image, refused_sentinel, refusal}
 use Rattle.boxed_nodes.specs.Sendable.{IsListed}
 use Rattle.boxed_nodes.specs.Moves.{Taken, Takes, Stores, Stops, Starts, IsNamed, IsFresh}
-use Rattle.sentinel_core.specs.declared.sentinel.Took.{Took}
-use Rattle.sentinel_core.specs.declared.faults.TakeFault.{TakeFault}
+use Rattle.sentinel_outbox.specs.declared.took.Took.{Took}
+use Rattle.sentinel_outbox.specs.declared.faults.TakeFault.{TakeFault}
 use Rattle.sentinel_nodes.specs.Kinds.{IsSentinelImage, IsImageOf, IsPendingAs, IsWinOf, state_in, is_running}
 use Rattle.sentinel_nodes.proofs.Fresh.{well_formed}
 use Rattle.sentinel_nodes.proofs.Listed.{outputs_listed}

@@ -1,5 +1,5 @@
 use Rattle.sentinel_nodes.proofs.Few.{few_of}
-use Rattle.boxed_nodes.proofs.Sending.{sendable_of}
+use Rattle.sentinel_nodes.proofs.Sending.{sendable_of}
 use Rattle.sentinel_nodes.proofs.SentinelMoves.{takes_of}
 use Rattle.sentinel_nodes.proofs.sentinel_node.SentinelNodeNode.take.Goals as goal
 

@@ -1,4 +1,4 @@
-//! Why a call on a Sentinel is refused.
+//! Why a call on a Sentinel, or on another node, is refused.
 
 use thiserror::Error;
 

@@ -1,0 +1,8 @@
+//! What an input did.
+
+/// What an input did.
+#[derive(Clone, Copy, Debug, PartialEq, Eq)]
+pub struct Took {
+    /// Whether what the file is to hold changed.
+    pub changed: bool,
+}
