@@ -24,7 +24,7 @@ pub sendable_of : (result : Result Took TakeFault) (before after : Whole) (now :
 sendable_of (Ok took) before after now event held within was is h core outputs plan =
     let numbers : All IsWithinOutput (next before.plan before.core now event).outputs = within before.plan before.core now event was.plan was.core (within_event event h) in
     let kept : IsKeptPart before.plan.conf (next before.plan before.core now event).core.kept =
-        subst (λ (c : Core). IsKeptPart before.plan.conf c.kept) core (subst (λ (p : Plan). IsKeptPart p.conf after.core.kept) plan is.core.kept) in
+    subst (λ (c : Core). IsKeptPart before.plan.conf c.kept) core (subst (λ (p : Plan). IsKeptPart p.conf after.core.kept) plan is.core.kept) in
     subst (AllByRecursion IsSendableOutput) (sym outputs)
     (outputs_sendable (next before.plan before.core now event).outputs numbers (outputs_writable before.plan before.core now event kept numbers))
 sendable_of (Err fault) before after now event held within was is h core outputs plan = tt
