@@ -1,6 +1,9 @@
-use Rattle.std.proofs.Common.{rules, sym, ◌∙◌}
+use Rattle.std.proofs.Common.{rules, sym, ◌∙◌, arith}
 use Rattle.world_members.proofs.Loops.{more, not_first, is_first}
 use Rattle.world_members.proofs.groups.is_first_named.Goals as goal
+
+pub loop-j-init : goal.loop-j-init
+loop-j-init g c = λ j y before e. absurd (omega (arith, before))
 
 pub loop-j-preserved : goal.loop-j-preserved
 loop-j-preserved g c =
