@@ -141,11 +141,12 @@ impl Twice {
 }
 
 /// A Sentinel of four that is ready.
-fn opened(alloc: Global) -> Option<Sentinel>
-    ensures { IfSome result (λ sentinel. sentinel.phase ≡ Ready) }
+fn opened(alloc: Global) -> Option<Box<Sentinel>>
+    ensures { IfSome result (λ sentinel. sentinel.value.phase ≡ Ready) }
 {
     let conf = read(alloc, FOUR_SENTINELS).ok()?;
-    Sentinel::open(alloc, conf, 0).ok()
+    let sentinel = Sentinel::open(alloc, conf, 0).ok()?;
+    Box::new(alloc, sentinel).ok()
 }
 
 /// Serves a stream, and then all of the script by the same Sentinel.

@@ -96,9 +96,10 @@ impl ConfStore for CountedFile {
 }
 
 /// A Sentinel with its file in memory, and the outputs of its last input. Its contracts tell tests nothing but that each call may be made.
+/// The Sentinel stands in a box, as whatever is let go in many tests does (`boxed`).
 #[derive(Drop)]
 pub(crate) struct LoneSentinel {
-    sentinel: Sentinel,
+    sentinel: Box<Sentinel>,
     outbox: Outbox,
     file: CountedFile,
 }
@@ -109,6 +110,14 @@ impl Model for LoneSentinel {
     ghost Value = { ℕ };
 
     ghost view = { λ _. 0 };
+}
+
+/// A value in a box: where a box is let go, only one call is seen, and not all that the value holds.
+pub(crate) fn boxed<T: Drop>(alloc: Global, value: T) -> Result<Box<T>, Fail> {
+    match Box::new(alloc, value) {
+        Ok(value) => Ok(value),
+        Err(_) => Err(Fail::from("no memory")),
+    }
 }
 
 /// A file that was never written.
@@ -127,14 +136,14 @@ fn roomy(alloc: Global, sentinel: &Sentinel) -> Result<Outbox, Fail> {
 }
 
 /// A Sentinel with this file, at this reading of its clock. No contract tells what it is like: it is the dearest value of these tests.
-fn opened(alloc: Global, file: &[u8], now: u64) -> Result<Sentinel, Fail> {
+fn opened(alloc: Global, file: &[u8], now: u64) -> Result<Box<Sentinel>, Fail> {
     let Ok(conf) = read(alloc, file) else {
         return Err(Fail::from("no conf"));
     };
     let Ok(sentinel) = Sentinel::open(alloc, conf, now) else {
         return Err(Fail::from("no memory"));
     };
-    Ok(sentinel)
+    boxed(alloc, sentinel)
 }
 
 impl LoneSentinel {
@@ -255,7 +264,10 @@ pub(crate) fn serve<R: Read, W: Write, S: ConfStore>(
     let Ok(conf) = read(alloc, file) else {
         return Err(ServeFault::NoMemory);
     };
-    let Ok(mut sentinel) = Sentinel::open(alloc, conf, 0) else {
+    let Ok(sentinel) = Sentinel::open(alloc, conf, 0) else {
+        return Err(ServeFault::NoMemory);
+    };
+    let Ok(mut sentinel) = Box::new(alloc, sentinel) else {
         return Err(ServeFault::NoMemory);
     };
     sentinel.serve(now, reader, writer, store)

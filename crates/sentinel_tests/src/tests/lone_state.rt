@@ -3,6 +3,7 @@
 ghost use Rattle.std.specs.Prelude.{◌≡◌, false};
 ghost use Rattle.sentinel_answers.specs.Plain.{is_plain};
 
+use super::lone_sentinel::boxed;
 use super::plain_text::resp;
 use ballot_law::{Addr, Body, Card, Command, RunId, Shown, Win};
 use sentinel_answers::{answer_by_text, answer_plainly};
@@ -52,7 +53,7 @@ pub(crate) type Said = (u16, bool, Option<RunId>, u64);
 /// made.
 #[derive(Drop)]
 pub(crate) struct LoneState {
-    state: State,
+    state: Box<State>,
 }
 
 impl Model for LoneState {
@@ -66,12 +67,11 @@ impl Model for LoneState {
 impl LoneState {
     /// Opens it with this file, at this reading of its clock.
     pub(crate) fn open(alloc: Global, file: &str, now: u64) -> Result<LoneState, Fail> {
+        let frames = FrameList::with_room(alloc)?;
         let plan = Plan::new(read(alloc, file.as_bytes())?);
         let core = Core::open(alloc, &plan, now)?;
-        let frames = FrameList::with_room(alloc)?;
-        Ok(LoneState {
-            state: State { plan, core, frames },
-        })
+        let state = boxed(alloc, State { plan, core, frames })?;
+        Ok(LoneState { state })
     }
 
     /// A tick of the master with this number, whose random number is 0.
@@ -130,12 +130,9 @@ impl LoneState {
 
     /// The configuration that the answer to the command shows; none where it is another answer.
     pub(crate) fn address(&mut self, now: u64, command: &Command) -> Option<Shown> {
-        let Some(Body::AddressAnswer(shown)) = answer_plainly(
-            &self.state.plan,
-            &mut self.state.core,
-            now,
-            command,
-        ) else {
+        let state = &mut *self.state;
+        let answer = answer_plainly(&state.plan, &mut state.core, now, command);
+        let Some(Body::AddressAnswer(shown)) = answer else {
             return None;
         };
         shown
@@ -154,6 +151,7 @@ impl LoneState {
             epoch,
             candidate,
         };
+        let state = &mut *self.state;
         let Some(
             Body::Answer {
                 master,
@@ -162,7 +160,7 @@ impl LoneState {
                 leader,
                 epoch,
             },
-        ) = answer_plainly(&self.state.plan, &mut self.state.core, now, &command)
+        ) = answer_plainly(&state.plan, &mut state.core, now, &command)
         else {
             return None;
         };

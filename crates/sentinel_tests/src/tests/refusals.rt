@@ -67,7 +67,9 @@ const ANSWERS: [Answers; 5] = [
 /// A Sentinel that has taken A's request for its vote.
 fn requested(alloc: Global) -> Result<LoneSentinel, Fail> {
     let mut lone = LoneSentinel::open(alloc, FOUR_SENTINELS, 0)?;
-    lone.take(0, request(1, A))?;
+    if lone.take(0, request(1, A)).is_err() {
+        return Err(Fail::from("not taken"));
+    }
     Ok(lone)
 }
 
@@ -84,7 +86,9 @@ fn halted(alloc: Global, new: bool) -> Result<LoneSentinel, Fail> {
 /// One that has stored the vote.
 fn stored(alloc: Global) -> Result<LoneSentinel, Fail> {
     let mut lone = requested(alloc)?;
-    lone.store()?;
+    if lone.store().is_err() {
+        return Err(Fail::from("not stored"));
+    }
     Ok(lone)
 }
 
@@ -220,9 +224,9 @@ const QUESTIONS: [(Asked, u64); 8] = [
 /// How often the file was written after the answer to this question.
 fn writes_after(lone: &mut LoneSentinel, asked: Asked) -> Result<u64, Fail> {
     lone.clear();
-    let _ = lone.take(0, asked.event())?;
-    lone.store()?;
-    lone.release()?;
+    if lone.take(0, asked.event()).is_err() || lone.store().is_err() || lone.release().is_err() {
+        return Err(Fail::from("refused"));
+    }
     Ok(lone.writes())
 }
 

@@ -1,5 +1,6 @@
 //! What a file says of the group: the numbers of its nodes, the settings of its masters, and what is kept at a start.
 
+use super::lone_sentinel::boxed;
 use super::lone_state::{LoneState, TWO_MASTERS, here};
 use ballot_law::NodeName;
 use sentinel_conf::read;
@@ -7,8 +8,8 @@ use sentinel_plan::{NodePlace, Plan};
 use std::alloc::Global;
 use std::test::Fail;
 
-fn plan(alloc: Global) -> Result<Plan, Fail> {
-    Ok(Plan::new(read(alloc, TWO_MASTERS.as_bytes())?))
+fn plan(alloc: Global) -> Result<Box<Plan>, Fail> {
+    boxed(alloc, Plan::new(read(alloc, TWO_MASTERS.as_bytes())?))
 }
 
 /// The master and the place of a node of the plan.
