@@ -87,15 +87,17 @@ fn shared(alloc: Global, refuses: bool) -> Option<(SharedSentinel<MemoryStore>, 
 
 impl Conversation {
     /// A conversation that hasn't begun; None where there is no memory. The first text that is to be stored is refused where that is wanted.
-    pub(crate) fn new(alloc: Global, refuses: bool) -> Option<Conversation> {
+    /// It stands in a box, so that a test that lets it go sees one call and not all that it holds.
+    pub(crate) fn new(alloc: Global, refuses: bool) -> Option<Box<Conversation>> {
         let (cell, seat) = shared(alloc, refuses)?;
-        Some(Conversation {
+        let conversation = Conversation {
             alloc,
             cell,
             seat,
             session: Session::new(alloc),
             other: Session::new(alloc),
-        })
+        };
+        Box::new(alloc, conversation).ok()
     }
 
     /// The client sends a piece, at clock 0.

@@ -21,7 +21,7 @@ const TOLD: &[u8] =
 const ANSWERED: &[u8] = b"+PONG\r\n*2\r\n$9\r\n127.0.0.1\r\n$4\r\n6379\r\n+OK\r\n";
 
 /// A conversation that hasn't begun.
-fn begun<R: Abort>(rt: &R, alloc: Global) -> Conversation {
+fn begun<R: Abort>(rt: &R, alloc: Global) -> Box<Conversation> {
     match Conversation::new(alloc, false).or(Conversation::new(alloc, false)) {
         Some(conversation) => conversation,
         None => panic!(rt; "no memory for two"),

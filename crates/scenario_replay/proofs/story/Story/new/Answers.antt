@@ -1,0 +1,5 @@
+use Rattle.std.proofs.Common.{rules}
+use Rattle.scenario_replay.proofs.story.Story.new.Goals as goal
+
+pub returns-in_err-_steps-clause-fault : goal.returns-in_err-_steps-clause-fault
+returns-in_err-_steps-clause-fault c = search rules
