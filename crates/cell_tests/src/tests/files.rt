@@ -101,13 +101,31 @@ pub(crate) fn opened(alloc: Global, number: u64, new: bool) -> Option<(Sentinel,
     Some((sentinel, file))
 }
 
-/// A shared Sentinel with its first seat.
-pub(crate) type Opened = (SharedSentinel<RefusingFile>, Seat);
+/// A shared Sentinel with its first seat. It stands in a box, so that a test that lets it go sees one call and not all that it holds.
+pub(crate) type Shared<S> = (Box<SharedSentinel<S>>, Seat);
+
+/// One whose file may refuse a write.
+pub(crate) type Opened = Shared<RefusingFile>;
+
+/// A shared Sentinel in its box.
+pub(crate) fn boxed<S: ConfStore + Drop>(
+    alloc: Global,
+    cell: SharedSentinel<S>,
+    seat: Seat,
+) -> Option<Shared<S>>
+    requires { seat.cell ≡ cell.id }
+    ensures whole { IfSome result (λ r. r.1.cell ≡ r.0.value.id) }
+    ensures same { IfSome result (λ r. r.0.value.id ≡ cell.id) }
+{
+    let cell = Box::new(alloc, cell).ok()?;
+    Some((cell, seat))
+}
 
 /// That Sentinel shared, with two seats in one.
 pub(crate) fn shared(alloc: Global, number: u64, new: bool) -> Option<Opened>
-    ensures { IfSome result (λ r. r.1.cell ≡ r.0.id) }
+    ensures { IfSome result (λ r. r.1.cell ≡ r.0.value.id) }
 {
     let (sentinel, file) = opened(alloc, number, new)?;
-    SharedSentinel::new(alloc, sentinel, file, 2).ok()
+    let (cell, seat) = SharedSentinel::new(alloc, sentinel, file, 2).ok()?;
+    boxed(alloc, cell, seat)
 }

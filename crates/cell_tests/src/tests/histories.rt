@@ -2,7 +2,7 @@
 
 ghost use Rattle.std.specs.Prelude.{◌≡◌, IfSome};
 
-use super::files::{FOUR_SENTINELS, RefusingFile, opened};
+use super::files::{FOUR_SENTINELS, RefusingFile, Shared, boxed, opened};
 use super::known_cell::{KnownCell, KnownSeat, Which};
 use super::mixed_calls::{STEPS, THREADS, call_of, clock_of};
 use super::plain_sentinel::PlainSentinel;
@@ -178,10 +178,10 @@ fn share_among_four<'a, J: Which + Send + Sync, R: Threads + Wait + Abort + Sync
     rt: &R,
     alloc: Global,
     turns: &'a Turns,
-    cell: SharedSentinel<CountedFile<'a>>,
+    cell: Box<SharedSentinel<CountedFile<'a>>>,
     seat: Seat,
 ) -> Ended
-    requires { (cell.id ≡ J.cell) × (seat.cell ≡ J.cell) }
+    requires { (cell.value.id ≡ J.cell) × (seat.cell ≡ J.cell) }
 {
     let (cell, seat) = KnownCell::<J, CountedFile<'a>>::with_seat(alloc, cell, seat);
     let Some(mut workers) = workers(alloc, &cell, seat) else {
@@ -199,12 +199,12 @@ fn share_among_four<'a, J: Which + Send + Sync, R: Threads + Wait + Abort + Sync
     let left = cell.join(alloc, one.seat, two.seat);
     let right = cell.join(alloc, three.seat, four.seat);
     let whole = cell.join(alloc, left, right);
-    let Ok(keeper) = cell.close(alloc, whole) else {
+    let Ok(store) = cell.close(alloc, whole) else {
         panic!(rt; "not closed")
     };
     Ended {
         answers: [one.answers, two.answers, three.answers, four.answers],
-        file: keeper.store.file,
+        file: store.file,
     }
 }
 
@@ -275,14 +275,13 @@ fn replay<R: Abort>(
 }
 
 /// The Sentinel of `opened`, shared with its turns counted, with four seats in one.
-fn shared_and_counted<'a>(
-    alloc: Global,
-    turns: &'a Turns,
-) -> Option<(SharedSentinel<CountedFile<'a>>, Seat)>
-    ensures { IfSome result (λ r. r.1.cell ≡ r.0.id) }
+fn shared_and_counted<'a>(alloc: Global, turns: &'a Turns) -> Option<Shared<CountedFile<'a>>>
+    ensures { IfSome result (λ r. r.1.cell ≡ r.0.value.id) }
 {
     let (sentinel, file) = opened(alloc, REFUSED, true)?;
-    SharedSentinel::new(alloc, sentinel, CountedFile::new(file, turns), 4).ok()
+    let counted = CountedFile::new(file, turns);
+    let (cell, seat) = SharedSentinel::new(alloc, sentinel, counted, 4).ok()?;
+    boxed(alloc, cell, seat)
 }
 
 #[test]

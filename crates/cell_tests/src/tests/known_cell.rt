@@ -4,10 +4,11 @@ ghost use Rattle.std.specs.Prelude.{◌≡◌, []};
 ghost use Rattle.sentinel_rules.specs.Facts.{IsWithinEvent};
 
 use super::calls::Call;
+use super::files::boxed;
 use super::wire::add_outputs;
 use ballot_law::{Card, Input, Output};
 use resp2::OutText;
-use sentinel_cell::{ActFault, CellFault, Keeper, Reply, Seat, SharedSentinel};
+use sentinel_cell::{ActFault, CellFault, Reply, Seat, SharedSentinel};
 use sentinel_conf::ConfStore;
 use sentinel_core::Outbox;
 use std::alloc::Global;
@@ -30,9 +31,9 @@ impl Which for Brand {
 /// A cell.
 #[derive(Drop)]
 pub(crate) struct KnownCell<J: Which, S: ConfStore> {
-    cell: SharedSentinel<S>,
+    cell: Box<SharedSentinel<S>>,
     of: PhantomData<J>,
-    ghost is: { cell.id ≡ J.cell },
+    ghost is: { cell.value.id ≡ J.cell },
 }
 
 /// A seat of that cell, with an outbox of its own.
@@ -72,10 +73,10 @@ impl<J: Which, S: ConfStore> KnownCell<J, S> {
     /// A cell with its first seat.
     pub(crate) fn with_seat(
         alloc: Global,
-        cell: SharedSentinel<S>,
+        cell: Box<SharedSentinel<S>>,
         seat: Seat,
     ) -> (KnownCell<J, S>, KnownSeat<J>)
-        requires { (cell.id ≡ J.cell) × (seat.cell ≡ J.cell) }
+        requires { (cell.value.id ≡ J.cell) × (seat.cell ≡ J.cell) }
     {
         let known = KnownCell {
             cell,
@@ -138,18 +139,23 @@ impl<J: Which, S: ConfStore> KnownCell<J, S> {
     pub(crate) fn join(&self, alloc: Global, one: KnownSeat<J>, two: KnownSeat<J>) -> KnownSeat<J> {
         with_outbox(alloc, self.cell.join(one.seat, two.seat))
     }
+}
 
-    /// Ends the sharing.
+impl<J: Which, S: ConfStore + Drop> KnownCell<J, S> {
+    /// Ends the sharing. Gives the store, or what came back; nothing where there is no memory to keep that.
     pub(crate) fn close(
         self,
         alloc: Global,
         seat: KnownSeat<J>,
-    ) -> Result<Keeper<S>, (KnownCell<J, S>, KnownSeat<J>, CellFault)> {
-        match self.cell.close(seat.seat) {
-            Ok(keeper) => Ok(keeper),
+    ) -> Result<S, Option<(KnownCell<J, S>, KnownSeat<J>, CellFault)>> {
+        match Box::into_inner(self.cell).close(seat.seat) {
+            Ok(keeper) => Ok(keeper.store),
             Err((cell, seat, fault)) => {
+                let Some((cell, seat)) = boxed(alloc, cell, seat) else {
+                    return Err(None);
+                };
                 let (known, seat) = KnownCell::with_seat(alloc, cell, seat);
-                Err((known, seat, fault))
+                Err(Some((known, seat, fault)))
             }
         }
     }

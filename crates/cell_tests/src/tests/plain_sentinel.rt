@@ -12,10 +12,11 @@ use std::alloc::Global;
 use std::marker::Model;
 use std::test::Fail;
 
-/// A Sentinel with its file, and the outputs of its last input. Its contracts tell tests nothing but that each call may be made.
+/// A Sentinel with its file, and the outputs of its last input. Its contracts tell tests nothing but that each call may be made. It stands
+/// in a box, so that a test that lets it go sees one call and not all that a Sentinel holds.
 #[derive(Drop)]
 pub(crate) struct PlainSentinel {
-    sentinel: Sentinel,
+    sentinel: Box<Sentinel>,
     outbox: Outbox,
     file: RefusingFile,
 }
@@ -29,11 +30,14 @@ impl Model for PlainSentinel {
 }
 
 /// A Sentinel with a file of this text, at clock 0. No contract tells what it is like.
-fn opened(alloc: Global, text: &[u8]) -> Result<Sentinel, NoMemory> {
+fn opened(alloc: Global, text: &[u8]) -> Result<Box<Sentinel>, NoMemory> {
     let Ok(conf) = read(alloc, text) else {
         return Err(NoMemory);
     };
-    match Sentinel::open(alloc, conf, 0) {
+    let Ok(sentinel) = Sentinel::open(alloc, conf, 0) else {
+        return Err(NoMemory);
+    };
+    match Box::new(alloc, sentinel) {
         Ok(sentinel) => Ok(sentinel),
         Err(_) => Err(NoMemory),
     }

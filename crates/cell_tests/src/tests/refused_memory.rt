@@ -17,10 +17,10 @@ use std::sync::Wait;
 fn is_answered_again<J: Which, R: Wait>(
     rt: &R,
     alloc: Global,
-    cell: SharedSentinel<RefusingFile>,
+    cell: Box<SharedSentinel<RefusingFile>>,
     seat: Seat,
 ) -> Option<bool>
-    requires { (cell.id ≡ J.cell) × (seat.cell ≡ J.cell) }
+    requires { (cell.value.id ≡ J.cell) × (seat.cell ≡ J.cell) }
 {
     let (cell, mut seat) = KnownCell::<J, RefusingFile>::with_seat(alloc, cell, seat);
     let request = Call::Vote {

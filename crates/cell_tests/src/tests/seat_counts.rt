@@ -3,7 +3,7 @@
 ghost use Rattle.std.specs.Prelude.{◌≡◌, IfSome};
 
 use super::calls::{A, Call, PlainCommand};
-use super::files::{FOUR_SENTINELS, Opened, RefusingFile, opened};
+use super::files::{FOUR_SENTINELS, Opened, RefusingFile, boxed, opened};
 use super::known_cell::{KnownCell, KnownSeat, Which};
 use super::plain_sentinel::text_after;
 use sentinel_cell::{CellFault, Keeper, SharedSentinel};
@@ -22,16 +22,15 @@ const VOTE: Call = Call::Vote {
 
 /// Asks for a cell with this many seats, and then for one with two of what the refusal hands back.
 fn made_of_what_comes_back(alloc: Global, seats: u64) -> Option<(CellFault, Opened)>
-    ensures { IfSome result (λ made. made.1.1.cell ≡ made.1.0.id) }
+    ensures { IfSome result (λ made. made.1.1.cell ≡ made.1.0.value.id) }
 {
     let (sentinel, file) = opened(alloc, 0, false)?;
     let Err((keeper, fault)) = SharedSentinel::new(alloc, sentinel, file, seats) else {
         return None;
     };
     let Keeper { sentinel, store } = keeper;
-    let Ok(opened) = SharedSentinel::new(alloc, sentinel, store, 2) else {
-        return None;
-    };
+    let (cell, seat) = SharedSentinel::new(alloc, sentinel, store, 2).ok()?;
+    let opened = boxed(alloc, cell, seat)?;
     Some((fault, opened))
 }
 
@@ -43,15 +42,15 @@ pub(crate) fn closed<J: Which, R: Abort>(
     seat: KnownSeat<J>,
 ) -> RefusingFile {
     assert_eq!(rt; seat.share(), 2);
-    let Ok(keeper) = cell.close(alloc, seat) else {
+    let Ok(store) = cell.close(alloc, seat) else {
         panic!(rt; "not closed")
     };
-    keeper.store
+    store
 }
 
 /// A seat with the whole share asks PING, and closes. Gives the store.
 fn ping_and_close<J: Which, R: Wait + Abort>(rt: &R, alloc: Global, opened: Opened) -> RefusingFile
-    requires { (opened.0.id ≡ J.cell) × (opened.1.cell ≡ J.cell) }
+    requires { (opened.0.value.id ≡ J.cell) × (opened.1.cell ≡ J.cell) }
 {
     let (cell, mut seat) = KnownCell::<J, RefusingFile>::with_seat(alloc, opened.0, opened.1);
     let Ok(text) = cell.say(rt, alloc, &mut seat, Call::Plain(PlainCommand::Ping)) else {
@@ -96,7 +95,7 @@ pub(crate) fn keep_open<J: Which, S: ConfStore + Drop, R: Abort>(
     cell: KnownCell<J, S>,
     seat: KnownSeat<J>,
 ) -> (KnownCell<J, S>, KnownSeat<J>) {
-    let Err((cell, seat, fault)) = cell.close(alloc, seat) else {
+    let Err(Some((cell, seat, fault))) = cell.close(alloc, seat) else {
         panic!(rt; "closed by half the share")
     };
     assert_eq!(rt; fault, CellFault::SeatsOut);
@@ -109,7 +108,7 @@ pub(crate) fn cut<J: Which, R: Abort>(
     alloc: Global,
     opened: Opened,
 ) -> (KnownCell<J, RefusingFile>, KnownSeat<J>, KnownSeat<J>)
-    requires { (opened.0.id ≡ J.cell) × (opened.1.cell ≡ J.cell) }
+    requires { (opened.0.value.id ≡ J.cell) × (opened.1.cell ≡ J.cell) }
 {
     let (cell, seat) = KnownCell::<J, RefusingFile>::with_seat(alloc, opened.0, opened.1);
     let Ok((one, two)) = cell.split(alloc, seat) else {
@@ -120,7 +119,7 @@ pub(crate) fn cut<J: Which, R: Abort>(
 
 /// Two seats of two: neither can be cut or close; each still acts. Joined they close. Gives the store.
 fn cut_and_join<J: Which, R: Wait + Abort>(rt: &R, alloc: Global, opened: Opened) -> RefusingFile
-    requires { (opened.0.id ≡ J.cell) × (opened.1.cell ≡ J.cell) }
+    requires { (opened.0.value.id ≡ J.cell) × (opened.1.cell ≡ J.cell) }
 {
     let (cell, one, two) = cut::<J, R>(rt, alloc, opened);
     let one = keep_whole(rt, alloc, &cell, one);

@@ -3,7 +3,7 @@
 ghost use Rattle.std.specs.Prelude.{◌≡◌, IfSome};
 
 use super::calls::{A, Call, here};
-use super::files::{RefusingFile, opened};
+use super::files::{RefusingFile, Shared, boxed, opened};
 use super::known_cell::{KnownCell, KnownSeat, Which};
 use ballot_law::{Addr, Card};
 use sentinel_cell::{Seat, SharedSentinel};
@@ -138,10 +138,10 @@ fn ask_while_held<'a, J: Which + Send + Sync, R: Threads + Wait + Clock + Abort 
     rt: &'a R,
     alloc: Global,
     flags: &'a Flags,
-    cell: SharedSentinel<HeldFile<'a, R>>,
+    cell: Box<SharedSentinel<HeldFile<'a, R>>>,
     seat: Seat,
 ) -> RefusingFile
-    requires { (cell.id ≡ J.cell) × (seat.cell ≡ J.cell) }
+    requires { (cell.value.id ≡ J.cell) × (seat.cell ≡ J.cell) }
 {
     let (cell, seat) = KnownCell::<J, HeldFile<'a, R>>::with_seat(alloc, cell, seat);
     let Ok((one, two)) = cell.split(alloc, seat) else {
@@ -157,10 +157,10 @@ fn ask_while_held<'a, J: Which + Send + Sync, R: Threads + Wait + Clock + Abort 
     assert_eq!(rt; two.answer, Some(here(6379)));
     assert!(rt; one.voted);
     let whole = cell.join(alloc, one.seat, two.seat);
-    let Ok(keeper) = cell.close(alloc, whole) else {
+    let Ok(store) = cell.close(alloc, whole) else {
         panic!(rt; "not closed")
     };
-    keeper.store.file
+    store.file
 }
 
 /// The Sentinel of `opened`, shared with its file held, with two seats in one.
@@ -168,12 +168,13 @@ fn shared_and_held<'a, R: Clock>(
     rt: &'a R,
     alloc: Global,
     flags: &'a Flags,
-) -> Option<(SharedSentinel<HeldFile<'a, R>>, Seat)>
-    ensures { IfSome result (λ r. r.1.cell ≡ r.0.id) }
+) -> Option<Shared<HeldFile<'a, R>>>
+    ensures { IfSome result (λ r. r.1.cell ≡ r.0.value.id) }
 {
     let (sentinel, file) = opened(alloc, 0, false)?;
     let held = HeldFile { file, rt, flags };
-    SharedSentinel::new(alloc, sentinel, held, 2).ok()
+    let (cell, seat) = SharedSentinel::new(alloc, sentinel, held, 2).ok()?;
+    boxed(alloc, cell, seat)
 }
 
 /// How often the store is held.

@@ -82,7 +82,7 @@ fn share_until_halted<J: Which, R: Wait + Abort>(
     alloc: Global,
     opened: Opened,
 ) -> RefusingFile
-    requires { (opened.0.id ≡ J.cell) × (opened.1.cell ≡ J.cell) }
+    requires { (opened.0.value.id ≡ J.cell) × (opened.1.cell ≡ J.cell) }
 {
     let (cell, mut one, mut two) = cut::<J, R>(rt, alloc, opened);
     vote_and_address(rt, alloc, &cell, &mut one, &mut two);
@@ -176,7 +176,7 @@ fn ask_in_two_threads<J: Which + Send + Sync, R: Threads + Wait + Abort + Sync>(
     alloc: Global,
     opened: Opened,
 ) -> RefusingFile
-    requires { (opened.0.id ≡ J.cell) × (opened.1.cell ≡ J.cell) }
+    requires { (opened.0.value.id ≡ J.cell) × (opened.1.cell ≡ J.cell) }
 {
     let (cell, one, two) = cut::<J, R>(rt, alloc, opened);
     let Ok(mut askers) = vec![in alloc; new_asker(one, 1), new_asker(two, 2)] else {

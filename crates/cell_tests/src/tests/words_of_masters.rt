@@ -24,20 +24,57 @@ fn word_at(roster: &Roster, place: usize, epoch: u32) -> Option<(Addr, u64)> {
     Some((addr, word_of(roster, 0, card)))
 }
 
+/// The places of addresses in the master's list, an epoch for each, and the word of that configuration with its address.
+const WORDS: [(usize, u32, Option<(u16, u64)>); 4] = [
+    (0, 0, Some((6379, 0))),
+    (1, 0, Some((6380, 1))),
+    (2, 1, Some((6381, 65_538))),
+    (3, 1, None),
+];
+
+/// The ports of the master's nodes and of none, with their places.
+const PLACES: [(u16, Option<u16>); 4] = [
+    (6379, Some(0)),
+    (6380, Some(1)),
+    (6381, Some(2)),
+    (6382, None),
+];
+
+/// Whether the configurations of the roster's master have these words.
+fn has_words(roster: &Roster) -> bool {
+    for (place, epoch, wanted) in WORDS {
+        let wanted = wanted.map(|(port, word)| (here(port), word));
+        if word_at(roster, place, epoch) != wanted {
+            return false;
+        }
+    }
+    true
+}
+
+/// Whether the addresses have these places in its list.
+fn has_places(roster: &Roster) -> bool {
+    for (port, wanted) in PLACES {
+        if roster.place_of(0, here(port)) != wanted {
+            return false;
+        }
+    }
+    true
+}
+
+/// The roster of the file, and a copy of it.
+fn rosters(alloc: Global) -> Option<[Roster; 2]> {
+    let roster = read(alloc, FOUR_SENTINELS).ok()?.into_roster();
+    let copy = roster.copy(alloc).ok()?;
+    Some([roster, copy])
+}
+
 #[test]
 fn a_configuration_in_a_word(rt: HostRuntime) -> Result<(), Fail> {
-    let conf = read(rt.alloc(), FOUR_SENTINELS)?;
-    let copy = conf.roster().copy(rt.alloc())?;
-    for roster in [conf.roster(), &copy] {
+    let rosters = rosters(rt.alloc()).ok_or("no memory")?;
+    for roster in &rosters {
         assert_eq!(rt; roster.masters().len(), 1);
-        assert_eq!(rt; word_at(roster, 0, 0), Some((here(6379), 0)));
-        assert_eq!(rt; word_at(roster, 1, 0), Some((here(6380), 1)));
-        assert_eq!(rt; word_at(roster, 2, 1), Some((here(6381), 65_538)));
-        assert_eq!(rt; word_at(roster, 3, 1), None);
-        for (place, port) in [(0, 6379), (1, 6380), (2, 6381)] {
-            assert_eq!(rt; roster.place_of(0, here(port)), Some(place));
-        }
-        assert_eq!(rt; roster.place_of(0, here(6382)), None);
+        assert!(rt; has_words(roster));
+        assert!(rt; has_places(roster));
     }
     Ok(())
 }
@@ -46,10 +83,10 @@ fn a_configuration_in_a_word(rt: HostRuntime) -> Result<(), Fail> {
 fn ask_addresses<J: Which, R: Abort>(
     rt: &R,
     alloc: Global,
-    cell: SharedSentinel<RefusingFile>,
+    cell: Box<SharedSentinel<RefusingFile>>,
     seat: Seat,
 )
-    requires { (cell.id ≡ J.cell) × (seat.cell ≡ J.cell) }
+    requires { (cell.value.id ≡ J.cell) × (seat.cell ≡ J.cell) }
 {
     let (cell, mut seat) = KnownCell::<J, RefusingFile>::with_seat(alloc, cell, seat);
     let first = Card {

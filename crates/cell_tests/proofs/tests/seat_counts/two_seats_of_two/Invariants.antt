@@ -2,4 +2,4 @@ use Rattle.cell_tests.proofs.tests.seat_counts.two_seats_of_two.Given as goal
 
 -- which cell it is
 abbrev pub ghosts-cut_and_join : goal.ghosts-cut_and_join
-ghosts-cut_and_join g a = record { cell = a.opened.0.id }
+ghosts-cut_and_join g a = record { cell = a.opened.0.value.id }

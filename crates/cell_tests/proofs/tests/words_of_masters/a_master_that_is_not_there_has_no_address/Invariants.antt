@@ -2,4 +2,4 @@ use Rattle.cell_tests.proofs.tests.words_of_masters.a_master_that_is_not_there_h
 
 -- which cell it is
 abbrev pub ghosts-ask_addresses : goal.ghosts-ask_addresses
-ghosts-ask_addresses g a = record { cell = a.cell.id }
+ghosts-ask_addresses g a = record { cell = a.cell.value.id }
