@@ -157,25 +157,29 @@ fn longest_line_fed_one_byte_at_a_time(rt: HostRuntime) -> Result<(), Fail> {
     Ok(())
 }
 
-#[test]
-fn faults_show_at_their_byte_behind_what_was_passed(rt: HostRuntime) -> Result<(), Fail> {
-    let alloc = rt.alloc();
-    let (asked, answer) = answer_by_bytes(alloc, b"*2\r\n:1\r\n!");
-    assert_eq!(rt; asked, 8);
-    assert_eq!(rt; answer, Err(FrameFault::BadKind));
-    let (asked, answer) = answer_by_bytes(alloc, b"*2\r\n$1\r\na\r\n$1\r\nbc");
-    assert_eq!(rt; asked, 16);
-    assert_eq!(rt; answer, Err(FrameFault::MissingEnd));
-    let (asked, answer) = answer_by_bytes(alloc, b"*1\r\n+ab\n");
-    assert_eq!(rt; asked, 7);
-    assert_eq!(rt; answer, Err(FrameFault::MissingEnd));
-    let (asked, answer) = answer_by_bytes(
-        alloc,
+/// Bytes, with the place of the byte at which their fault shows, and the fault.
+const FAULTS: [(&[u8], usize, FrameFault); 4] = [
+    (b"*2\r\n:1\r\n!", 8, FrameFault::BadKind),
+    (b"*2\r\n$1\r\na\r\n$1\r\nbc", 16, FrameFault::MissingEnd),
+    (b"*1\r\n+ab\n", 7, FrameFault::MissingEnd),
+    (
         b"*1\r\n*1\r\n*1\r\n*1\r\n*1\r\n*1\r\n*1\r\n*1\r\n:",
-    );
-    assert_eq!(rt; asked, 32);
-    assert_eq!(rt; answer, Err(FrameFault::TooDeep));
-    Ok(())
+        32,
+        FrameFault::TooDeep,
+    ),
+];
+
+/// How often a fresh reader that is fed these bytes one at a time asks for more before a fault, and the fault.
+fn fault_by_bytes(alloc: Global, bytes: &[u8]) -> (usize, Option<FrameFault>) {
+    let (asked, answer) = answer_by_bytes(alloc, bytes);
+    (asked, answer.err())
+}
+
+#[test]
+fn faults_show_at_their_byte_behind_what_was_passed(rt: HostRuntime) {
+    for (bytes, asked, fault) in FAULTS {
+        assert_eq!(rt; fault_by_bytes(rt.alloc(), bytes), (asked, Some(fault)));
+    }
 }
 
 #[test]
@@ -206,57 +210,78 @@ fn last_value_waits_for_its_last_byte(rt: HostRuntime) -> Result<(), Fail> {
     Ok(())
 }
 
+/// Bytes, with whether a value stands in them or is waited for, or their fault.
+type Judged = (&'static [u8], Result<bool, FrameFault>);
+
+/// The place of the first of these rows that a fresh reader judges otherwise.
+fn first_other(alloc: Global, rows: &[Judged]) -> Option<usize> {
+    for (place, (bytes, wanted)) in rows.iter().enumerate() {
+        let judged = match answer(alloc, bytes) {
+            Ok(value) => Ok(value.is_some()),
+            Err(fault) => Err(fault),
+        };
+        if judged != *wanted {
+            return Some(place);
+        }
+    }
+    None
+}
+
+/// Lengths of bulk strings and arrays.
+const LENGTHS: [Judged; 8] = [
+    (b"$-2\r\n", Err(FrameFault::BadLength)),
+    (b"*-2\r\n", Err(FrameFault::BadLength)),
+    (b"*00\r\n", Err(FrameFault::BadLength)),
+    (b"$65527\r\n", Err(FrameFault::TooLong)),
+    (b"$99999999999999999999999\r\n", Err(FrameFault::TooLong)),
+    (b"$65526\r\n", Ok(false)),
+    (b"*1025\r\n", Err(FrameFault::TooMany)),
+    (b"*1024\r\n", Ok(false)),
+];
+
 #[test]
-fn lengths_have_one_form_and_bounds(rt: HostRuntime) -> Result<(), Fail> {
-    let alloc = rt.alloc();
-    assert_eq!(rt; answer(alloc, b"$-2\r\n"), Err(FrameFault::BadLength));
-    assert_eq!(rt; answer(alloc, b"*-2\r\n"), Err(FrameFault::BadLength));
-    assert_eq!(rt; answer(alloc, b"*00\r\n"), Err(FrameFault::BadLength));
-    assert_eq!(rt; answer(alloc, b"$65527\r\n"), Err(FrameFault::TooLong));
-    assert_eq!(rt;
-        answer(alloc, b"$99999999999999999999999\r\n"),
-        Err(FrameFault::TooLong)
-    );
-    assert_eq!(rt; answer(alloc, b"$65526\r\n"), Ok(None));
-    assert_eq!(rt; answer(alloc, b"*1025\r\n"), Err(FrameFault::TooMany));
-    assert_eq!(rt; answer(alloc, b"*1024\r\n"), Ok(None));
-    Ok(())
+fn lengths_have_one_form_and_bounds(rt: HostRuntime) {
+    assert_eq!(rt; first_other(rt.alloc(), &LENGTHS), None);
+}
+
+/// Bytes, with the integer that they are, or their fault.
+const INTEGERS: [(&[u8], Result<i64, FrameFault>); 6] = [
+    (b":+05\r\n", Err(FrameFault::BadNumber)),
+    (b":-0\r\n", Err(FrameFault::BadNumber)),
+    (b":9223372036854775808\r\n", Err(FrameFault::BadNumber)),
+    (b":-9223372036854775809\r\n", Err(FrameFault::BadNumber)),
+    (b":9223372036854775807\r\n", Ok(i64::MAX)),
+    (b":-9223372036854775808\r\n", Ok(i64::MIN)),
+];
+
+/// The integer that these bytes are; None where they are another value, or none.
+fn integer_in(alloc: Global, bytes: &[u8]) -> Result<Option<i64>, FrameFault> {
+    match answer(alloc, bytes)? {
+        Some(Value::Int(number)) => Ok(Some(number)),
+        _ => Ok(None),
+    }
 }
 
 #[test]
-fn integers_have_one_form_and_64_bits(rt: HostRuntime) -> Result<(), Fail> {
-    let alloc = rt.alloc();
-    assert_eq!(rt; answer(alloc, b":+05\r\n"), Err(FrameFault::BadNumber));
-    assert_eq!(rt; answer(alloc, b":-0\r\n"), Err(FrameFault::BadNumber));
-    assert_eq!(rt;
-        answer(alloc, b":9223372036854775808\r\n"),
-        Err(FrameFault::BadNumber)
-    );
-    assert_eq!(rt;
-        answer(alloc, b":-9223372036854775809\r\n"),
-        Err(FrameFault::BadNumber)
-    );
-    assert_eq!(rt;
-        answer(alloc, b":9223372036854775807\r\n"),
-        Ok(Some(Value::Int(9_223_372_036_854_775_807)))
-    );
-    assert_eq!(rt;
-        answer(alloc, b":-9223372036854775808\r\n"),
-        Ok(Some(Value::Int(-9_223_372_036_854_775_808)))
-    );
-    Ok(())
+fn integers_have_one_form_and_64_bits(rt: HostRuntime) {
+    for (bytes, wanted) in INTEGERS {
+        assert_eq!(rt; integer_in(rt.alloc(), bytes), wanted.map(Some));
+    }
 }
 
+/// Ends of values, and first bytes of them.
+const ENDS_AND_KINDS: [Judged; 6] = [
+    (b"$1\r\nab\r\n", Err(FrameFault::MissingEnd)),
+    (b"$5\nab", Err(FrameFault::MissingEnd)),
+    (b"+a\rb", Err(FrameFault::MissingEnd)),
+    (b"+a\r", Ok(false)),
+    (b"!", Err(FrameFault::BadKind)),
+    (b"", Ok(false)),
+];
+
 #[test]
-fn ends_and_kinds_are_judged(rt: HostRuntime) -> Result<(), Fail> {
-    let alloc = rt.alloc();
-    assert_eq!(rt; answer(alloc, b"$1\r\nab\r\n"), Err(FrameFault::MissingEnd));
-    assert_eq!(rt; answer(alloc, b"$5\nab"), Err(FrameFault::MissingEnd));
-    assert_eq!(rt; answer(alloc, b"+a\rb"), Err(FrameFault::MissingEnd));
-    assert_eq!(rt; answer(alloc, b"+a\r"), Ok(None));
-    assert_eq!(rt; answer(alloc, b"!"), Err(FrameFault::BadKind));
-    assert_eq!(rt; answer(alloc, b""), Ok(None));
-    Ok(())
+fn ends_and_kinds_are_judged(rt: HostRuntime) {
+    assert_eq!(rt; first_other(rt.alloc(), &ENDS_AND_KINDS), None);
 }
 
 #[test]
@@ -306,13 +331,17 @@ fn array_of_1024_empty_bulk_strings(rt: HostRuntime) -> Result<(), Fail> {
 
 #[test]
 fn values_before_a_fault_are_given_and_the_fault_stays(rt: HostRuntime) -> Result<(), Fail> {
-    let alloc = rt.alloc();
-    let mut frames = Frames::new(alloc);
+    let mut frames = Frames::new(rt.alloc());
     frames.feed(b"$-1\r\n*-1\r\n!+OK\r\n")?;
-    assert_eq!(rt; frames.next(), Ok(Some(Value::NullBulk)));
-    assert_eq!(rt; frames.next(), Ok(Some(Value::NullItems)));
-    assert_eq!(rt; frames.next(), Err(FrameFault::BadKind));
-    assert_eq!(rt; frames.next(), Err(FrameFault::BadKind));
+    let answers = [
+        Ok(Some(Value::NullBulk)),
+        Ok(Some(Value::NullItems)),
+        Err(FrameFault::BadKind),
+        Err(FrameFault::BadKind),
+    ];
+    for wanted in &answers {
+        assert!(rt; frames.next() == *wanted);
+    }
     Ok(())
 }
 
