@@ -69,7 +69,7 @@ fn print(rt: &HostRuntime, desk: &mut Desk<'_>, group: &Group, silent: bool) -> 
 }
 
 /// Opens the Sentinel of this file at clock 0, with room for its outputs, and lends it to its ticks; nothing is printed where memory is
-/// refused. No other function owns a Sentinel.
+/// refused. No other function owns a Sentinel, which stands in a box: letting a box go is one call, and not all that a Sentinel holds.
 fn open(rt: &HostRuntime, conf: Conf, text: &[u8], group: &Group, silent: bool) -> io::Result<()> {
     let mut outbox = Outbox::new(rt.alloc());
     if outbox.reserve(&Room::of_sentinel()).is_err() {
@@ -78,10 +78,13 @@ fn open(rt: &HostRuntime, conf: Conf, text: &[u8], group: &Group, silent: bool) 
     let Ok(mut store) = MemoryStore::holding(rt.alloc(), text) else {
         return Ok(());
     };
-    let Ok(mut sentinel) = Sentinel::open(rt.alloc(), conf, 0) else {
+    let Ok(sentinel) = Sentinel::open(rt.alloc(), conf, 0) else {
         return Ok(());
     };
-    let mut desk = Desk::of(&mut sentinel, &mut store, &mut outbox);
+    let Some(mut sentinel) = Box::new(rt.alloc(), sentinel).ok() else {
+        return Ok(());
+    };
+    let mut desk = Desk::of(&mut *sentinel, &mut store, &mut outbox);
     print(rt, &mut desk, group, silent)
 }
 

@@ -114,10 +114,8 @@ const HERE: u32 = 2_130_706_433;
 
 /// What this text says. It stands in a box, so that a test that lets it go sees one call and not all that a conf holds.
 fn conf_of(alloc: Global, text: &[u8]) -> Result<Box<Conf>, Fail> {
-    match Box::new(alloc, read(alloc, text)?) {
-        Ok(conf) => Ok(conf),
-        Err(_) => Err(Fail::new("no memory")),
-    }
+    let conf = read(alloc, text)?;
+    Ok(Box::new(alloc, conf).ok().ok_or("no memory")?)
 }
 
 /// The fault of this text.

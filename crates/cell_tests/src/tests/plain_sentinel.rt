@@ -37,10 +37,7 @@ fn opened(alloc: Global, text: &[u8]) -> Result<Box<Sentinel>, NoMemory> {
     let Ok(sentinel) = Sentinel::open(alloc, conf, 0) else {
         return Err(NoMemory);
     };
-    match Box::new(alloc, sentinel) {
-        Ok(sentinel) => Ok(sentinel),
-        Err(_) => Err(NoMemory),
-    }
+    Box::new(alloc, sentinel).ok().ok_or(NoMemory)
 }
 
 impl PlainSentinel {

@@ -267,7 +267,7 @@ pub(crate) fn serve<R: Read, W: Write, S: ConfStore>(
     let Ok(sentinel) = Sentinel::open(alloc, conf, 0) else {
         return Err(ServeFault::NoMemory);
     };
-    let Ok(mut sentinel) = Box::new(alloc, sentinel) else {
+    let Some(mut sentinel) = Box::new(alloc, sentinel).ok() else {
         return Err(ServeFault::NoMemory);
     };
     sentinel.serve(now, reader, writer, store)

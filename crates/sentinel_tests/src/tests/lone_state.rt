@@ -68,8 +68,9 @@ impl LoneState {
     /// Opens it with this file, at this reading of its clock.
     pub(crate) fn open(alloc: Global, file: &str, now: u64) -> Result<LoneState, Fail> {
         let frames = FrameList::with_room(alloc)?;
-        let plan = Plan::new(read(alloc, file.as_bytes())?);
+        let plan = boxed(alloc, Plan::new(read(alloc, file.as_bytes())?))?;
         let core = Core::open(alloc, &plan, now)?;
+        let plan = Box::into_inner(plan);
         let state = boxed(alloc, State { plan, core, frames })?;
         Ok(LoneState { state })
     }

@@ -9,7 +9,7 @@ use super::lone_sentinel::{A, FOUR_SENTINELS, card, here};
 use ballot_law::{Body, Message, NoMemory, NodeName};
 use resp2::OutText;
 use sentinel_conf::{Conf, ConfFault, read};
-use sentinel_core::{OpenFault, Outbox, Room, Sentinel, Served, message_text};
+use sentinel_core::{Outbox, Room, Sentinel, Served, message_text};
 use std::alloc::{AllocError, Global};
 use std::io::Cursor;
 use std::test::Fail;
@@ -22,13 +22,19 @@ fn conf(alloc: Global) -> Result<Conf, ConfFault> {
     }
 }
 
+/// A Sentinel of four, in a box; None where memory was refused.
+fn opened(alloc: Global) -> Option<Box<Sentinel>> {
+    let sentinel = Sentinel::open(alloc, conf(alloc).ok()?, 0).ok()?;
+    Box::new(alloc, sentinel).ok()
+}
+
 #[test]
 fn refused_memory_lets_a_sentinel_be_opened_again(rt: HostRuntime) -> Result<(), Fail> {
-    let alloc = rt.alloc();
-    let sentinel = match Sentinel::open(alloc, conf(alloc)?, 0) {
-        Err(OpenFault::NoMemory) => Sentinel::open(alloc, conf(alloc)?, 0)?,
-        Ok(sentinel) => sentinel,
+    let sentinel = match opened(rt.alloc()) {
+        None => opened(rt.alloc()),
+        opened => opened,
     };
+    let sentinel = sentinel.ok_or("no memory")?;
     assert!(rt; sentinel.address_now(0) == Some(card(0, 6379)));
     assert!(rt; !sentinel.is_stopped());
     Ok(())
