@@ -2,10 +2,10 @@
 
 use thiserror::Error;
 
-/// Why no Sentinel was opened.
+/// Why no Sentinel was opened, or a stopped node wasn't started.
 #[derive(Clone, Copy, Debug, PartialEq, Eq, Error)]
 pub enum OpenFault {
-    /// A growth was refused; the conf is dropped.
+    /// A growth was refused; the conf that was handed over is dropped, and a stopped node stays stopped.
     #[error("NoMemory")]
     NoMemory,
 }
@@ -16,13 +16,13 @@ pub enum TakeFault {
     /// The input before isn't released yet.
     #[error("Busy")]
     Busy,
-    /// A store was refused: the Sentinel takes nothing more.
+    /// A store was refused: the node takes nothing more. Only a Sentinel stores.
     #[error("Halted")]
     Halted,
-    /// The Sentinel was stopped.
+    /// The node is stopped.
     #[error("Stopped")]
     Stopped,
-    /// The outbox doesn't fit `Sentinel::room`: room is wanting, or outputs are held in it.
+    /// The outbox doesn't fit the node's `room`: room is wanting, or outputs are held in it.
     #[error("NoRoom")]
     NoRoom,
 }

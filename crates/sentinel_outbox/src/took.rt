@@ -1,4 +1,4 @@
-//! What an input did.
+//! What a take tells of itself.
 
 /// What an input did.
 #[derive(Clone, Copy, Debug, PartialEq, Eq)]
