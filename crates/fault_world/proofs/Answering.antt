@@ -1,5 +1,5 @@
 -- An answer shows the configuration that a Sentinel stored last.
-use Rattle.std.proofs.Common.{inl, inr, ◌≡◌, ◌≢◌, ◌⊎◌, ℕ, zero, suc, ◌<◌, ◌-◌, Bool, true, false, cond, nat_lt, Option, Some, None, List, [], ◌∷◌, ◌++◌, length, slice_get, get_or, set, map, refl, sym, ◌∙◌, ap, subst, arith, append-nil}
+use Rattle.std.proofs.Common.{inr, ◌≡◌, ◌≢◌, ℕ, zero, suc, ◌<◌, ◌-◌, Bool, true, false, cond, nat_lt, Option, Some, None, List, [], ◌∷◌, ◌++◌, length, slice_get, get_or, set, map, refl, sym, ◌∙◌, ap, subst, arith}
 use Rattle.std.specs.Prelude.{IfSome}
 use Rattle.std.proofs.lemmas.Bool.Decides.{nat_tests}
 use Rattle.std.proofs.lemmas.Option.{none-some, same_Some}
@@ -7,18 +7,17 @@ use Rattle.ballot_law.specs.declared.cards.Card.{Card}
 use Rattle.ballot_law.specs.declared.messages.Message.{Message}
 use Rattle.ballot_law.specs.declared.messages.NodeName.{NodeName}
 use Rattle.ballot_law.specs.declared.messages.NodeName.TheVariants.{SentinelAt, StoreAt, ClientAt, PortAt}
-use Rattle.ballot_law.specs.declared.records.Advertisement.{Advertisement}
 use Rattle.ballot_law.specs.declared.steps.Step.TheVariants as step
 use Rattle.ballot_law.specs.Rosters.{Roster, size}
 use Rattle.ballot_law.specs.Ballots.{card_of}
 use Rattle.ballot_law.specs.Worlds.{World, Sentinel, State, Ready, Pending, Stored, Halted, Stopped, sentinel_at, stores_of, card_after, Steps, Answers}
-use Rattle.boxed_nodes.specs.Images.{Image, OfSentinel, OfOther, HasStored, image_at, is_stopped, last_stored, card_shown}
+use Rattle.boxed_nodes.specs.Images.{Image, OfSentinel, HasStored, image_at, is_stopped, last_stored, card_shown}
 use Rattle.boxed_nodes.specs.Moves.{Shows, ShowsCard}
 use Rattle.world_members.specs.Standing.{IsShown}
 use Rattle.world_reports.specs.declared.entry.Entry.{Entry}
 use Rattle.world_reports.specs.Told.{entry_of_said}
 use Rattle.fault_world.specs.News.{news_of}
-use Rattle.fault_world.specs.Runs.{RunsTo, RunsOn, Tells}
+use Rattle.fault_world.specs.Runs.{RunsTo, Tells}
 use Rattle.fault_world.proofs.Lists.{slice_get_at, held_at, none_at_all}
 use Rattle.fault_world.proofs.NodeKinds.{kind_at}
 use Rattle.fault_world.proofs.Running.{still, moved_silently}

@@ -1,6 +1,6 @@
 -- In the words of the calls: the member x at place k has the step's name, and becomes m2.
-use Rattle.std.proofs.Common.{append_assoc, inl, inr, ◌≡◌, ◌≢◌, ◌⊎◌, ℕ, suc, ◌<◌, ◌≤◌, ◌+◌, Bool, true, false, Option, Some, None, List, [], ◌∷◌, ◌++◌, length, slice_get, get_or, take, set, map, refl, sym, ◌∙◌, ap, subst, append-nil, arith, Result, Ok, Err, OnOk, OnErr, IfOk, IfErr}
-use Rattle.std.specs.Prelude.{IfSome, IfNone, IsSome, All}
+use Rattle.std.proofs.Common.{append_assoc, inl, inr, ◌≡◌, ◌≢◌, ℕ, suc, ◌<◌, ◌≤◌, ◌+◌, Bool, Option, Some, None, List, [], ◌∷◌, ◌++◌, length, slice_get, get_or, take, set, map, refl, sym, ◌∙◌, ap, subst, append-nil, arith, Result, Ok, Err, OnOk, OnErr}
+use Rattle.std.specs.Prelude.{IfSome}
 use Rattle.std.specs.List.{AllByRecursion}
 use Rattle.std.proofs.Math.Seq.{take-suc}
 use Rattle.std.proofs.lemmas.List.{take_all}
@@ -27,7 +27,7 @@ use Rattle.world_members.specs.Seats.{IsSeat, SeatTakes, SeatStores, SeatRelease
 use Rattle.world_reports.specs.declared.entry.Entry.{Entry}
 use Rattle.world_reports.specs.Told.{entry_of_election, entry_of_said}
 use Rattle.fault_world.specs.News.{news_of, elected_told, said_told, IsInGroup}
-use Rattle.fault_world.specs.Runs.{mover_of, Stepped, Ran, RunsTo, RunsOn, Keeps, Leads, Tells, stored_by}
+use Rattle.fault_world.specs.Runs.{Ran, RunsTo, RunsOn, Keeps, Leads, Tells, stored_by}
 use Rattle.fault_world.proofs.Lists.{slice_get_at, held_at, none_at_all, all_get}
 use Rattle.fault_world.proofs.NodeKinds.{pending_or_not, stored_or_not}
 use Rattle.fault_world.proofs.Running.{still, shown_still, take_runs, deliver_runs, stop_runs, start_runs, store_runs, refused_runs, release_runs}

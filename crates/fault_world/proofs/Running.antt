@@ -1,5 +1,5 @@
 -- A call on one member of a group is a step of the model's world.
-use Rattle.std.proofs.Common.{inl, inr, ◌≡◌, ◌≢◌, ◌⊎◌, ℕ, ◌<◌, ◌+◌, ◌≤◌, Bool, true, false, Option, Some, None, List, [], ◌∷◌, ◌++◌, length, slice_get, get_or, take, set, refl, sym, ◌∙◌, ap, subst, append-nil, is_ok, cond}
+use Rattle.std.proofs.Common.{inl, inr, ◌≡◌, ◌≢◌, ℕ, Bool, true, false, Option, Some, List, [], ◌∷◌, ◌++◌, slice_get, set, refl, sym, ◌∙◌, ap, subst, append-nil, is_ok, cond}
 use Rattle.std.specs.List.{AllByRecursion}
 use Rattle.ballot_law.specs.declared.events.Event.{Event}
 use Rattle.ballot_law.specs.declared.events.Input.{Input}
@@ -10,26 +10,24 @@ use Rattle.ballot_law.specs.declared.messages.Output.{Output}
 use Rattle.ballot_law.specs.declared.messages.Output.TheVariants.{Send, Tell}
 use Rattle.ballot_law.specs.declared.records.Election.{Election}
 use Rattle.ballot_law.specs.declared.records.Advertisement.{Advertisement}
-use Rattle.ballot_law.specs.declared.records.Win.{Win}
 use Rattle.ballot_law.specs.declared.steps.KeptText.{KeptText}
 use Rattle.ballot_law.specs.declared.steps.KeptText.TheVariants.{Old, New}
 use Rattle.ballot_law.specs.declared.steps.Step.{Step}
 use Rattle.ballot_law.specs.declared.steps.Step.TheVariants as step
 use Rattle.ballot_law.specs.Rosters.{Roster}
 use Rattle.ballot_law.specs.Messages.{sent, Delivers, IsFor}
-use Rattle.ballot_law.specs.Worlds.{World, State, Ready, Pending, Stored, Stopped, IsAt, IsNode, IsFree, Steps, AnswersNow}
-use Rattle.boxed_nodes.specs.declared.calls.HowStored.{HowStored}
+use Rattle.ballot_law.specs.Worlds.{World, Ready, IsNode, IsFree, Steps}
 use Rattle.boxed_nodes.specs.declared.calls.HowStored.TheVariants as how
 use Rattle.boxed_nodes.specs.Images.{Image, OfSentinel, OfOther, IsOfKind, image_at, state_of, held_of, how_left, after_store, store_answer, stored_image, refused_image, released_image, stopped_image, started_image, wins_of, has_text, refusal}
-use Rattle.boxed_nodes.specs.Moves.{Stops, Stays, wins_told}
+use Rattle.boxed_nodes.specs.Moves.{Stops, wins_told}
 use Rattle.boxed_nodes.specs.Sendable.{IsSendable, IsSendableOutput}
 use Rattle.world_members.specs.Standing.{IsShown}
 use Rattle.world_members.specs.Seats.{SeatTakes, SeatStores, SeatReleases, SeatStarts, wins_stored}
 use Rattle.world_reports.specs.declared.entry.Entry.{Entry}
 use Rattle.fault_world.specs.News.{news_of, elected_told, said_told}
-use Rattle.fault_world.specs.Runs.{mover_of, Stepped, RunsTo, RunsOn}
+use Rattle.fault_world.specs.Runs.{mover_of, Stepped, RunsTo}
 use Rattle.fault_world.proofs.NodeKinds.{kind_at, kind_stored, kind_refused, kind_stopped, kind_started, kind_released, kind_taken, ready_or_not, pending_or_not, stored_or_not, stopped_or_not}
-use Rattle.fault_world.proofs.Seen.{with_image, elected_of, said_of, Changed, unchanged, image_there}
+use Rattle.fault_world.proofs.Seen.{elected_of, said_of, unchanged, image_there}
 use Rattle.fault_world.proofs.Standing.{shown_after}
 use Rattle.fault_world.proofs.Stepping.{Applied, take_steps, store_steps, refused_steps, elected_unless, release_steps, stop_steps, start_steps, deliver_steps, no_take, no_store, no_refused, no_release, no_start, no_delivery}
 

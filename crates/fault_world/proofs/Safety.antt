@@ -1,5 +1,5 @@
 -- The laws of every run, for a run from a world that was reached.
-use Rattle.std.proofs.Common.{◌≡◌, List, [], ◌∷◌, ◌++◌, map, refl, Result, Ok, Err, IfOk}
+use Rattle.std.proofs.Common.{List, [], ◌∷◌, ◌++◌, map, refl, Result, Ok, Err, IfOk}
 use Rattle.ballot_law.specs.declared.steps.Step.{Step}
 use Rattle.ballot_law.specs.Rosters.{Roster, HasDistinctIds}
 use Rattle.ballot_law.specs.Worlds.{World, StepOf, JoinedBy, Run}

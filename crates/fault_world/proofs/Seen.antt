@@ -1,5 +1,5 @@
 -- A world with one node changed.
-use Rattle.std.proofs.Common.{inl, inr, ◌≡◌, ◌≢◌, ◌⊎◌, ℕ, zero, suc, ◌<◌, Option, Some, None, List, [], ◌∷◌, ◌++◌, length, slice_index_or, set, refl, sym, ◌∙◌, ap, subst, arith, append-nil, length-set, get_or-set_same, get_or-set_other}
+use Rattle.std.proofs.Common.{inl, inr, ◌≡◌, ◌≢◌, ℕ, zero, suc, ◌<◌, Option, Some, None, List, [], ◌∷◌, ◌++◌, length, slice_index_or, set, refl, sym, ◌∙◌, ap, subst, arith, append-nil, length-set, get_or-set_same, get_or-set_other}
 use Rattle.std.specs.Prelude.{IsSome, get_or, unwrap_or}
 use Rattle.std.proofs.lemmas.List.{set-get_or}
 use Rattle.ballot_law.specs.declared.messages.Message.{Message}
@@ -7,10 +7,9 @@ use Rattle.ballot_law.specs.declared.messages.NodeName.{NodeName}
 use Rattle.ballot_law.specs.declared.messages.NodeName.TheVariants.{SentinelAt, StoreAt, ClientAt, PortAt}
 use Rattle.ballot_law.specs.declared.records.Election.{Election}
 use Rattle.ballot_law.specs.declared.records.Advertisement.{Advertisement}
-use Rattle.ballot_law.specs.declared.records.Win.{Win}
 use Rattle.ballot_law.specs.Messages.{advertised_by}
 use Rattle.ballot_law.specs.Rosters.{Roster}
-use Rattle.ballot_law.specs.Worlds.{World, Sentinel, Other, no_sentinel, no_other, other_at, IsNode, with_sentinel, with_other, elected_by, said_by}
+use Rattle.ballot_law.specs.Worlds.{World, Other, no_sentinel, no_other, IsNode, with_sentinel, with_other, elected_by, said_by}
 use Rattle.boxed_nodes.specs.Images.{Image, OfSentinel, OfOther, IsOfKind, image_at}
 use Rattle.fault_world.proofs.Lists.{nat_cases}
 

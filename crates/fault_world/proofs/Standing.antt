@@ -1,5 +1,5 @@
 -- A group of which one member has changed still stands for a world.
-use Rattle.std.proofs.Common.{inl, inr, ◌≡◌, ◌≢◌, ◌⊎◌, ℕ, ◌<◌, Option, Some, List, ◌++◌, length, slice_get, set, sym, ◌∙◌, ap, subst, refl}
+use Rattle.std.proofs.Common.{inl, inr, ◌≡◌, ℕ, Some, List, ◌++◌, length, slice_get, set, sym, ◌∙◌, ap, subst, refl}
 use Rattle.std.specs.List.{AllByRecursion}
 use Rattle.std.proofs.lemmas.Option.{same_Some}
 use Rattle.ballot_law.specs.declared.messages.Message.{Message}

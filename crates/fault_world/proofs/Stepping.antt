@@ -1,6 +1,6 @@
 -- Each step of the model, by the node that it names.
-use Rattle.std.proofs.Common.{inl, inr, ◌≡◌, ◌≢◌, ◌⊎◌, ℕ, ◌<◌, ◌≤◌, Bool, true, false, Option, Some, None, List, [], ◌∷◌, ◌++◌, length, refl, sym, ◌∙◌, ap, subst, append-nil}
-use Rattle.std.specs.Prelude.{slice_get, IsSome}
+use Rattle.std.proofs.Common.{inl, inr, ◌≡◌, ◌≢◌, ℕ, ◌<◌, Bool, true, false, Some, None, List, [], ◌∷◌, ◌++◌, length, refl, sym, ap, subst, append-nil}
+use Rattle.std.specs.Prelude.{slice_get}
 use Rattle.ballot_law.specs.declared.events.Event.{Event}
 use Rattle.ballot_law.specs.declared.events.Input.{Input}
 use Rattle.ballot_law.specs.declared.messages.Message.{Message}
@@ -15,10 +15,10 @@ use Rattle.ballot_law.specs.declared.steps.Step.{Step}
 use Rattle.ballot_law.specs.declared.steps.Step.TheVariants as step
 use Rattle.ballot_law.specs.Rosters.{Roster}
 use Rattle.ballot_law.specs.Messages.{sent, Delivers, IsFor}
-use Rattle.ballot_law.specs.Worlds.{World, Sentinel, Other, State, Ready, Pending, Stored, Halted, Stopped, sentinel_at, other_at, IsAt, IsNode, IsFree, Choice, IsChoice, taken, stored_now, ended, ended_new, filed, Steps, Takes, IsDelivered, AnswersNow, with_sentinel, with_other, started, elected_by, said_by, after_answer, card_after, stores_of}
+use Rattle.ballot_law.specs.Worlds.{World, Sentinel, State, Ready, Pending, Stored, Halted, Stopped, sentinel_at, other_at, IsAt, IsNode, IsFree, IsChoice, taken, Steps, Takes, IsDelivered, with_sentinel, with_other, started, after_answer, card_after, stores_of}
 use Rattle.ballot_law.specs.Worlds.{after_store as world_after_store, after_refused, after_release, after_stop}
 use Rattle.boxed_nodes.specs.Images.{Image, OfSentinel, OfOther, image_at, state_of, held_of, TakenTo, stored_image, refused_image, refused_sentinel, has_text, released_image, stopped_image, stopped_sentinel, started_image}
-use Rattle.fault_world.proofs.Seen.{with_image, elected_of, said_of, Changed, unchanged}
+use Rattle.fault_world.proofs.Seen.{elected_of, said_of, Changed, unchanged}
 
 -- a step that applies is a step of the model, and changes one node
 pub record Applied (roster : Roster) (s : Step) (w : World) (name : NodeName) (image : Image) (messages : List Message) (elected : List Election) (said : List Advertisement) : Type 0 where

@@ -1,4 +1,4 @@
-use Rattle.std.proofs.Common.{rules, sym, ◌∙◌}
+use Rattle.std.proofs.Common.{rules}
 use Rattle.fault_world.proofs.Lists.{found_at, none_before}
 use Rattle.fault_world.proofs.fault_world.place_of.Goals as goal
 

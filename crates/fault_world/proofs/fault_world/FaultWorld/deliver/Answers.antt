@@ -1,4 +1,4 @@
-use Rattle.std.proofs.Common.{rules, sym, ◌∙◌}
+use Rattle.std.proofs.Common.{rules}
 use Rattle.fault_world.proofs.Found.{deliver_found, deliver_none, deliver_nothing, deliver_unfit, on_err_then, on_ok_then, seat_at, sendable_at, stays_shown}
 use Rattle.fault_world.proofs.Lists.{slice_get_past, there_at}
 use Rattle.fault_world.proofs.Takeable.{none_said, takeable_of}
