@@ -1,20 +1,19 @@
 -- The world of the model with which a group begins.
-use Rattle.std.proofs.Common.{inl, inr, ◌≡◌, ◌≢◌, ◌⊎◌, ℕ, zero, suc, ◌<◌, ◌≤◌, ◌+◌, Bool, true, false, Option, Some, None, List, [], ◌∷◌, map, length, slice_get, slice_index_or, refl, sym, ◌∙◌, ap, subst, arith, lt-ltb}
-use Rattle.std.specs.Prelude.{All, IsSome, unwrap_or, IfSome, nat_lt, if◌then◌else◌}
+use Rattle.std.proofs.Common.{inl, inr, ◌≡◌, ℕ, ◌<◌, ◌≤◌, Bool, true, false, Option, Some, None, List, [], map, length, slice_get, slice_index_or, refl, sym, ◌∙◌, ap, subst, arith, lt-ltb}
+use Rattle.std.specs.Prelude.{IsSome, unwrap_or, IfSome, nat_lt, if◌then◌else◌}
 use Rattle.std.specs.List.{range_with_len}
 use Rattle.std.proofs.lemmas.Bool.{cases_lt, false≢true}
-use Rattle.std.proofs.lemmas.List.{get_or_past, get_or_default}
+use Rattle.std.proofs.lemmas.List.{get_or_past}
 use Rattle.std.proofs.lemmas.List.FromFn.{length-map-range_with_len, get_or-map-range_with_len}
 use Rattle.std.proofs.lemmas.List.Elements.{All-from_get_or}
-use Rattle.std.proofs.lemmas.Option.{none-some, same_Some}
-use Rattle.ballot_law.specs.declared.cards.Card.{Card}
+use Rattle.std.proofs.lemmas.Option.{same_Some}
 use Rattle.ballot_law.specs.declared.cards.Kept.{Kept}
 use Rattle.ballot_law.specs.declared.messages.NodeName.{NodeName}
 use Rattle.ballot_law.specs.declared.messages.NodeName.TheVariants.{SentinelAt, StoreAt, ClientAt, PortAt}
 use Rattle.ballot_law.specs.Ballots.{card_of, no_kept}
-use Rattle.ballot_law.specs.Law.{IsStart, IsFresh, IsFreshOther, IsWellFormed}
+use Rattle.ballot_law.specs.Law.{IsStart, IsFreshOther, IsWellFormed}
 use Rattle.ballot_law.specs.Rosters.{Roster, size}
-use Rattle.ballot_law.specs.Worlds.{World, Sentinel, Other, Ready, Stopped, no_sentinel, no_other, sentinel_at, other_at, client_at, started, IsNode}
+use Rattle.ballot_law.specs.Worlds.{World, Sentinel, Other, no_sentinel, no_other, sentinel_at, other_at, client_at, IsNode}
 use Rattle.boxed_nodes.specs.Images.{Image, OfSentinel, OfOther, image_at, card_shown, IsFreshImage, IsOfKind}
 use Rattle.world_members.specs.Groups.{store_count, IsPlaced, HasNamed, AreApart, HasAllBelow, IsSentinelName}
 use Rattle.world_members.proofs.FiledVotes.{filed_votes, are_filed, all_filed}

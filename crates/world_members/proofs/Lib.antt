@@ -3,4 +3,5 @@ mod Loops
 mod Names
 mod FiledVotes
 mod Beginning
+mod Holding
 mod Standing

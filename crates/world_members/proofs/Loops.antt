@@ -1,5 +1,5 @@
 -- The turns and the ends of the loops that look at nodes.
-use Rattle.std.proofs.Common.{inl, inr, ◌≡◌, ◌≢◌, ◌⊎◌, ℕ, ◌<◌, ◌≤◌, ◌+◌, ◌*◌, Option, Some, List, [], ◌∷◌, ◌++◌, length, slice_get, get_or, map, take, refl, sym, ◌∙◌, ap, subst, arith}
+use Rattle.std.proofs.Common.{inl, inr, ◌≡◌, ◌≢◌, ℕ, ◌<◌, ◌≤◌, ◌+◌, Option, List, [], ◌∷◌, ◌++◌, length, slice_get, get_or, map, take, refl, sym, ◌∙◌, ap, subst, arith}
 use Rattle.std.specs.Prelude.{All}
 use Rattle.std.specs.List.{sum_by}
 use Rattle.std.proofs.lemmas.Bool.{cases_eq, cases_order}
@@ -9,7 +9,7 @@ use Rattle.std.proofs.lemmas.List.Sums.{sum_by_more}
 use Rattle.std.proofs.lemmas.Option.{same_Some, slice_get_within}
 use Rattle.ballot_law.specs.declared.cards.Card.{Card}
 use Rattle.ballot_law.specs.declared.messages.NodeName.{NodeName}
-use Rattle.ballot_law.specs.Rosters.{Roster, MasterPlan, no_master, master_at}
+use Rattle.ballot_law.specs.Rosters.{Roster, MasterPlan, no_master}
 use Rattle.ballot_law.specs.RosterFaults.{IsRoster}
 use Rattle.boxed_nodes.specs.Images.{Image, card_shown}
 use Rattle.boxed_nodes.specs.Moves.{Shows, ShowsKind, ShowsCard, IsFresh}

@@ -1,22 +1,19 @@
 -- The members that are made of a group's nodes stand for the world with which it begins.
-use Rattle.std.proofs.Common.{◌≡◌, ℕ, ◌<◌, Bool, false, Option, Some, None, List, [], map, slice_get, refl, sym, ◌∙◌, ap, subst}
+use Rattle.std.proofs.Common.{◌≡◌, ℕ, Bool, Option, Some, None, List, [], map, slice_get, refl, sym, ◌∙◌, ap, subst}
 use Rattle.std.specs.Prelude.{All, option_map}
-use Rattle.std.specs.List.{AllByRecursion}
 use Rattle.std.proofs.lemmas.Option.{none-some, same_Some, slice_get-map}
-use Rattle.std.proofs.lemmas.List.FromFn.{length-map-range_with_len}
 use Rattle.ballot_law.specs.declared.messages.NodeName.{NodeName}
-use Rattle.ballot_law.specs.declared.messages.NodeName.TheVariants.{SentinelAt, StoreAt, ClientAt, PortAt}
 use Rattle.ballot_law.specs.declared.messages.Output.{Output}
 use Rattle.ballot_law.specs.Rosters.{Roster, HasDistinctIds, HasDistinctNames}
 use Rattle.ballot_law.specs.Worlds.{World, Ready, IsNode}
 use Rattle.ballot_law.specs.Law.{IsStart}
 use Rattle.boxed_nodes.specs.Images.{Image, OfSentinel, OfOther, image_at, state_of, held_of, is_stopped, IsFreshImage}
 use Rattle.boxed_nodes.specs.Moves.{Shows, ShowsKind, IsFresh}
-use Rattle.boxed_nodes.specs.Sendable.{IsHeldBy, AreListed, IsSendableOutput}
 use Rattle.world_members.specs.Seats.{IsSeat}
 use Rattle.world_members.specs.Standing.{IsShown, Begins, Stands}
 use Rattle.world_members.specs.Groups.{IsGroupOf, BeginAlike, IsPlaced}
 use Rattle.world_members.specs.NewMembers.{IsNewMember}
+use Rattle.world_members.proofs.Holding.{empty_seat}
 use Rattle.world_members.proofs.Beginning.{Begun, beginning, named_here, seated, starts}
 use Rattle.world_members.proofs.Searching.{each_from_all}
 
@@ -25,31 +22,10 @@ fresh_ready : (roster : Roster) (image : Image) → IsFreshImage roster image �
 fresh_ready roster (OfSentinel s) f = (ap (λ x. x.state) f.0, ap (λ x. x.held) f.0)
 fresh_ready roster (OfOther o) f = (ap (λ x. x.state) f, ap (λ x. x.held) f)
 
-holds_nothing : (name : NodeName) → IsHeldBy name []
-holds_nothing (SentinelAt i) = tt
-holds_nothing (StoreAt k) = tt
-holds_nothing (ClientAt k) = tt
-holds_nothing (PortAt k) = tt
-
-lists_nothing : (roster : Roster) (name : NodeName) → AreListed roster name []
-lists_nothing roster (SentinelAt i) = tt
-lists_nothing roster (StoreAt k) = tt
-lists_nothing roster (ClientAt k) = tt
-lists_nothing roster (PortAt k) = tt
-
 seat_of : (name own : NodeName) (shows : Shows) (held : List Output) (stopped : Bool) (roster : Roster) (image : Image) → IsNewMember name own held stopped → IsFreshImage roster image → shows roster image → IsSeat name own shows held stopped roster image
 seat_of name own shows held stopped roster image new fresh shown =
     let ready = fresh_ready roster image fresh in
-    record {
-      goes_by = new.goes_by;
-      shows_it = shown;
-      held_is = ready.1 ∙ sym new.holds;
-      sendable = subst (AllByRecursion IsSendableOutput) (sym new.holds) tt;
-      held_by = subst (IsHeldBy name) (sym new.holds) (holds_nothing name);
-      listed = subst (AreListed roster name) (sym new.holds) (lists_nothing roster name);
-      told = new.runs ∙ sym (ap is_stopped ready.0);
-      quiet = λ _. new.holds;
-    }
+    empty_seat name own shows held stopped roster image new.goes_by shown ready.1 new.holds (new.runs ∙ sym (ap is_stopped ready.0))
 
 -- what each node of a group begins with
 pub begun_of : {N : Type 0} (name : N → NodeName) (knows : N → Roster → Type 0) (shows : N → Shows) (roster : Roster) (nodes : List N)

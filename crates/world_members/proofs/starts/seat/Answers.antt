@@ -1,4 +1,4 @@
-use Rattle.std.proofs.Common.{rules, sym, ap, ◌∙◌, arith}
+use Rattle.std.proofs.Common.{rules, sym, ap, ◌∙◌}
 use Rattle.std.specs.Vec.Iter.{drain_items}
 use Rattle.boxed_nodes.specs.Moves.{IsFresh}
 use Rattle.world_members.specs.NewMembers.{IsNewMember}
