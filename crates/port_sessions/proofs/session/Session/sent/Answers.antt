@@ -1,0 +1,18 @@
+use Rattle.std.proofs.Common.{◌≡◌, ℕ, List, Option, drop, ap, subst, ◌∙◌}
+use Rattle.port_serving.specs.declared.fault.ServeFault.{ServeFault}
+use Rattle.resp2_frames.specs.Stream.{bytes_in}
+use Rattle.port_sessions.specs.Talks.{Talk}
+use Rattle.port_sessions.proofs.session.Session.sent.Goals as goal
+
+abbrev talk_of : Option ServeFault → List (Option ℕ) → (held unsent : List ℕ) → Option ℕ → Talk
+talk_of ended told held unsent listens = record { held = held; unsent = unsent; ended = ended; listens = listens; told = told }
+
+pub returns : goal.returns
+returns c =
+    let inside = c.self.inside in
+    let new = c.sent.new.self in
+    let rest = drop c.args.n inside.exchange.unsent.items in
+    subst (λ (old : Talk). talk_of inside.fault inside.told (bytes_in new.frames) new.unsent.items new.responder.listens ≡ record old { unsent = drop c.args.n old.unsent }) c.self.view_is
+    (ap (λ frames. talk_of inside.fault inside.told (bytes_in frames) new.unsent.items new.responder.listens) c.sent.ensures.frames
+    ∙ ap (λ unsent. talk_of inside.fault inside.told (bytes_in inside.exchange.frames) unsent new.responder.listens) c.sent.ensures.unsent
+    ∙ ap (talk_of inside.fault inside.told (bytes_in inside.exchange.frames) rest) c.sent.ensures.listens)
