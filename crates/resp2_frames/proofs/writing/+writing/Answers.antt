@@ -1,9 +1,16 @@
-use Rattle.std.proofs.Common.{◌+◌, ◌∷◌, ◌++◌, List, ℕ, length, drop, take, ap, sym, refl, ◌∙◌, append_assoc, decimal, arith}
+use Rattle.std.proofs.Common.{◌≡◌, ◌+◌, ◌∷◌, ◌++◌, List, ℕ, length, drop, take, ap, sym, refl, ◌∙◌, append_assoc, decimal, arith}
 use Rattle.resp2_frames.specs.declared.value.Value.{Value}
-use Rattle.resp2_frames.specs.Frame.{view, frames_view, spelling, items, line_end}
+use Rattle.resp2_frames.specs.declared.value.Value.TheFolds.{fold-roll-Value}
+use Rattle.resp2_frames.specs.declared.value.Value.TheVariants as value
+use Rattle.resp2_frames.specs.Frame.{Frame, null_bulk, view, view_step, frames_view, spelling, items, line_end}
 use Rattle.resp2_frames.proofs.Adding.{adds_both, adds_part}
 use Rattle.resp2_frames.proofs.Written.{spelled, spelled_next, spelled_around, items_spelled}
 use Rattle.resp2_frames.proofs.writing.+writing.Goals as goal
+
+pub push_value-returns-in-NullBulk : goal.push_value-returns-in-NullBulk
+push_value-returns-in-NullBulk g t c =
+    let shape : view value.NullBulk ≡ null_bulk = ap view (sym value.rolls-NullBulk) ∙ fold-roll-Value Frame view_step _ in
+    rw (c.in-NullBulk.is, shape) c.push.ensures.added
 
 pub push_items-returns : goal.push_items-returns
 push_items-returns g t c =

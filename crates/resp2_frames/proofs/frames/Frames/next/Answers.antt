@@ -1,6 +1,9 @@
 use Rattle.resp2_frames.proofs.Answered.{answers_found, answers_only}
 use Rattle.resp2_frames.proofs.frames.Frames.next.Goals as goal
 
+pub returns-clause-exact : goal.returns-clause-exact
+returns-clause-exact c = c.take_first.ensures
+
 pub returns-clause-found : goal.returns-clause-found
 returns-clause-found c = answers_found _ _ _ c.take_first.ensures
 

@@ -1,4 +1,4 @@
-use Rattle.std.proofs.Common.{◌≡◌, ℕ, suc, List, [], ◌∷◌, length, ap, ◌∙◌, refl, arith, rules}
+use Rattle.std.proofs.Common.{◌≡◌, ℕ, List, [], ◌∷◌, length, ap, ◌∙◌, refl, arith, rules}
 use Rattle.resp2_frames.specs.Frame.{view}
 use Rattle.resp2_frames.specs.Reading.{frame_at}
 use Rattle.resp2_frames.specs.Stream.{reading}
