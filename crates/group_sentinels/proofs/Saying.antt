@@ -11,7 +11,6 @@ use Rattle.sentinel_conf.specs.Rewritten.{IsKeptPart}
 use Rattle.boxed_nodes.proofs.Sending.{outputs_sendable}
 use Rattle.port_serving.proofs.Writing.{outputs_writable}
 use Rattle.sentinel_cell.specs.declared.entry.Entry.{Entry}
-use Rattle.sentinel_cell.specs.declared.entry.Outcome.{Outcome}
 use Rattle.sentinel_cell.specs.declared.entry.Outcome.TheVariants.{Stored}
 use Rattle.sentinel_cell.specs.declared.view.View.{View}
 use Rattle.sentinel_cell.specs.Histories.{World, IsGood, IsOutcome, IsStep, IsLegal, after_outcome, replay, next_of}

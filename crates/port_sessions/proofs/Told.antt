@@ -1,8 +1,14 @@
 -- What a note that was told keeps back.
-use Rattle.std.proofs.Common.{◌≡◌, ℕ, Bool, true, false, ◌&&◌, Option, Some, None, slice_index_or, slice_set, refl, ap, ◌∙◌, get_or-set_same, get_or-set_other}
+use Rattle.std.proofs.Common.{◌≡◌, ℕ, Bool, true, false, ◌&&◌, List, Option, Some, None, slice_index_or, slice_set, refl, ap, ◌∙◌, get_or-set_same, get_or-set_other}
 use Rattle.std.proofs.lemmas.Bool.{le-ltb}
+use Rattle.port_serving.specs.declared.fault.ServeFault.{ServeFault}
 use Rattle.port_sessions.specs.Laws.{NotesRise}
 use Rattle.port_sessions.specs.Notes.{listened_before, is_newer}
+use Rattle.port_sessions.specs.Talks.{Talk}
+
+-- a session by its parts
+abbrev pub talk_of : Option ServeFault → List (Option ℕ) → (held unsent : List ℕ) → Option ℕ → Talk
+talk_of ended told held unsent listens = record { held = held; unsent = unsent; ended = ended; listens = listens; told = told }
 
 and_false : (b : Bool) → (b && false) ≡ false
 and_false true = refl

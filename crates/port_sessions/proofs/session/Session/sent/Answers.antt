@@ -1,11 +1,8 @@
-use Rattle.std.proofs.Common.{◌≡◌, ℕ, List, Option, drop, ap, subst, ◌∙◌}
-use Rattle.port_serving.specs.declared.fault.ServeFault.{ServeFault}
+use Rattle.std.proofs.Common.{◌≡◌, drop, ap, subst, ◌∙◌}
 use Rattle.resp2_frames.specs.Stream.{bytes_in}
+use Rattle.port_sessions.proofs.Told.{talk_of}
 use Rattle.port_sessions.specs.Talks.{Talk}
 use Rattle.port_sessions.proofs.session.Session.sent.Goals as goal
-
-abbrev talk_of : Option ServeFault → List (Option ℕ) → (held unsent : List ℕ) → Option ℕ → Talk
-talk_of ended told held unsent listens = record { held = held; unsent = unsent; ended = ended; listens = listens; told = told }
 
 pub returns : goal.returns
 returns c =
