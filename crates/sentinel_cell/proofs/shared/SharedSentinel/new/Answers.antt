@@ -1,4 +1,4 @@
-use Rattle.std.proofs.Common.{ap}
+use Rattle.std.proofs.Common.{ap, rules}
 use Rattle.sentinel_cell.proofs.Opening.{starts_cell, fits_first}
 use Rattle.sentinel_cell.proofs.shared.SharedSentinel.new.Goals as goal
 
@@ -8,3 +8,6 @@ vacant-made-requires g c = let f = c.in-Ok-first_words.ensures in
 
 pub fill-requires-clause-fits : goal.fill-requires-clause-fits
 fill-requires-clause-fits g c = fits_first g.S.ConfStore.held g.S.ConfStore.failure_count c.in-Ok-made.table.shared.key.keeper (record { sentinel = c.args.sentinel; store = c.args.store }) (ap (λ x. x.keeper) c.in-Ok-made.ensures.5) c.is_whole.ensures c.requires.ready c.requires.room
+
+pub returns-clause-seats : goal.returns-clause-seats
+returns-clause-seats g c = (search rules, search rules, search rules)
