@@ -132,10 +132,10 @@ pub struct Roster {
 }
 
 impl Model for Roster {
-    ghost use Rattle.ballot_law.specs.Rosters.{Roster as RosterPlan};
+    ghost use Rattle.ballot_law.specs.Rosters.{Roster as RosterModel};
     ghost use Rattle.ballot_law.specs.RosterFaults.{IsRoster};
 
-    ghost Value = { RosterPlan };
+    ghost Value = { RosterModel };
 
     ghost view = { λ roster. record { sentinels = roster.sentinels.items; masters = roster.masters.items } };
 

@@ -19,9 +19,9 @@ pub(crate) struct Group {
 }
 
 impl Model for Group {
-    ghost use Rattle.client_nodes.specs.Searches.{Group as GroupPlan};
+    ghost use Rattle.client_nodes.specs.Searches.{Group as GroupModel};
 
-    ghost Value = { GroupPlan };
+    ghost Value = { GroupModel };
 
     ghost view = { λ group. record { sentinels = group.sentinels.items; stores = group.stores.items; master = group.master } };
 }

@@ -18,9 +18,9 @@ pub(crate) struct Search {
 }
 
 impl Model for Search {
-    ghost use Rattle.client_nodes.specs.Searches.{Search as SearchPlan};
+    ghost use Rattle.client_nodes.specs.Searches.{Search as SearchModel};
 
-    ghost Value = { SearchPlan };
+    ghost Value = { SearchModel };
 
     ghost view = { λ search. record { query = search.quest; outstanding = search.outstanding } };
 }

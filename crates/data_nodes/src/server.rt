@@ -22,9 +22,9 @@ pub(crate) struct Server {
 }
 
 impl Model for Server {
-    ghost use Rattle.data_nodes.specs.Servers.{Server as ServerPlan, IsServer};
+    ghost use Rattle.data_nodes.specs.Servers.{Server as ServerModel, IsServer};
 
-    ghost Value = { ServerPlan };
+    ghost Value = { ServerModel };
 
     ghost view = { λ server. record {
       id = server.id;

@@ -6,8 +6,8 @@ use Rattle.ballot_law.specs.Clocks.{age}
 use Rattle.vote_book.specs.Elections.{can_open, next_epoch}
 use Rattle.failover_states.specs.declared.periods.TheConstants.{ELECTION_MS, SPREAD_MS}
 use Rattle.failover_states.specs.declared.states.Choice.{Choice}
-use Rattle.failover_states.specs.declared.states.State.{State}
-use Rattle.failover_states.specs.declared.states.State.TheVariants.{Idle, WaitStart, SelectReplica, SendPromotion, WaitPromotion, ReconfReplicas, UpdateConfig}
+use Rattle.failover_states.specs.declared.states.FailoverState.{FailoverState}
+use Rattle.failover_states.specs.declared.states.FailoverState.TheVariants.{Idle, WaitStart, SelectReplica, SendPromotion, WaitPromotion, ReconfReplicas, UpdateConfig}
 use Rattle.failover_states.specs.declared.states.Row.{Row}
 use Rattle.failover_states.specs.declared.states.Row.TheVariants.{StartFailover, Elected, ElectionTimeout, AwaitVotes, ReplicaChosen, NoReplica, ChoiceTimeout, AwaitChoice, Promote, PromotionTimeout, AwaitPromotion, ReconfTimeout, ReconfDone, Reconfigure, ConfigUpdated}
 use Rattle.failover_states.specs.declared.replicas.Replica.{Replica}
@@ -67,7 +67,7 @@ abbrev pub telling_next : Choice → (former : ℕ) → Failover → Known → F
 telling_next choice former f k =
     record f { replicas = told (is_next (can_be_told choice former k) (busy_count f.replicas) k.parallel_syncs f.replicas) k.now f.replicas }
 
-abbrev pub table : State → Failover → Known → List TableRow
+abbrev pub table : FailoverState → Failover → Known → List TableRow
 table Idle f k =
     row_if StartFailover (may_start f k) (started f k)
     ∷ []
@@ -110,7 +110,7 @@ first_that_fits f vote (row ∷ rows) =
     if row.fits then record { failover = row.leaves; row = Some row.row; vote = vote } else first_that_fits f vote rows
 
 -- while votes are awaited the own one is given first, and counts in the row that is taken
-abbrev pub vote_of : State → Known → Option RunId
+abbrev pub vote_of : FailoverState → Known → Option RunId
 vote_of (WaitStart epoch) k = vote_in epoch k
 vote_of _ k = None
 
@@ -119,11 +119,11 @@ abbrev pub quieted : Failover → Failover
 quieted f = record f { replicas = map unordered f.replicas }
 
 -- while replicas are reconfigured those that were sent to long ago are done first
-abbrev pub expiring : State → (now : ℕ) → Failover → Failover
+abbrev pub expiring : FailoverState → (now : ℕ) → Failover → Failover
 expiring (ReconfReplicas epoch choice former) now f = record f { replicas = map (expired now) f.replicas }
 expiring _ now f = f
 
-abbrev pub turn_in : State → Failover → Known → Turn
+abbrev pub turn_in : FailoverState → Failover → Known → Turn
 turn_in state f k = first_that_fits f (vote_of state k) (table state f k)
 
 abbrev pub turned : Failover → Known → Turn

@@ -10,7 +10,7 @@ ghost use Rattle.failover_states.specs.Table.{is_long_ago, is_over, expiring, tu
 
 use crate::periods::{ELECTION_MS, SPREAD_MS};
 use crate::replicas::{Masters, Progress, Replica, clear_orders, expire, forget};
-use crate::states::{Choice, Row, State};
+use crate::states::{Choice, FailoverState, Row};
 use crate::turns::{Act, Facts};
 use ballot_law::{Card, NoMemory, clock_of};
 use std::alloc::Global;
@@ -20,7 +20,7 @@ use std::marker::Model;
 /// each of the master's nodes.
 #[derive(Debug, Drop)]
 pub struct Failover {
-    state: State,
+    state: FailoverState,
     entered: u64,
     last_start: Option<u64>,
     replicas: Vec<Replica>,
@@ -58,7 +58,7 @@ impl Failover {
     /// No failover, and none started yet, of a master with `n` nodes.
     pub fn new(alloc: Global, n: u16) -> Result<Failover, NoMemory>
         ensures { IfOk result (λ f. f ≡ record {
-          state = State.Idle;
+          state = FailoverState.Idle;
           entered = 0;
           last_start = None;
           replicas = replicate n untouched;
@@ -70,7 +70,7 @@ impl Failover {
             ordered: false,
         };
         Ok(Failover {
-            state: State::Idle,
+            state: FailoverState::Idle,
             entered: 0,
             last_start: None,
             replicas: vec![in alloc; untouched; n as usize]?,
@@ -79,7 +79,7 @@ impl Failover {
     }
 
     /// How far the failover has come.
-    pub fn state(&self) -> State
+    pub fn state(&self) -> FailoverState
         ensures { result ≡ self.now.state }
     {
         self.state
@@ -90,13 +90,13 @@ impl Failover {
         ensures { result ≡ epoch_of self.now.state }
     {
         match self.state {
-            State::Idle => None,
-            State::WaitStart { epoch } => Some(epoch),
-            State::SelectReplica { epoch } => Some(epoch),
-            State::SendPromotion { epoch, .. } => Some(epoch),
-            State::WaitPromotion { epoch, .. } => Some(epoch),
-            State::ReconfReplicas { epoch, .. } => Some(epoch),
-            State::UpdateConfig { epoch, .. } => Some(epoch),
+            FailoverState::Idle => None,
+            FailoverState::WaitStart { epoch } => Some(epoch),
+            FailoverState::SelectReplica { epoch } => Some(epoch),
+            FailoverState::SendPromotion { epoch, .. } => Some(epoch),
+            FailoverState::WaitPromotion { epoch, .. } => Some(epoch),
+            FailoverState::ReconfReplicas { epoch, .. } => Some(epoch),
+            FailoverState::UpdateConfig { epoch, .. } => Some(epoch),
         }
     }
 
@@ -105,11 +105,13 @@ impl Failover {
         ensures { result ≡ choice_of self.now.state }
     {
         match self.state {
-            State::Idle | State::WaitStart { .. } | State::SelectReplica { .. } => None,
-            State::SendPromotion { choice, .. } => Some(choice.place),
-            State::WaitPromotion { choice, .. } => Some(choice.place),
-            State::ReconfReplicas { choice, .. } => Some(choice.place),
-            State::UpdateConfig { choice, .. } => Some(choice.place),
+            FailoverState::Idle
+            | FailoverState::WaitStart { .. }
+            | FailoverState::SelectReplica { .. } => None,
+            FailoverState::SendPromotion { choice, .. } => Some(choice.place),
+            FailoverState::WaitPromotion { choice, .. } => Some(choice.place),
+            FailoverState::ReconfReplicas { choice, .. } => Some(choice.place),
+            FailoverState::UpdateConfig { choice, .. } => Some(choice.place),
         }
     }
 
@@ -152,7 +154,7 @@ impl Failover {
         ensures after { self.new ≡ promoted self.old.state self.old }
     {
         match self.state {
-            State::WaitPromotion {
+            FailoverState::WaitPromotion {
                 epoch,
                 choice,
                 former,
@@ -160,7 +162,7 @@ impl Failover {
                 forget(&mut self.replicas);
                 let moment = self.moment;
                 self.enter(
-                    State::ReconfReplicas {
+                    FailoverState::ReconfReplicas {
                         epoch,
                         choice,
                         former,
@@ -182,7 +184,7 @@ impl Failover {
     pub fn reconf(&mut self, place: u16, _now: u64)
         ensures { self.new ≡ reconfigured self.old.state self.old place }
     {
-        if let State::ReconfReplicas { .. } = self.state {
+        if let FailoverState::ReconfReplicas { .. } = self.state {
             let place = place as usize;
             if place < self.replicas.len() {
                 self.replicas[place] = self.replicas[place].follows();
@@ -194,7 +196,7 @@ impl Failover {
     pub fn end(&mut self)
         ensures { self.new ≡ ended self.old }
     {
-        self.state = State::Idle;
+        self.state = FailoverState::Idle;
         forget(&mut self.replicas);
     }
 
@@ -207,24 +209,26 @@ impl Failover {
     {
         clear_orders(&mut self.replicas);
         match self.state {
-            State::Idle => self.idle(facts),
-            State::WaitStart { epoch } => self.wait_start(epoch, facts),
-            State::SelectReplica { epoch } => self.select_replica(epoch, facts),
-            State::SendPromotion { epoch, choice } => self.send_promotion(epoch, choice, facts),
-            State::WaitPromotion { .. } => self.wait_promotion(facts),
-            State::ReconfReplicas {
+            FailoverState::Idle => self.idle(facts),
+            FailoverState::WaitStart { epoch } => self.wait_start(epoch, facts),
+            FailoverState::SelectReplica { epoch } => self.select_replica(epoch, facts),
+            FailoverState::SendPromotion { epoch, choice } => self.send_promotion(
+                epoch, choice, facts,
+            ),
+            FailoverState::WaitPromotion { .. } => self.wait_promotion(facts),
+            FailoverState::ReconfReplicas {
                 epoch,
                 choice,
                 former,
             } => self.reconf_replicas(epoch, Masters { choice, former }, facts),
-            State::UpdateConfig { .. } => self.update_config(),
+            FailoverState::UpdateConfig { .. } => self.update_config(),
         }
     }
 }
 
 /// The rows of each state.
 impl Failover {
-    fn enter(&mut self, state: State, now: u64)
+    fn enter(&mut self, state: FailoverState, now: u64)
         ensures { self.new ≡ entering state now self.old }
     {
         self.state = state;
@@ -240,7 +244,7 @@ impl Failover {
 
     fn idle(&mut self, facts: &Facts) -> Act
         ensures { record { failover = self.new; row = result.row; vote = result.vote }
-            ≡ turn_in State.Idle self.old (known facts.entry.now) }
+            ≡ turn_in FailoverState.Idle self.old (known facts.entry.now) }
     {
         let now = clock_of(facts.now);
         if facts.odown
@@ -248,7 +252,7 @@ impl Failover {
             && let Some(epoch) = facts.book().open_campaign()
         {
             self.last_start = Some(now + facts.random % SPREAD_MS);
-            self.enter(State::WaitStart { epoch }, now);
+            self.enter(FailoverState::WaitStart { epoch }, now);
             return Act::of(Row::StartFailover);
         }
         Act {
@@ -259,11 +263,11 @@ impl Failover {
 
     fn wait_start(&mut self, epoch: u64, facts: &Facts) -> Act
         ensures { record { failover = self.new; row = result.row; vote = result.vote }
-            ≡ turn_in (State.WaitStart epoch) self.old (known facts.entry.now) }
+            ≡ turn_in (FailoverState.WaitStart epoch) self.old (known facts.entry.now) }
     {
         let vote = facts.vote_in(epoch);
         if facts.is_elected(epoch) {
-            self.enter(State::SelectReplica { epoch }, clock_of(facts.now));
+            self.enter(FailoverState::SelectReplica { epoch }, clock_of(facts.now));
             return Act {
                 row: Some(Row::Elected),
                 vote,
@@ -284,12 +288,15 @@ impl Failover {
 
     fn select_replica(&mut self, epoch: u64, facts: &Facts) -> Act
         ensures { record { failover = self.new; row = result.row; vote = result.vote }
-            ≡ turn_in (State.SelectReplica epoch) self.old (known facts.entry.now) }
+            ≡ turn_in (FailoverState.SelectReplica epoch) self.old (known facts.entry.now) }
     {
         match facts.best {
             Some((place, addr)) => {
                 let choice = Choice { place, addr };
-                self.enter(State::SendPromotion { epoch, choice }, clock_of(facts.now));
+                self.enter(
+                    FailoverState::SendPromotion { epoch, choice },
+                    clock_of(facts.now),
+                );
                 Act::of(Row::ReplicaChosen)
             }
             None => {
@@ -301,12 +308,12 @@ impl Failover {
 
     fn send_promotion(&mut self, epoch: u64, choice: Choice, facts: &Facts) -> Act
         ensures { record { failover = self.new; row = result.row; vote = result.vote }
-            ≡ turn_in (State.SendPromotion epoch choice) self.old (known facts.entry.now) }
+            ≡ turn_in (FailoverState.SendPromotion epoch choice) self.old (known facts.entry.now) }
     {
         if !facts.is_down(choice.place as usize) {
             let former = facts.card_place;
             self.enter(
-                State::WaitPromotion {
+                FailoverState::WaitPromotion {
                     epoch,
                     choice,
                     former,
@@ -325,7 +332,7 @@ impl Failover {
     fn wait_promotion(&mut self, facts: &Facts) -> Act
         ensures { (epoch : ℕ) (choice : Choice) (former : ℕ)
             → record { failover = self.new; row = result.row; vote = result.vote }
-            ≡ turn_in (State.WaitPromotion epoch choice former) self.old (known facts.entry.now) }
+            ≡ turn_in (FailoverState.WaitPromotion epoch choice former) self.old (known facts.entry.now) }
     {
         if self.is_over(facts.timeout, facts) {
             self.end();
@@ -335,7 +342,7 @@ impl Failover {
     }
 
     fn reconf_replicas(&mut self, epoch: u64, masters: Masters, facts: &Facts) -> Act
-        ensures { let state = State.ReconfReplicas epoch masters.choice masters.former in
+        ensures { let state = FailoverState.ReconfReplicas epoch masters.choice masters.former in
             let told = expiring state (clock facts.entry.now.now) self.old in
             record { failover = self.new; row = result.row; vote = result.vote }
             ≡ turn_in state told (known facts.entry.now) }
@@ -345,11 +352,11 @@ impl Failover {
         expire(&mut self.replicas, now);
         if self.is_over(facts.timeout, facts) {
             masters.tell_all(facts, &mut self.replicas);
-            self.enter(State::UpdateConfig { epoch, choice }, now);
+            self.enter(FailoverState::UpdateConfig { epoch, choice }, now);
             return Act::of(Row::ReconfTimeout);
         }
         if masters.are_settled(facts, &self.replicas) {
-            self.enter(State::UpdateConfig { epoch, choice }, now);
+            self.enter(FailoverState::UpdateConfig { epoch, choice }, now);
             return Act::of(Row::ReconfDone);
         }
         masters.tell_next(facts, &mut self.replicas);

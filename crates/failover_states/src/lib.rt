@@ -16,7 +16,7 @@ pub use ballot_law::NoMemory;
 pub use failovers::Failover;
 pub use periods::{ELECTION_MS, ORDER_MS, SPREAD_MS};
 pub use replicas::{Progress, Replica};
-pub use states::{Choice, Row, State};
+pub use states::{Choice, FailoverState, Row};
 pub use turns::{Act, Facts};
 
 mod failovers;

@@ -12,7 +12,7 @@ pub struct Choice {
 /// How far a failover has come. `epoch` is that of its campaign, at most `MAX_EPOCH`; `former` is the place of the
 /// master that is replaced.
 #[derive(Clone, Copy, Debug, PartialEq, Eq)]
-pub enum State {
+pub enum FailoverState {
     /// No failover runs.
     Idle,
     /// Votes are awaited.

@@ -1,6 +1,6 @@
 -- A conf that was read, and its rewritten file, which is never too long.
 use Rattle.std.proofs.Common.{◌≡◌, ℕ, suc, ◌≤◌, List, [], ◌∷◌, length, map, refl, ap, sym, ◌∙◌, arith, subst}
-use Rattle.ballot_law.specs.declared.cards.Kept.{Kept as KeptPlan}
+use Rattle.ballot_law.specs.declared.cards.Kept.{Kept}
 use Rattle.sentinel_conf.specs.Meaning.{ConfPlan}
 use Rattle.sentinel_conf.specs.Rewritten.{rewritten, IsKeptPart}
 use Rattle.sentinel_conf.specs.Reading.{FILE_MAX, IsRead}
@@ -11,10 +11,10 @@ use Rattle.sentinel_conf.proofs.ReadAgain.{fits, names, kept_settings}
 use Rattle.sentinel_conf.proofs.ReadConf.{conf_is}
 use Rattle.sentinel_conf.proofs.RoomLemmas.{bounded_all}
 
-pub rewritten_fits : (conf : ConfPlan) (kept : KeptPlan) → IsRead conf → IsKeptPart conf kept → length (rewritten conf kept) ≤ FILE_MAX
+pub rewritten_fits : (conf : ConfPlan) (kept : Kept) → IsRead conf → IsKeptPart conf kept → length (rewritten conf kept) ≤ FILE_MAX
 rewritten_fits conf kept r k = fits conf kept (conf_is r.bytes conf r.reads) k
 
-pub whole_text : (conf seen : ConfPlan) (kept : KeptPlan) (text : List ℕ) → seen ≡ conf → IsRead seen → text ≡ bounded (rewritten seen kept) → IsKeptPart conf kept
+pub whole_text : (conf seen : ConfPlan) (kept : Kept) (text : List ℕ) → seen ≡ conf → IsRead seen → text ≡ bounded (rewritten seen kept) → IsKeptPart conf kept
     → text ≡ rewritten conf kept
 whole_text conf seen kept text v r h k =
     let short : length (rewritten conf kept) ≤ FILE_MAX = rewritten_fits conf kept (subst IsRead v r) k in

@@ -5,7 +5,7 @@ use Rattle.std.specs.List.{flat_map, zip}
 use Rattle.ballot_law.specs.declared.addresses.RunId.{RunId}
 use Rattle.ballot_law.specs.declared.rosters.Member.{Member}
 use Rattle.ballot_law.specs.declared.cards.KeptMaster.{KeptMaster}
-use Rattle.ballot_law.specs.Rosters.{MasterPlan, Roster as RosterPlan}
+use Rattle.ballot_law.specs.Rosters.{MasterPlan, Roster}
 use Rattle.conf_lines.specs.declared.lines.StateLine.{StateLine}
 use Rattle.conf_lines.specs.declared.lines.StateLine.TheVariants.{MyId, CurrentEpoch, Monitor, ConfigEpoch, LeaderEpoch}
 use Rattle.conf_lines.specs.Lines.{spelled}
@@ -110,7 +110,7 @@ masters_same id members (m ∷ ms) (k ∷ ks) (b ∷ bs) out h =
     ∙ ap (λ t. bounded (out ++ t)) (sym (text_of-append (master_lines id members (m, k)) (flat_map (master_lines id members) (zip ms ks))))
 
 -- a rewritten file, of which part is spelled already
-pub fixed_file : (id : RunId) (roster : RosterPlan) (fixed : FixedTexts) (out kept : List ℕ) (current : ℕ) (masters : List KeptMaster) → IsFixedText id roster fixed
+pub fixed_file : (id : RunId) (roster : Roster) (fixed : FixedTexts) (out kept : List ℕ) (current : ℕ) (masters : List KeptMaster) → IsFixedText id roster fixed
     → bounded (out ++ (kept ++ (fixed.own ++ (ended (spelled (CurrentEpoch current)) ++ all_with_fixed roster.masters masters fixed.sentinels))))
     ≡ bounded (out ++ (kept ++ text_of (MyId id ∷ CurrentEpoch current ∷ flat_map (master_lines id roster.sentinels) (zip roster.masters masters))))
 fixed_file id roster fixed out kept current masters is =

@@ -10,11 +10,11 @@ use Rattle.ballot_law.specs.declared.addresses.RunId.{RunId}
 use Rattle.ballot_law.specs.Hellos.{IsRunId}
 use Rattle.ballot_law.specs.declared.rosters.Member.{Member}
 use Rattle.ballot_law.specs.Ordered.{in_order, repeats}
-use Rattle.ballot_law.specs.Rosters.{Roster as RosterPlan, MasterPlan}
+use Rattle.ballot_law.specs.Rosters.{Roster, MasterPlan}
 use Rattle.ballot_law.specs.Orders.{same_bytes, same_id, same_addr, addr_before, bytes_before}
 use Rattle.ballot_law.specs.RosterFaults.{fault_of, first_that_fits, tests}
 use Rattle.conf_lines.specs.declared.faults.ConfKind.{ConfKind}
-use Rattle.conf_lines.specs.declared.faults.ConfKind.TheVariants.{TooLong, NotUtf8, UnknownMaster, NoMyId, Roster}
+use Rattle.conf_lines.specs.declared.faults.ConfKind.TheVariants.{TooLong, NotUtf8, UnknownMaster, NoMyId, Roster as FaultyRoster}
 use Rattle.conf_lines.specs.declared.faults.ConfFault.{ConfFault}
 use Rattle.ballot_law.specs.declared.cards.KeptMaster.{KeptMaster}
 use Rattle.sentinel_conf.specs.declared.settings.Settings.{Settings}
@@ -29,7 +29,7 @@ use Rattle.conf_lines.specs.Lines.{line_of, spelled, same_key}
 use Rattle.ballot_law.specs.declared.cards.TheConstants.{MAX_EPOCH}
 use Rattle.sentinel_conf.specs.Meaning.{ConfPlan, states, settings, last, member_before, names_of, master_of, kept_master_of, candidate_at, first_given, members_of, greatest, kept_of, own_addr, own_port, settings_of, conf_of}
 use Rattle.conf_lines.specs.Values.{name_of, quorum_of, monitored_at, node_of, config_of, voted_of, candidate_of, epoch_of, known_of, my_id_of}
-use Rattle.ballot_law.specs.declared.cards.Kept.{Kept as KeptPlan}
+use Rattle.ballot_law.specs.declared.cards.Kept.{Kept}
 use Rattle.ballot_law.specs.Rosters.{no_addr}
 use Rattle.sentinel_conf.specs.Rewritten.{others, replicas, candidate_states, master_states, state_lines, rewritten, longest, IsKeptMaster, IsKeptPart, HasRunIds}
 use Rattle.ballot_law.specs.Results.{◌>>=◌}
@@ -95,7 +95,7 @@ none_fits : {F : Type 0} (ts : List (Bool × F)) → first_that_fits ts ≡ None
 none_fits [] h = tt
 none_fits (t ∷ ts) h = let both = none_fits_by t.0 t.1 ts h in (both.0, none_fits ts both.1)
 
-pub record NoFault (plan : RosterPlan) : Type 0 where
+pub record NoFault (plan : Roster) : Type 0 where
   pub some_sentinel : eqb (length plan.sentinels) 0 ≡ false
   pub few_sentinels : ltb 64 (length plan.sentinels) ≡ false
   pub some : eqb (length plan.masters) 0 ≡ false
@@ -104,7 +104,7 @@ pub record NoFault (plan : RosterPlan) : Type 0 where
   pub few_nodes : list_any (λ (master : MasterPlan). ltb 256 (length master.nodes)) plan.masters ≡ false
   pub ids : repeats (λ (a b : Member). same_id a.id b.id) plan.sentinels ≡ false
 
-pub no_fault : (plan : RosterPlan) → fault_of plan ≡ None → NoFault plan
+pub no_fault : (plan : Roster) → fault_of plan ≡ None → NoFault plan
 no_fault plan h =
     let all = none_fits (tests plan) h in
     record {
@@ -272,7 +272,7 @@ pub spoken_known : (ns : List (List ℕ)) (l : Line) (n : List ℕ) → unknown_
 spoken_known ns l n h f = spoken_by ns (spoken_of l) n (list_any (same_bytes n) ns) refl h f
 
 -- no rewritten file is too long
-module _ (conf : ConfPlan) (kept : KeptPlan) (c : IsConf conf) (k : IsKeptPart conf kept) where
+module _ (conf : ConfPlan) (kept : Kept) (c : IsConf conf) (k : IsKeptPart conf kept) where
   longest_fits : length (rewritten conf (longest kept)) ≤ FILE_MAX
   longest_fits =
       let m : AllByRecursion (λ m. Rises addr_before m.nodes) conf.roster.masters = each_from (λ m. Rises addr_before m.nodes) conf.roster.masters (λ m i. (each_in IsMaster conf.roster.masters c.masters m i).order) in
@@ -285,7 +285,7 @@ module _ (conf : ConfPlan) (kept : KeptPlan) (c : IsConf conf) (k : IsKeptPart c
       let le = rewritten_size conf kept conf.kept m k c.kept in
       let size = c.size in omega arith
 
-module _ (conf : ConfPlan) (kept : KeptPlan) (c : IsConf conf) (k : IsKeptPart conf kept) (ids : HasRunIds kept) where
+module _ (conf : ConfPlan) (kept : Kept) (c : IsConf conf) (k : IsKeptPart conf kept) (ids : HasRunIds kept) where
   abbrev pairs : List (MasterPlan × KeptMaster)
   pairs = zip conf.roster.masters kept.masters
 
@@ -685,7 +685,7 @@ module _ (conf : ConfPlan) (kept : KeptPlan) (c : IsConf conf) (k : IsKeptPart c
   abbrev again : ConfPlan
   again = record conf { kept = kept }
 
-  abbrev built : List (List ℕ) → RosterPlan → ℕ → List Settings → KeptPlan → ConfPlan
+  abbrev built : List (List ℕ) → Roster → ℕ → List Settings → Kept → ConfPlan
   built lines roster port settings k = record { kept_lines = lines; roster = roster; id = conf.id; port = port; settings = settings; kept = k }
 
   whole_again : whole_conf texts conf.id ≡ again
@@ -714,7 +714,7 @@ module _ (conf : ConfPlan) (kept : KeptPlan) (c : IsConf conf) (k : IsKeptPart c
 
   rostered_again : rostered again ≡ Ok again
   rostered_again =
-      ap (λ o. (elim o as (λ _. Result (Unit {0}) ConfFault) [ None ↦ Ok tt | Some fault ↦ Err (fault_at 0 (Roster fault)) ]) >>= λ _. sized again) c.roster ∙ sized_again
+      ap (λ o. (elim o as (λ _. Result (Unit {0}) ConfFault) [ None ↦ Ok tt | Some fault ↦ Err (fault_at 0 (FaultyRoster fault)) ]) >>= λ _. sized again) c.roster ∙ sized_again
 
   abbrev identified : List (List ℕ) → List StateLine → Result ConfPlan ConfFault
   identified ts ss = found NoMyId (filter_map my_id_of ss) >>= λ id. rostered (whole_conf ts id)

@@ -28,7 +28,7 @@ use Rattle.conf_lines.specs.Lines.{line_of}
 use Rattle.ballot_law.specs.declared.cards.TheConstants.{MAX_EPOCH}
 use Rattle.sentinel_conf.specs.Meaning.{ConfPlan, states, settings, state_of, setting_of, last, member_before, names_of, master_of, kept_master_of, first_given, greatest, kept_of, own_addr, own_port, settings_of, is_kept}
 use Rattle.conf_lines.specs.Values.{name_of, quorum_of, monitored_at, node_of, config_of, voted_of, candidate_of, epoch_of, known_of, my_id_of, port_of, announce_ip_of, announce_port_of}
-use Rattle.ballot_law.specs.declared.cards.Kept.{Kept as KeptPlan}
+use Rattle.ballot_law.specs.declared.cards.Kept.{Kept}
 use Rattle.ballot_law.specs.Rosters.{no_addr}
 use Rattle.sentinel_conf.specs.Rewritten.{rewritten, longest, IsKeptMaster, IsKeptPart, HasRunIds}
 use Rattle.ballot_law.specs.Results.{◌>>=◌}
@@ -415,5 +415,5 @@ conf_is bytes c h =
     conf_is_of_lines bytes u c b.2
 
 -- the rewritten file of what was read, and a kept part of its masters, is read as both
-pub reads_again : (bytes : List ℕ) (c : ConfPlan) (kept : KeptPlan) → conf_of_bytes bytes ≡ Ok c → IsKeptPart c kept → HasRunIds kept → conf_of_bytes (rewritten c kept) ≡ Ok (record c { kept = kept })
+pub reads_again : (bytes : List ℕ) (c : ConfPlan) (kept : Kept) → conf_of_bytes bytes ≡ Ok c → IsKeptPart c kept → HasRunIds kept → conf_of_bytes (rewritten c kept) ≡ Ok (record c { kept = kept })
 reads_again bytes c kept h k ids = read_again c kept (conf_is bytes c h) k ids

@@ -4,7 +4,7 @@ use Rattle.std.specs.List.{list_any, AllByRecursion, filter_map}
 use Rattle.ballot_law.specs.declared.rosters.Member.{Member}
 use Rattle.ballot_law.specs.Ordered.{add, in_order, repeats}
 use Rattle.ballot_law.specs.Orders.{same_id, id_before, addr_before, bytes_before}
-use Rattle.ballot_law.specs.Rosters.{Roster as RosterPlan, MasterPlan, nodes_in_order, ordered}
+use Rattle.ballot_law.specs.Rosters.{Roster, MasterPlan, nodes_in_order, ordered}
 use Rattle.ballot_law.specs.RosterFaults.{fault_of}
 use Rattle.ballot_law.proofs.Placing.{add_before}
 use Rattle.conf_lines.specs.declared.lines.StateLine.{StateLine}
@@ -88,9 +88,9 @@ ordered_again own states h =
     let masters = map (master_of states) (names_of states) in
     let by_name : MasterPlan → MasterPlan → Bool = λ a b. bytes_before a.name b.name in
     let given = filter_map name_of states in
-    ap (λ t. let p : RosterPlan = record { sentinels = t; masters = in_order by_name (map nodes_in_order masters) } in p)
+    ap (λ t. let p : Roster = record { sentinels = t; masters = in_order by_name (map nodes_in_order masters) } in p)
     (stays by_id (λ a b k. one_way id_before id_order a.id b.id k) members (rises_ids members (rises_in_order member_before member_order (own ∷ filter_map known_of states)) none.ids))
-    ∙ ap (λ t. let p : RosterPlan = record { sentinels = members; masters = in_order by_name t } in p) (masters_again states (names_of states))
-    ∙ ap (λ t. let p : RosterPlan = record { sentinels = members; masters = t } in p)
+    ∙ ap (λ t. let p : Roster = record { sentinels = members; masters = in_order by_name t } in p) (masters_again states (names_of states))
+    ∙ ap (λ t. let p : Roster = record { sentinels = members; masters = t } in p)
     (stays by_name (λ a b k. one_way bytes_before bytes_order a.name b.name k) masters
     (rises_map bytes_before by_name (master_of states) (λ x y k. k) (names_of states) (rises_in_order bytes_before bytes_order given)))

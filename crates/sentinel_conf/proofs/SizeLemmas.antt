@@ -18,7 +18,7 @@ use Rattle.ballot_law.specs.Words.{ip_text, id_text}
 use Rattle.conf_lines.specs.Lines.{spelled}
 use Rattle.ballot_law.specs.declared.cards.TheConstants.{MAX_EPOCH}
 use Rattle.sentinel_conf.specs.Meaning.{ConfPlan}
-use Rattle.ballot_law.specs.declared.cards.Kept.{Kept as KeptPlan}
+use Rattle.ballot_law.specs.declared.cards.Kept.{Kept}
 use Rattle.sentinel_conf.specs.Rewritten.{others, candidate_states, master_states, state_lines, rewritten, longest, at_last_epoch, IsKeptMaster, IsKeptPart}
 use Rattle.conf_lines.specs.Words.{ended}
 use Rattle.sentinel_conf.proofs.SetLemmas.{In, Rises}
@@ -162,7 +162,7 @@ masters_size conf d e (m ∷ ms) (k ∷ ks) (l ∷ ls) b r a c =
       masters_size conf d e ms ks ls b r.1 a.1 c.1,
     )
 
-pub rewritten_size : (conf : ConfPlan) (kept other : KeptPlan) → AllByRecursion (λ m. Rises addr_before m.nodes) conf.roster.masters → IsKeptPart conf kept → IsKeptPart conf other
+pub rewritten_size : (conf : ConfPlan) (kept other : Kept) → AllByRecursion (λ m. Rises addr_before m.nodes) conf.roster.masters → IsKeptPart conf kept → IsKeptPart conf other
     → length (rewritten conf kept) ≤ length (rewritten conf (longest other))
 rewritten_size conf kept other r a b =
     let k = state_lines conf kept in
@@ -184,5 +184,5 @@ last_zip d e [] (k ∷ ks) f a = absurd a
 last_zip d e (m ∷ ms) [] f a = absurd a
 last_zip d e (m ∷ ms) (k ∷ ks) f a = (record { addr = a.0.addr; epoch = omega arith; voted = omega arith; candidate = λ e. absurd (omega arith) }, last_zip d e ms ks f a.1)
 
-pub longest_is : (conf : ConfPlan) (kept : KeptPlan) → IsKeptPart conf kept → IsKeptPart conf (longest kept)
+pub longest_is : (conf : ConfPlan) (kept : Kept) → IsKeptPart conf kept → IsKeptPart conf (longest kept)
 longest_is conf kept a = record { current = omega arith; masters = last_zip kept.current MAX_EPOCH conf.roster.masters kept.masters refl a.masters }

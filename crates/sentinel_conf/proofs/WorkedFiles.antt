@@ -11,7 +11,7 @@ use Rattle.ballot_law.specs.Words.{hex}
 use Rattle.ballot_law.specs.Cuts.{lines}
 use Rattle.conf_lines.specs.Words.{words_of}
 use Rattle.sentinel_conf.specs.Meaning.{ConfPlan}
-use Rattle.ballot_law.specs.declared.cards.Kept.{Kept as KeptPlan}
+use Rattle.ballot_law.specs.declared.cards.Kept.{Kept}
 use Rattle.sentinel_conf.specs.Rewritten.{rewritten, IsKeptPart}
 use Rattle.ballot_law.specs.Results.{◌>>=◌}
 use Rattle.sentinel_conf.specs.Reading.{FILE_MAX, guard, conf_of_lines, conf_of_bytes}
@@ -23,14 +23,14 @@ file = codes "# group one\nport 26379\nbind 127.0.0.1\nsentinel monitor mymaster
 abbrev short_file : List ℕ
 short_file = codes "# group one\nport 26379\nbind 127.0.0.1\nsentinel monitor mymaster 127.0.0.1 6379 2\nsentinel auth-pass mymaster secret\nsentinel down-after-milliseconds mymaster 5000\nsentinel known-replica mymaster 127.0.0.1 6381\nsentinel known-replica mymaster 127.0.0.1 6380\nsentinel known-sentinel mymaster 127.0.0.1 26380 bbbbbbbbbbbbbbbbbbbbbbbbbbbbbbbbbbbbbbbb"
 
-abbrev pub kept : KeptPlan
+abbrev pub kept : Kept
 kept = record {
   current = 3;
   masters = (record { card = record { epoch = 2; addr = record { ip = 2130706433; port = 6380 } }; voted = 3; candidate = None }) ∷ [];
 }
 
 -- the same with the candidate of the vote
-abbrev pub kept_candidate : KeptPlan
+abbrev pub kept_candidate : Kept
 kept_candidate = record {
   current = 3;
   masters =
@@ -42,11 +42,11 @@ kept_candidate = record {
       ∷ [];
 }
 
-abbrev text_of : KeptPlan → Result ConfPlan ConfFault → List ℕ
+abbrev text_of : Kept → Result ConfPlan ConfFault → List ℕ
 text_of part (Ok conf) = rewritten conf part
 text_of part (Err fault) = []
 
-abbrev kept_of : Result ConfPlan ConfFault → Option KeptPlan
+abbrev kept_of : Result ConfPlan ConfFault → Option Kept
 kept_of (Ok conf) = Some conf.kept
 kept_of (Err fault) = None
 
@@ -123,7 +123,7 @@ unfolding digits hex
 unknown_last = refl
 
 -- the part that the file above keeps after a failover is one of its masters
-abbrev IsPartOf : KeptPlan → Result ConfPlan ConfFault → Type 0
+abbrev IsPartOf : Kept → Result ConfPlan ConfFault → Type 0
 IsPartOf part (Ok conf) = IsKeptPart conf part
 IsPartOf part (Err fault) = ⊤
 

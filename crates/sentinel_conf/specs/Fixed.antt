@@ -4,7 +4,7 @@ use Rattle.std.specs.List.{flat_map, zip}
 use Rattle.ballot_law.specs.declared.addresses.RunId.{RunId}
 use Rattle.ballot_law.specs.declared.rosters.Member.{Member}
 use Rattle.ballot_law.specs.declared.cards.KeptMaster.{KeptMaster}
-use Rattle.ballot_law.specs.Rosters.{MasterPlan, Roster as RosterPlan}
+use Rattle.ballot_law.specs.Rosters.{MasterPlan, Roster}
 use Rattle.conf_lines.specs.declared.lines.StateLine.{StateLine}
 use Rattle.conf_lines.specs.declared.lines.StateLine.TheVariants.{MyId, Monitor, ConfigEpoch, LeaderEpoch}
 use Rattle.conf_lines.specs.Lines.{spelled}
@@ -22,7 +22,7 @@ abbrev pub fixed_of : RunId → List Member → MasterPlan → List ℕ
 fixed_of id members master = bounded (text_of (sentinel_states master.name id members))
 
 -- as far as the room goes, these are the lines of a Sentinel with this run id in this roster
-pub record IsFixedText (id : RunId) (roster : RosterPlan) (fixed : FixedTexts) : Type 0 where
+pub record IsFixedText (id : RunId) (roster : Roster) (fixed : FixedTexts) : Type 0 where
   pub own : bounded fixed.own ≡ bounded (ended (spelled (MyId id)))
   pub sentinels : map bounded fixed.sentinels ≡ map (fixed_of id roster.sentinels) roster.masters
 

@@ -5,10 +5,10 @@ use Rattle.ballot_law.specs.declared.addresses.Addr.{Addr}
 use Rattle.ballot_law.specs.declared.addresses.RunId.{RunId}
 use Rattle.ballot_law.specs.declared.rosters.Member.{Member}
 use Rattle.ballot_law.specs.Ordered.{in_order}
-use Rattle.ballot_law.specs.Rosters.{Roster as RosterPlan, MasterPlan}
+use Rattle.ballot_law.specs.Rosters.{Roster, MasterPlan}
 use Rattle.ballot_law.specs.Orders.{same_id, addr_before, id_before, bytes_before}
 use Rattle.ballot_law.specs.declared.cards.KeptMaster.{KeptMaster}
-use Rattle.ballot_law.specs.declared.cards.Kept.{Kept as KeptPlan}
+use Rattle.ballot_law.specs.declared.cards.Kept.{Kept}
 use Rattle.ballot_law.specs.Rosters.{no_addr}
 use Rattle.sentinel_conf.specs.declared.settings.Settings.{Settings}
 use Rattle.conf_lines.specs.declared.lines.StateLine.{StateLine}
@@ -19,11 +19,11 @@ use Rattle.conf_lines.specs.declared.lines.Line.TheVariants as line
 
 pub record ConfPlan : Type 0 where
   pub kept_lines : List (List ℕ)
-  pub roster : RosterPlan
+  pub roster : Roster
   pub id : RunId
   pub port : ℕ
   pub settings : List Settings
-  pub kept : KeptPlan
+  pub kept : Kept
 
 abbrev pub state_of : Line → Option StateLine
 state_of (line.State state) = Some state
@@ -81,7 +81,7 @@ abbrev pub greatest : List ℕ → ℕ
 greatest [] = 0
 greatest (n ∷ ns) = max n (greatest ns)
 
-abbrev pub kept_of : List StateLine → KeptPlan
+abbrev pub kept_of : List StateLine → Kept
 kept_of states = record { current = greatest (filter_map epoch_of states); masters = map (kept_master_of states) (names_of states) }
 
 abbrev pub own_port : List Setting → ℕ
@@ -100,7 +100,7 @@ settings_of settings name = record {
   timeout = last (timeout_of name) 180000 settings;
 }
 
-abbrev pub plan_of : Member → List StateLine → RosterPlan
+abbrev pub plan_of : Member → List StateLine → Roster
 plan_of own states = record { sentinels = members_of own states; masters = map (master_of states) (names_of states) }
 
 -- the lines that are kept as they are

@@ -14,7 +14,7 @@ use Rattle.conf_lines.specs.Words.{ended}
 use Rattle.conf_lines.specs.Lines.{spelled}
 use Rattle.ballot_law.specs.declared.cards.TheConstants.{MAX_EPOCH}
 use Rattle.sentinel_conf.specs.Meaning.{ConfPlan}
-use Rattle.ballot_law.specs.declared.cards.Kept.{Kept as KeptPlan}
+use Rattle.ballot_law.specs.declared.cards.Kept.{Kept}
 
 abbrev pub others : ConfPlan → List Member
 others conf = filter (λ member. not (same_id conf.id member.id)) conf.roster.sentinels
@@ -44,18 +44,18 @@ master_lines id members (master, kept) =
 abbrev pub master_states : ConfPlan → MasterPlan × KeptMaster → List StateLine
 master_states conf = master_lines conf.id conf.roster.sentinels
 
-abbrev pub state_lines : ConfPlan → KeptPlan → List StateLine
+abbrev pub state_lines : ConfPlan → Kept → List StateLine
 state_lines conf kept = MyId conf.id ∷ CurrentEpoch kept.current ∷ flat_map (master_states conf) (zip conf.roster.masters kept.masters)
 
 -- the lines of the rewritten file: those that are kept, then those of the state
-abbrev pub rewritten_lines : ConfPlan → KeptPlan → List (List ℕ)
+abbrev pub rewritten_lines : ConfPlan → Kept → List (List ℕ)
 rewritten_lines conf kept = conf.kept_lines ++ map spelled (state_lines conf kept)
 
 -- the state lines as text
 abbrev pub text_of : List StateLine → List ℕ
 text_of states = flat_map ended (map spelled states)
 
-abbrev pub rewritten : ConfPlan → KeptPlan → List ℕ
+abbrev pub rewritten : ConfPlan → Kept → List ℕ
 rewritten conf kept = flat_map ended (rewritten_lines conf kept)
 
 abbrev pub at_last_epoch : KeptMaster → KeptMaster
@@ -63,7 +63,7 @@ at_last_epoch kept = record { card = record { epoch = MAX_EPOCH; addr = kept.car
 
 -- the kept part with every epoch the last one, which has the most digits, and a candidate for each master; every run id has as
 -- many digits
-abbrev pub longest : KeptPlan → KeptPlan
+abbrev pub longest : Kept → Kept
 longest kept = record { current = MAX_EPOCH; masters = map at_last_epoch kept.masters }
 
 pub record IsKeptMaster (current : ℕ) (master : MasterPlan) (kept : KeptMaster) : Type 0 where
@@ -73,10 +73,10 @@ pub record IsKeptMaster (current : ℕ) (master : MasterPlan) (kept : KeptMaster
   pub candidate : kept.voted ≡ 0 → kept.candidate ≡ None
 
 -- each candidate is a run id of 40 digits, as every value of its type is
-abbrev pub HasRunIds : KeptPlan → Type 0
+abbrev pub HasRunIds : Kept → Type 0
 HasRunIds kept = AllByRecursion (λ (master : KeptMaster). IfSome master.candidate IsRunId) kept.masters
 
 -- a kept part of this conf's masters
-pub record IsKeptPart (conf : ConfPlan) (kept : KeptPlan) : Type 0 where
+pub record IsKeptPart (conf : ConfPlan) (kept : Kept) : Type 0 where
   pub current : kept.current ≤ MAX_EPOCH
   pub masters : AllZip (IsKeptMaster kept.current) conf.roster.masters kept.masters

@@ -1,7 +1,7 @@
 //! What a file says, and the file that keeps a Sentinel's part.
 
 ghost use Rattle.std.specs.Prelude.{◌≡◌, ◌<◌, ◌⊎◌, [], Ok, Err, length, MatchResult, MatchOption, Some, IfOk, IfSome, IfNone, slice_index_or, ◌≤◌, nat_lt};
-ghost use Rattle.ballot_law.specs.declared.cards.Kept.{Kept as KeptPlan};
+ghost use Rattle.ballot_law.specs.declared.cards.Kept.{Kept as KeptModel};
 ghost use Rattle.ballot_law.specs.Rosters.{id_of};
 ghost use Rattle.sentinel_conf.specs.Meaning.{ConfPlan};
 ghost use Rattle.sentinel_conf.specs.Rewritten.{rewritten, IsKeptPart};

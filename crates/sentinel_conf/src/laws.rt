@@ -5,7 +5,7 @@ ghost use Rattle.ballot_law.specs.Hellos.{IsRunId};
 ghost use Rattle.ballot_law.specs.Cuts.{lines};
 ghost use Rattle.conf_lines.specs.Lines.{spelled};
 ghost use Rattle.sentinel_conf.specs.Meaning.{ConfPlan};
-ghost use Rattle.ballot_law.specs.declared.cards.Kept.{Kept as KeptPlan};
+ghost use Rattle.ballot_law.specs.declared.cards.Kept.{Kept as KeptModel};
 ghost use Rattle.sentinel_conf.specs.Rewritten.{rewritten, state_lines, IsKeptPart, HasRunIds};
 ghost use Rattle.sentinel_conf.specs.Reading.{conf_of_bytes, FILE_MAX};
 
@@ -15,13 +15,13 @@ use ballot_law::{Kept, KeptMaster, RunId};
 /// part; its lines are the kept ones, byte for byte, and then those of the state; and it is no longer than a file may
 /// be.
 pub fn law_read_again()
-    ensures again { (bytes : List ℕ) (conf : ConfPlan) (kept : KeptPlan) →
+    ensures again { (bytes : List ℕ) (conf : ConfPlan) (kept : KeptModel) →
         conf_of_bytes bytes ≡ Ok conf → IsKeptPart conf kept → HasRunIds kept →
         conf_of_bytes (rewritten conf kept) ≡ Ok (record conf { kept = kept }) }
-    ensures kept { (bytes : List ℕ) (conf : ConfPlan) (kept : KeptPlan) →
+    ensures kept { (bytes : List ℕ) (conf : ConfPlan) (kept : KeptModel) →
         conf_of_bytes bytes ≡ Ok conf → IsKeptPart conf kept → HasRunIds kept →
         lines (rewritten conf kept) ≡ conf.kept_lines ++ map spelled (state_lines conf kept) }
-    ensures size { (bytes : List ℕ) (conf : ConfPlan) (kept : KeptPlan) →
+    ensures size { (bytes : List ℕ) (conf : ConfPlan) (kept : KeptModel) →
         conf_of_bytes bytes ≡ Ok conf → IsKeptPart conf kept → length (rewritten conf kept) ≤ FILE_MAX }
 {}
 

@@ -8,7 +8,7 @@ ghost use Rattle.sentinel_state.specs.Parts.{with_part};
 
 use crate::cards::take_card;
 use ballot_law::{Addr, Card, DataRole, Info, NodeName, clock_of};
-use failover_states::State as Stage;
+use failover_states::FailoverState;
 use node_texts::TextFault;
 use sentinel_rules::{Frame, WRONG_ROLE_MS};
 use sentinel_state::{Core, State};
@@ -89,7 +89,7 @@ fn says_master(info: Option<Info>) -> bool
 fn is_reconfiguring(core: &Core, m: u16) -> bool
     ensures { result ≡ is_reconfiguring (failover_of core.now m).state }
 {
-    matches!(core.stage(m), Stage::ReconfReplicas { .. })
+    matches!(core.stage(m), FailoverState::ReconfReplicas { .. })
 }
 
 /// The INFO of a node is kept.
@@ -106,7 +106,7 @@ fn keep_info(core: &mut Core, m: u16, k: u16, now: u64, info: &Info)
 fn hear_promotion(state: &mut State, m: u16, k: u16, now: u64, info: &Info)
     ensures { state.new ≡ with_part state.old (promotion m k (clock now) info.now (failover_of state.old.core m).state state.old.core) }
 {
-    if let Stage::WaitPromotion { epoch, choice, .. } = state.core.stage(m)
+    if let FailoverState::WaitPromotion { epoch, choice, .. } = state.core.stage(m)
         && k == choice.place
         && is_master(info.role)
     {

@@ -30,9 +30,9 @@ impl Model for Plan {
     ghost use Rattle.std.specs.Prelude.{◌≡◌, ◌<◌, length};
     ghost use Rattle.ballot_law.specs.Rosters.{id_of};
     ghost use Rattle.sentinel_conf.specs.Facts.{IsSoundConf};
-    ghost use Rattle.sentinel_rules.specs.Plans.{Plan as Fixed};
+    ghost use Rattle.sentinel_rules.specs.Plans.{Plan as PlanModel};
 
-    ghost Value = { Fixed };
+    ghost Value = { PlanModel };
 
     ghost view = { λ plan. record { conf = plan.conf; place = plan.place } };
 

@@ -21,8 +21,8 @@ use Rattle.ballot_law.specs.OwnVotes.{Book, grants, asked}
 use Rattle.ballot_law.specs.Rosters.{master_named}
 use Rattle.failover_states.specs.declared.states.Row.{Row}
 use Rattle.failover_states.specs.declared.states.Row.TheVariants.{Elected}
-use Rattle.failover_states.specs.declared.states.State.{State}
-use Rattle.failover_states.specs.declared.states.State.TheVariants.{WaitPromotion}
+use Rattle.failover_states.specs.declared.states.FailoverState.{FailoverState}
+use Rattle.failover_states.specs.declared.states.FailoverState.TheVariants.{WaitPromotion}
 use Rattle.failover_states.specs.Calls.{promoted}
 use Rattle.failover_states.specs.Failovers.{ended}
 use Rattle.failover_states.specs.Table.{Turn}
@@ -237,7 +237,7 @@ ping_at plan (StoreAt number) now reply core = node_at now reply (node_named pla
 ping_at plan (ClientAt number) now reply core = same None core
 ping_at plan (PortAt number) now reply core = same None core
 
-promotion_touches : (plan : Plan) (m k now : ℕ) (info : Info) (state : State) (core : Core) → Touches m core (promotion m k now info state core).core
+promotion_touches : (plan : Plan) (m k now : ℕ) (info : Info) (state : FailoverState) (core : Core) → Touches m core (promotion m k now info state core).core
 promotion_touches plan m k now info (WaitPromotion epoch choice former) core =
     let first : Core = with_failover core m (promoted (WaitPromotion epoch choice former) (record (failover_of core m) { moment = now })) in
     let card : Card = record { epoch = epoch; addr = choice.addr } in

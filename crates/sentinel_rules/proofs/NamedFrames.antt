@@ -12,8 +12,8 @@ use Rattle.ballot_law.specs.Ballots.{card_of}
 use Rattle.ballot_law.specs.Orders.{same_addr}
 use Rattle.ballot_law.specs.Rosters.{master_named}
 use Rattle.ballot_law.proofs.RosterLemmas.{named_master}
-use Rattle.failover_states.specs.declared.states.State.{State}
-use Rattle.failover_states.specs.declared.states.State.TheVariants.{WaitPromotion}
+use Rattle.failover_states.specs.declared.states.FailoverState.{FailoverState}
+use Rattle.failover_states.specs.declared.states.FailoverState.TheVariants.{WaitPromotion}
 use Rattle.failover_states.specs.declared.states.Row.{Row}
 use Rattle.failover_states.specs.declared.states.Row.TheVariants.{Promote}
 use Rattle.failover_states.specs.Calls.{choice_of as chosen_place, promoted, reconfigured}
@@ -124,7 +124,7 @@ hello_frames plan now (Ok hello) core =
     named_if plan (is_heeded plan hello) core (hello_heeded plan now (master_named (roster_of plan) hello.master) hello)
     (λ h. heeded_frames plan now (master_named (roster_of plan) hello.master) hello core refl)
 
-promotion_frames : (plan : Plan) (m k now : ℕ) (info : Info) (state : State) (core : Core) → m < master_count plan → AreNamed plan (promotion m k now info state core).frames
+promotion_frames : (plan : Plan) (m k now : ℕ) (info : Info) (state : FailoverState) (core : Core) → m < master_count plan → AreNamed plan (promotion m k now info state core).frames
 promotion_frames plan m k now info (WaitPromotion epoch choice former) core lt =
     named_if plan ((k == choice.place) && is_master_role info.role) core
     (λ c. card_taken m now (record { epoch = epoch; addr = choice.addr })

@@ -12,8 +12,8 @@ use Rattle.ballot_law.specs.Ballots.{Campaign, Idle, Running, Won, Chosen, OpenM
 use Rattle.ballot_law.specs.Messages.{Vote}
 use Rattle.ballot_law.specs.Rosters.{Roster, MasterPlan}
 use Rattle.ballot_law.proofs.CountedVotes.{Contains-head, Contains-later}
-use Rattle.failover_states.specs.declared.states.State.{State}
-use Rattle.failover_states.specs.declared.states.State.TheVariants.{Idle as NoState, WaitStart, SelectReplica, SendPromotion, WaitPromotion, ReconfReplicas, UpdateConfig}
+use Rattle.failover_states.specs.declared.states.FailoverState.{FailoverState}
+use Rattle.failover_states.specs.declared.states.FailoverState.TheVariants.{Idle as NoState, WaitStart, SelectReplica, SendPromotion, WaitPromotion, ReconfReplicas, UpdateConfig}
 use Rattle.failover_states.specs.Calls.{epoch_of}
 use Rattle.ballot_law.specs.Clocks.{clock}
 use Rattle.sentinel_rules.specs.Plans.{Plan, roster_of, master_count, group_size}
@@ -246,7 +246,7 @@ all_steps roster i event (ballot ∷ ballots) parts last h moved =
 
 -- One input
 
-up_in : (current : ℕ) (state : State) → IfSome (epoch_of state) (λ epoch. epoch ≤ current) → IsUpTo current (campaign_in state)
+up_in : (current : ℕ) (state : FailoverState) → IfSome (epoch_of state) (λ epoch. epoch ≤ current) → IsUpTo current (campaign_in state)
 up_in current NoState h = tt
 up_in current (WaitStart epoch) h = h
 up_in current (SelectReplica epoch) h = h
@@ -320,4 +320,4 @@ pub opened_is_ahead : OpenedIsAhead
 opened_is_ahead plan now m =
     let core : Core = opened plan now in
     let idle : (failover_of core m).state ≡ NoState = idle_at (λ (master : MasterPlan). new_master (group_size plan) (length master.nodes) (clock now)) (λ x. refl) (roster_of plan).masters m in
-    subst (λ (st : State). IsAheadOf (card_of core.kept m) (campaign_in st)) (sym idle) tt
+    subst (λ (st : FailoverState). IsAheadOf (card_of core.kept m) (campaign_in st)) (sym idle) tt

@@ -22,8 +22,8 @@ use Rattle.ballot_law.specs.Orders.{same_addr}
 use Rattle.ballot_law.specs.Rosters.{no_addr, master_named}
 use Rattle.ballot_law.specs.VotesHeard.{greater, kept_at as vote_at, with_hearing}
 use Rattle.ballot_law.specs.Reports.{with_report}
-use Rattle.failover_states.specs.declared.states.State.{State}
-use Rattle.failover_states.specs.declared.states.State.TheVariants.{WaitPromotion, ReconfReplicas}
+use Rattle.failover_states.specs.declared.states.FailoverState.{FailoverState}
+use Rattle.failover_states.specs.declared.states.FailoverState.TheVariants.{WaitPromotion, ReconfReplicas}
 use Rattle.failover_states.specs.Calls.{epoch_of, promoted, reconfigured}
 use Rattle.failover_states.specs.Failovers.{Failover, ended}
 use Rattle.failover_states.specs.Replicas.{forgotten, followed, replica_at}
@@ -224,7 +224,7 @@ pinged_sound plan (PortAt number) now reply core s = s
 
 -- INFO
 
-promotion_keeps : (plan : Plan) (m k now : ℕ) (info : Info) (state : State) (core : Core) → (failover_of core m).state ≡ state → IsSound plan core → KeepsSound plan 1 (promotion m k now info state core)
+promotion_keeps : (plan : Plan) (m k now : ℕ) (info : Info) (state : FailoverState) (core : Core) → (failover_of core m).state ≡ state → IsSound plan core → KeepsSound plan 1 (promotion m k now info state core)
 promotion_keeps plan m k now info (WaitPromotion epoch choice former) core e s =
     keeps_if plan 1 ((k == choice.place) && is_master_role info.role) core
     (λ c. card_taken m now (record { epoch = epoch; addr = choice.addr })
@@ -232,7 +232,7 @@ promotion_keeps plan m k now info (WaitPromotion epoch choice former) core e s =
     (λ h. card_keeps plan m now (record { epoch = epoch; addr = choice.addr }) (with_failover core m f)
     (sound_failover plan core m f s (λ lt. record { replicas = length-map (failover_of core m).replicas forgotten ∙ (s.each m lt).replicas; epoch = low lt; choice = tt }))
     low
-    (λ lt. let c : IsAwaited plan core.kept m choice = subst (λ (st : State). IfSome (awaited st) (IsAwaited plan core.kept m)) e (s.each m lt).choice in
+    (λ lt. let c : IsAwaited plan core.kept m choice = subst (λ (st : FailoverState). IfSome (awaited st) (IsAwaited plan core.kept m)) e (s.each m lt).choice in
     subst (λ (addr : Addr). Contains (nodes_of plan m) addr) (sym c.addressed) (Contains-get_or (nodes_of plan m) choice.place no_addr c.listed))
     (λ lt. ap (λ (master : MasterState). awaited master.failover.state) (master_same core m (record (master_of core m) { failover = f }) (subst (λ (n : ℕ). m < n) (sym s.masters) lt))))
   where
@@ -240,10 +240,10 @@ promotion_keeps plan m k now info (WaitPromotion epoch choice former) core e s =
     f = promoted (WaitPromotion epoch choice former) (record (failover_of core m) { moment = now })
 
     low : m < master_count plan → epoch ≤ core.kept.current
-    low lt = subst (λ (st : State). IfSome (epoch_of st) (λ epoch. epoch ≤ core.kept.current)) e (s.each m lt).epoch
+    low lt = subst (λ (st : FailoverState). IfSome (epoch_of st) (λ epoch. epoch ≤ core.kept.current)) e (s.each m lt).epoch
 promotion_keeps plan m k now info _ core e s = keeps_quiet plan 1 core s
 
-pub reconfigured_sound : (plan : Plan) (kept : Kept) (m : ℕ) (state : State) (f : Failover) (k : ℕ) → IsSoundFailover plan kept m f → IsSoundFailover plan kept m (reconfigured state f k)
+pub reconfigured_sound : (plan : Plan) (kept : Kept) (m : ℕ) (state : FailoverState) (f : Failover) (k : ℕ) → IsSoundFailover plan kept m f → IsSoundFailover plan kept m (reconfigured state f k)
 reconfigured_sound plan kept m (ReconfReplicas epoch choice former) f k s =
     record { replicas = length-set f.replicas k (followed (replica_at f.replicas k)) ∙ s.replicas; epoch = s.epoch; choice = s.choice }
 reconfigured_sound plan kept m _ f k s = s

@@ -10,8 +10,8 @@ use Rattle.ballot_law.specs.Ballots.{kept_of, card_of}
 use Rattle.ballot_law.specs.Orders.{same_id}
 use Rattle.ballot_law.specs.OwnVotes.{Book, grants, asked, raised}
 use Rattle.ballot_law.proofs.CountedVotes.{both}
-use Rattle.failover_states.specs.declared.states.State.{State}
-use Rattle.failover_states.specs.declared.states.State.TheVariants.{Idle, WaitStart, SelectReplica, SendPromotion, WaitPromotion, ReconfReplicas, UpdateConfig}
+use Rattle.failover_states.specs.declared.states.FailoverState.{FailoverState}
+use Rattle.failover_states.specs.declared.states.FailoverState.TheVariants.{Idle, WaitStart, SelectReplica, SendPromotion, WaitPromotion, ReconfReplicas, UpdateConfig}
 use Rattle.failover_states.specs.declared.states.Row.{Row}
 use Rattle.failover_states.specs.declared.states.Row.TheVariants.{StartFailover, Elected, Promote}
 use Rattle.failover_states.specs.Calls.{epoch_of, choice_of as chosen_place}
@@ -276,7 +276,7 @@ row_keeps plan m now core p lt busy s =
 
 -- A start
 
-pub idle_is : (state : State) → not (not (is_idle state)) ≡ true → state ≡ Idle
+pub idle_is : (state : FailoverState) → not (not (is_idle state)) ≡ true → state ≡ Idle
 idle_is Idle h = refl
 idle_is (WaitStart epoch) h = absurd (cc)
 idle_is (SelectReplica epoch) h = absurd (cc)
@@ -285,8 +285,8 @@ idle_is (WaitPromotion epoch choice former) h = absurd (cc)
 idle_is (ReconfReplicas epoch choice former) h = absurd (cc)
 idle_is (UpdateConfig epoch choice) h = absurd (cc)
 
-pub busy_is : (state : State) → not (is_idle state) ≡ true → state ≡ Idle → ⊥
-busy_is state h e = let never : false ≡ true = sym (ap (λ (s : State). not (is_idle s)) e) ∙ h in absurd (cc)
+pub busy_is : (state : FailoverState) → not (is_idle state) ≡ true → state ≡ Idle → ⊥
+busy_is state h e = let never : false ≡ true = sym (ap (λ (s : FailoverState). not (is_idle s)) e) ∙ h in absurd (cc)
 
 pub third : (a b c : Bool) → (a && b && c) ≡ true → c ≡ true
 third true true c h = h
@@ -298,7 +298,7 @@ start_within f k h = ltb-true k.current MAX_EPOCH (third k.odown (is_long_ago f.
 
 -- a failover that is idle, with its state written out
 pub as_idle : (f : Failover) → f.state ≡ Idle → f ≡ record f { state = Idle }
-as_idle f idle = ap (λ (state : State). let x : Failover = record f { state = state } in x) idle
+as_idle f idle = ap (λ (state : FailoverState). let x : Failover = record f { state = state } in x) idle
 
 start_sound : (plan : Plan) (m now : ℕ) (core : Core) → IsSound plan core → (failover_of core m).state ≡ Idle → IsSound plan (after_start m (start_turn plan core m now) core)
 start_sound plan m now core s idle = subst (λ (f : Failover). IsSound plan (after_start m (turned f k) core)) (sym (as_idle (failover_of core m) idle)) from_idle

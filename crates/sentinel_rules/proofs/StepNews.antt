@@ -23,8 +23,8 @@ use Rattle.ballot_law.specs.Rosters.{MasterPlan, HasNode, master_named}
 use Rattle.ballot_law.specs.VotesHeard.{greater, kept_at, with_hearing}
 use Rattle.ballot_law.proofs.RosterLemmas.{named_master}
 use Rattle.ballot_law.specs.Reports.{with_report}
-use Rattle.failover_states.specs.declared.states.State.{State}
-use Rattle.failover_states.specs.declared.states.State.TheVariants.{WaitPromotion, ReconfReplicas}
+use Rattle.failover_states.specs.declared.states.FailoverState.{FailoverState}
+use Rattle.failover_states.specs.declared.states.FailoverState.TheVariants.{WaitPromotion, ReconfReplicas}
 use Rattle.failover_states.specs.Calls.{promoted, reconfigured}
 use Rattle.failover_states.specs.Failovers.{Failover, ended}
 use Rattle.node_texts.specs.declared.faults.TextFault.{TextFault}
@@ -342,14 +342,14 @@ pinged_steps plan event (PortAt number) now reply core s = stay_steps plan event
 
 -- INFO
 
-promotion_steps : (plan : Plan) (event : Event) (m k now : ℕ) (info : Info) (state : State) (core : Core) → m < length core.masters → m < master_count plan → (failover_of core m).state ≡ state → StepsTo plan event 1 core (promotion m k now info state core).core
+promotion_steps : (plan : Plan) (event : Event) (m k now : ℕ) (info : Info) (state : FailoverState) (core : Core) → m < length core.masters → m < master_count plan → (failover_of core m).state ≡ state → StepsTo plan event 1 core (promotion m k now info state core).core
 promotion_steps plan event m k now info (WaitPromotion epoch choice former) core lt inside e =
     steps_if plan event 1 ((k == choice.place) && is_master_role info.role) core
     (λ c. card_taken m now (record { epoch = epoch; addr = choice.addr })
     (with_failover c m (promoted (WaitPromotion epoch choice former) (record (failover_of c m) { moment = now }))))
     (λ h. steps_then plan event 1 0 core (with_card told m card) (card_taken m now card told).core
     (steps_then plan event 0 1 core told (with_card told m card)
-    (twin_steps plan event 0 m core told lt (twin_state m core told (campaign_in f.state) (campaign_in (failover_of core m).state) (sym (ap (λ (st : State). campaign_in st) e)) (twin_master core m (record (master_of core m) { failover = f }) lt refl)))
+    (twin_steps plan event 0 m core told lt (twin_state m core told (campaign_in f.state) (campaign_in (failover_of core m).state) (sym (ap (λ (st : FailoverState). campaign_in st) e)) (twin_master core m (record (master_of core m) { failover = f }) lt refl)))
     (enact_steps plan event m epoch choice.addr told told_lt inside (ap (λ (master : MasterState). campaign_in master.failover.state) (master_same core m (record (master_of core m) { failover = f }) lt))))
     (taken_steps plan event m now card told told_lt))
   where
@@ -366,14 +366,14 @@ promotion_steps plan event m k now info (WaitPromotion epoch choice former) core
     told_lt = subst (λ (n : ℕ). m < n) (sym (length-set core.masters m (record (master_of core m) { failover = f }))) lt
 promotion_steps plan event m k now info _ core lt inside e = stay_steps plan event 1 core
 
-reconfigured_state : (state : State) (f : Failover) (k : ℕ) → (reconfigured state f k).state ≡ f.state
+reconfigured_state : (state : FailoverState) (f : Failover) (k : ℕ) → (reconfigured state f k).state ≡ f.state
 reconfigured_state (ReconfReplicas epoch choice former) f k = refl
 reconfigured_state _ f k = refl
 
 reconfiguration_steps : (plan : Plan) (event : Event) (m k : ℕ) (info : Info) (core : Core) → m < length core.masters → StepsTo plan event 1 core (reconfiguration m k info core).core
 reconfiguration_steps plan event m k info core lt =
     steps_if plan event 1 (has_followed info (card_of core.kept m).addr) core (λ c. quiet (with_failover c m (reconfigured (failover_of c m).state (failover_of c m) k)))
-    (λ h. twin_steps plan event 1 m core (with_failover core m f) lt (twin_state m core (with_failover core m f) (campaign_in f.state) (campaign_in (failover_of core m).state) (ap (λ (st : State). campaign_in st) (reconfigured_state (failover_of core m).state (failover_of core m) k)) (twin_master core m (record (master_of core m) { failover = f }) lt refl)))
+    (λ h. twin_steps plan event 1 m core (with_failover core m f) lt (twin_state m core (with_failover core m f) (campaign_in f.state) (campaign_in (failover_of core m).state) (ap (λ (st : FailoverState). campaign_in st) (reconfigured_state (failover_of core m).state (failover_of core m) k)) (twin_master core m (record (master_of core m) { failover = f }) lt refl)))
   where
     f : Failover
     f = reconfigured (failover_of core m).state (failover_of core m) k

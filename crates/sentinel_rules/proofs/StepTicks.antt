@@ -13,8 +13,8 @@ use Rattle.ballot_law.specs.OwnVotes.{Book, grants, asked, raised}
 use Rattle.ballot_law.specs.Rosters.{AtLeast, HasNode, size, need, no_addr}
 use Rattle.ballot_law.specs.VotesHeard.{kept_at, is_for, count_in, own_votes, IsElectedIn}
 use Rattle.ballot_law.proofs.CountedVotes.{both, eqb-true, AtLeast-kept, same_id-equal}
-use Rattle.failover_states.specs.declared.states.State.{State}
-use Rattle.failover_states.specs.declared.states.State.TheVariants.{Idle, WaitStart, SelectReplica, SendPromotion, WaitPromotion, ReconfReplicas, UpdateConfig}
+use Rattle.failover_states.specs.declared.states.FailoverState.{FailoverState}
+use Rattle.failover_states.specs.declared.states.FailoverState.TheVariants.{Idle, WaitStart, SelectReplica, SendPromotion, WaitPromotion, ReconfReplicas, UpdateConfig}
 use Rattle.failover_states.specs.declared.states.Row.{Row}
 use Rattle.failover_states.specs.declared.states.Row.TheVariants.{ReplicaChosen}
 use Rattle.failover_states.specs.Calls.{epoch_of}
@@ -87,7 +87,7 @@ place_is_node plan core m place addr a =
     list_any_at (same_addr addr) (nodes_of plan m) place no_addr a.listed (subst (λ (x : Addr). same_addr addr x ≡ true) a.addressed (same_addr-same addr))
 
 module _ (plan : Plan) (event : Event) (m : ℕ) (k : Known) (f : Failover) (core : Core) (lt : m < length core.masters) (inside : m < master_count plan) (none : core.won ≡ None) (best : Best plan core.kept m k.best) where
-  stay : (epoch : ℕ) (row : Option Row) (state : State) (last : Core) → campaign_in (failover_of core m).state ≡ campaign_in state → IsTwin m core last (campaign_in state) → StepsTo plan event 1 core last
+  stay : (epoch : ℕ) (row : Option Row) (state : FailoverState) (last : Core) → campaign_in (failover_of core m).state ≡ campaign_in state → IsTwin m core last (campaign_in state) → StepsTo plan event 1 core last
   stay epoch row state last runs t = twin_steps plan event 1 m core last lt (twin_state m core last (campaign_in state) (campaign_in (failover_of core m).state) (sym runs) t)
 
   chosen_steps : (epoch : ℕ) (best : Option (ℕ × Addr)) (g : Failover) → Best plan core.kept m best → campaign_in (failover_of core m).state ≡ Won epoch → is_some best ≡ true → IsReached plan event m epoch core (Some ReplicaChosen) (chosen epoch best g k)
@@ -95,24 +95,24 @@ module _ (plan : Plan) (event : Event) (m : ℕ) (k : Known) (f : Failover) (cor
   chosen_steps epoch (Some choice) g b won h last t =
       choose_steps plan event m epoch choice.1 core last lt inside won (place_is_node plan core m choice.0 choice.1 b) b.other t
 
-  pub turn_steps : (state : State) → f.state ≡ state → campaign_in (failover_of core m).state ≡ campaign_in state → (state ≡ Idle → ⊥)
+  pub turn_steps : (state : FailoverState) → f.state ≡ state → campaign_in (failover_of core m).state ≡ campaign_in state → (state ≡ Idle → ⊥)
       → ((epoch : ℕ) → state ≡ WaitStart epoch → is_elected epoch k ≡ true → (parts : Parts) → IsPartsOf core (kept_as core parts) → AtLeast (HasVoted (roster_of plan) plan.place (kept_as core parts) m epoch) (size (roster_of plan)) (need (roster_of plan) m))
       → IsReached plan event m (unwrap_or (epoch_of state) 0) core (turn_in state (expiring state k.now (quieted f)) k).row (turn_in state (expiring state k.now (quieted f)) k).failover
   turn_steps Idle e runs busy enough = absurd (busy refl)
   turn_steps (WaitStart epoch) e runs busy enough =
-      let same = ap (λ (st : State). campaign_in st) e in
+      let same = ap (λ (st : FailoverState). campaign_in st) e in
       turn_by (IsReached plan event m epoch core) (quieted f) (vote_of (WaitStart epoch) k) (table (WaitStart epoch) (quieted f) k)
       (λ last t. stay epoch None f.state last (runs ∙ sym same) t) (
         (λ fits last t. win_steps plan event m epoch core last lt inside none runs (enough epoch refl fits) t),
         ((λ fits last t. drop_steps plan event m core last lt inside t), ((λ fits last t. stay epoch None f.state last (runs ∙ sym same) t), tt)),
       )
   turn_steps (SelectReplica epoch) e runs busy enough =
-      let same = ap (λ (st : State). campaign_in st) e in
+      let same = ap (λ (st : FailoverState). campaign_in st) e in
       turn_by (IsReached plan event m epoch core) (quieted f) None (table (SelectReplica epoch) (quieted f) k)
       (λ last t. stay epoch None f.state last (runs ∙ sym same) t)
       ((λ fits. chosen_steps epoch k.best (quieted f) best runs fits), ((λ fits last t. drop_steps plan event m core last lt inside t), tt))
   turn_steps (SendPromotion epoch choice) e runs busy enough =
-      let same = ap (λ (st : State). campaign_in st) e in
+      let same = ap (λ (st : FailoverState). campaign_in st) e in
       turn_by (IsReached plan event m epoch core) (quieted f) None (table (SendPromotion epoch choice) (quieted f) k)
       (λ last t. stay epoch None f.state last (runs ∙ sym same) t) (
         (λ fits last t. drop_steps plan event m core last lt inside t),
@@ -122,12 +122,12 @@ module _ (plan : Plan) (event : Event) (m : ℕ) (k : Known) (f : Failover) (cor
         ),
       )
   turn_steps (WaitPromotion epoch choice former) e runs busy enough =
-      let same = ap (λ (st : State). campaign_in st) e in
+      let same = ap (λ (st : FailoverState). campaign_in st) e in
       turn_by (IsReached plan event m epoch core) (quieted f) None (table (WaitPromotion epoch choice former) (quieted f) k)
       (λ last t. stay epoch None f.state last (runs ∙ sym same) t)
       ((λ fits last t. drop_steps plan event m core last lt inside t), ((λ fits last t. stay epoch None f.state last (runs ∙ sym same) t), tt))
   turn_steps (ReconfReplicas epoch choice former) e runs busy enough =
-      let same = ap (λ (st : State). campaign_in st) e in
+      let same = ap (λ (st : FailoverState). campaign_in st) e in
       let g : Failover = expiring (ReconfReplicas epoch choice former) k.now (quieted f) in
       turn_by (IsReached plan event m epoch core) g None (table (ReconfReplicas epoch choice former) g k)
       (λ last t. stay epoch None f.state last (runs ∙ sym same) t) (
@@ -138,7 +138,7 @@ module _ (plan : Plan) (event : Event) (m : ℕ) (k : Known) (f : Failover) (cor
         ),
       )
   turn_steps (UpdateConfig epoch choice) e runs busy enough =
-      let same = ap (λ (st : State). campaign_in st) e in
+      let same = ap (λ (st : FailoverState). campaign_in st) e in
       turn_by (IsReached plan event m epoch core) (quieted f) None (table (UpdateConfig epoch choice) (quieted f) k)
       (λ last t. stay epoch None f.state last (runs ∙ sym same) t)
       ((λ fits last t. drop_steps plan event m core last lt inside t), tt)
@@ -175,7 +175,7 @@ module _ (plan : Plan) (event : Event) (m now : ℕ) (core : Core) (p : IsSoundP
   kept_lt : m < length core.kept.masters
   kept_lt = subst (λ (n : ℕ). m < n) (sym s.kept_masters) inside
 
-  abbrev turn_in_state : State → Turn
+  abbrev turn_in_state : FailoverState → Turn
   turn_in_state state = turn_in state (expiring state (known_of plan core m now false).now (quieted (failover_of core m))) (known_of plan core m now false)
 
   -- the own vote of a turn
@@ -186,14 +186,14 @@ module _ (plan : Plan) (event : Event) (m now : ℕ) (core : Core) (p : IsSoundP
   elected_by : (epoch : ℕ) → (failover_of core m).state ≡ WaitStart epoch → is_elected epoch (known_of plan core m now false) ≡ true
       → IsElectedIn (kept_at (master_of core m).heard) (book_asked epoch) (length (master_of core m).heard) epoch (me plan) (need (roster_of plan) m)
   elected_by epoch e h =
-      let at : campaign_epoch core m ≡ epoch = ap (λ (st : State). unwrap_or (epoch_of st) 0) e in
+      let at : campaign_epoch core m ≡ epoch = ap (λ (st : FailoverState). unwrap_or (epoch_of st) 0) e in
       subst
       (λ (n : ℕ). need (roster_of plan) m ≤ count_in (kept_at (master_of core m).heard) (length (master_of core m).heard) n (me plan) + own_votes (book_asked epoch) epoch (me plan))
       at
       (leb-true (need (roster_of plan) m) ((known_of plan core m now false).count + own_votes (book_asked epoch) epoch (me plan)) h)
 
   -- where no vote is given
-  quiet_turn : (state : State) → (failover_of core m).state ≡ state → (state ≡ Idle → ⊥) → (turn_in_state state).vote ≡ None
+  quiet_turn : (state : FailoverState) → (failover_of core m).state ≡ state → (state ≡ Idle → ⊥) → (turn_in_state state).vote ≡ None
       → ((epoch : ℕ) → state ≡ WaitStart epoch → grants (book_of core m) epoch ≡ false)
       → StepsTo plan event 2 core (with_win m (unwrap_or (epoch_of state) 0) (turn_in_state state).row (with_vote plan m now (unwrap_or (epoch_of state) 0) (turn_in_state state).vote (with_failover core m (turn_in_state state).failover)))
   quiet_turn state e busy no_vote past =
@@ -201,7 +201,7 @@ module _ (plan : Plan) (event : Event) (m now : ℕ) (core : Core) (p : IsSoundP
       (λ (vote : Option RunId). StepsTo plan event 2 core (with_win m (unwrap_or (epoch_of state) 0) (turn_in_state state).row (with_vote plan m now (unwrap_or (epoch_of state) 0) vote (with_failover core m (turn_in_state state).failover))))
       (sym no_vote)
       (steps_more plan event 1 2 core (with_win m (unwrap_or (epoch_of state) 0) (turn_in_state state).row (with_failover core m (turn_in_state state).failover)) (omega arith)
-      (turn_steps plan event m (known_of plan core m now false) (failover_of core m) core lt inside none (best_awaited plan core m now p inside) state e (ap (λ (st : State). campaign_in st) e) busy enough
+      (turn_steps plan event m (known_of plan core m now false) (failover_of core m) core lt inside none (best_awaited plan core m now p inside) state e (ap (λ (st : FailoverState). campaign_in st) e) busy enough
       (with_failover core m (turn_in_state state).failover)
       (twin_master core m (record (master_of core m) { failover = (turn_in_state state).failover }) lt refl)))
     where
@@ -224,7 +224,7 @@ module _ (plan : Plan) (event : Event) (m now : ℕ) (core : Core) (p : IsSoundP
       (steps_then plan event 1 1 core voted (with_win m epoch turn.row (mark_for plan m now pick (voted_core next m epoch pick)))
       (cast_steps plan event m epoch pick core lt inside (omega (arith, low, high)) newer)
       (turn_steps plan event m (known_of plan core m now false) (failover_of core m) voted lt inside none best_voted (WaitStart epoch) e
-      (ap (λ (st : State). campaign_in st) e)
+      (ap (λ (st : FailoverState). campaign_in st) e)
       (λ b. absurd (cc))
       enough
       (mark_for plan m now pick (voted_core next m epoch pick))
@@ -259,7 +259,7 @@ module _ (plan : Plan) (event : Event) (m now : ℕ) (core : Core) (p : IsSoundP
       low = leb-true core.kept.current epoch (both (nat_lt (voted_of core.kept m) epoch) (nat_le core.kept.current epoch) can).1
 
       high : epoch ≤ core.kept.current
-      high = subst (λ (st : State). IfSome (epoch_of st) (λ epoch. epoch ≤ core.kept.current)) e (s.each m inside).epoch
+      high = subst (λ (st : FailoverState). IfSome (epoch_of st) (λ epoch. epoch ≤ core.kept.current)) e (s.each m inside).epoch
 
       entry : kept_of voted.kept m ≡ record (kept_of core.kept m) { voted = epoch; candidate = Some (known_of plan core m now false).pick }
       entry = own_entry core.kept epoch m (record (kept_of core.kept m) { voted = epoch; candidate = Some (known_of plan core m now false).pick }) kept_lt
@@ -286,7 +286,7 @@ module _ (plan : Plan) (event : Event) (m now : ℕ) (core : Core) (p : IsSoundP
           (ap (λ (book : Book). book.voted) given ∙ sym (ap (λ (x : KeptMaster). x.voted) entry)) (ap (λ (book : Book). book.leader) given ∙ sym (ap (λ (x : KeptMaster). x.candidate) entry))
           (elected_by epoch e (subst (λ (n : ℕ). is_elected n (known_of plan core m now false) ≡ true) (sym same) h)))
 
-  turn_by_state : (state : State) → (failover_of core m).state ≡ state → (state ≡ Idle → ⊥)
+  turn_by_state : (state : FailoverState) → (failover_of core m).state ≡ state → (state ≡ Idle → ⊥)
       → StepsTo plan event 2 core (with_win m (unwrap_or (epoch_of state) 0) (turn_in_state state).row (with_vote plan m now (unwrap_or (epoch_of state) 0) (turn_in_state state).vote (with_failover core m (turn_in_state state).failover)))
   turn_by_state Idle e busy = absurd (busy refl)
   turn_by_state (WaitStart epoch) e busy = known (grants (book_of core m) epoch) refl
@@ -331,7 +331,7 @@ start_steps plan event m now core s inside idle = subst (λ (x : Failover). Step
     lt = within_core plan core m s inside
 
     runs : campaign_in (failover_of core m).state ≡ NoCampaign
-    runs = ap (λ (st : State). campaign_in st) idle
+    runs = ap (λ (st : FailoverState). campaign_in st) idle
 
     Q : Option Row → Failover → Type 0
     Q row f2 = StepsTo plan event 1 core (if is_some row then with_current (with_failover core m f2) (core.kept.current + 1) else with_failover core m f2)

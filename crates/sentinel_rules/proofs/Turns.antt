@@ -5,8 +5,8 @@ use Rattle.std.proofs.lemmas.List.{length-map}
 use Rattle.ballot_law.specs.declared.addresses.Addr.{Addr}
 use Rattle.ballot_law.specs.declared.addresses.RunId.{RunId}
 use Rattle.ballot_law.specs.declared.cards.Kept.{Kept}
-use Rattle.failover_states.specs.declared.states.State.{State}
-use Rattle.failover_states.specs.declared.states.State.TheVariants.{Idle, WaitStart, SelectReplica, SendPromotion, WaitPromotion, ReconfReplicas, UpdateConfig}
+use Rattle.failover_states.specs.declared.states.FailoverState.{FailoverState}
+use Rattle.failover_states.specs.declared.states.FailoverState.TheVariants.{Idle, WaitStart, SelectReplica, SendPromotion, WaitPromotion, ReconfReplicas, UpdateConfig}
 use Rattle.failover_states.specs.declared.states.Row.{Row}
 use Rattle.failover_states.specs.declared.replicas.Replica.{Replica}
 use Rattle.failover_states.specs.Calls.{epoch_of}
@@ -70,10 +70,10 @@ chosen_sound plan kept m epoch None f k s le b = s
 chosen_sound plan kept m epoch (Some best) f k s le b = record { replicas = s.replicas; epoch = le; choice = b }
 
 -- how a turn in a state begins: the orders of the turn before are over
-abbrev pub begun : State → Failover → Known → Failover
+abbrev pub begun : FailoverState → Failover → Known → Failover
 begun state f k = expiring state k.now (quieted (record f { state = state }))
 
-length-begun : (state : State) (f : Failover) (k : Known) (n : ℕ) → length f.replicas ≡ n → length (begun state f k).replicas ≡ n
+length-begun : (state : FailoverState) (f : Failover) (k : Known) (n : ℕ) → length f.replicas ≡ n → length (begun state f k).replicas ≡ n
 length-begun Idle f k n r = length-map f.replicas unordered ∙ r
 length-begun (WaitStart epoch) f k n r = length-map f.replicas unordered ∙ r
 length-begun (SelectReplica epoch) f k n r = length-map f.replicas unordered ∙ r
@@ -83,14 +83,14 @@ length-begun (ReconfReplicas epoch choice former) f k n r = length-map (map unor
 length-begun (UpdateConfig epoch choice) f k n r = length-map f.replicas unordered ∙ r
 
 -- where each row of the state leaves a sound one, the turn does
-rows_sound : (plan : Plan) (kept : Kept) (m : ℕ) (state : State) (g : Failover) (k : Known)
+rows_sound : (plan : Plan) (kept : Kept) (m : ℕ) (state : FailoverState) (g : Failover) (k : Known)
     → IsSoundFailover plan kept m g
     → Fits (λ row f. IsSoundFailover plan kept m f) (table state g k)
     → IsSoundFailover plan kept m (turn_in state g k).failover
 rows_sound plan kept m state g k same fits = turn_by (λ row f. IsSoundFailover plan kept m f) g (vote_of state k) (table state g k) same fits
 
 -- where a failover runs
-pub turn_sound : (plan : Plan) (kept : Kept) (m : ℕ) (state : State) (f : Failover) (k : Known)
+pub turn_sound : (plan : Plan) (kept : Kept) (m : ℕ) (state : FailoverState) (f : Failover) (k : Known)
     → length f.replicas ≡ length (nodes_of plan m)
     → IfSome (epoch_of state) (λ epoch. epoch ≤ kept.current)
     → IfSome (awaited state) (IsAwaited plan kept m)
@@ -102,16 +102,16 @@ turn_sound plan kept m state f k r le c b busy = sound state le c busy
     size : ℕ
     size = length (nodes_of plan m)
 
-    stays : (state : State) → IfSome (epoch_of state) (λ epoch. epoch ≤ kept.current) → IfSome (awaited state) (IsAwaited plan kept m) → IsSoundFailover plan kept m (record (begun state f k) { state = state })
+    stays : (state : FailoverState) → IfSome (epoch_of state) (λ epoch. epoch ≤ kept.current) → IfSome (awaited state) (IsAwaited plan kept m) → IsSoundFailover plan kept m (record (begun state f k) { state = state })
     stays state le c = record { replicas = length-begun state f k size r; epoch = le; choice = c }
 
-    enters : (state next : State) → IfSome (epoch_of next) (λ epoch. epoch ≤ kept.current) → IfSome (awaited next) (IsAwaited plan kept m) → IsSoundFailover plan kept m (entering next k.now (begun state f k))
+    enters : (state next : FailoverState) → IfSome (epoch_of next) (λ epoch. epoch ≤ kept.current) → IfSome (awaited next) (IsAwaited plan kept m) → IsSoundFailover plan kept m (entering next k.now (begun state f k))
     enters state next le c = record { replicas = length-begun state f k size r; epoch = le; choice = c }
 
-    ends : (state : State) → IsSoundFailover plan kept m (ended (begun state f k))
+    ends : (state : FailoverState) → IsSoundFailover plan kept m (ended (begun state f k))
     ends state = ended_sound plan kept m (begun state f k) (length-begun state f k size r)
 
-    sound : (state : State) → IfSome (epoch_of state) (λ epoch. epoch ≤ kept.current) → IfSome (awaited state) (IsAwaited plan kept m) → (state ≡ Idle → ⊥) → IsSoundFailover plan kept m (turn_in state (begun state f k) k).failover
+    sound : (state : FailoverState) → IfSome (epoch_of state) (λ epoch. epoch ≤ kept.current) → IfSome (awaited state) (IsAwaited plan kept m) → (state ≡ Idle → ⊥) → IsSoundFailover plan kept m (turn_in state (begun state f k) k).failover
     sound Idle le c busy = absurd (busy refl)
     sound (WaitStart epoch) le c busy =
         let here = WaitStart epoch in

@@ -6,8 +6,8 @@ use Rattle.ballot_law.specs.declared.events.Event.TheVariants.{Command as Comman
 use Rattle.ballot_law.specs.Ballots.{card_of}
 use Rattle.ballot_law.specs.VotesHeard.{kept_at}
 use Rattle.failover_states.specs.declared.states.Choice.{Choice}
-use Rattle.failover_states.specs.declared.states.State.{State}
-use Rattle.failover_states.specs.declared.states.State.TheVariants.{Idle, WaitStart, SelectReplica, SendPromotion, WaitPromotion, ReconfReplicas, UpdateConfig}
+use Rattle.failover_states.specs.declared.states.FailoverState.{FailoverState}
+use Rattle.failover_states.specs.declared.states.FailoverState.TheVariants.{Idle, WaitStart, SelectReplica, SendPromotion, WaitPromotion, ReconfReplicas, UpdateConfig}
 use Rattle.failover_states.specs.Calls.{epoch_of}
 use Rattle.resp2.specs.Commands.{IsWithin}
 use Rattle.sentinel_conf.specs.Facts.{IsSoundConf}
@@ -22,7 +22,7 @@ pub record IsSoundPlan (plan : Plan) : Type 0 where
   pub own : me plan ≡ plan.conf.id
 
 -- the replica that is to be promoted, until it is the configuration
-abbrev pub awaited : State → Option Choice
+abbrev pub awaited : FailoverState → Option Choice
 awaited Idle = None
 awaited (WaitStart epoch) = None
 awaited (SelectReplica epoch) = None

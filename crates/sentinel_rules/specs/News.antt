@@ -19,8 +19,8 @@ use Rattle.ballot_law.specs.Rosters.{master_named}
 use Rattle.ballot_law.specs.Watches.{after_reply, after_role, after_change}
 use Rattle.ballot_law.specs.Reports.{with_report, without_reports}
 use Rattle.ballot_law.specs.VotesHeard.{with_hearing}
-use Rattle.failover_states.specs.declared.states.State.{State}
-use Rattle.failover_states.specs.declared.states.State.TheVariants.{Idle, WaitStart, SelectReplica, SendPromotion, WaitPromotion, ReconfReplicas, UpdateConfig}
+use Rattle.failover_states.specs.declared.states.FailoverState.{FailoverState}
+use Rattle.failover_states.specs.declared.states.FailoverState.TheVariants.{Idle, WaitStart, SelectReplica, SendPromotion, WaitPromotion, ReconfReplicas, UpdateConfig}
 use Rattle.failover_states.specs.Failovers.{ended}
 use Rattle.failover_states.specs.Calls.{promoted, reconfigured}
 use Rattle.node_texts.specs.declared.faults.TextFault.{TextFault}
@@ -152,7 +152,7 @@ abbrev pub with_info : (now : ℕ) → Info → NodeState → NodeState
 with_info now info node = record node { info = Some info; info_at = Some now; watch = after_role now info.role node.watch }
 
 -- the chosen replica says that it is the master: the campaign's epoch and its address are the configuration
-abbrev pub promotion : (m k now : ℕ) → Info → State → Core → Part
+abbrev pub promotion : (m k now : ℕ) → Info → FailoverState → Core → Part
 promotion m k now info (WaitPromotion epoch choice former) core =
     part_if
     ((k == choice.place) && is_master_role info.role)
@@ -230,7 +230,7 @@ correction plan m k now info core =
     (with_node core m k (record (node_of core m k) { wrong_role = anew role_told now wrong.role; wrong_address = anew address_told now wrong.address }))
     (frame_if (if role_told then true else address_told) (FollowTo (node_name plan m k) m))
 
-abbrev pub is_reconfiguring : State → Bool
+abbrev pub is_reconfiguring : FailoverState → Bool
 is_reconfiguring Idle = false
 is_reconfiguring (WaitStart epoch) = false
 is_reconfiguring (SelectReplica epoch) = false

@@ -12,8 +12,8 @@ use Rattle.ballot_law.specs.Reports.{is_odown_by, kept_at}
 use Rattle.ballot_law.specs.Rosters.{MasterPlan, master_at}
 use Rattle.ballot_law.specs.Tilts.{Turned, opened_clock}
 use Rattle.ballot_law.specs.Watches.{Watched, opened_at, down_since_of}
-use Rattle.failover_states.specs.declared.states.State.{State}
-use Rattle.failover_states.specs.declared.states.State.TheVariants.{Idle, WaitStart, SelectReplica, SendPromotion, WaitPromotion, ReconfReplicas, UpdateConfig}
+use Rattle.failover_states.specs.declared.states.FailoverState.{FailoverState}
+use Rattle.failover_states.specs.declared.states.FailoverState.TheVariants.{Idle, WaitStart, SelectReplica, SendPromotion, WaitPromotion, ReconfReplicas, UpdateConfig}
 use Rattle.failover_states.specs.Failovers.{Failover}
 use Rattle.failover_states.specs.Replicas.{untouched}
 use Rattle.sentinel_rules.specs.Plans.{Plan, roster_of, group_size, settings_at, node_place}
@@ -128,7 +128,7 @@ failover_of core m = (master_of core m).failover
 abbrev pub card_place : Plan → Core → (m : ℕ) → ℕ
 card_place plan core m = node_place plan m (card_of core.kept m).addr
 
-abbrev pub is_idle : State → Bool
+abbrev pub is_idle : FailoverState → Bool
 is_idle Idle = Bool.true
 is_idle (WaitStart epoch) = false
 is_idle (SelectReplica epoch) = false

@@ -7,15 +7,15 @@ use Rattle.ballot_law.specs.declared.records.Win.{Win}
 use Rattle.ballot_law.specs.Ballots.{Campaign, Idle as NoCampaign, Running, Won, Chosen, OpenMaster, Parts, Ballot, Moved, vote, open_of, restored}
 use Rattle.ballot_law.specs.VotesHeard.{kept_at}
 use Rattle.ballot_law.specs.Worlds.{IsRightOutput}
-use Rattle.failover_states.specs.declared.states.State.{State}
-use Rattle.failover_states.specs.declared.states.State.TheVariants.{Idle, WaitStart, SelectReplica, SendPromotion, WaitPromotion, ReconfReplicas, UpdateConfig}
+use Rattle.failover_states.specs.declared.states.FailoverState.{FailoverState}
+use Rattle.failover_states.specs.declared.states.FailoverState.TheVariants.{Idle, WaitStart, SelectReplica, SendPromotion, WaitPromotion, ReconfReplicas, UpdateConfig}
 use Rattle.sentinel_rules.specs.Plans.{Plan, roster_of}
 use Rattle.sentinel_rules.specs.States.{Core, MasterState, master_of, opened}
 use Rattle.sentinel_rules.specs.Takes.{next}
 use Rattle.sentinel_rules.specs.Facts.{IsSoundPlan, IsSound, IsWithinEvent}
 
 -- what a failover is to the model
-abbrev pub campaign_in : State → Campaign
+abbrev pub campaign_in : FailoverState → Campaign
 campaign_in Idle = NoCampaign
 campaign_in (WaitStart epoch) = Running epoch
 campaign_in (SelectReplica epoch) = Won epoch

@@ -22,8 +22,8 @@ use Rattle.ballot_law.specs.Hellos.{hello_text}
 use Rattle.ballot_law.specs.Rosters.{need}
 use Rattle.ballot_law.specs.VotesHeard.{own_votes}
 use Rattle.failover_states.specs.declared.states.Choice.{Choice}
-use Rattle.failover_states.specs.declared.states.State.{State}
-use Rattle.failover_states.specs.declared.states.State.TheVariants.{Idle, WaitStart, SelectReplica, SendPromotion, WaitPromotion, ReconfReplicas, UpdateConfig}
+use Rattle.failover_states.specs.declared.states.FailoverState.{FailoverState}
+use Rattle.failover_states.specs.declared.states.FailoverState.TheVariants.{Idle, WaitStart, SelectReplica, SendPromotion, WaitPromotion, ReconfReplicas, UpdateConfig}
 use Rattle.node_texts.specs.declared.faults.TextFault.TheVariants.{FieldCount, EpochTooLarge}
 use Rattle.node_texts.specs.Hellos.{hello_of}
 use Rattle.sentinel_conf.specs.declared.settings.Settings.{Settings}
@@ -341,7 +341,7 @@ failover_plan = group_plan (kept_at_epoch 0)
 abbrev pub failing_at : (now : ℕ) → Core
 failing_at now = core_of failover_plan (filter (λ (input : ℕ × Event). nat_le input.0 now) failover_inputs)
 
-abbrev pub state_at : (now : ℕ) → State
+abbrev pub state_at : (now : ℕ) → FailoverState
 state_at now = (failover_of (failing_at now) 0).state
 
 abbrev pub second_replica : Choice

@@ -4,8 +4,8 @@ use Rattle.std.specs.Prelude.{IfSome, unwrap_or}
 use Rattle.std.proofs.Math.ListN.{length-set}
 use Rattle.ballot_law.specs.declared.addresses.Addr.{Addr}
 use Rattle.ballot_law.specs.declared.addresses.RunId.{RunId}
-use Rattle.failover_states.specs.declared.states.State.{State}
-use Rattle.failover_states.specs.declared.states.State.TheVariants.{Idle, WaitStart, SelectReplica, SendPromotion, WaitPromotion, ReconfReplicas, UpdateConfig}
+use Rattle.failover_states.specs.declared.states.FailoverState.{FailoverState}
+use Rattle.failover_states.specs.declared.states.FailoverState.TheVariants.{Idle, WaitStart, SelectReplica, SendPromotion, WaitPromotion, ReconfReplicas, UpdateConfig}
 use Rattle.failover_states.specs.declared.states.Row.{Row}
 use Rattle.failover_states.specs.declared.replicas.Replica.{Replica}
 use Rattle.failover_states.specs.Calls.{choice_of, promoted, reconfigured}
@@ -33,7 +33,7 @@ mapped change xs h = omega (arith, h, length-map-any change xs)
 pub few_ended : (f : Failover) → HasFewPlaces f → HasFewPlaces (ended f)
 few_ended f h = (mapped forgotten f.replicas h.0, omega arith)
 
-pub few_promoted : (state : State) (f : Failover) → unwrap_or (choice_of state) 0 ≤ 256 → HasFewPlaces f → HasFewPlaces (promoted state f)
+pub few_promoted : (state : FailoverState) (f : Failover) → unwrap_or (choice_of state) 0 ≤ 256 → HasFewPlaces f → HasFewPlaces (promoted state f)
 few_promoted Idle f c h = h
 few_promoted (WaitStart epoch) f c h = h
 few_promoted (SelectReplica epoch) f c h = h
@@ -42,7 +42,7 @@ few_promoted (WaitPromotion epoch choice former) f c h = (mapped forgotten f.rep
 few_promoted (ReconfReplicas epoch choice former) f c h = h
 few_promoted (UpdateConfig epoch choice) f c h = h
 
-pub few_reconfigured : (state : State) (f : Failover) (place : ℕ) → HasFewPlaces f → HasFewPlaces (reconfigured state f place)
+pub few_reconfigured : (state : FailoverState) (f : Failover) (place : ℕ) → HasFewPlaces f → HasFewPlaces (reconfigured state f place)
 few_reconfigured Idle f place h = h
 few_reconfigured (WaitStart epoch) f place h = h
 few_reconfigured (SelectReplica epoch) f place h = h
@@ -69,7 +69,7 @@ few_chosen : (epoch : ℕ) (best : Option (ℕ × Addr)) (f : Failover) (k : Kno
 few_chosen epoch None f k b h = h
 few_chosen epoch (Some best) f k b h = (h.0, b)
 
-few_in : (state : State) (f : Failover) (k : Known) → IfSome k.best (λ b. b.0 ≤ 256) → unwrap_or (choice_of state) 0 ≤ 256 → HasFewPlaces f → HasFewPlaces (turn_in state f k).failover
+few_in : (state : FailoverState) (f : Failover) (k : Known) → IfSome k.best (λ b. b.0 ≤ 256) → unwrap_or (choice_of state) 0 ≤ 256 → HasFewPlaces f → HasFewPlaces (turn_in state f k).failover
 few_in Idle f k b c h = first_few f (vote_of Idle k) (table Idle f k) h ((h.0, omega arith), tt)
 few_in (WaitStart epoch) f k b c h =
     first_few f (vote_of (WaitStart epoch) k) (table (WaitStart epoch) f k) h ((h.0, omega arith), (few_ended f h, (h, tt)))
@@ -88,7 +88,7 @@ few_in (ReconfReplicas epoch choice former) f k b c h =
 few_in (UpdateConfig epoch choice) f k b c h =
     first_few f (vote_of (UpdateConfig epoch choice) k) (table (UpdateConfig epoch choice) f k) h (few_ended f h, tt)
 
-few_expiring : (state : State) (now : ℕ) (f : Failover) → HasFewPlaces f → HasFewPlaces (expiring state now f)
+few_expiring : (state : FailoverState) (now : ℕ) (f : Failover) → HasFewPlaces f → HasFewPlaces (expiring state now f)
 few_expiring Idle now f h = h
 few_expiring (WaitStart epoch) now f h = h
 few_expiring (SelectReplica epoch) now f h = h

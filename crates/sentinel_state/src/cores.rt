@@ -11,7 +11,7 @@ ghost use Rattle.sentinel_rules.specs.Plans.{roster_of, group_size, master_count
 use crate::masters::Master;
 use ballot_law::{Addr, Card, Info, Kept, KeptMaster, KeptMasters, NoMemory, RunId, Win};
 use down_detector::{Tilt, is_odown};
-use failover_states::State as Stage;
+use failover_states::FailoverState;
 use std::alloc::{AllocError, Global};
 use std::marker::Model;
 use std::mem;
@@ -95,17 +95,17 @@ fn opened_kept(alloc: Global, plan: &Plan) -> Result<Kept, AllocError>
 }
 
 /// Whether no failover is under way.
-fn is_idle(stage: Stage) -> bool
+fn is_idle(stage: FailoverState) -> bool
     ensures { result ≡ is_idle stage }
 {
     match stage {
-        Stage::Idle => true,
-        Stage::WaitStart { .. } => false,
-        Stage::SelectReplica { .. } => false,
-        Stage::SendPromotion { .. } => false,
-        Stage::WaitPromotion { .. } => false,
-        Stage::ReconfReplicas { .. } => false,
-        Stage::UpdateConfig { .. } => false,
+        FailoverState::Idle => true,
+        FailoverState::WaitStart { .. } => false,
+        FailoverState::SelectReplica { .. } => false,
+        FailoverState::SendPromotion { .. } => false,
+        FailoverState::WaitPromotion { .. } => false,
+        FailoverState::ReconfReplicas { .. } => false,
+        FailoverState::UpdateConfig { .. } => false,
     }
 }
 

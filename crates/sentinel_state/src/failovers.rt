@@ -12,7 +12,7 @@ ghost use Rattle.sentinel_rules.specs.Ticks.{campaign_epoch};
 
 use crate::cores::Core;
 use crate::masters::Master;
-use failover_states::{Act, Facts, State as Stage};
+use failover_states::{Act, Facts, FailoverState};
 
 impl Master {
     /// The failover takes the first row that fits.
@@ -44,12 +44,12 @@ impl Master {
 
 impl Core {
     /// How far the failover of a master has come.
-    pub fn stage(&self, m: u16) -> Stage
+    pub fn stage(&self, m: u16) -> FailoverState
         ensures { result ≡ (failover_of self.now m).state }
     {
         match self.masters.get(m as usize) {
             Some(master) => master.failover.state(),
-            None => Stage::Idle,
+            None => FailoverState::Idle,
         }
     }
 

@@ -2,8 +2,8 @@
 use Rattle.std.proofs.Common.{◌≡◌, ℕ, true, Option, Some, None, [], ◌∷◌, refl, ap}
 use Rattle.std.specs.Prelude.{is_some}
 use Rattle.ballot_law.specs.declared.addresses.Addr.{Addr}
-use Rattle.failover_states.specs.declared.states.State.{State}
-use Rattle.failover_states.specs.declared.states.State.TheVariants.{Idle, WaitStart, SelectReplica, SendPromotion, WaitPromotion, ReconfReplicas, UpdateConfig}
+use Rattle.failover_states.specs.declared.states.FailoverState.{FailoverState}
+use Rattle.failover_states.specs.declared.states.FailoverState.TheVariants.{Idle, WaitStart, SelectReplica, SendPromotion, WaitPromotion, ReconfReplicas, UpdateConfig}
 use Rattle.failover_states.specs.declared.states.Row.TheVariants.{ReplicaChosen, NoReplica}
 use Rattle.failover_states.specs.Failovers.{Failover, ended}
 use Rattle.failover_states.specs.Known.{Known}
@@ -14,7 +14,7 @@ chosen_looked : (epoch : ℕ) (best : Option (ℕ × Addr)) (f : Failover) (k : 
 chosen_looked epoch None f k = refl
 chosen_looked epoch (Some best) f k = refl
 
-in_state : (state : State) (f : Failover) (k : Known) → turn_in state f (looked_at state k) ≡ turn_in state f k
+in_state : (state : FailoverState) (f : Failover) (k : Known) → turn_in state f (looked_at state k) ≡ turn_in state f k
 in_state Idle f k = refl
 in_state (WaitStart epoch) f k = refl
 in_state (SelectReplica epoch) f k =

@@ -1,8 +1,8 @@
 -- Where a failover starts, an epoch is left for its campaign.
 use Rattle.std.proofs.Common.{◌≡◌, ℕ, ◌*◌, Bool, true, false, Option, None, sym, ap, subst}
 use Rattle.std.specs.Prelude.{is_some, not}
-use Rattle.failover_states.specs.declared.states.State.{State}
-use Rattle.failover_states.specs.declared.states.State.TheVariants.{Idle}
+use Rattle.failover_states.specs.declared.states.FailoverState.{FailoverState}
+use Rattle.failover_states.specs.declared.states.FailoverState.TheVariants.{Idle}
 use Rattle.failover_states.specs.declared.states.Row.{Row}
 use Rattle.failover_states.specs.Failovers.{Failover}
 use Rattle.failover_states.specs.Known.{Known}
@@ -36,5 +36,5 @@ start_opens plan core m now idle = from (failover_of core m) (idle_is (failover_
 
     from : (f : Failover) → f.state ≡ Idle → is_some (turned f k).row ≡ true → can_open (book_of core m) ≡ true
     from f e =
-        let same : f ≡ record f { state = Idle } = ap (λ (state : State). let x : Failover = record f { state = state } in x) e in
+        let same : f ≡ record f { state = Idle } = ap (λ (state : FailoverState). let x : Failover = record f { state = state } in x) e in
         subst (λ (g : Failover). is_some (turned g k).row ≡ true → can_open (book_of core m) ≡ true) (sym same) (from_idle f)

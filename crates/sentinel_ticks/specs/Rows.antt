@@ -2,8 +2,8 @@
 use Rattle.std.specs.Prelude.{Bool, true, false, Option, Some, None, [], if◌then◌else◌}
 use Rattle.failover_states.specs.declared.states.Row.{Row}
 use Rattle.failover_states.specs.declared.states.Row.TheVariants.{Promote}
-use Rattle.failover_states.specs.declared.states.State.{State}
-use Rattle.failover_states.specs.declared.states.State.TheVariants.{Idle, WaitStart, SelectReplica, SendPromotion, WaitPromotion, ReconfReplicas, UpdateConfig}
+use Rattle.failover_states.specs.declared.states.FailoverState.{FailoverState}
+use Rattle.failover_states.specs.declared.states.FailoverState.TheVariants.{Idle, WaitStart, SelectReplica, SendPromotion, WaitPromotion, ReconfReplicas, UpdateConfig}
 use Rattle.failover_states.specs.Known.{Known}
 
 -- the choice is to be told that it is the master
@@ -12,7 +12,7 @@ is_promotion (Some Promote) = true
 is_promotion _ = false
 
 -- the rows of this state look at the votes heard
-abbrev pub looks_at_votes : State → Bool
+abbrev pub looks_at_votes : FailoverState → Bool
 looks_at_votes Idle = false
 looks_at_votes (WaitStart epoch) = true
 looks_at_votes (SelectReplica epoch) = false
@@ -22,7 +22,7 @@ looks_at_votes (ReconfReplicas epoch choice former) = false
 looks_at_votes (UpdateConfig epoch choice) = false
 
 -- the rows of this state look at the best replica
-abbrev pub looks_at_best : State → Bool
+abbrev pub looks_at_best : FailoverState → Bool
 looks_at_best Idle = false
 looks_at_best (WaitStart epoch) = false
 looks_at_best (SelectReplica epoch) = true
@@ -32,7 +32,7 @@ looks_at_best (ReconfReplicas epoch choice former) = false
 looks_at_best (UpdateConfig epoch choice) = false
 
 -- the rows of this state look at the nodes: which of them are down, and which one the configuration names
-abbrev pub looks_at_nodes : State → Bool
+abbrev pub looks_at_nodes : FailoverState → Bool
 looks_at_nodes Idle = false
 looks_at_nodes (WaitStart epoch) = false
 looks_at_nodes (SelectReplica epoch) = false
@@ -42,7 +42,7 @@ looks_at_nodes (ReconfReplicas epoch choice former) = true
 looks_at_nodes (UpdateConfig epoch choice) = false
 
 -- the facts with nothing in those that the rows of this state don't look at
-abbrev pub looked_at : State → Known → Known
+abbrev pub looked_at : FailoverState → Known → Known
 looked_at state k =
     record k {
       pick = if looks_at_votes state then k.pick else k.me;

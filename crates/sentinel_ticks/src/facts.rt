@@ -8,7 +8,7 @@ ghost use Rattle.sentinel_rules.specs.Ticks.{candidate_of, candidates_of, at_pla
 ghost use Rattle.sentinel_ticks.specs.Rows.{looks_at_votes, looks_at_best, looks_at_nodes};
 
 use ballot_law::{Addr, RunId, clock_of};
-use failover_states::State as Stage;
+use failover_states::FailoverState;
 use replica_choice::{Candidate, Limits, choose};
 use sentinel_state::State;
 use std::marker::Model;
@@ -45,26 +45,26 @@ impl Model for DownPlaces {
 }
 
 /// Whether the rows of this state look at the votes heard.
-fn looks_at_votes(stage: Stage) -> bool
+fn looks_at_votes(stage: FailoverState) -> bool
     ensures { result ≡ looks_at_votes stage }
 {
-    matches!(stage, Stage::WaitStart { .. })
+    matches!(stage, FailoverState::WaitStart { .. })
 }
 
 /// Whether the rows of this state look at the best replica.
-fn looks_at_best(stage: Stage) -> bool
+fn looks_at_best(stage: FailoverState) -> bool
     ensures { result ≡ looks_at_best stage }
 {
-    matches!(stage, Stage::SelectReplica { .. })
+    matches!(stage, FailoverState::SelectReplica { .. })
 }
 
 /// Whether the rows of this state look at the nodes: which of them are down, and which one the configuration names.
-fn looks_at_nodes(stage: Stage) -> bool
+fn looks_at_nodes(stage: FailoverState) -> bool
     ensures { result ≡ looks_at_nodes stage }
 {
     matches!(
         stage,
-        Stage::SendPromotion { .. } | Stage::ReconfReplicas { .. }
+        FailoverState::SendPromotion { .. } | FailoverState::ReconfReplicas { .. }
     )
 }
 
@@ -160,7 +160,7 @@ fn down_places(state: &State, m: u16, now: u64) -> DownPlaces
 }
 
 /// The pick of the votes heard, where the rows of this state look at it.
-pub(crate) fn pick_for(state: &State, m: u16, epoch: u64, stage: Stage) -> RunId
+pub(crate) fn pick_for(state: &State, m: u16, epoch: u64, stage: FailoverState) -> RunId
     ensures { result ≡ (if looks_at_votes stage then pick_of state.now.plan state.now.core m epoch else me state.now.plan) }
 {
     if looks_at_votes(stage) {
@@ -171,7 +171,7 @@ pub(crate) fn pick_for(state: &State, m: u16, epoch: u64, stage: Stage) -> RunId
 }
 
 /// How many votes heard are for this Sentinel, where the rows of this state look at it.
-pub(crate) fn count_for(state: &State, m: u16, epoch: u64, stage: Stage) -> u32
+pub(crate) fn count_for(state: &State, m: u16, epoch: u64, stage: FailoverState) -> u32
     ensures { result ≡ (if looks_at_votes stage then count_of state.now.plan state.now.core m epoch else 0) }
 {
     if looks_at_votes(stage) {
@@ -183,7 +183,7 @@ pub(crate) fn count_for(state: &State, m: u16, epoch: u64, stage: Stage) -> u32
 
 /// The best replica, where the rows of this state look at it.
 #[tactic(auto, using(crate::proofs::FewBest::best_few))]
-pub(crate) fn best_for(state: &State, m: u16, now: u64, stage: Stage) -> Option<(u16, Addr)>
+pub(crate) fn best_for(state: &State, m: u16, now: u64, stage: FailoverState) -> Option<(u16, Addr)>
     ensures value { result ≡ (if looks_at_best stage then best_of state.now.plan state.now.core m (clock now) else None) }
     ensures few { IfSome result (λ best. best.0 ≤ 256) }
 {
@@ -196,7 +196,7 @@ pub(crate) fn best_for(state: &State, m: u16, now: u64, stage: Stage) -> Option<
 }
 
 /// The place of the node that the configuration names, where the rows of this state look at it.
-pub(crate) fn card_place_for(state: &State, m: u16, stage: Stage) -> u16
+pub(crate) fn card_place_for(state: &State, m: u16, stage: FailoverState) -> u16
     ensures { result ≡ (if looks_at_nodes stage then card_place state.now.plan state.now.core m else 0) }
 {
     if looks_at_nodes(stage) {
@@ -207,7 +207,7 @@ pub(crate) fn card_place_for(state: &State, m: u16, stage: Stage) -> u16
 }
 
 /// Which data nodes are subjectively down, where the rows of this state look at it.
-pub(crate) fn down_for_rows(state: &State, m: u16, now: u64, stage: Stage) -> DownPlaces
+pub(crate) fn down_for_rows(state: &State, m: u16, now: u64, stage: FailoverState) -> DownPlaces
     ensures { result ≡ (if looks_at_nodes stage then at_places (is_node_down state.now.plan state.now.core m (clock now)) 0 (length (nodes_of state.now.plan m)) else []) }
 {
     if looks_at_nodes(stage) {

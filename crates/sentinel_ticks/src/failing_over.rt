@@ -16,7 +16,7 @@ ghost use Rattle.sentinel_ticks.specs.Rows.{is_promotion, looked_at};
 
 use crate::facts::{best_for, card_place_for, count_for, down_for_rows, pick_for};
 use ballot_law::Win;
-use failover_states::{Act, Facts, Row, State as Stage};
+use failover_states::{Act, Facts, FailoverState, Row};
 use sentinel_rules::Frame;
 use sentinel_state::{Core, Plan, State};
 use watched_nodes::FrameList;
@@ -87,7 +87,7 @@ fn facts<'a>(
     m: u16,
     now: u64,
     odown: bool,
-    stage: Stage,
+    stage: FailoverState,
     down: &'a [bool],
 ) -> Facts<'a>
     requires plan { m < master_count state.now.plan }

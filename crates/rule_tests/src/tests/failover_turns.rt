@@ -1,7 +1,7 @@
 //! The turns of a failover, row by row.
 
 use ballot_law::{Addr, Card, MAX_EPOCH, RunId};
-use failover_states::{Facts, Failover, Row, State};
+use failover_states::{Facts, Failover, FailoverState, Row};
 use std::test::Fail;
 
 const ME: RunId = RunId { hi: 10, lo: 1 };
@@ -52,7 +52,7 @@ fn promote(failover: &mut Failover, facts: &Facts, from: u64) {
 fn a_failover_goes_through_its_states(rt: HostRuntime) -> Result<(), Fail> {
     let mut failover = Failover::new(rt.alloc(), 3)?;
     let mut known = facts(1_000, 3_000, &UP);
-    assert!(rt; failover.state() == State::Idle);
+    assert!(rt; failover.state() == FailoverState::Idle);
     assert!(rt; failover.turn(&known).row == Some(Row::StartFailover));
     assert!(rt; failover.epoch() == Some(5));
     known.current = 5;
@@ -84,7 +84,7 @@ fn a_failover_goes_through_its_states(rt: HostRuntime) -> Result<(), Fail> {
     assert!(rt; failover.turn(&known).row == Some(Row::ReconfDone));
     assert!(rt; failover.epoch() == Some(5));
     assert!(rt; failover.turn(&known).row == Some(Row::ConfigUpdated));
-    assert!(rt; failover.state() == State::Idle);
+    assert!(rt; failover.state() == FailoverState::Idle);
     assert!(rt; failover.epoch() == None);
     Ok(())
 }
@@ -124,7 +124,7 @@ fn awaits_votes_for_no_longer_than_the_timeout(rt: HostRuntime) -> Result<(), Fa
     failover.turn(&facts(1_000, 3_000, &UP));
     assert!(rt; failover.turn(&facts(4_000, 3_000, &UP)).row == Some(Row::AwaitVotes));
     assert!(rt; failover.turn(&facts(4_001, 3_000, &UP)).row == Some(Row::ElectionTimeout));
-    assert!(rt; failover.state() == State::Idle);
+    assert!(rt; failover.state() == FailoverState::Idle);
     Ok(())
 }
 
@@ -172,7 +172,7 @@ fn with_no_replica_to_promote_the_failover_is_aborted(rt: HostRuntime) -> Result
     assert!(rt; failover.turn(&known).row == Some(Row::StartFailover));
     assert!(rt; failover.turn(&known).row == Some(Row::Elected));
     assert!(rt; failover.turn(&known).row == Some(Row::NoReplica));
-    assert!(rt; failover.state() == State::Idle);
+    assert!(rt; failover.state() == FailoverState::Idle);
     Ok(())
 }
 
@@ -189,7 +189,7 @@ fn waits_for_a_choice_that_is_down(rt: HostRuntime) -> Result<(), Fail> {
     assert!(rt; failover.turn(&known).row == Some(Row::AwaitChoice));
     known.now = 4_001;
     assert!(rt; failover.turn(&known).row == Some(Row::ChoiceTimeout));
-    assert!(rt; failover.state() == State::Idle);
+    assert!(rt; failover.state() == FailoverState::Idle);
     Ok(())
 }
 
@@ -209,7 +209,7 @@ fn waits_for_the_promotion(rt: HostRuntime) -> Result<(), Fail> {
     known.now = 12_001;
     assert!(rt; failover.turn(&known).row == Some(Row::PromotionTimeout));
     assert!(rt; failover.promoted() == None);
-    assert!(rt; failover.state() == State::Idle);
+    assert!(rt; failover.state() == FailoverState::Idle);
     Ok(())
 }
 
@@ -286,7 +286,7 @@ fn a_newer_configuration_ends_the_failover(rt: HostRuntime) -> Result<(), Fail> 
     let known = facts(21_000, 3_000, &UP);
     promote(&mut failover, &known, 20_000);
     failover.end();
-    assert!(rt; failover.state() == State::Idle);
+    assert!(rt; failover.state() == FailoverState::Idle);
     assert!(rt; failover.choice() == None);
     assert!(rt; failover.promoted() == None);
     Ok(())

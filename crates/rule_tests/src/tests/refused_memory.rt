@@ -4,7 +4,7 @@
 use ballot_law::{Addr, Member, Name, Roster, RosterFault, RunId, Watched};
 use client_queries::{Move, Quest, QuestFault};
 use down_detector::{DownReports, is_odown};
-use failover_states::{Failover, State};
+use failover_states::{Failover, FailoverState};
 use std::alloc::{AllocError, Global};
 use std::test::Fail;
 use vote_book::Heard;
@@ -44,7 +44,7 @@ fn failover_is_idle(alloc: Global) -> Result<bool, AllocError> {
     let Ok(failover) = Failover::new(alloc, 3) else {
         return Err(AllocError);
     };
-    Ok(failover.state() == State::Idle)
+    Ok(failover.state() == FailoverState::Idle)
 }
 
 /// Whether a search asks its first Sentinel first.

@@ -1,7 +1,7 @@
 use Rattle.std.proofs.Common.{◌≡◌, ◌<◌, ◌⊎◌, inl, inr, Err, Ok, List, length, ap, sym, subst, ◌∙◌}
 use Rattle.ballot_law.specs.declared.rosters.Member.{Member}
 use Rattle.ballot_law.specs.Orders.{same_id}
-use Rattle.ballot_law.specs.Rosters.{Roster as RosterPlan, no_member}
+use Rattle.ballot_law.specs.Rosters.{Roster, no_member}
 use Rattle.std.specs.Prelude.{slice_index_or}
 use Rattle.sentinel_conf.specs.Reading.{conf_of_bytes}
 use Rattle.conf_lines.specs.Faults.{no_memory}
@@ -39,7 +39,7 @@ place_of-place-requires-clause-known c =
     let parts = c.in-Ok.parts in
     let reads : conf_of_bytes c.args.bytes.now ≡ Ok parts =
     of_text c.args.bytes.now c.if-bytes-gt-FILE_MAX.false c.in_default.ensures.cases.1 ∙ c.in-Ok.ensures ∙ sized_under parts c.in_default-check_size.ensures in
-    let members : c.sentinels.result.now ≡ parts.roster.sentinels = c.sentinels.ensures ∙ ap (λ (r : RosterPlan). r.sentinels) c.roster.ensures in
+    let members : c.sentinels.result.now ≡ parts.roster.sentinels = c.sentinels.ensures ∙ ap (λ (r : Roster). r.sentinels) c.roster.ensures in
     any_some (λ (member : Member). same_id c.id.result member.id) c.sentinels.result.now (own parts)
     (subst (In (own parts)) (sym members) (conf_is c.args.bytes.now parts reads).own)
     (ap (λ i. same_id i parts.id) c.id.ensures ∙ id_same.of_equal parts.id)
@@ -49,7 +49,7 @@ invariant_of-result c =
     let parts = c.in-Ok.parts in
     let reads : conf_of_bytes c.args.bytes.now ≡ Ok parts =
     of_text c.args.bytes.now c.if-bytes-gt-FILE_MAX.false c.in_default.ensures.cases.1 ∙ c.in-Ok.ensures ∙ sized_under parts c.in_default-check_size.ensures in
-    let members : c.sentinels.result.now ≡ parts.roster.sentinels = c.sentinels.ensures ∙ ap (λ (r : RosterPlan). r.sentinels) c.roster.ensures in
+    let members : c.sentinels.result.now ≡ parts.roster.sentinels = c.sentinels.ensures ∙ ap (λ (r : Roster). r.sentinels) c.roster.ensures in
     let place = c.place_of-place.result in (
       record { bytes = c.args.bytes.now; reads = reads },
       subst (λ (ms : List Member). place < length ms) members c.place_of-place.ensures.place,

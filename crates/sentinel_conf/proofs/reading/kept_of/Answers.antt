@@ -1,13 +1,13 @@
 use Rattle.std.proofs.Common.{List, ℕ, map, ap, ◌∙◌}
 use Rattle.std.specs.List.{filter_map}
-use Rattle.ballot_law.specs.declared.cards.Kept.{Kept as KeptPlan}
+use Rattle.ballot_law.specs.declared.cards.Kept.{Kept}
 use Rattle.ballot_law.specs.declared.cards.KeptMaster.{KeptMaster}
 use Rattle.conf_lines.specs.Values.{epoch_of}
 use Rattle.sentinel_conf.specs.Meaning.{greatest, kept_master_of}
 use Rattle.sentinel_conf.proofs.reading.kept_of.Goals as goal
 
 -- what the state lines hold, by its two values
-abbrev kept_with : ℕ → List KeptMaster → KeptPlan
+abbrev kept_with : ℕ → List KeptMaster → Kept
 kept_with current masters = record { current = current; masters = masters }
 
 pub returns : goal.returns

@@ -1,5 +1,5 @@
 use Rattle.std.proofs.Common.{◌≡◌, ◌++◌, ap, sym, subst, ◌∙◌}
-use Rattle.ballot_law.specs.declared.cards.Kept.{Kept as KeptPlan}
+use Rattle.ballot_law.specs.declared.cards.Kept.{Kept}
 use Rattle.sentinel_conf.specs.Meaning.{ConfPlan}
 use Rattle.ballot_law.specs.Cuts.{lines}
 use Rattle.sentinel_conf.specs.Rewritten.{text_of, state_lines, rewritten}
@@ -12,7 +12,7 @@ pub returns : goal.returns
 returns c =
     let i = c.self.inside in
     let out = c.args.out.now in
-    let kept : KeptPlan = record { current = c.args.current; masters = c.args.masters.now } in
+    let kept : Kept = record { current = c.args.current; masters = c.args.masters.now } in
     let seen : ConfPlan = record { kept_lines = lines i.kept_lines.items; roster = i.roster; id = i.id; port = i.port; settings = i.settings.items; kept = i.kept } in
     let states = state_lines seen kept in
     subst (λ t. bounded c.add_file.new.out ≡ bounded (out ++ rewritten t kept)) c.self.view_is
