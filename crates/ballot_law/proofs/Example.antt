@@ -26,7 +26,7 @@ use Rattle.ballot_law.specs.Messages.{Vote, passed_on, hello_handed}
 use Rattle.ballot_law.specs.Ballots.{Raise, Open, Cast, Hear, Win_at, Choose, Enact, Adopt, ShowsCard, kept_of, card_of, voted_of, candidate_of}
 use Rattle.ballot_law.specs.Worlds.{Ready, Sentinel, World, sentinel_at, Choice, IsChoice, started, after_stop, after_answer, IsPassable, Run}
 use Rattle.ballot_law.specs.Law.{IsWellFormed, IsFreshOther, IsStart, FailoverHappens}
-use Rattle.ballot_law.proofs.Scripts.{choose, take_as, store_as, release_as, start_as, other_takes, other_stores, other_speaks, message, event_from, becomes, IsCard, held_none, held_one}
+use Rattle.ballot_law.proofs.Scripts.{choose, take_as, store_as, release_as, start_as, other_takes, other_stores, other_speaks, message, event_from, becomes, IsCard, held_none, held_one, only_first}
 
 abbrev addr : ℕ → Addr
 addr port = record { ip = 2130706433; port = port }
@@ -330,18 +330,14 @@ starts =
     no_candidate : (i m : ℕ) {c : RunId} → i < 3 → (kept_of (sentinel_at begin i).file m).candidate ≡ Some c → ⊥
     no_candidate i m {c} l e = none_of m c (subst (λ (s : Sentinel). (kept_of s.file m).candidate ≡ Some c) (node_same i l) e)
 
-    first_only : (P : ℕ → Type 0) → P 0 → (m : ℕ) → m < 1 → P m
-    first_only P p zero l = p
-    first_only P p (suc m) l = absurd (omega arith)
-
     formed : IsWellFormed roster file
     formed =
         record {
           masters = refl;
-          cards = first_only (λ m. (card_of file m).epoch ≤ file.current) (lit≤ tt);
-          votes = first_only (λ m. voted_of file m ≤ file.current) (lit≤ tt);
-          addresses = first_only (λ m. HasNode roster m (card_of file m).addr) refl;
-          candidates = first_only (λ m. voted_of file m ≡ 0 → (kept_of file m).candidate ≡ None) (λ _. refl);
+          cards = only_first (λ m. (card_of file m).epoch ≤ file.current) (lit≤ tt);
+          votes = only_first (λ m. voted_of file m ≤ file.current) (lit≤ tt);
+          addresses = only_first (λ m. HasNode roster m (card_of file m).addr) refl;
+          candidates = only_first (λ m. voted_of file m ≡ 0 → (kept_of file m).candidate ≡ None) (λ _. refl);
         }
 
 -- the members are in order, and no fault fits them

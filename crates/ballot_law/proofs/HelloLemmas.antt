@@ -93,7 +93,7 @@ ip_text_one m n h k e = some_one m n (sym (ip-ip_text m h) ∙ ap ip e ∙ ip-ip
 pub id_text_one : (a b : RunId) → IsRunId a → IsRunId b → id_text a ≡ id_text b → a ≡ b
 id_text_one a b h k e = some_one a b (sym (run_id-id_text a h.hi h.lo) ∙ ap run_id e ∙ run_id-id_text b k.hi k.lo)
 
-addr_one : (a b : Addr) → a.ip ≡ b.ip → a.port ≡ b.port → a ≡ b
+pub addr_one : (a b : Addr) → a.ip ≡ b.ip → a.port ≡ b.port → a ≡ b
 addr_one a b i p = λ t. record { ip = i t; port = p t }
 
 card_one : (a b : Card) → a.epoch ≡ b.epoch → a.addr ≡ b.addr → a ≡ b

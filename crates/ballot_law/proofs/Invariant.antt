@@ -267,7 +267,7 @@ nodes_set {X} d P xs k node inside new before j = ⊎_elim here there (cases_eq 
     there : j ≢ k → P j (get_or (set xs k node) j d)
     there apart = subst (P j) (sym (get_or-set_other xs k j node d apart)) (before j)
 
-client_within : (clients : List (Option Other)) (k : ℕ) → IsSome (get_or clients k None) → k < length clients
+pub client_within : (clients : List (Option Other)) (k : ℕ) → IsSome (get_or clients k None) → k < length clients
 client_within [] k there = absurd (cc)
 client_within (client ∷ clients) zero there = omega arith
 client_within (client ∷ clients) (suc k) there = let l = client_within clients k there in omega arith

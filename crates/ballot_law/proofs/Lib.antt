@@ -18,5 +18,6 @@ pub mod RefusalsRun
 pub mod RosterLemmas
 pub mod Runs
 pub mod Scripts
+pub mod States
 pub mod Takes
 pub mod WordLemmas

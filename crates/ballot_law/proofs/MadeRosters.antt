@@ -3,6 +3,7 @@ use Rattle.std.proofs.Common.{◌≡◌, ◌≤◌, false, List, [], ◌∷◌, 
 use Rattle.std.specs.Prelude.{nat_lt, All}
 use Rattle.std.specs.List.{list_any}
 use Rattle.std.proofs.lemmas.Bool.{ltb-false, or_parts}
+use Rattle.std.proofs.lemmas.List.{length-map}
 use Rattle.std.proofs.lemmas.List.Elements.{All-nil, All-cons, All-get_or}
 use Rattle.ballot_law.specs.declared.rosters.Member.{Member}
 use Rattle.ballot_law.specs.Rosters.{Roster, MasterPlan, no_master, nodes_in_order}
@@ -10,7 +11,7 @@ use Rattle.ballot_law.specs.Orders.{addr_before, id_before, bytes_before}
 use Rattle.ballot_law.specs.Ordered.{in_order}
 use Rattle.ballot_law.specs.RosterFaults.{tests, fault_of, IsRoster}
 use Rattle.ballot_law.proofs.Fits.{none_fits}
-use Rattle.ballot_law.proofs.Placing.{in_order_len, in_order_all, length-map}
+use Rattle.ballot_law.proofs.Placing.{in_order_len, in_order_all}
 
 -- no master of the roster has many nodes
 abbrev IsFewNodes : MasterPlan → Type 0
@@ -43,7 +44,7 @@ made_in_order given seen sentinels given_masters seen_masters sorted masters s m
     let m_len : length seen_masters ≡ length given_masters = ap length m in
     let s_le : length (in_order (λ (a b : Member). id_before a.id b.id) given) ≤ length given = in_order_len (λ (a b : Member). id_before a.id b.id) given in
     let m_le : length (in_order (λ (a b : MasterPlan). bytes_before a.name b.name) sorted) ≤ length sorted = in_order_len (λ (a b : MasterPlan). bytes_before a.name b.name) sorted in
-    let sorted_len : length sorted ≡ length given_masters = ap length sorted_is ∙ length-map nodes_in_order given_masters in
+    let sorted_len : length sorted ≡ length given_masters = ap length sorted_is ∙ length-map given_masters nodes_in_order in
     let s_is_len : length sentinels ≡ length (in_order (λ (a b : Member). id_before a.id b.id) given) = ap length s_is in
     let m_is_len : length masters ≡ length (in_order (λ (a b : MasterPlan). bytes_before a.name b.name) sorted) = ap length m_is in
     let roster_of : List Member → List MasterPlan → Roster = λ a b. record { sentinels = a; masters = b } in

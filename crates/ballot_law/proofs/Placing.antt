@@ -1,5 +1,5 @@
 -- Where `add` puts an element, and steps of the loops that put lists in order.
-use Rattle.std.proofs.Common.{◌≡◌, ℕ, zero, suc, ◌+◌, ◌<◌, ◌≤◌, Bool, true, false, ◌||◌, List, [], ◌∷◌, ◌++◌, length, get_or, take, drop, map, refl, ap, sym, ◌∙◌, arith, append_assoc, add-one, subst}
+use Rattle.std.proofs.Common.{◌≡◌, ℕ, zero, suc, ◌+◌, ◌<◌, ◌≤◌, Bool, true, false, ◌||◌, List, [], ◌∷◌, ◌++◌, length, get_or, take, drop, refl, ap, sym, ◌∙◌, arith, append_assoc, add-one, subst}
 use Rattle.std.specs.List.{list_any, All}
 use Rattle.std.proofs.lemmas.List.Elements.{All-nil, All-cons, All-head, All-tail}
 use Rattle.std.proofs.lemmas.Bool.{or_left}
@@ -151,7 +151,3 @@ module _ {X : Type 0} (before : X → X → Bool) (P : X → Type 0) where
   pub in_order_all : (xs : List X) → All P xs → All P (in_order before xs)
   in_order_all [] all = All-nil P
   in_order_all (x ∷ xs) all = add_all x (in_order before xs) (All-head P x xs all) (in_order_all xs (All-tail P x xs all))
-
-pub length-map : {X Y : Type 0} (f : X → Y) (xs : List X) → length (map f xs) ≡ length xs
-length-map f [] = refl
-length-map f (x ∷ xs) = ap suc (length-map f xs)

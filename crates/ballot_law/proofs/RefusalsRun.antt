@@ -26,7 +26,7 @@ use Rattle.ballot_law.specs.Worlds.{Ready, Stopped, Other, World, sentinel_at, I
 use Rattle.ballot_law.specs.Law.{IsWellFormed, IsFiled, IsFresh, IsFreshOther, IsStart}
 use Rattle.ballot_law.specs.Refusals.{addr, own_id, roster, first_card, second_card, first_file, begin, me, pong, question, others_speak, asked, refused_old, refused_new, elected, flushed, steps, IsEnd, RefusalsHappen}
 use Rattle.ballot_law.proofs.Runs.{steps_join}
-use Rattle.ballot_law.proofs.Scripts.{choose, take_as, store_as, release_as, start_as, other_takes, other_stores, other_releases, message, event_from, becomes, IsCard, held_none, held_one, right_cards}
+use Rattle.ballot_law.proofs.Scripts.{choose, take_as, store_as, release_as, start_as, other_takes, other_stores, other_releases, message, event_from, becomes, IsCard, held_none, held_one, right_cards, only_first}
 
 abbrev refuse_as : World → KeptText → World
 refuse_as w left = after_refused w 0 (sentinel_at w 0) (sentinel_at w 0).must_store left
@@ -410,10 +410,6 @@ ends =
 
 -- The start
 
-only : (P : ℕ → Type 0) → P 0 → (i : ℕ) → i < 1 → P i
-only P p zero l = p
-only P p (suc i) l = absurd (omega arith)
-
 both : (P : ℕ → Type 0) → P 0 → P 1 → (m : ℕ) → m < 2 → P m
 both P p q zero l = p
 both P p q (suc zero) l = q
@@ -431,8 +427,8 @@ formed =
 
 same_card : (i j m : ℕ) → i < 1 → j < 1 → card_of (sentinel_at begin i).file m ≡ card_of (sentinel_at begin j).file m
 same_card i j m k l =
-    only (λ n. card_of (sentinel_at begin n).file m ≡ card_of (sentinel_at begin j).file m)
-    (only (λ n. card_of first_file m ≡ card_of (sentinel_at begin n).file m) refl j l) i k
+    only_first (λ n. card_of (sentinel_at begin n).file m ≡ card_of (sentinel_at begin j).file m)
+    (only_first (λ n. card_of first_file m ≡ card_of (sentinel_at begin n).file m) refl j l) i k
 
 abbrev IsFreshClient : Option Other → Type 0
 IsFreshClient client = IfSome client IsFreshOther
@@ -473,8 +469,8 @@ starts : IsStart roster begin
 starts =
     record {
       count = refl;
-      fresh = only (λ i. IsFresh roster (sentinel_at begin i)) (inr refl);
-      files = only (λ i. IsWellFormed roster (sentinel_at begin i).file) formed;
+      fresh = only_first (λ i. IsFresh roster (sentinel_at begin i)) (inr refl);
+      files = only_first (λ i. IsWellFormed roster (sentinel_at begin i).file) formed;
       same_cards = same_card;
       stores = All-cons IsFreshOther (record { state = Stopped; held = [] }) ((record { state = Ready; held = [] }) ∷ []) (inr refl, refl)
           (All-cons IsFreshOther (record { state = Ready; held = [] }) [] (inl refl, refl) (All-nil IsFreshOther));

@@ -1,6 +1,7 @@
 -- What is known of each roster: no two of its Sentinels have one run id, no two of its masters one name, and so a name
 -- has one number.
 use Rattle.std.proofs.Common.{◌≡◌, ◌≢◌, ℕ, zero, suc, ◌+◌, ◌<◌, Bool, true, false, Option, Some, None, List, [], ◌∷◌, length, map, get_or, refl, ap, sym, ◌∙◌, subst, arith}
+use Rattle.std.specs.Prelude.{IfSome, IfNone}
 use Rattle.std.proofs.lemmas.Bool.{true≢false}
 use mathlib.Core.Logic.{∥∥₁_elim}
 use native.Mathlib.Nat.{ℕ_set}
@@ -99,3 +100,11 @@ no_number_by roster name (Some m) none h = let at = named_master roster name m h
 -- a name that is no master's has no number
 pub no_number_of_name : (roster : Roster) (name : List ℕ) → ((m : ℕ) → m < length roster.masters → (master_at roster m).name ≢ name) → master_named roster name ≡ None
 no_number_of_name roster name none = no_number_by roster name (master_named roster name) none refl
+
+-- what a search by name finds is that number
+pub named_in : (roster : Roster) (name : List ℕ) (found : Option ℕ) → HasDistinctNames roster
+    → IfSome found (λ m. (m < length roster.masters) × ((master_at roster m).name ≡ name))
+    → IfNone found ((m : ℕ) → m < length roster.masters → (master_at roster m).name ≢ name)
+    → found ≡ master_named roster name
+named_in roster name None distinct some none = sym (no_number_of_name roster name none)
+named_in roster name (Some m) distinct some none = sym (number_of_name roster name m distinct some.0 some.1)

@@ -1,5 +1,5 @@
 -- What a written run is made of: the worlds after its steps, and why a Sentinel may choose what it chooses.
-use Rattle.std.proofs.Common.{◌≡◌, ℕ, Bool, Some, None, List, [], ◌∷◌, ◌++◌, refl, sym, ◌∙◌}
+use Rattle.std.proofs.Common.{◌≡◌, ℕ, Bool, Some, None, List, [], ◌∷◌, ◌++◌, refl, sym, ◌∙◌, zero, suc, ◌<◌, arith}
 use Rattle.std.specs.Prelude.{All}
 use Rattle.std.proofs.lemmas.List.Elements.{All-nil, All-cons}
 use Rattle.ballot_law.specs.declared.cards.Shown.{Shown}
@@ -15,6 +15,11 @@ use Rattle.ballot_law.specs.Rosters.{Roster}
 use Rattle.ballot_law.specs.Messages.{vote_shown, published, passed_on, advertised, sent, event_at, Delivers}
 use Rattle.ballot_law.specs.Ballots.{Parts, Ballot, after, card_of}
 use Rattle.ballot_law.specs.Worlds.{Ready, Pending, Stored, World, Choice, sentinel_at, with_sentinel, IsRight, IsRightOutput, taken, started, after_store, after_release, other_at, with_other}
+
+-- what holds of the one Sentinel, or of the one master, that there is
+pub only_first : (P : ℕ → Type 0) → P 0 → (i : ℕ) → i < 1 → P i
+only_first P p zero l = p
+only_first P p (suc i) l = absurd (omega arith)
 
 -- Worlds
 

@@ -1,11 +1,14 @@
 -- Numbers, addresses and run ids are read back from their spelling.
-use Rattle.std.proofs.Common.{◌≡◌, ℕ, zero, suc, ◌+◌, ◌-◌, ◌*◌, ◌/◌, ◌%◌, ◌^◌, ◌≤◌, ◌<◌, Bool, true, false, ◌&&◌, eqb, ltb, leb, List, [], ◌∷◌, ◌++◌, length, take, drop, refl, ap, sym, ◌∙◌, subst, arith, length-append, Some}
+use Rattle.std.proofs.Common.{◌≡◌, ℕ, zero, suc, ◌+◌, ◌-◌, ◌*◌, ◌/◌, ◌%◌, ◌^◌, ◌≤◌, ◌<◌, Bool, true, false, ◌&&◌, eqb, ltb, leb, List, [], ◌∷◌, ◌++◌, length, take, drop, refl, ap, sym, ◌∙◌, subst, arith, length-append, Some, get_or, Option, None, inl, inr, map}
 use Rattle.std.specs.Prelude.{decimal}
 use Rattle.std.specs.List.{list_all, AllByRecursion}
-use Rattle.std.proofs.lemmas.Bool.{and_from, and_parts, le-leb, lt-ltb}
+use Rattle.std.specs.Int.Digits.{number_from_digits_after, AllBelowBase}
+use Rattle.std.proofs.lemmas.Bool.{and_from, and_parts, le-leb, lt-ltb, leb-true, cases_lt}
 use Rattle.std.proofs.lemmas.Bool.Decides.{nat_tests}
 use Rattle.std.proofs.lemmas.List.Folds.{list_all-append}
-use Rattle.std.proofs.lemmas.Fmt.{decimal_by_steps}
+use Rattle.std.proofs.lemmas.List.{length-map}
+use Rattle.std.proofs.lemmas.Fmt.{decimal_by_steps, first_decimal, decimal_digit}
+use Rattle.std.proofs.lemmas.Int.Digits.{number_after_lt}
 use Rattle.std.proofs.Math.Nat.{pow-suc}
 use Rattle.std.proofs.Math.Seq.{take-append_seam, drop-append_seam}
 use Rattle.ballot_law.specs.declared.addresses.Addr.{Addr}
@@ -170,7 +173,7 @@ address-text a h l u =
     ∙ ap (λ p. then_some p (λ p. Some (record { ip = a.ip; port = p }))) (port-decimal a.port l u)
 
 -- run ids
-hex_on-append : (n : ℕ) (xs ys : List ℕ) → hex_on n (xs ++ ys) ≡ hex_on (hex_on n xs) ys
+pub hex_on-append : (n : ℕ) (xs ys : List ℕ) → hex_on n (xs ++ ys) ≡ hex_on (hex_on n xs) ys
 hex_on-append n [] ys = refl
 hex_on-append n (x ∷ xs) ys = hex_on-append (n * 16 + hex_value x) xs ys
 
@@ -273,9 +276,54 @@ pub some_if-is : {X : Type 0} (b : Bool) (x y : X) → some_if b x ≡ Some y �
 some_if-is true x y h = (refl, cc)
 some_if-is false x y h = cc
 
+pub some_if-none : {X : Type 0} (b : Bool) (x : X) → some_if b x ≡ None → b ≡ false
+some_if-none true x h = absurd cc
+some_if-none false x h = refl
+
+pub then_some-is : {X Y : Type 0} (o : Option X) (f : X → Option Y) (y : Y) → then_some o f ≡ Some y → (x : X) × (o ≡ Some x) × (f x ≡ Some y)
+then_some-is (Some x) f y h = (x, refl, h)
+then_some-is None f y h = absurd cc
+
+-- a number that is read is within its bounds
+pub number_within-is : (low high : ℕ) (bytes : List ℕ) (n : ℕ) → number_within low high bytes ≡ Some n → (low ≤ n) × (n ≤ high)
+number_within-is low high bytes n h =
+    let found = then_some-is (number bytes) (λ m. some_if (leb low m && leb m high) m) n h in
+    let test = some_if-is (leb low found.0 && leb found.0 high) found.0 n found.2 in
+    let both = and_parts (leb low found.0) (leb found.0 high) test.0 in
+    let made : (low ≤ found.0) × (found.0 ≤ high) = (leb-true low found.0 both.0, leb-true found.0 high both.1) in
+    subst (λ (k : ℕ). (low ≤ k) × (k ≤ high)) test.1 made
+
+-- only 0 begins with 0
+pub decimal_leads : (n : ℕ) → n < 2 ^ 64 → get_or (decimal n) 0 0 ≡ 48 → length (decimal n) ≡ 1
+decimal_leads n lt e =
+    elim (cases_lt 0 n) [
+      | inl above ↦ let first = first_decimal n above lt in absurd (omega arith)
+      | inr none ↦ ap length (decimal_digit n (omega arith))
+    ]
+
 pub word_name : (n m : List ℕ) → name n ≡ Some m → IsWord n
 word_name n m h =
     let all = some_if-some (ltb 0 (length n) && (leb (length n) 64 && list_all is_name_byte n)) n m h in
     let first = and_parts (ltb 0 (length n)) (leb (length n) 64 && list_all is_name_byte n) all in
     let second = and_parts (leb (length n) 64) (list_all is_name_byte n) first.1 in
     word_plain n (let l : 0 < length n = grind (arith, nat_tests, first.0) in l) (name_bytes_plain n second.1)
+
+-- so many hex digits make a number below that power of 16
+hex_below : (b : ℕ) (t : Bool) → is_digit b ≡ t → is_hex b ≡ true → hex_value b < 16
+hex_below b true e h = let v : hex_value b ≡ b - 48 = ap (λ t. elim t as (λ _. ℕ) [ true ↦ b - 48 | false ↦ b - 87 ]) e in grind (arith, nat_tests)
+hex_below b false e h = let v : hex_value b ≡ b - 87 = ap (λ t. elim t as (λ _. ℕ) [ true ↦ b - 48 | false ↦ b - 87 ]) e in grind (arith, nat_tests)
+
+below_base : (ds : List ℕ) → list_all is_hex ds ≡ true → AllBelowBase 16 (map hex_value ds)
+below_base [] h = tt
+below_base (d ∷ ds) h = let both = and_parts (is_hex d) (list_all is_hex ds) h in (hex_below d (is_digit d) refl both.0, below_base ds both.1)
+
+hex_on_is : (n : ℕ) (ds : List ℕ) → hex_on n ds ≡ number_from_digits_after 16 n (map hex_value ds)
+hex_on_is n [] = refl
+hex_on_is n (d ∷ ds) = hex_on_is (n * 16 + hex_value d) ds
+
+pub hex_on-small : (k : ℕ) (ds : List ℕ) → length ds ≡ k → list_all is_hex ds ≡ true → hex_on 0 ds < 16 ^ k
+hex_on-small k ds e h =
+    let l : number_from_digits_after 16 0 (map hex_value ds) < (0 + 1) * 16 ^ length (map hex_value ds) = number_after_lt 16 0 (map hex_value ds) (below_base ds h) in
+    let f : 16 ^ length (map hex_value ds) ≡ 16 ^ k = ap (λ n. 16 ^ n) (length-map ds hex_value ∙ e) in
+    let g : hex_on 0 ds ≡ number_from_digits_after 16 0 (map hex_value ds) = hex_on_is 0 ds in
+    omega arith

@@ -37,7 +37,7 @@ pub use laws::{
     law_refusals_happen, law_runs_join,
 };
 pub use memory::NoMemory;
-pub use messages::{Body, Message, NodeName, Note, OUTPUTS_MAX, Output};
+pub use messages::{ANSWER_MAX, Body, Message, NodeName, Note, OUTPUTS_MAX, Output, SHOWN_MAX};
 pub use names::{NAME_MAX, Name};
 pub use ordering::{Placed, ordered};
 pub use periods::{REPLICA_MS, REPORT_MS, STEP_MS, TILT_MS};

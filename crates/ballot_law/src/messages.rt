@@ -85,6 +85,12 @@ pub struct Note {
 /// three messages and one order to each of 256 nodes, and one promotion.
 pub const OUTPUTS_MAX: usize = 1_536;
 
+/// The greatest number of bytes of an answer of a Sentinel's port: that of a RESP2 value.
+pub const ANSWER_MAX: usize = 65_536;
+
+/// The greatest number of configurations that one output shows: one of each master.
+pub const SHOWN_MAX: usize = 16;
+
 /// What one input of a node gives: messages, and notes, which are sent to no node.
 #[derive(Debug, Drop)]
 pub enum Output {

@@ -1,13 +1,11 @@
 -- What a line says is in range.
-use Rattle.std.proofs.Common.{◌≡◌, ℕ, suc, ◌+◌, ◌-◌, ◌*◌, ◌^◌, ◌≤◌, ◌<◌, Bool, true, false, ◌&&◌, eqb, ltb, leb, List, [], ◌∷◌, length, take, drop, map, refl, ap, sym, ◌∙◌, subst, arith, Option, Some, None, length-take-le, length-drop}
+use Rattle.std.proofs.Common.{◌≡◌, ℕ, ◌+◌, ◌-◌, ◌*◌, ◌^◌, ◌≤◌, ◌<◌, Bool, true, false, ◌&&◌, eqb, ltb, leb, List, [], ◌∷◌, length, take, drop, refl, ap, sym, ◌∙◌, subst, arith, Option, Some, None, length-take-le, length-drop}
 use Rattle.std.specs.Prelude.{codes, decimal, bytes_eq}
 use Rattle.std.specs.List.{list_all, AllByRecursion}
-use Rattle.std.proofs.lemmas.Bool.{and_parts, leb-true}
+use Rattle.std.proofs.lemmas.Bool.{and_parts}
 use Rattle.std.proofs.lemmas.Bool.Decides.{nat_tests}
 use Rattle.std.proofs.lemmas.List.Folds.{list_all-append}
 use Rattle.std.proofs.lemmas.List.{take-append-drop}
-use Rattle.std.specs.Int.Digits.{number_from_digits_after, AllBelowBase}
-use Rattle.std.proofs.lemmas.Int.Digits.{number_after_lt}
 use Rattle.ballot_law.specs.declared.addresses.Addr.{Addr}
 use Rattle.ballot_law.specs.declared.addresses.RunId.{RunId}
 use Rattle.ballot_law.specs.Orders.{same_bytes}
@@ -19,47 +17,30 @@ use Rattle.conf_lines.specs.declared.lines.Setting.TheVariants.{Port, AnnounceIp
 use Rattle.conf_lines.specs.declared.lines.Line.{Line}
 use Rattle.conf_lines.specs.declared.lines.Line.TheVariants as line
 use Rattle.conf_lines.specs.Words.{words_of}
-use Rattle.ballot_law.specs.Words.{some_if, then_some, is_digit, number, number_within, is_name_byte, name, parts, ip_part, ip_of_parts, ip, port, address, is_hex, hex_value, hex_on, run_id, lower}
+use Rattle.ballot_law.specs.Words.{some_if, then_some, number_within, is_name_byte, name, parts, ip_part, ip_of_parts, ip, port, address, is_hex, hex_on, run_id, lower}
+use Rattle.ballot_law.proofs.WordLemmas.{some_if-is, then_some-is, number_within-is, hex_on-small}
 use Rattle.conf_lines.specs.Lines.{wanted, epoch, count, my_id_line, current_line, monitor_line, config_line, leader_line, leader_id_line, replica_line, sentinel_line, port_line, announce_ip_line, announce_port_line, down_after_line, parallel_syncs_line, timeout_line, first_named, sentinel_directives, sentinel_words, line_of_words, line_of}
 use Rattle.ballot_law.specs.declared.cards.TheConstants.{MAX_EPOCH}
 use Rattle.conf_lines.proofs.StateLemmas.{IsAddr, IsId, IsName, IsState}
 
 -- what is read of one word
-given_if : {X : Type 0} (b : Bool) (x y : X) → some_if b x ≡ Some y → (b ≡ true) × (x ≡ y)
-given_if true x y h = (refl, (let e : x ≡ y = cc in e))
-given_if false x y h = cc
-
-then_given : {X Y : Type 0} (o : Option X) (f : X → Option Y) (y : Y) → then_some o f ≡ Some y → (x : X) × (o ≡ Some x) × (f x ≡ Some y)
-then_given None f y h = cc
-then_given (Some x) f y h = (x, refl, h)
-
-within : (low high : ℕ) (w : List ℕ) (n : ℕ) → number_within low high w ≡ Some n → (low ≤ n) × (n ≤ high)
-within low high w n h =
-    let g = then_given (number w) (λ n. some_if (leb low n && leb n high) n) n h in
-    let k = given_if (leb low g.0 && leb g.0 high) g.0 n g.2 in
-    let both = and_parts (leb low g.0) (leb g.0 high) k.0 in
-    let e : g.0 ≡ n = k.1 in
-    let l : low ≤ g.0 = leb-true low g.0 both.0 in
-    let r : g.0 ≤ high = leb-true g.0 high both.1 in
-    (omega arith, omega arith)
-
 named : (w n : List ℕ) → name w ≡ Some n → IsName n
 named w n h =
-    let k = given_if (ltb 0 (length w) && (leb (length w) 64 && list_all is_name_byte w)) w n h in
+    let k = some_if-is (ltb 0 (length w) && (leb (length w) 64 && list_all is_name_byte w)) w n h in
     subst (λ t. name t ≡ Some t) k.1 (ap (λ t. some_if t w) k.0)
 
 part_within : (w : List ℕ) (n : ℕ) → ip_part w ≡ Some n → n ≤ 255
 part_within w n h =
-    let g = then_given (number_within 0 255 w) (λ n. some_if (same_bytes w (decimal n)) n) n h in
-    let e : g.0 ≡ n = (given_if (same_bytes w (decimal g.0)) g.0 n g.2).1 in
-    let l : g.0 ≤ 255 = (within 0 255 w g.0 g.1).1 in omega arith
+    let g = then_some-is (number_within 0 255 w) (λ n. some_if (same_bytes w (decimal n)) n) n h in
+    let e : g.0 ≡ n = (some_if-is (same_bytes w (decimal g.0)) g.0 n g.2).1 in
+    let l : g.0 ≤ 255 = (number_within-is 0 255 w g.0 g.1).1 in omega arith
 
 ip_within : (ws : List (List ℕ)) (n : ℕ) → ip_of_parts ws ≡ Some n → n < 2 ^ 32
 ip_within (a ∷ b ∷ c ∷ d ∷ []) n h =
-    let g = then_given (ip_part a) (λ a. then_some (ip_part b) (λ b. then_some (ip_part c) (λ c. then_some (ip_part d) (λ d. Some (((a * 256 + b) * 256 + c) * 256 + d))))) n h in
-    let i = then_given (ip_part b) (λ b. then_some (ip_part c) (λ c. then_some (ip_part d) (λ d. Some (((g.0 * 256 + b) * 256 + c) * 256 + d)))) n g.2 in
-    let j = then_given (ip_part c) (λ c. then_some (ip_part d) (λ d. Some (((g.0 * 256 + i.0) * 256 + c) * 256 + d))) n i.2 in
-    let k = then_given (ip_part d) (λ d. Some (((g.0 * 256 + i.0) * 256 + j.0) * 256 + d)) n j.2 in
+    let g = then_some-is (ip_part a) (λ a. then_some (ip_part b) (λ b. then_some (ip_part c) (λ c. then_some (ip_part d) (λ d. Some (((a * 256 + b) * 256 + c) * 256 + d))))) n h in
+    let i = then_some-is (ip_part b) (λ b. then_some (ip_part c) (λ c. then_some (ip_part d) (λ d. Some (((g.0 * 256 + b) * 256 + c) * 256 + d)))) n g.2 in
+    let j = then_some-is (ip_part c) (λ c. then_some (ip_part d) (λ d. Some (((g.0 * 256 + i.0) * 256 + c) * 256 + d))) n i.2 in
+    let k = then_some-is (ip_part d) (λ d. Some (((g.0 * 256 + i.0) * 256 + j.0) * 256 + d)) n j.2 in
     let pa : g.0 ≤ 255 = part_within a g.0 g.1 in
     let pb : i.0 ≤ 255 = part_within b i.0 i.1 in
     let pc : j.0 ≤ 255 = part_within c j.0 j.1 in
@@ -71,47 +52,24 @@ ip_within _ n h = cc
 
 addressed : (i p : List ℕ) (a : Addr) → address i p ≡ Some a → IsAddr a
 addressed i p a h =
-    let g = then_given (ip i) (λ i. then_some (port p) (λ p. Some (record { ip = i; port = p }))) a h in
-    let k = then_given (port p) (λ p. let r : Option Addr = Some (record { ip = g.0; port = p }) in r) a g.2 in
+    let g = then_some-is (ip i) (λ i. then_some (port p) (λ p. Some (record { ip = i; port = p }))) a h in
+    let k = then_some-is (port p) (λ p. let r : Option Addr = Some (record { ip = g.0; port = p }) in r) a g.2 in
     let last = k.2 in
-    let ports = within 1 65535 p k.0 k.1 in
+    let ports = number_within-is 1 65535 p k.0 k.1 in
     let made : Addr = record { ip = g.0; port = k.0 } in
     let e : made ≡ a = cc in
     subst IsAddr e (record { ip = ip_within (parts i) g.0 g.1; low = ports.0; high = ports.1 })
 
-hex_below : (b : ℕ) (t : Bool) → is_digit b ≡ t → is_hex b ≡ true → hex_value b < 16
-hex_below b true e h = let v : hex_value b ≡ b - 48 = ap (λ t. elim t as (λ _. ℕ) [ true ↦ b - 48 | false ↦ b - 87 ]) e in grind (arith, nat_tests)
-hex_below b false e h = let v : hex_value b ≡ b - 87 = ap (λ t. elim t as (λ _. ℕ) [ true ↦ b - 48 | false ↦ b - 87 ]) e in grind (arith, nat_tests)
-
-below_base : (ds : List ℕ) → list_all is_hex ds ≡ true → AllBelowBase 16 (map hex_value ds)
-below_base [] h = tt
-below_base (d ∷ ds) h = let both = and_parts (is_hex d) (list_all is_hex ds) h in (hex_below d (is_digit d) refl both.0, below_base ds both.1)
-
-hex_on_is : (n : ℕ) (ds : List ℕ) → hex_on n ds ≡ number_from_digits_after 16 n (map hex_value ds)
-hex_on_is n [] = refl
-hex_on_is n (d ∷ ds) = hex_on_is (n * 16 + hex_value d) ds
-
-length-map : (f : ℕ → ℕ) (ds : List ℕ) → length (map f ds) ≡ length ds
-length-map f [] = refl
-length-map f (d ∷ ds) = ap suc (length-map f ds)
-
-hex_lt : (k : ℕ) (ds : List ℕ) → length ds ≡ k → list_all is_hex ds ≡ true → hex_on 0 ds < 16 ^ k
-hex_lt k ds e h =
-    let l : number_from_digits_after 16 0 (map hex_value ds) < (0 + 1) * 16 ^ length (map hex_value ds) = number_after_lt 16 0 (map hex_value ds) (below_base ds h) in
-    let f : 16 ^ length (map hex_value ds) ≡ 16 ^ k = ap (λ n. 16 ^ n) (length-map hex_value ds ∙ e) in
-    let g : hex_on 0 ds ≡ number_from_digits_after 16 0 (map hex_value ds) = hex_on_is 0 ds in
-    omega arith
-
 identified : (w : List ℕ) (id : RunId) → run_id w ≡ Some id → IsId id
 identified w id h =
     let made : RunId = record { hi = hex_on 0 (take 32 w); lo = hex_on 0 (drop 32 w) } in
-    let k = given_if (eqb (length w) 40 && list_all is_hex w) made id h in
+    let k = some_if-is (eqb (length w) 40 && list_all is_hex w) made id h in
     let both = and_parts (eqb (length w) 40) (list_all is_hex w) k.0 in
     let len : length w ≡ 40 = grind (arith, nat_tests, both.0) in
     let parts = and_parts (list_all is_hex (take 32 w)) (list_all is_hex (drop 32 w)) (sym (list_all-append is_hex (take 32 w) (drop 32 w)) ∙ ap (list_all is_hex) (take-append-drop 32 w) ∙ both.1) in
     subst IsId k.1 (record {
-      hi = hex_lt 32 (take 32 w) (length-take-le 32 w (omega arith)) parts.0;
-      lo = hex_lt 8 (drop 32 w) (omega (arith, length-drop 32 w)) parts.1;
+      hi = hex_on-small 32 (take 32 w) (length-take-le 32 w (omega arith)) parts.0;
+      lo = hex_on-small 8 (drop 32 w) (omega (arith, length-drop 32 w)) parts.1;
     })
 
 -- what a setting line can say
@@ -136,26 +94,26 @@ my_id_is (i ∷ []) = wanted_is BadRunId (run_id i) (λ id. line.State (MyId id)
 my_id_is _ = tt
 
 current_is : (ws : List (List ℕ)) → IsLine (current_line ws)
-current_is (w ∷ []) = wanted_is BadNumber (epoch w) (λ e. line.State (CurrentEpoch e)) (λ e f. (within 0 MAX_EPOCH w e f).1)
+current_is (w ∷ []) = wanted_is BadNumber (epoch w) (λ e. line.State (CurrentEpoch e)) (λ e f. (number_within-is 0 MAX_EPOCH w e f).1)
 current_is _ = tt
 
 monitor_is : (ws : List (List ℕ)) → IsLine (monitor_line ws)
 monitor_is (n ∷ i ∷ p ∷ q ∷ []) =
     wanted_is BadName (name n) (λ name. wanted BadAddress (address i p) (λ addr. wanted BadNumber (count q) (λ quorum. line.State (Monitor name addr quorum)))) (λ m e.
     wanted_is BadAddress (address i p) (λ addr. wanted BadNumber (count q) (λ quorum. line.State (Monitor m addr quorum))) (λ a f.
-    wanted_is BadNumber (count q) (λ quorum. line.State (Monitor m a quorum)) (λ r g. (named n m e, addressed i p a f, (within 0 4294967295 q r g).1))))
+    wanted_is BadNumber (count q) (λ quorum. line.State (Monitor m a quorum)) (λ r g. (named n m e, addressed i p a f, (number_within-is 0 4294967295 q r g).1))))
 monitor_is _ = tt
 
 config_is : (ws : List (List ℕ)) → IsLine (config_line ws)
 config_is (n ∷ w ∷ []) =
     wanted_is BadName (name n) (λ name. wanted BadNumber (epoch w) (λ epoch. line.State (ConfigEpoch name epoch))) (λ m e.
-    wanted_is BadNumber (epoch w) (λ epoch. line.State (ConfigEpoch m epoch)) (λ d f. (named n m e, (within 0 MAX_EPOCH w d f).1)))
+    wanted_is BadNumber (epoch w) (λ epoch. line.State (ConfigEpoch m epoch)) (λ d f. (named n m e, (number_within-is 0 MAX_EPOCH w d f).1)))
 config_is _ = tt
 
 leader_is : (ws : List (List ℕ)) → IsLine (leader_line ws)
 leader_is (n ∷ w ∷ []) =
     wanted_is BadName (name n) (λ name. wanted BadNumber (epoch w) (λ epoch. line.State (LeaderEpoch name epoch))) (λ m e.
-    wanted_is BadNumber (epoch w) (λ epoch. line.State (LeaderEpoch m epoch)) (λ d f. (named n m e, (within 0 MAX_EPOCH w d f).1)))
+    wanted_is BadNumber (epoch w) (λ epoch. line.State (LeaderEpoch m epoch)) (λ d f. (named n m e, (number_within-is 0 MAX_EPOCH w d f).1)))
 leader_is _ = tt
 
 leader_id_is : (ws : List (List ℕ)) → IsLine (leader_id_line ws)
@@ -178,7 +136,7 @@ sentinel_is (n ∷ i ∷ p ∷ r ∷ []) =
 sentinel_is _ = tt
 
 port_is : (ws : List (List ℕ)) → IsLine (port_line ws)
-port_is (p ∷ []) = wanted_is BadNumber (port p) (λ port. line.Setting (Port port)) (λ n e. within 1 65535 p n e)
+port_is (p ∷ []) = wanted_is BadNumber (port p) (λ port. line.Setting (Port port)) (λ n e. number_within-is 1 65535 p n e)
 port_is _ = tt
 
 announce_ip_is : (ws : List (List ℕ)) → IsLine (announce_ip_line ws)
@@ -186,7 +144,7 @@ announce_ip_is (i ∷ []) = wanted_is BadAddress (ip i) (λ ip. line.Setting (An
 announce_ip_is _ = tt
 
 announce_port_is : (ws : List (List ℕ)) → IsLine (announce_port_line ws)
-announce_port_is (p ∷ []) = wanted_is BadNumber (port p) (λ port. line.Setting (AnnouncePort port)) (λ n e. within 1 65535 p n e)
+announce_port_is (p ∷ []) = wanted_is BadNumber (port p) (λ port. line.Setting (AnnouncePort port)) (λ n e. number_within-is 1 65535 p n e)
 announce_port_is _ = tt
 
 down_after_is : (ws : List (List ℕ)) → IsLine (down_after_line ws)

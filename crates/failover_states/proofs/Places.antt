@@ -1,6 +1,7 @@
 -- One place more in the loop that orders.
 use Rattle.std.proofs.Common.{◌≡◌, ℕ, zero, suc, ◌+◌, ◌-◌, ◌<◌, Bool, true, false, cond, List, [], ◌∷◌, ◌++◌, length, get_or, set, take, drop, refl, ap, sym, arith, append_assoc}
 use Rattle.std.specs.Prelude.{◌&&◌}
+use Rattle.std.proofs.lemmas.Bool.{and_from}
 use Rattle.std.proofs.lemmas.List.{take_more, take_more_set, drop_more, drop-set-lt}
 use Rattle.failover_states.specs.declared.replicas.Replica.{Replica}
 use Rattle.failover_states.specs.Replicas.{untouched, is_unsent, sent_now}
@@ -18,14 +19,11 @@ passed_over : (b : Bool) (xs ys : List Replica) → b ≡ false → cond b xs ys
 passed_over true xs ys h = cc
 passed_over false xs ys h = refl
 
-both : (a b : Bool) → a ≡ true → b ≡ true → (a && b) ≡ true
-both a b h k = rw (h, k) refl
-
 pub head_yes : (can : ℕ → Bool) (now place left : ℕ) (x : Replica) (xs : List Replica) → 0 < left → is_unsent x.progress ≡ true → can place ≡ true → ordered_from can now place left (x ∷ xs) ≡ sent_now now ∷ ordered_from can now (place + 1) (left - 1) xs
 head_yes can now place zero x xs some u c = absurd (omega arith)
 head_yes can now place (suc left) x xs some u c =
     let one : suc left - 1 ≡ left = omega arith in
-    rw one (chosen (is_unsent x.progress && can place) (sent_now now ∷ ordered_from can now (place + 1) left xs) (x ∷ ordered_from can now (place + 1) (suc left) xs) (both (is_unsent x.progress) (can place) u c))
+    rw one (chosen (is_unsent x.progress && can place) (sent_now now ∷ ordered_from can now (place + 1) left xs) (x ∷ ordered_from can now (place + 1) (suc left) xs) (and_from (is_unsent x.progress) (can place) u c))
 
 pub head_no : (can : ℕ → Bool) (now place left : ℕ) (x : Replica) (xs : List Replica) → (0 < left → (is_unsent x.progress && can place) ≡ false) → ordered_from can now place left (x ∷ xs) ≡ x ∷ ordered_from can now (place + 1) left xs
 head_no can now place zero x xs h = sym (ap (λ (ys : List Replica). x ∷ ys) (none_left can now (place + 1) xs))

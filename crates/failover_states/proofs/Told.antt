@@ -2,7 +2,7 @@
 use Rattle.std.proofs.Common.{◌≡◌, ℕ, zero, suc, ◌+◌, ◌-◌, ◌<◌, ◌≤◌, Bool, true, false, cond, List, [], ◌∷◌, length, nat_lt, refl, ap, sym, ◌∙◌, ◌⊎◌, inl, inr, arith, zero-add, add-one}
 use Rattle.std.specs.Prelude.{◌&&◌}
 use Rattle.std.proofs.lemmas.Bool.Decides.{nat_tests}
-use Rattle.std.proofs.lemmas.Bool.{lt-ltb, ltb-true, ltb-false}
+use Rattle.std.proofs.lemmas.Bool.{and_parts, lt-ltb, ltb-true, ltb-false}
 use Rattle.ballot_law.specs.Counts.{count_below}
 use Rattle.failover_states.specs.declared.replicas.Replica.{Replica}
 use Rattle.failover_states.specs.Replicas.{is_unsent, sent_now, replica_at, by_place, is_due, is_next, told}
@@ -24,14 +24,6 @@ second : {X : Type 0} (b : Bool) (x y : X) → b ≡ false → cond b x y ≡ y
 second true x y h = cc
 second false x y h = refl
 
-and_left : (a b : Bool) → (a && b) ≡ true → a ≡ true
-and_left true b h = refl
-and_left false b h = cc
-
-and_right : (a b : Bool) → (a && b) ≡ true → b ≡ true
-and_right true b h = h
-and_right false b h = cc
-
 and_not : (a b : Bool) → (a && b) ≡ false → b ≡ true → a ≡ false
 and_not true b h k = cc
 and_not false b h k = refl
@@ -52,12 +44,13 @@ in_turn due free place = due place && nat_lt (count_below due place) free
 
 place_told : (can : ℕ → Bool) (now free : ℕ) (due : ℕ → Bool) (p : ℕ) (y : Replica) (ys : List Replica) → due p ≡ (is_unsent y.progress && can p) → in_turn due free p ≡ true → ordered_from can now (p + 1) (free - count_below due (p + 1)) ys ≡ by_place (change (in_turn due free) now) (p + 1) ys → ordered_from can now p (free - count_below due p) (y ∷ ys) ≡ by_place (change (in_turn due free) now) p (y ∷ ys)
 place_told can now free due p y ys same turn rest =
-    let yes : due p ≡ true = and_left (due p) (nat_lt (count_below due p) free) turn in
-    let room : count_below due p < free = ltb-true (count_below due p) free (and_right (due p) (nat_lt (count_below due p) free) turn) in
+    let chosen = and_parts (due p) (nat_lt (count_below due p) free) turn in
+    let yes : due p ≡ true = chosen.0 in
+    let room : count_below due p < free = ltb-true (count_below due p) free chosen.1 in
     let both : (is_unsent y.progress && can p) ≡ true = sym same ∙ yes in
     let left : free - count_below due p - 1 ≡ free - count_below due (p + 1) = rw (count_yes due p yes) (omega arith) in
     let some : 0 < free - count_below due p = omega (arith, room) in
-    head_yes can now p (free - count_below due p) y ys some (and_left (is_unsent y.progress) (can p) both) (and_right (is_unsent y.progress) (can p) both)
+    head_yes can now p (free - count_below due p) y ys some (and_parts (is_unsent y.progress) (can p) both).0 (and_parts (is_unsent y.progress) (can p) both).1
     ∙ (ap (λ n. sent_now now ∷ ordered_from can now (p + 1) n ys) left ∙ (ap (λ (zs : List Replica). sent_now now ∷ zs) rest ∙ ap (λ (z : Replica). z ∷ by_place (change (in_turn due free) now) (p + 1) ys) (sym (first (in_turn due free p) (sent_now now) y turn))))
 
 left_over : (due : ℕ → Bool) (free p : ℕ) → in_turn due free p ≡ false → free - count_below due p ≡ free - count_below due (p + 1)

@@ -2,6 +2,7 @@
 use Rattle.std.proofs.Common.{inr, ◌≡◌, ◌≢◌, ℕ, zero, suc, ◌<◌, ◌-◌, Bool, true, false, cond, nat_lt, Option, Some, None, List, [], ◌∷◌, ◌++◌, length, slice_get, get_or, set, map, refl, sym, ◌∙◌, ap, subst, arith}
 use Rattle.std.specs.Prelude.{IfSome}
 use Rattle.std.proofs.lemmas.Bool.Decides.{nat_tests}
+use Rattle.std.proofs.lemmas.Bool.{ltb-true}
 use Rattle.std.proofs.lemmas.Option.{none-some, same_Some}
 use Rattle.ballot_law.specs.declared.cards.Card.{Card}
 use Rattle.ballot_law.specs.declared.messages.Message.{Message}
@@ -23,9 +24,6 @@ use Rattle.fault_world.proofs.NodeKinds.{kind_at}
 use Rattle.fault_world.proofs.Running.{still, moved_silently}
 use Rattle.fault_world.proofs.Found.{telling, quietly}
 use Rattle.fault_world.proofs.Stepping.{Applied, answer_steps}
-
-lt_told : (a b : ℕ) → nat_lt a b ≡ true → a < b
-lt_told a b h = grind (arith, nat_tests)
 
 lt_true : (a b : ℕ) → a < b → nat_lt a b ≡ true
 lt_true a b h = grind (arith, nat_tests)
@@ -68,7 +66,7 @@ card_inside members k i m x card roster messages within is name seat shown found
     let told = shown_cases (is_stopped s.state) (nat_lt m (length (last_stored s).masters)) (card_of (last_stored s) m) card (shows.each roster (OfSentinel s) seated) in
     let stored = shows.stored roster (OfSentinel s) seated (running s told.0) in
     let there : i < length w.sentinels = subst (λ n. Rattle.ballot_law.specs.Worlds.IsNode w n) named at'.0 in
-    (subst (λ n. i < n) g.sentinels there, subst (λ n. m < n) stored.1 (lt_told m (length (last_stored s).masters) told.1))
+    (subst (λ n. i < n) g.sentinels there, subst (λ n. m < n) stored.1 (ltb-true m (length (last_stored s).masters) told.1))
 
 answer_said : {M : Type 0} (members : List M) (k i m : ℕ) (x : M) (card : Card) (roster : Roster) (messages : List Message) → slice_get members k ≡ Some x →
     (name : M → NodeName) (seat : M → Roster → Image → Type 0) → name x ≡ SentinelAt i → ShowsCard m (Some card) (seat x) →
@@ -82,7 +80,7 @@ answer_said members k i m x card roster messages here name seat named shows w g 
     let runs : s.state ≢ Stopped = running s told.0 in
     let stored = shows.stored roster image seated runs in
     let there : i < length w.sentinels = subst (λ n. Rattle.ballot_law.specs.Worlds.IsNode w n) named at'.0 in
-    let st = answer_steps roster w i m there (subst (λ n. m < n) stored.1 (lt_told m (length (last_stored s).masters) told.1)) runs (below (length s.stored) stored.0) in
+    let st = answer_steps roster w i m there (subst (λ n. m < n) stored.1 (ltb-true m (length (last_stored s).masters) told.1)) runs (below (length s.stored) stored.0) in
     subst (λ c. RunsTo roster (step.Answer (SentinelAt i) m ∷ []) w (news_of roster [] ((record { sentinel = i; master = m; card = c }) ∷ [])) (IsShown name seat roster members messages)) (sym told.2)
     (subst (λ ms. RunsTo roster (step.Answer (SentinelAt i) m ∷ []) w (news_of roster [] ((record { sentinel = i; master = m; card = card_of (last_stored s) m }) ∷ [])) (IsShown name seat roster ms messages)) (set_same members k x here)
     (moved_silently name seat roster members messages [] ((record { sentinel = i; master = m; card = card_of (last_stored s) m }) ∷ []) w k x x (image_at w (name x)) (step.Answer (SentinelAt i) m) g here refl (kind_at w (name x) at'.0) at'.1 (ap Some (sym named))

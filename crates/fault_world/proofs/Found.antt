@@ -29,7 +29,7 @@ use Rattle.world_reports.specs.Told.{entry_of_election, entry_of_said}
 use Rattle.fault_world.specs.News.{news_of, elected_told, said_told, IsInGroup}
 use Rattle.fault_world.specs.Runs.{Ran, RunsTo, RunsOn, Keeps, Leads, Tells, stored_by}
 use Rattle.fault_world.proofs.Lists.{slice_get_at, held_at, none_at_all, all_get}
-use Rattle.fault_world.proofs.NodeKinds.{pending_or_not, stored_or_not}
+use Rattle.ballot_law.proofs.States.{pending_or_not, stored_or_not}
 use Rattle.fault_world.proofs.Running.{still, shown_still, take_runs, deliver_runs, stop_runs, start_runs, store_runs, refused_runs, release_runs}
 use Rattle.fault_world.proofs.Stepping.{no_message, not_delivered}
 

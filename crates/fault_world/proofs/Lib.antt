@@ -1,7 +1,6 @@
 mod Answering
 mod Found
 mod Lists
-mod MasterNames
 mod NodeKinds
 mod Running
 mod Safety

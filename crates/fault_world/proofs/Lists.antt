@@ -1,5 +1,5 @@
 -- Lists of which one item has changed, and searches through a list, place by place.
-use Rattle.std.proofs.Common.{inl, inr, ◌≡◌, ◌≢◌, ◌⊎◌, ℕ, zero, suc, ◌<◌, ◌≤◌, ◌+◌, Some, None, List, [], ◌∷◌, ◌++◌, length, slice_get, get_or, set, refl, sym, ◌∙◌, ap, subst, arith}
+use Rattle.std.proofs.Common.{inl, inr, ◌≡◌, ◌≢◌, ◌⊎◌, ℕ, zero, suc, ◌<◌, ◌≤◌, ◌+◌, Some, None, List, [], ◌∷◌, ◌++◌, length, slice_get, get_or, set, refl, sym, ap, subst, arith}
 use Rattle.std.specs.Prelude.{IfSome}
 use Rattle.std.specs.List.{AllByRecursion}
 use Rattle.std.proofs.lemmas.Bool.{cases_eq}
@@ -55,9 +55,6 @@ pub slice_get_past : {M : Type 0} (xs : List M) (k : ℕ) → length xs ≤ k �
 slice_get_past [] k h = refl
 slice_get_past (x ∷ xs) zero h = absurd (omega arith)
 slice_get_past (x ∷ xs) (suc k) h = slice_get_past xs k (omega arith)
-
-pub there_at : {M : Type 0} (xs : List M) (k : ℕ) (x : M) → k < length xs → x ≡ get_or xs k x → slice_get xs k ≡ Some x
-there_at xs k x h e = slice_get_at xs k x h ∙ ap Some (sym e)
 
 pub found_at : {M : Type 0} (xs : List M) (k : ℕ) (x d : M) → k < length xs → x ≡ get_or xs k d → (P : M → Type 0) → P x → IfSome (slice_get xs k) P
 found_at xs k x d h e P p = subst (λ o. IfSome o P) (sym (slice_get_at xs k d h)) (subst P e p)

@@ -1,12 +1,12 @@
 -- Which kind of node has an image after a call, and in which state a node is.
-use Rattle.std.proofs.Common.{inl, inr, ◌≡◌, ◌≢◌, ◌⊎◌, List, refl, sym, subst}
+use Rattle.std.proofs.Common.{List, sym, subst}
 use Rattle.ballot_law.specs.declared.events.Event.{Event}
 use Rattle.ballot_law.specs.declared.messages.NodeName.{NodeName}
 use Rattle.ballot_law.specs.declared.messages.NodeName.TheVariants.{SentinelAt, StoreAt, ClientAt, PortAt}
 use Rattle.ballot_law.specs.declared.messages.Output.{Output}
 use Rattle.ballot_law.specs.declared.steps.KeptText.{KeptText}
 use Rattle.ballot_law.specs.Rosters.{Roster}
-use Rattle.ballot_law.specs.Worlds.{World, State, Ready, Pending, Stored, Halted, Stopped, IsNode}
+use Rattle.ballot_law.specs.Worlds.{World, IsNode}
 use Rattle.boxed_nodes.specs.Images.{Image, OfSentinel, OfOther, IsOfKind, TakenTo, image_at, stored_image, refused_image, released_image, stopped_image, started_image}
 
 -- images of the right kind
@@ -69,32 +69,3 @@ kind_taken roster (SentinelAt i) event (OfOther o) held after t = absurd t
 kind_taken roster (StoreAt k) event (OfSentinel s) held after t = absurd t
 kind_taken roster (ClientAt k) event (OfSentinel s) held after t = absurd t
 kind_taken roster (PortAt k) event image held after t = absurd t
-
--- states
-pub ready_or_not : (state : State) → (state ≡ Ready) ⊎ (state ≢ Ready)
-ready_or_not Ready = inl refl
-ready_or_not Pending = inr (λ e. cc)
-ready_or_not Stored = inr (λ e. cc)
-ready_or_not Halted = inr (λ e. cc)
-ready_or_not Stopped = inr (λ e. cc)
-
-pub pending_or_not : (state : State) → (state ≡ Pending) ⊎ (state ≢ Pending)
-pending_or_not Ready = inr (λ e. cc)
-pending_or_not Pending = inl refl
-pending_or_not Stored = inr (λ e. cc)
-pending_or_not Halted = inr (λ e. cc)
-pending_or_not Stopped = inr (λ e. cc)
-
-pub stored_or_not : (state : State) → (state ≡ Stored) ⊎ (state ≢ Stored)
-stored_or_not Ready = inr (λ e. cc)
-stored_or_not Pending = inr (λ e. cc)
-stored_or_not Stored = inl refl
-stored_or_not Halted = inr (λ e. cc)
-stored_or_not Stopped = inr (λ e. cc)
-
-pub stopped_or_not : (state : State) → (state ≡ Stopped) ⊎ (state ≢ Stopped)
-stopped_or_not Ready = inr (λ e. cc)
-stopped_or_not Pending = inr (λ e. cc)
-stopped_or_not Stored = inr (λ e. cc)
-stopped_or_not Halted = inr (λ e. cc)
-stopped_or_not Stopped = inl refl

@@ -26,7 +26,8 @@ use Rattle.world_members.specs.Seats.{SeatTakes, SeatStores, SeatReleases, SeatS
 use Rattle.world_reports.specs.declared.entry.Entry.{Entry}
 use Rattle.fault_world.specs.News.{news_of, elected_told, said_told}
 use Rattle.fault_world.specs.Runs.{mover_of, Stepped, RunsTo}
-use Rattle.fault_world.proofs.NodeKinds.{kind_at, kind_stored, kind_refused, kind_stopped, kind_started, kind_released, kind_taken, ready_or_not, pending_or_not, stored_or_not, stopped_or_not}
+use Rattle.fault_world.proofs.NodeKinds.{kind_at, kind_stored, kind_refused, kind_stopped, kind_started, kind_released, kind_taken}
+use Rattle.ballot_law.proofs.States.{ready_or_not, pending_or_not, stored_or_not, stopped_or_not}
 use Rattle.fault_world.proofs.Seen.{elected_of, said_of, unchanged, image_there}
 use Rattle.fault_world.proofs.Standing.{shown_after}
 use Rattle.fault_world.proofs.Stepping.{Applied, take_steps, store_steps, refused_steps, elected_unless, release_steps, stop_steps, start_steps, deliver_steps, no_take, no_store, no_refused, no_release, no_start, no_delivery}

@@ -1,6 +1,6 @@
 -- A world with one node changed.
-use Rattle.std.proofs.Common.{inl, inr, ◌≡◌, ◌≢◌, ℕ, zero, suc, ◌<◌, Option, Some, None, List, [], ◌∷◌, ◌++◌, length, slice_index_or, set, refl, sym, ◌∙◌, ap, subst, arith, append-nil, length-set, get_or-set_same, get_or-set_other}
-use Rattle.std.specs.Prelude.{IsSome, get_or, unwrap_or}
+use Rattle.std.proofs.Common.{inl, inr, ◌≡◌, ◌≢◌, ℕ, ◌<◌, Option, Some, None, List, [], ◌++◌, length, slice_index_or, set, refl, sym, ◌∙◌, ap, subst, append-nil, length-set, get_or-set_same, get_or-set_other}
+use Rattle.std.specs.Prelude.{IsSome, unwrap_or}
 use Rattle.std.proofs.lemmas.List.{set-get_or}
 use Rattle.ballot_law.specs.declared.messages.Message.{Message}
 use Rattle.ballot_law.specs.declared.messages.NodeName.{NodeName}
@@ -10,6 +10,7 @@ use Rattle.ballot_law.specs.declared.records.Advertisement.{Advertisement}
 use Rattle.ballot_law.specs.Messages.{advertised_by}
 use Rattle.ballot_law.specs.Rosters.{Roster}
 use Rattle.ballot_law.specs.Worlds.{World, Other, no_sentinel, no_other, IsNode, with_sentinel, with_other, elected_by, said_by}
+use Rattle.ballot_law.proofs.Invariant.{client_within}
 use Rattle.boxed_nodes.specs.Images.{Image, OfSentinel, OfOther, IsOfKind, image_at}
 use Rattle.fault_world.proofs.Lists.{nat_cases}
 
@@ -36,11 +37,6 @@ pub record Changed (w : World) (name : NodeName) (image : Image) (messages : Lis
   pub messages_are : w2.messages ≡ w.messages ++ messages
   pub elected_are : w2.elected ≡ w.elected ++ elected
   pub said_are : w2.said ≡ w.said ++ said
-
-client_within : (clients : List (Option Other)) (k : ℕ) → IsSome (get_or clients k None) → k < length clients
-client_within [] k there = absurd (cc)
-client_within (client ∷ clients) zero there = omega arith
-client_within (client ∷ clients) (suc k) there = let l = client_within clients k there in omega arith
 
 -- images in changed lists
 pub image_here : (w w2 : World) (name : NodeName) (image : Image) → IsNode w name → IsOfKind name image →

@@ -17,9 +17,9 @@ ghost use Rattle.fault_world.specs.Runs.{Keeps, Leads, Tells, RunsTo, stored_by}
 
 use crate::faults::RunFault;
 use crate::sending::send_all;
-use crate::telling::{SHOWN_MAX, tell_released, tell_said, tell_won};
+use crate::telling::{tell_released, tell_said, tell_won};
 use ballot_law::{
-    Advertisement, Input, KeptText, Message, NoMemory, NodeName, Output, Roster, Step,
+    Advertisement, Input, KeptText, Message, NoMemory, NodeName, Output, Roster, SHOWN_MAX, Step,
     law_never_falls, law_one_address, law_one_leader,
 };
 use deliveries::event_of;

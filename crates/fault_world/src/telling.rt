@@ -2,6 +2,7 @@
 
 ghost use Rattle.std.specs.Prelude.{◌≡◌, ◌≤◌, ◌<◌, ◌+◌, ◌*◌, ◌++◌, ◌∷◌, [], length, map};
 ghost use Rattle.std.specs.List.{AllByRecursion};
+ghost use Rattle.ballot_law.specs.declared.messages.TheConstants.{SHOWN_MAX};
 ghost use Rattle.ballot_law.specs.Messages.{advertised, advertised_by};
 ghost use Rattle.ballot_law.specs.Rosters.{HasDistinctNames, size};
 ghost use Rattle.ballot_law.specs.Worlds.{said_by};
@@ -13,9 +14,6 @@ ghost use Rattle.fault_world.specs.News.{elected_told, said_told, IsInGroup};
 use crate::names::master_named;
 use ballot_law::{Advertisement, Body, Card, Election, NodeName, Output, Roster, Shown};
 use world_reports::{Entry, Report};
-
-/// How many configurations one message advertises at most.
-pub(crate) const SHOWN_MAX: usize = 16;
 
 /// Tells of a configuration that a Sentinel showed; both the Sentinel and the master are in the roster.
 pub(crate) fn tell_said(report: &mut Report, roster: &Roster, said: &Advertisement)

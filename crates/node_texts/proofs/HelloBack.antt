@@ -13,8 +13,9 @@ use Rattle.ballot_law.specs.Hellos.{with_commas, IsHello, SpellsHello}
 use Rattle.ballot_law.specs.NameWords as words
 use Rattle.ballot_law.specs.Names.{IsName}
 use Rattle.ballot_law.specs.Results.{◌>>=◌, wanted}
-use Rattle.ballot_law.specs.Words.{are_digits, has_leading_zero, is_decimal, number, number_within, canonical_port, name, with_first, cut_at, ip, ip_text, run_id, id_text}
-use Rattle.ballot_law.proofs.WordLemmas.{some_if-some}
+use Rattle.ballot_law.specs.Words.{are_digits, has_leading_zero, is_decimal, number_within, canonical_port, name, with_first, cut_at, ip, ip_text, run_id, id_text}
+use Rattle.ballot_law.proofs.WordLemmas.{some_if-some, some_if-is, number_within-is}
+use Rattle.ballot_law.proofs.CutLemmas.{some_parts}
 use Rattle.words.proofs.NumberLemmas.{canonical_same}
 use Rattle.node_texts.specs.declared.faults.TextFault.{TextFault}
 use Rattle.node_texts.specs.declared.faults.TextFault.TheVariants.{BadField}
@@ -22,8 +23,7 @@ use Rattle.node_texts.specs.declared.hello_fields.Sender.{Sender}
 use Rattle.node_texts.specs.declared.hello_fields.OfMaster.{OfMaster}
 use Rattle.node_texts.specs.Faults.{unless_not}
 use Rattle.node_texts.specs.Hellos.{epoch, sender_of, master_of, within_epochs, hello_from, hello_of_parts, hello_of}
-use Rattle.node_texts.proofs.CutLemmas.{some_parts}
-use Rattle.node_texts.proofs.WordsBack.{some_if-value, then_within, IsWithin, canonical_is, ip_is, run_id_is}
+use Rattle.node_texts.proofs.WordsBack.{IsWithin, canonical_is, ip_is, run_id_is}
 
 -- ---- the commas
 
@@ -55,14 +55,14 @@ leads bytes false e h z = grind (arith, nat_tests, e, z)
 
 epoch_by : (bytes : List ℕ) (n : ℕ) → is_decimal bytes ≡ true → number_within 0 MAX_EPOCH bytes ≡ Some n → IsWithin 0 MAX_EPOCH n bytes
 epoch_by bytes n d h =
-    let range = then_within 0 MAX_EPOCH n (number bytes) h in
+    let range = number_within-is 0 MAX_EPOCH bytes n h in
     let both = and_parts (are_digits bytes) (not (has_leading_zero bytes)) d in
     let most : n ≤ 281474976710655 = range.1 in
     canonical_is 0 MAX_EPOCH n bytes (canonical_same 0 MAX_EPOCH n bytes (omega arith) h (leads bytes (has_leading_zero bytes) refl both.1))
 
 pub epoch_is : (bytes : List ℕ) (n : ℕ) → epoch bytes ≡ Some (Some n) → IsWithin 0 MAX_EPOCH n bytes
 epoch_is bytes n h =
-    epoch_by bytes n (some_if-some (is_decimal bytes) (number_within 0 MAX_EPOCH bytes) (Some n) h) (some_if-value (is_decimal bytes) (number_within 0 MAX_EPOCH bytes) (Some n) h)
+    epoch_by bytes n (some_if-some (is_decimal bytes) (number_within 0 MAX_EPOCH bytes) (Some n) h) (some_if-is (is_decimal bytes) (number_within 0 MAX_EPOCH bytes) (Some n) h).1
 
 pub record IsNamed (bytes found : List ℕ) : Type 0 where
   pub text : bytes ≡ found

@@ -17,13 +17,13 @@ use Rattle.ballot_law.specs.Hellos.{IsAddr, IsRunId}
 use Rattle.ballot_law.specs.Cuts.{lines}
 use Rattle.ballot_law.specs.Words.{then_some, number, with_first, ip_text, id_text}
 use Rattle.ballot_law.proofs.WordLemmas.{ArePlain, IsWord, spells_decimal, number_within-decimal, ip-ip_text, word_ip_text, word_decimal, port-decimal, run_id-id_text, word_id_text}
+use Rattle.ballot_law.proofs.CutLemmas.{line_goes_on}
 use Rattle.node_texts.specs.declared.info_fields.TheConstants.{COUNT_MAX}
 use Rattle.node_texts.specs.declared.info_fields.Fields.{Fields}
 use Rattle.node_texts.specs.Faults.{unless_not}
 use Rattle.node_texts.specs.Lines.{without_return}
 use Rattle.node_texts.specs.Infos.{role_name, is_up, count, count_or_minus, fields_of, info_of_fields, info_of, IsInfo, role_word, link_word, id_lines, master_lines, link_lines, replica_lines, info_lines, ended, info_text}
 use Rattle.node_texts.proofs.HelloAgain.{ascii_utf8}
-use Rattle.node_texts.proofs.CutLemmas.{line_goes_on}
 use Rattle.node_texts.proofs.LineLemmas.{return_dropped}
 use Rattle.node_texts.proofs.WordsAgain.{ascii_ip, ascii_id}
 

@@ -1,4 +1,3 @@
-pub mod CutLemmas
 pub mod HelloAgain
 pub mod HelloBack
 pub mod InfoAgain

@@ -6,16 +6,12 @@ use Rattle.std.proofs.lemmas.Bool.{and_parts, leb-true, lt-ltb}
 use Rattle.std.proofs.lemmas.Bool.Decides.{nat_tests}
 use Rattle.std.proofs.lemmas.List.{take-append-drop, length-take-le, length-drop}
 use Rattle.std.proofs.lemmas.List.Folds.{list_all-append}
-use Rattle.std.proofs.Math.Nat.{pow-suc, mul-le-mul_right}
 use Rattle.ballot_law.specs.declared.addresses.RunId.{RunId}
 use Rattle.ballot_law.specs.Hellos.{IsRunId}
 use Rattle.ballot_law.specs.Orders.{same_bytes}
-use Rattle.ballot_law.specs.Words.{some_if, then_some, is_digit, number, number_within, canonical_within, with_first, parts, ip_part, ip_of_parts, ip, ip_text, is_hex, hex_value, hex_on, hex_digit, hex, run_id, id_text}
-use Rattle.ballot_law.proofs.WordLemmas.{same_bytes-true, some_if-some}
-
-pub some_if-value : {X : Type 0} (t : Bool) (x y : X) → some_if t x ≡ Some y → x ≡ y
-some_if-value true x y e = cc
-some_if-value false x y e = absurd cc
+use Rattle.ballot_law.specs.Words.{some_if, then_some, is_digit, number_within, canonical_within, with_first, parts, ip_part, ip_of_parts, ip, ip_text, is_hex, hex_value, hex_on, hex_digit, hex, run_id, id_text}
+use Rattle.ballot_law.proofs.WordLemmas.{same_bytes-true, some_if-some, some_if-is, number_within-is, hex_on-small}
+use Rattle.ballot_law.proofs.CutLemmas.{some_parts}
 
 -- ---- numbers
 
@@ -24,21 +20,12 @@ pub record IsWithin (low high n : ℕ) (bytes : List ℕ) : Type 0 where
   pub least : low ≤ n
   pub most : n ≤ high
 
-pub then_within : (low high n : ℕ) (o : Option ℕ) → then_some o (λ m. some_if (leb low m && leb m high) m) ≡ Some n → (low ≤ n) × (n ≤ high)
-then_within low high n None e = absurd cc
-then_within low high n (Some m) e =
-    let same : m ≡ n = some_if-value (leb low m && leb m high) m n e in
-    let both = and_parts (leb low m) (leb m high) (some_if-some (leb low m && leb m high) m n e) in
-    let least : low ≤ m = leb-true low m both.0 in
-    let most : m ≤ high = leb-true m high both.1 in
-    (omega arith, omega arith)
-
 canonical_by : (low high n : ℕ) (bytes : List ℕ) (o : Option ℕ) → number_within low high bytes ≡ o → then_some o (λ m. some_if (same_bytes bytes (decimal m)) m) ≡ Some n → IsWithin low high n bytes
 canonical_by low high n bytes None e h = absurd cc
 canonical_by low high n bytes (Some m) e h =
-    let same : m ≡ n = some_if-value (same_bytes bytes (decimal m)) m n h in
+    let same : m ≡ n = (some_if-is (same_bytes bytes (decimal m)) m n h).1 in
     let text : bytes ≡ decimal m = same_bytes-true bytes (decimal m) (some_if-some (same_bytes bytes (decimal m)) m n h) in
-    let range = then_within low high n (number bytes) (e ∙ ap Some same) in
+    let range = number_within-is low high bytes n (e ∙ ap Some same) in
     record { text = text ∙ ap decimal same; least = range.0; most = range.1 }
 
 pub canonical_is : (low high n : ℕ) (bytes : List ℕ) → canonical_within low high bytes ≡ Some n → IsWithin low high n bytes
@@ -51,23 +38,8 @@ with_dots : List (List ℕ) → List ℕ
 with_dots [] = []
 with_dots (part ∷ rest) = elim rest as (λ _. List ℕ) [ [] ↦ part | next ∷ more ↦ part ++ 46 ∷ with_dots rest ]
 
-abbrev IsSomeParts : List (List ℕ) → Type 0
-IsSomeParts ps = (p : List ℕ) × (qs : List (List ℕ)) × (ps ≡ p ∷ qs)
-
-first_some : (b : ℕ) (ps : List (List ℕ)) → IsSomeParts (with_first b ps)
-first_some b [] = (b ∷ [], [], refl)
-first_some b (p ∷ ps) = (b ∷ p, ps, refl)
-
 parts_by : (b : ℕ) (bs : List ℕ) (t : Bool) → eqb b 46 ≡ t → parts (b ∷ bs) ≡ elim t as (λ _. List (List ℕ)) [ true ↦ [] ∷ parts bs | false ↦ with_first b (parts bs) ]
 parts_by b bs t e = ap (λ t. elim t as (λ _. List (List ℕ)) [ true ↦ [] ∷ parts bs | false ↦ with_first b (parts bs) ]) e
-
-some_parts_by : (b : ℕ) (bs : List ℕ) (t : Bool) → eqb b 46 ≡ t → IsSomeParts (parts (b ∷ bs))
-some_parts_by b bs true e = ([], parts bs, parts_by b bs true e)
-some_parts_by b bs false e = let s = first_some b (parts bs) in (s.0, s.1, parts_by b bs false e ∙ s.2)
-
-some_parts : (bs : List ℕ) → IsSomeParts (parts bs)
-some_parts [] = ([], [], refl)
-some_parts (b ∷ bs) = some_parts_by b bs (eqb b 46) refl
 
 dots_first : (b : ℕ) (p : List ℕ) (ps : List (List ℕ)) → with_dots (with_first b (p ∷ ps)) ≡ b ∷ with_dots (p ∷ ps)
 unfolding with_dots
@@ -78,10 +50,10 @@ dots_by : (b : ℕ) (bs : List ℕ) (t : Bool) → eqb b 46 ≡ t → with_dots 
 unfolding with_dots
 dots_by b bs true e h =
     let dot : b ≡ 46 = grind (arith, nat_tests, e) in
-    let s = some_parts bs in
+    let s = some_parts 46 bs in
     ap with_dots (parts_by b bs true e ∙ ap (λ ps. [] ∷ ps) s.2) ∙ ap (λ ps. 46 ∷ with_dots ps) (sym s.2) ∙ ap (λ t. 46 ∷ t) h ∙ ap (λ d. d ∷ bs) (sym dot)
 dots_by b bs false e h =
-    let s = some_parts bs in
+    let s = some_parts 46 bs in
     ap with_dots (parts_by b bs false e ∙ ap (with_first b) s.2) ∙ dots_first b s.0 s.1 ∙ ap (λ ps. b ∷ with_dots ps) (sym s.2) ∙ ap (λ t. b ∷ t) h
 
 with_dots-parts : (bs : List ℕ) → with_dots (parts bs) ≡ bs
@@ -205,31 +177,6 @@ pub hex-hex_on : (k : ℕ) (ds : List ℕ) → length ds ≡ k → list_all is_h
 unfolding hex
 hex-hex_on k ds e h = (let z : k ≡ length ds + 0 = omega arith in ap (λ k. hex k (hex_on 0 ds)) z) ∙ hex_after 0 0 ds h
 
-less_more : (n v p : ℕ) → v < 16 → (n * 16 + v + 1) * p ≤ (n + 1) * (p * 16)
-less_more n v p h =
-    let le : n * 16 + v + 1 ≤ (n + 1) * 16 = omega arith in
-    let scaled : (n * 16 + v + 1) * p ≤ (n + 1) * 16 * p = mul-le-mul_right p le in
-    omega (arith, scaled)
-
-hex_small : (n : ℕ) (ds : List ℕ) → list_all is_hex ds ≡ true → hex_on n ds < (n + 1) * 16 ^ length ds
-hex_small n [] h = omega arith
-hex_small n (d ∷ ds) h =
-    let both = and_parts (is_hex d) (list_all is_hex ds) h in
-    let k = hex_back d both.0 in
-    let small = k.small in
-    let more = hex_small (n * 16 + hex_value d) ds both.1 in
-    let step = less_more n (hex_value d) (16 ^ length ds) small in
-    let power : 16 ^ suc (length ds) ≡ 16 ^ length ds * 16 = pow-suc 16 (length ds) in
-    let wide : (n + 1) * 16 ^ suc (length ds) ≡ (n + 1) * (16 ^ length ds * 16) = ap (λ p. (n + 1) * p) power in
-    let all : hex_on (n * 16 + hex_value d) ds < (n + 1) * 16 ^ suc (length ds) = omega (arith, more, step, wide) in
-    all
-
-pub hex_on-small : (k : ℕ) (ds : List ℕ) → length ds ≡ k → list_all is_hex ds ≡ true → hex_on 0 ds < 16 ^ k
-hex_on-small k ds e h =
-    let small = hex_small 0 ds h in
-    let same : 16 ^ length ds ≡ 16 ^ k = ap (λ n. 16 ^ n) e in
-    omega (arith, small, same)
-
 pub record IsIdText (id : RunId) (bytes : List ℕ) : Type 0 where
   pub text : bytes ≡ id_text id
   pub valid : IsRunId id
@@ -254,4 +201,4 @@ run_id_is bytes id h =
     let value : RunId = record { hi = hex_on 0 (take 32 bytes); lo = hex_on 0 (drop 32 bytes) } in
     let both = and_parts (eqb (length bytes) 40) (list_all is_hex bytes) (some_if-some test value id h) in
     let len : length bytes ≡ 40 = grind (arith, nat_tests, both.0) in
-    subst (λ (i : RunId). IsIdText i bytes) (some_if-value test value id h) (id_by bytes len both.1)
+    subst (λ (i : RunId). IsIdText i bytes) (some_if-is test value id h).1 (id_by bytes len both.1)

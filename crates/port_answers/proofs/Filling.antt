@@ -4,7 +4,8 @@ use Rattle.std.proofs.lemmas.List.{take-append-le, take_all, take-take, length-t
 use Rattle.resp2_frames.specs.Writing.{Begins, Adds}
 use Rattle.bounded_list.specs.BoundedLists as lists
 use Rattle.bounded_list.proofs.Bounded.{bounded_all}
-use Rattle.port_answers.specs.Room.{ANSWER_MAX, bounded}
+use Rattle.ballot_law.specs.declared.messages.TheConstants.{ANSWER_MAX}
+use Rattle.port_answers.specs.Room.{bounded}
 
 -- what has room was added, and what has none was cut
 pub filled : {X E : Type 0} (answer : Result X E) (before after bytes : List ℕ) → Adds answer before after bytes (length after ≡ ANSWER_MAX) → bounded after ≡ after

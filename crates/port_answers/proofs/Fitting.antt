@@ -7,7 +7,7 @@ use Rattle.resp2_frames.specs.Frame.{Frame, spelling}
 use Rattle.resp2.specs.declared.command.CommandFault.{CommandFault}
 use Rattle.resp2.specs.declared.command.CommandFault.TheVariants.{NotACommand, UnknownCommand, WrongArguments, BadAddress, BadEpoch, BadRunId, UnknownChannel}
 use Rattle.port_answers.specs.declared.rows.SentinelRow.{SentinelRow}
-use Rattle.port_answers.specs.Room.{ANSWER_MAX}
+use Rattle.ballot_law.specs.declared.messages.TheConstants.{ANSWER_MAX}
 use Rattle.port_answers.specs.Answers.{master_frame, replica_frame, sentinel_frame, masters_frame, replicas_frame, sentinels_frame, no_such_master, ok_line, quorum_reached, no_quorum, id_frame, subscribed, command_fault, protocol_error}
 use Rattle.port_answers.specs.Limits.{IsPlace, IsMasterRow, IsReplicaRow, Fits, MasterFits, MastersFit, ReplicasFit, SentinelsFit, LinesFit}
 use Rattle.bounded_list.proofs.Bounded.{bounded_all}

@@ -8,6 +8,7 @@ use Rattle.ballot_law.specs.declared.addresses.RunId.{RunId}
 use Rattle.ballot_law.specs.Words.{ip_text, id_text, hex, hex_digit}
 use Rattle.resp2_frames.specs.Frame.{Frame, bulk, items, frames_of, count, spelling, spellings, line_end}
 use Rattle.resp2.proofs.Asks.{ip_size}
+use Rattle.resp2.proofs.AskFrames.{decimal_short}
 use Rattle.port_answers.specs.declared.rows.MasterRow.{MasterRow}
 use Rattle.port_answers.specs.declared.rows.ReplicaRow.{ReplicaRow}
 use Rattle.port_answers.specs.declared.rows.SentinelRow.{SentinelRow}
@@ -16,9 +17,6 @@ use Rattle.port_answers.specs.Limits.{IsPlace, IsMasterRow, IsReplicaRow}
 use Rattle.port_answers.proofs.RowLemmas.{count_rows}
 
 -- ---- words
-
-pub number_size : (n : ℕ) → n < 2 ^ 64 → length (decimal n) ≤ 20
-number_size n h = length-decimal-le 20 n (omega arith) (omega arith) h
 
 port_size : (n : ℕ) → n ≤ 65535 → length (decimal n) ≤ 5
 port_size n h = length-decimal-le 5 n (omega arith) (omega arith) (omega arith)
@@ -106,13 +104,13 @@ master_size row h =
     let ip = ip_size row.addr.ip h.addr.ip in
     let port = port_size row.addr.port h.addr.port in
     let flags = master_flags_size row.down row.odown row.failing_over in
-    let replicas = number_size row.replicas h.replicas in
-    let others = number_size row.others h.others in
-    let quorum = number_size row.quorum h.quorum in
-    let after = number_size row.after_ms h.after_ms in
-    let timeout = number_size row.timeout h.timeout in
-    let syncs = number_size row.parallel_syncs h.parallel_syncs in
-    let epoch = number_size row.epoch h.epoch in
+    let replicas = decimal_short row.replicas h.replicas in
+    let others = decimal_short row.others h.others in
+    let quorum = decimal_short row.quorum h.quorum in
+    let after = decimal_short row.after_ms h.after_ms in
+    let timeout = decimal_short row.timeout h.timeout in
+    let syncs = decimal_short row.parallel_syncs h.parallel_syncs in
+    let epoch = decimal_short row.epoch h.epoch in
     let settings : AllByRecursion IsShort (drop 6 (master_fields row)) = (
       short (codes "quorum") (decimal row.quorum) (omega arith) (omega arith),
       (
@@ -149,8 +147,8 @@ replica_size row h =
     let ip = ip_size row.addr.ip h.addr.ip in
     let port = port_size row.addr.port h.addr.port in
     let flags = node_flags_size row.down (codes "slave") in
-    let priority = number_size row.priority h.priority in
-    let offset = number_size row.offset h.offset in
+    let priority = decimal_short row.priority h.priority in
+    let offset = decimal_short row.offset h.offset in
     fields_array 12 (replica_fields row) 228 (omega arith) (
       short (codes "name") (addr_text row.addr) (omega arith) (omega arith),
       (
@@ -206,7 +204,7 @@ rows_array frame_of IsRow most size rows few all =
     let n = count_rows frame_of rows in
     at_most (length (spelling (items (frames_of (map frame_of rows))))) (20 + length rows * most + 3) (length rows * most + 23)
     (array_size (count (frames_of (map frame_of rows))) (spellings (frames_of (map frame_of rows))) 20 (length rows * most)
-    (number_size (count (frames_of (map frame_of rows))) (omega (arith, n))) (rows_size frame_of IsRow most size rows all)) (omega arith)
+    (decimal_short (count (frames_of (map frame_of rows))) (omega (arith, n))) (rows_size frame_of IsRow most size rows all)) (omega arith)
 
 -- ---- lines
 
@@ -219,5 +217,5 @@ counted_size kind before behind n h =
       length-append (before ++ (decimal n ++ behind)) line_end,
       length-append before (decimal n ++ behind),
       length-append (decimal n) behind,
-      number_size n h,
+      decimal_short n h,
     )

@@ -8,7 +8,8 @@ use Rattle.resp2.specs.declared.command.CommandFault.{CommandFault}
 use Rattle.port_answers.specs.declared.rows.MasterRow.{MasterRow}
 use Rattle.port_answers.specs.declared.rows.ReplicaRow.{ReplicaRow}
 use Rattle.port_answers.specs.declared.rows.SentinelRow.{SentinelRow}
-use Rattle.port_answers.specs.Room.{ANSWER_MAX, bounded}
+use Rattle.ballot_law.specs.declared.messages.TheConstants.{ANSWER_MAX}
+use Rattle.port_answers.specs.Room.{bounded}
 use Rattle.port_answers.specs.Answers.{master_frame, masters_frame, replicas_frame, sentinels_frame, no_such_master, ok_line, quorum_reached, no_quorum, id_frame, subscribed, command_fault, protocol_error}
 
 -- an IPv4 address and a TCP port

@@ -3,16 +3,14 @@
 ghost use Rattle.std.specs.Prelude.{◌≡◌, ◌≤◌, ◌∷◌, ◌++◌, [], IfOk, length, decimal, vec_capacity};
 ghost use Rattle.resp2_frames.specs.Frame as frames;
 ghost use Rattle.resp2_frames.specs.Frame.{spelling, line_end};
-ghost use Rattle.port_answers.specs.Room.{ANSWER_MAX, bounded};
+ghost use Rattle.ballot_law.specs.declared.messages.TheConstants.{ANSWER_MAX};
+ghost use Rattle.port_answers.specs.Room.{bounded};
 
-use ballot_law::{NoMemory, Text};
+use ballot_law::{ANSWER_MAX, NoMemory, Text};
 use bounded_list::BoundedList;
 use resp2_frames::{ByteSink, push_bulk, push_kind, push_line, push_size};
 use std::alloc::{AllocError, Global};
 use std::marker::Model;
-
-/// The greatest number of bytes of an answer, which is that of every value of the port.
-pub const ANSWER_MAX: usize = 65_536;
 
 /// Answers, one behind the other, in room of `ANSWER_MAX` bytes that was made beforehand, so that writing them takes no
 /// memory. What has no room is cut. Contracts see the list of the bytes.

@@ -22,12 +22,9 @@ use Rattle.sentinel_rules.specs.States.{Core}
 use Rattle.port_serving.specs.declared.fault.ServeFault.{ServeFault}
 use Rattle.port_serving.specs.declared.fault.ServeFault.TheVariants.{Frame as FaultyFrame, Read, Write, Halted, NoMemory as NoMemoryLeft}
 use Rattle.port_serving.specs.Serving.{replied, replied_to, answers_to, core_after, last_line, Holds, HoldsAfter, IsLeft, IsServed, IsRefused, IsCut, IsCutAtRefusal, IsAnswered, IsIdle, IsFaulted, IsStuck, IsRefusal, EndsWith, Breaks, Takes, Waits, of_frame}
-use Rattle.port_serving.proofs.KnownBytes.{appends_twice, appends_nothing, consumes_twice}
+use Rattle.port_serving.proofs.KnownBytes.{appends_twice, appends_nothing}
 
 -- ---- reading
-
-pub read_more : (a b c : Option (List ℕ)) (input piece : List ℕ) → Consumes a b input → Consumes b c piece → Consumes a c (input ++ piece)
-read_more a b c input piece h k = consumes_twice a b c input piece h k
 
 -- a read that failed took nothing
 pub read_none : (a b c : Option (List ℕ)) (input : List ℕ) → Consumes a b input → Keeps b c → Consumes a c input

@@ -7,6 +7,8 @@ use Rattle.ballot_law.specs.Orders.{id_before}
 use Rattle.replica_choice.specs.declared.candidates.Candidate.{Candidate}
 use Rattle.replica_choice.specs.declared.candidates.Limits.{Limits}
 use Rattle.replica_choice.specs.Choices.{is_eligible, has_smaller_id, is_better, candidate_at, with_place, choice_below, choice_of, IsEligible, IsBetter}
+use Rattle.ballot_law.proofs.Rising.{id_strict}
+use Rattle.ballot_law.proofs.Counting.{below_suc}
 
 abbrev IsEligiblePlace : List Candidate → (now : ℕ) → Limits → ℕ → Type 0
 IsEligiblePlace candidates now limits i = is_eligible now limits (candidate_at candidates i) ≡ true
@@ -20,36 +22,31 @@ record IsChoice (candidates : List Candidate) (now : ℕ) (limits : Limits) (n b
 abbrev HasNoEligible : List Candidate → (now : ℕ) → Limits → (n : ℕ) → Type 0
 HasNoEligible candidates now limits n = (i : ℕ) → i < n → is_eligible now limits (candidate_at candidates i) ≡ false
 
-abbrev lex : (p q : ℕ) → Bool → Bool
-lex p q inner = cond (eqb p q) inner (ltb p q)
+-- the smaller number first, and where it is the same by more
+abbrev rises : (p q : ℕ) → Bool → Bool
+rises p q inner = cond (eqb p q) inner (ltb p q)
 
-lex_trans : (p q r : ℕ) (x y z : Bool) → (x ≡ true → y ≡ true → z ≡ true) → lex p q x ≡ true → lex q r y ≡ true → lex p r z ≡ true
-lex_trans p q r x y z inner h k = grind (arith, nat_tests)
+rises_trans : (p q r : ℕ) (x y z : Bool) → (x ≡ true → y ≡ true → z ≡ true) → rises p q x ≡ true → rises q r y ≡ true → rises p r z ≡ true
+rises_trans p q r x y z inner h k = grind (arith, nat_tests)
+
+rises_irrefl : (p : ℕ) (x : Bool) → x ≡ false → rises p p x ≡ false
+rises_irrefl p x h = grind (arith, nat_tests)
 
 -- what is above something is above all that is not above it
-lex_above : (p q r : ℕ) (x y z : Bool) → (x ≡ true → y ≡ false → z ≡ true) → lex p q x ≡ true → lex r q y ≡ false → lex p r z ≡ true
-lex_above p q r x y z inner h k = grind (arith, nat_tests)
+rises_above : (p q r : ℕ) (x y z : Bool) → (x ≡ true → y ≡ false → z ≡ true) → rises p q x ≡ true → rises r q y ≡ false → rises p r z ≡ true
+rises_above p q r x y z inner h k = grind (arith, nat_tests)
 
-lex_irrefl : (p : ℕ) (x : Bool) → x ≡ false → lex p p x ≡ false
-lex_irrefl p x h = grind (arith, nat_tests)
-
-lex_above_reversed : (p q r : ℕ) (x y z : Bool) → (x ≡ true → y ≡ false → z ≡ true) → lex q p x ≡ true → lex q r y ≡ false → lex r p z ≡ true
-lex_above_reversed p q r x y z inner h k = grind (arith, nat_tests)
-
-before_trans : (a b c : RunId) → id_before a b ≡ true → id_before b c ≡ true → id_before a c ≡ true
-before_trans a b c h k = grind (arith, nat_tests)
+rises_above_reversed : (p q r : ℕ) (x y z : Bool) → (x ≡ true → y ≡ false → z ≡ true) → rises q p x ≡ true → rises q r y ≡ false → rises r p z ≡ true
+rises_above_reversed p q r x y z inner h k = grind (arith, nat_tests)
 
 before_above : (a b c : RunId) → id_before a b ≡ true → id_before c b ≡ false → id_before a c ≡ true
 before_above a b c h k = grind (arith, nat_tests)
-
-before_irrefl : (a : RunId) → id_before a a ≡ false
-before_irrefl a = grind (arith, nat_tests)
 
 id_trans : (a b c : Option RunId) → has_smaller_id a b ≡ true → has_smaller_id b c ≡ true → has_smaller_id a c ≡ true
 id_trans None b c h k = cc
 id_trans (Some a) None c h k = cc
 id_trans (Some a) (Some b) None h k = refl
-id_trans (Some a) (Some b) (Some c) h k = before_trans a b c h k
+id_trans (Some a) (Some b) (Some c) h k = id_strict.transitive a b c h k
 
 id_above : (a b c : Option RunId) → has_smaller_id a b ≡ true → has_smaller_id c b ≡ false → has_smaller_id a c ≡ true
 id_above None b c h k = cc
@@ -59,27 +56,24 @@ id_above (Some a) (Some b) (Some c) h k = before_above a b c h k
 
 id_irrefl : (a : Option RunId) → has_smaller_id a a ≡ false
 id_irrefl None = refl
-id_irrefl (Some a) = before_irrefl a
+id_irrefl (Some a) = id_strict.irreflexive a
 
 better_trans : (a b c : Candidate) → is_better a b ≡ true → is_better b c ≡ true → is_better a c ≡ true
 better_trans a b c h k =
-    lex_trans a.priority b.priority c.priority _ _ _
-    (λ x y. lex_trans c.offset b.offset a.offset _ _ _ (λ y' x'. id_trans a.id b.id c.id x' y') y x)
+    rises_trans a.priority b.priority c.priority _ _ _
+    (λ x y. rises_trans c.offset b.offset a.offset _ _ _ (λ y' x'. id_trans a.id b.id c.id x' y') y x)
     h
     k
 
 better_above : (a b c : Candidate) → is_better a b ≡ true → is_better c b ≡ false → is_better a c ≡ true
 better_above a b c h k =
-    lex_above a.priority b.priority c.priority _ _ _
-    (λ x y. lex_above_reversed a.offset b.offset c.offset _ _ _ (id_above a.id b.id c.id) x y)
+    rises_above a.priority b.priority c.priority _ _ _
+    (λ x y. rises_above_reversed a.offset b.offset c.offset _ _ _ (id_above a.id b.id c.id) x y)
     h
     k
 
 better_irrefl : (a : Candidate) → is_better a a ≡ false
-better_irrefl a = lex_irrefl a.priority _ (lex_irrefl a.offset _ (id_irrefl a.id))
-
-below : (i n : ℕ) → i < suc n → (i < n) ⊎ (i ≡ n)
-below i n lt = grind arith
+better_irrefl a = rises_irrefl a.priority _ (rises_irrefl a.offset _ (id_irrefl a.id))
 
 abbrev IsBest : List Candidate → (now : ℕ) → Limits → (n : ℕ) → Option ℕ → Type 0
 IsBest candidates now limits n choice = MatchOption choice (HasNoEligible candidates now limits n) (IsChoice candidates now limits n)
@@ -93,10 +87,10 @@ first candidates now limits n true e none =
           ⊎_elim
           (λ l. let lost = none i l in cc)
           (λ same. ⊎_elim (λ h. let lost = better_irrefl (candidate_at candidates n) in cc) (λ h. absurd (omega arith)) better)
-          (below i n lt);
+          (below_suc i n lt);
     }
 first candidates now limits n false e none =
-    λ i lt. ⊎_elim (λ l. none i l) (λ same. rw same e) (below i n lt)
+    λ i lt. ⊎_elim (λ l. none i l) (λ same. rw same e) (below_suc i n lt)
 
 replaced : (candidates : List Candidate) (now : ℕ) (limits : Limits) (n best : ℕ) → IsEligiblePlace candidates now limits n → is_better (candidate_at candidates n) (candidate_at candidates best) ≡ true → IsChoice candidates now limits n best → IsChoice candidates now limits (suc n) n
 replaced candidates now limits n best e b choice =
@@ -110,7 +104,7 @@ replaced candidates now limits n best e b choice =
           (λ h. beaten i l el h.0)
           better)
           (λ same. ⊎_elim (λ h. let lost = better_irrefl (candidate_at candidates n) in cc) (λ h. absurd (omega arith)) better)
-          (below i n lt);
+          (below_suc i n lt);
     }
   where
     beaten : (i : ℕ) → i < n → IsEligiblePlace candidates now limits i → is_better (candidate_at candidates n) (candidate_at candidates i) ≡ false → ⊥
@@ -129,7 +123,7 @@ kept candidates now limits n best lost choice =
           ⊎_elim
           (λ l. choice.none_better i l el better)
           (λ same. ⊎_elim (λ h. let n_el : IsEligiblePlace candidates now limits n = rw (← same) el in let not = lost n_el in cc) (λ h. absurd (let l = choice.place in omega (arith, h.1))) better)
-          (below i n lt);
+          (below_suc i n lt);
     }
 
 further : (candidates : List Candidate) (now : ℕ) (limits : Limits) (n best : ℕ) (eligible better : Bool) → is_eligible now limits (candidate_at candidates n) ≡ eligible → is_better (candidate_at candidates n) (candidate_at candidates best) ≡ better → IsChoice candidates now limits n best → IsBest candidates now limits (suc n) (cond (eligible && better) (Some n) (Some best))

@@ -1,19 +1,10 @@
 -- Numbers without leading zeros, as words and as lines of a stream.
-use Rattle.std.proofs.Common.{◌≡◌, ℕ, ◌-◌, ◌^◌, ◌≤◌, ◌<◌, Bool, true, false, ◌&&◌, leb, List, refl, ap, ◌∙◌, subst, arith, Option, Some, None, decimal}
-use Rattle.std.proofs.lemmas.Bool.{and_parts, leb-true}
+use Rattle.std.proofs.Common.{◌≡◌, ℕ, ◌-◌, ◌^◌, ◌≤◌, ◌<◌, Bool, List, refl, ap, ◌∙◌, subst, arith, Option, Some, None, decimal}
 use Rattle.ballot_law.specs.Orders.{same_bytes}
-use Rattle.ballot_law.specs.Words.{some_if, then_some, number, number_within, canonical_within}
-use Rattle.ballot_law.proofs.WordLemmas.{same_bytes-refl, same_bytes-true, number_within-decimal}
+use Rattle.ballot_law.specs.Words.{some_if, then_some, number_within, canonical_within}
+use Rattle.ballot_law.proofs.WordLemmas.{same_bytes-refl, same_bytes-true, number_within-decimal, then_some-is, some_if-is, number_within-is}
 use Rattle.resp2_frames.specs.Reading.{number_of}
-use Rattle.resp2_frames.proofs.Numbers.{some_is, number_takes, number_again}
-
-pub then_some_is : {X Y : Type 0} (o : Option X) (f : X → Option Y) (y : Y) → then_some o f ≡ Some y → (x : X) × (o ≡ Some x) × (f x ≡ Some y)
-then_some_is (Some x) f y e = (x, refl, e)
-then_some_is None f y e = absurd cc
-
-pub some_if_is : {X : Type 0} (b : Bool) (x y : X) → some_if b x ≡ Some y → (b ≡ true) × (x ≡ y)
-some_if_is true x y e = (refl, some_is x y e)
-some_if_is false x y e = absurd cc
+use Rattle.resp2_frames.proofs.Numbers.{number_takes, number_again}
 
 -- what a word spells, and its bounds
 pub record Canonical (low high : ℕ) (word : List ℕ) (n : ℕ) : Type 0 where
@@ -21,19 +12,11 @@ pub record Canonical (low high : ℕ) (word : List ℕ) (n : ℕ) : Type 0 where
   pub above : low ≤ n
   pub below : n ≤ high
 
-within_is : (low high : ℕ) (word : List ℕ) (n : ℕ) → number_within low high word ≡ Some n → (low ≤ n) × (n ≤ high)
-within_is low high word n e =
-    let found = then_some_is (number word) (λ m. some_if (leb low m && leb m high) m) n e in
-    let test = some_if_is (leb low found.0 && leb found.0 high) found.0 n found.2 in
-    let both = and_parts (leb low found.0) (leb found.0 high) test.0 in
-    let made : (low ≤ found.0) × (found.0 ≤ high) = (leb-true low found.0 both.0, leb-true found.0 high both.1) in
-    subst (λ (k : ℕ). (low ≤ k) × (k ≤ high)) test.1 made
-
 pub canonical_is : (low high : ℕ) (word : List ℕ) (n : ℕ) → canonical_within low high word ≡ Some n → Canonical low high word n
 canonical_is low high word n e =
-    let found = then_some_is (number_within low high word) (λ m. some_if (same_bytes word (decimal m)) m) n e in
-    let test = some_if_is (same_bytes word (decimal found.0)) found.0 n found.2 in
-    let bounds = within_is low high word found.0 found.1 in
+    let found = then_some-is (number_within low high word) (λ m. some_if (same_bytes word (decimal m)) m) n e in
+    let test = some_if-is (same_bytes word (decimal found.0)) found.0 n found.2 in
+    let bounds = number_within-is low high word found.0 found.1 in
     let made : Canonical low high word found.0 = record { spelled = same_bytes-true word (decimal found.0) test.0; above = bounds.0; below = bounds.1 } in
     subst (λ (k : ℕ). Canonical low high word k) test.1 made
 

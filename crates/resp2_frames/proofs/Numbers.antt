@@ -4,16 +4,17 @@ use Rattle.std.specs.Prelude.{ℤ, pos, negsuc, bytes_eq}
 use Rattle.std.specs.Fmt.{signed_decimal}
 use Rattle.std.specs.Str.{all_ascii_digits}
 use Rattle.std.specs.Char.{is_ascii_digit}
-use Rattle.std.proofs.lemmas.Bool.{eqb-true, and_parts, and_from, ltb-true, lt-ltb, leb-true, le-leb, cases_lt}
+use Rattle.std.proofs.lemmas.Bool.{eqb-true, and_parts, and_from, ltb-true, lt-ltb, leb-true, le-leb}
 use Rattle.std.proofs.lemmas.Bool.Decides.{nat_tests}
 use Rattle.std.proofs.lemmas.List.{take_more, at_drop_more}
 use Rattle.std.proofs.lemmas.Slice.Eq.{bytes_eq-Decides}
-use Rattle.std.proofs.lemmas.Fmt.{digits_decimal, digits_value-decimal, decimal-digits_value, decimal_nonempty, first_decimal, decimal_digit}
+use Rattle.std.proofs.lemmas.Fmt.{digits_decimal, digits_value-decimal, decimal-digits_value, decimal_nonempty}
 use Rattle.std.proofs.lemmas.Str.Parse.{IsNumeralModel, numerals_by_fold, tells_all_ascii_digits}
 use Rattle.resp2_frames.specs.declared.fault.FrameFault.TheVariants.{BadLength}
 use Rattle.resp2_frames.specs.declared.fault.Unread.TheVariants.{Faulty}
 use Rattle.resp2_frames.specs.Frame.{IsLine, IsLong}
 use Rattle.ballot_law.specs.Words.{are_digits, has_leading_zero, is_decimal, number_on}
+use Rattle.ballot_law.proofs.WordLemmas.{decimal_leads}
 use Rattle.resp2_frames.specs.Reading.{if_some, number_of, size_of, negative_of, integer_of}
 use Rattle.resp2_frames.proofs.Steps.{chosen}
 
@@ -50,14 +51,6 @@ is_decimal_from ds all some lead =
     at_tests true true long zero_first = absurd (let one = lead (eqb-true (get_or ds 0 0) 48 zero_first) in let more = ltb-true 1 (length ds) long in omega arith)
     at_tests true false long zero_first = refl
     at_tests false v long zero_first = refl
-
--- only 0 begins with 0
-decimal_leads : (n : ℕ) → n < 2 ^ 64 → get_or (decimal n) 0 0 ≡ 48 → length (decimal n) ≡ 1
-decimal_leads n lt e =
-    elim (cases_lt 0 n) [
-      | inl above ↦ let first = first_decimal n above lt in absurd (omega arith)
-      | inr none ↦ ap length (decimal_digit n (omega arith))
-    ]
 
 pub number_again : (n : ℕ) → n < 2 ^ 64 → number_of (decimal n) ≡ Some n
 unfolding number_of

@@ -6,7 +6,8 @@ use Rattle.ballot_law.specs.declared.addresses.RunId.{RunId}
 use Rattle.resp2_frames.specs.Frame.{Frame, items, frames_of, spelling}
 use Rattle.port_answers.specs.declared.rows.MasterRow.{MasterRow}
 use Rattle.port_answers.specs.declared.rows.SentinelRow.{SentinelRow}
-use Rattle.port_answers.specs.Room.{ANSWER_MAX, bounded}
+use Rattle.ballot_law.specs.declared.messages.TheConstants.{ANSWER_MAX}
+use Rattle.port_answers.specs.Room.{bounded}
 use Rattle.port_answers.specs.Answers.{header, master_frame, masters_frame, replica_frame, replicas_frame, sentinel_frame, sentinels_frame, no_such_master, ok_line, quorum_reached, no_quorum, id_frame, subscribed}
 use Rattle.port_answers.specs.Limits.{IsPlace, IsMasterRow, IsReplicaRow, Fits}
 use Rattle.port_answers.proofs.Fitting.{master_fits, masters_fit, replicas_fit, sentinels_fit, lines_fit}
@@ -15,6 +16,7 @@ use Rattle.port_answers.proofs.RowLemmas.{rows_text}
 use Rattle.sentinel_rules.specs.Plans.{Plan, group_size, master_count, nodes_of}
 use Rattle.sentinel_rules.specs.States.{Core, card_place}
 use Rattle.sentinel_rules.specs.Answers.{places_but, numbers_from, all_masters, master_row, replica_row, sentinel_row, replica_rows, sentinel_rows}
+use Rattle.sentinel_rules.proofs.Choices.{length-numbers_from}
 
 -- Texts of places
 
@@ -140,10 +142,6 @@ most_but : (one place count : ℕ) → length (places_but one place count) ≤ c
 most_but one place zero = omega arith
 most_but one place (suc count) = most_test one place count (place == one) (most_but one (place + 1) count)
 
-pub count_from : (first count : ℕ) → length (numbers_from first count) ≡ count
-count_from first zero = refl
-count_from first (suc count) = ap suc (count_from (first + 1) count)
-
 -- What holds of each row
 
 each_test : {X : Type 0} (P : X → Type 0) (row_of : ℕ → X) (one place count : ℕ) (b : Bool) → P (row_of place) → AllByRecursion P (map row_of (places_but one (place + 1) count))
@@ -176,7 +174,7 @@ pub masters_whole : (plan : Plan) (core : Core) (now n : ℕ) (text : List ℕ) 
     → text ≡ spelling (masters_frame (map (master_row plan core now) (all_masters plan)))
 masters_whole plan core now n text is few each e =
     let row_of = master_row plan core now in
-    let count : length (map row_of (numbers_from 0 n)) ≡ n = mapped row_of (numbers_from 0 n) ∙ count_from 0 n in
+    let count : length (map row_of (numbers_from 0 n)) ≡ n = mapped row_of (numbers_from 0 n) ∙ length-numbers_from 0 n in
     array_whole master_frame (map row_of (numbers_from 0 n)) text (text_below (λ m. spelling (master_frame (row_of m))) n) n
     (masters_fit (map row_of (numbers_from 0 n)) (omega (arith, count)) (each_from IsMasterRow row_of 0 n (λ k l. each k (omega arith))))
     (from_text (λ row. spelling (master_frame row)) row_of 0 n ∙ ap (text_below (λ m. spelling (master_frame (row_of m)))) (let s : 0 + n ≡ n = omega arith in s))

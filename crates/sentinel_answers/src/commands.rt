@@ -2,6 +2,7 @@
 
 ghost use Rattle.std.specs.Prelude.{◌≡◌, ◌≤◌, ◌<◌, ◌↔◌, ◌∷◌, [], true, false, codes, length, map, vec_capacity, IsSome, IfSome};
 ghost use Rattle.ballot_law.specs.declared.messages.Body.TheVariants.{PingText, PortReply};
+ghost use Rattle.ballot_law.specs.declared.messages.TheConstants.{ANSWER_MAX, SHOWN_MAX};
 ghost use Rattle.ballot_law.specs.Clocks.{clock};
 ghost use Rattle.resp2_frames.specs.Frame.{spelling};
 ghost use Rattle.port_answers.specs.Answers.{masters_frame, no_such_master, ok_line, id_frame, subscribed};
@@ -89,7 +90,7 @@ pub fn answer_plainly(plan: &Plan, core: &mut Core, now: u64, command: &Command)
     }
 }
 
-/// The answer to any other command, in the room of these two buffers: 65,536 bytes and 16 configurations hold every
+/// The answer to any other command, in the room of these two buffers: `ANSWER_MAX` bytes and `SHOWN_MAX` configurations hold every
 /// answer. No memory is taken.
 pub fn answer_by_text(
     plan: &Plan,
@@ -99,8 +100,8 @@ pub fn answer_by_text(
     text: Vec<u8>,
     shown: Vec<Shown>,
 ) -> Body
-    requires text { 65536 ≤ vec_capacity text }
-    requires list { 16 ≤ vec_capacity shown }
+    requires text { ANSWER_MAX ≤ vec_capacity text }
+    requires list { SHOWN_MAX ≤ vec_capacity shown }
     requires empty { (text.items ≡ []) × (shown.items ≡ []) }
     requires kind { is_plain command.now ≡ false }
     ensures body { result ≡ (commanded plan.now (clock now) command.now core.now).body }
@@ -190,7 +191,7 @@ fn shown_by_name(plan: &Plan, core: &Core, name: Option<Name>) -> Option<Shown>
 
 fn answer_masters(plan: &Plan, core: &Core, now: u64, text: AnswerText, shown: Vec<Shown>) -> Body
     requires text { text ≡ [] }
-    requires room { 16 ≤ vec_capacity shown }
+    requires room { SHOWN_MAX ≤ vec_capacity shown }
     requires list { shown.items ≡ [] }
     ensures { result ≡ reply core.now (all_masters plan.now) (masters_frame (map (master_row plan.now core.now (clock now)) (all_masters plan.now))) }
 {
@@ -211,7 +212,7 @@ fn answer_about(
     shown: Vec<Shown>,
 ) -> Body
     requires text { text ≡ [] }
-    requires room { 16 ≤ vec_capacity shown }
+    requires room { SHOWN_MAX ≤ vec_capacity shown }
     requires list { shown.items ≡ [] }
     ensures { result ≡ about core.now (named plan.now name) (answer_about plan.now core.now (clock now) asked) }
 {

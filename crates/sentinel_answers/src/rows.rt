@@ -1,6 +1,7 @@
 //! What answers say of masters, replicas and Sentinels.
 
 ghost use Rattle.std.specs.Prelude.{◌≡◌, ◌≤◌, ◌<◌, ◌++◌, [], ◌==◌, if◌then◌else◌, length, map, slice_index_or, vec_capacity};
+ghost use Rattle.ballot_law.specs.declared.messages.TheConstants.{SHOWN_MAX};
 ghost use Rattle.ballot_law.specs.Clocks.{clock};
 ghost use Rattle.ballot_law.specs.Rosters.{no_member};
 ghost use Rattle.resp2_frames.specs.Frame.{spelling};
@@ -105,7 +106,7 @@ pub(crate) fn add_masters(plan: &Plan, core: &Core, now: u64, text: &mut AnswerT
 
 /// The configurations of all masters.
 pub(crate) fn shown_masters(plan: &Plan, core: &Core, shown: Vec<Shown>) -> Vec<Shown>
-    requires room { 16 ≤ vec_capacity shown }
+    requires room { SHOWN_MAX ≤ vec_capacity shown }
     requires empty { shown.items ≡ [] }
     ensures { result.items ≡ map (shown_of core.now) (all_masters plan.now) }
 {

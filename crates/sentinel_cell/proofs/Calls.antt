@@ -10,7 +10,7 @@ use Rattle.sentinel_cell.specs.declared.keeper.Keeper.{Keeper}
 use Rattle.sentinel_cell.specs.Calls.{Has}
 use Rattle.sentinel_cell.specs.Histories.{World, IsLegal, Fits, Keeps, stored_at}
 use Rattle.sentinel_cell.specs.Turns.{serving, Follows, Turns, Passes, Tells}
-use Rattle.sentinel_cell.proofs.Steps.{turns_all, passes_all, tells_all}
+use Rattle.sentinel_cell.proofs.Steps.{turns_all, passes_all, tells_all, same_ticket}
 use Rattle.sentinel_cell.proofs.Cards.{rises}
 
 module _ {S : Type 0} (text : S → Option (List ℕ)) (failures : S → ℕ) where
@@ -51,6 +51,3 @@ module _ {C : Type 0} (Legal : List Entry → Type 0) (Fit : List Entry → C �
 
   pub no_turn : (m n : Me C View) (r t : ℕ) (m' : Me C View) → n ≡ m → r ≢ t → m.0.stage ≡ Waiting t → Turns Legal Fit (step 0 0 0 0 maybe.none) n r m' → m' ≡ m
   no_turn m n r t m' same miss is h = h.1 (λ now. miss (same_ticket r t (sym now ∙ (ap (λ (x : Me C View). x.0.stage) same ∙ is)))) ∙ same
-    where
-      same_ticket : (a b : ℕ) → Waiting a ≡ Waiting b → a ≡ b
-      same_ticket a b e = cc

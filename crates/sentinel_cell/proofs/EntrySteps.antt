@@ -1,11 +1,9 @@
 -- An entry of a history by steps of the model of the whole group.
 use Rattle.std.proofs.Common.{◌≡◌, ◌≢◌, ◌↔◌, ◌⊎◌, ℕ, ◌+◌, ◌-◌, ◌<◌, Bool, true, false, cond, List, [], ◌∷◌, ◌++◌, length, length-set, get_or-set_same, Some, Option, refl, sym, ap, ◌∙◌, subst, inl, inr, ⊎_elim, arith, true≢false}
-use Rattle.std.specs.Prelude.{not, ◌||◌, slice_index_or, slice_get}
+use Rattle.std.specs.Prelude.{not, slice_index_or, slice_get}
+use Rattle.std.proofs.lemmas.Bool.{or_cases, or_left, or_right}
 use Rattle.std.proofs.lemmas.List.{length-append}
 use Rattle.ballot_law.specs.declared.cards.Kept.{Kept}
-use Rattle.ballot_law.specs.declared.commands.Command.TheVariants.{Ping, IsMasterDownByAddr, GetMasterAddrByName, Masters, Master, Replicas, Sentinels, MyId, CkQuorum, FlushConfig, Subscribe}
-use Rattle.ballot_law.specs.declared.events.Event.{Event}
-use Rattle.ballot_law.specs.declared.events.Event.TheVariants.{Tick, Command as Commanded, Answered, Pinged, InfoRead, HelloRead, Become, Handed}
 use Rattle.ballot_law.specs.declared.events.Input.{Input}
 use Rattle.ballot_law.specs.declared.messages.Message.{Message}
 use Rattle.ballot_law.specs.declared.messages.NodeName.{NodeName}
@@ -22,6 +20,7 @@ use Rattle.sentinel_rules.specs.Plans.{Plan, roster_of}
 use Rattle.sentinel_rules.specs.Steps.{IsPartsOf, IsTake}
 use Rattle.sentinel_rules.proofs.InputSteps.{inputs_are_steps}
 use Rattle.sentinel_core.specs.Sentinels.{is_flush}
+use Rattle.sentinel_core.proofs.Flushes.{flush_told, flush_is}
 use Rattle.sentinel_cell.specs.declared.entry.Entry.{Entry}
 use Rattle.sentinel_cell.specs.declared.entry.Outcome.{Outcome}
 use Rattle.sentinel_cell.specs.declared.entry.Outcome.TheVariants.{Stored, Refused, Halted}
@@ -32,58 +31,6 @@ use Rattle.sentinel_cell.proofs.Acts.{last_step, first_steps}
 use Rattle.sentinel_cell.proofs.Keeping.{kept_true, kept_same}
 
 -- what has to be stored
-
-flush_true : (event : Event) → is_flush event ≡ true → IsFlush event
-flush_true (Commanded sender FlushConfig) e = tt
-flush_true (Commanded sender Ping) e = absurd (true≢false (sym e))
-flush_true (Commanded sender (IsMasterDownByAddr a n c)) e = absurd (true≢false (sym e))
-flush_true (Commanded sender (GetMasterAddrByName n)) e = absurd (true≢false (sym e))
-flush_true (Commanded sender Masters) e = absurd (true≢false (sym e))
-flush_true (Commanded sender (Master n)) e = absurd (true≢false (sym e))
-flush_true (Commanded sender (Replicas n)) e = absurd (true≢false (sym e))
-flush_true (Commanded sender (Sentinels n)) e = absurd (true≢false (sym e))
-flush_true (Commanded sender MyId) e = absurd (true≢false (sym e))
-flush_true (Commanded sender Subscribe) e = absurd (true≢false (sym e))
-flush_true (Commanded sender (CkQuorum n)) e = absurd (true≢false (sym e))
-flush_true (Tick m random) e = absurd (true≢false (sym e))
-flush_true (Answered v m a d l n) e = absurd (true≢false (sym e))
-flush_true (Pinged n r) e = absurd (true≢false (sym e))
-flush_true (InfoRead n t) e = absurd (true≢false (sym e))
-flush_true (HelloRead t) e = absurd (true≢false (sym e))
-flush_true (Become p o l) e = absurd (true≢false (sym e))
-flush_true (Handed m) e = absurd (true≢false (sym e))
-
-flush_is : (event : Event) → IsFlush event → is_flush event ≡ true
-flush_is (Commanded sender FlushConfig) h = refl
-flush_is (Commanded sender Ping) h = absurd h
-flush_is (Commanded sender (IsMasterDownByAddr a n c)) h = absurd h
-flush_is (Commanded sender (GetMasterAddrByName n)) h = absurd h
-flush_is (Commanded sender Masters) h = absurd h
-flush_is (Commanded sender (Master n)) h = absurd h
-flush_is (Commanded sender (Replicas n)) h = absurd h
-flush_is (Commanded sender (Sentinels n)) h = absurd h
-flush_is (Commanded sender MyId) h = absurd h
-flush_is (Commanded sender Subscribe) h = absurd h
-flush_is (Commanded sender (CkQuorum n)) h = absurd h
-flush_is (Tick m random) h = absurd h
-flush_is (Answered v m a d l n) h = absurd h
-flush_is (Pinged n r) h = absurd h
-flush_is (InfoRead n t) h = absurd h
-flush_is (HelloRead t) h = absurd h
-flush_is (Become p o l) h = absurd h
-flush_is (Handed m) h = absurd h
-
-either_true : (a b : Bool) → (a || b) ≡ true → (a ≡ true) ⊎ (b ≡ true)
-either_true true b e = inl refl
-either_true false b e = inr e
-
-or_first : (a b : Bool) → a ≡ true → (a || b) ≡ true
-or_first true b e = refl
-or_first false b e = absurd (true≢false (sym e))
-
-or_second : (a b : Bool) → b ≡ true → (a || b) ≡ true
-or_second true b e = refl
-or_second false b e = e
 
 differ : (a b : Kept) (s : Bool) → same_kept a b ≡ s → not s ≡ true → a ≢ b
 differ a b true e h = absurd (true≢false (sym h))
@@ -99,11 +46,11 @@ stores_something v input kept was k w =
     let old : Kept = v.core.kept in (
       λ e. ⊎_elim
           (λ (n : not (same_kept new old) ≡ true). inr (λ same. differ new old (same_kept new old) refl n (sym k ∙ (same ∙ w))))
-          (λ (f : is_flush input.event ≡ true). inl (flush_true input.event f))
-          (either_true (not (same_kept new old)) (is_flush input.event) e),
+          (λ (f : is_flush input.event ≡ true). inl (flush_is input.event f))
+          (or_cases (not (same_kept new old)) (is_flush input.event) e),
       λ h. ⊎_elim
-          (λ (f : IsFlush input.event). or_second (not (same_kept new old)) (is_flush input.event) (flush_is input.event f))
-          (λ (apart : kept ≢ was). or_first (not (same_kept new old)) (is_flush input.event) (not_same new old (same_kept new old) refl (λ same. apart (k ∙ (same ∙ sym w)))))
+          (λ (f : IsFlush input.event). or_right (not (same_kept new old)) (is_flush input.event) (flush_told input.event f))
+          (λ (apart : kept ≢ was). or_left (not (same_kept new old)) (is_flush input.event) (not_same new old (same_kept new old) refl (λ same. apart (k ∙ (same ∙ sym w)))))
           h,
     )
 

@@ -1,8 +1,8 @@
 -- What one turn leaves of a Sentinel and its store.
 use Rattle.std.proofs.Common.{◌≡◌, ◌≢◌, ◌↔◌, ◌⊎◌, ℕ, ◌+◌, ◌-◌, ◌^◌, ◌<◌, Bool, true, false, cond, List, [], ◌∷◌, ◌++◌, drop, length, Option, Some, None, refl, sym, ap, ◌∙◌, subst, inl, inr, ⊎_elim, arith, true≢false, eq-eqb}
-use Rattle.std.specs.Prelude.{IfSome, IsOk, OnOk, is_err, Result, Ok, Err, not, ◌&&◌, ◌||◌, ◌==◌}
+use Rattle.std.specs.Prelude.{IfSome, IsOk, Result, Ok, Err, not, ◌&&◌, ◌||◌, ◌==◌}
 use Rattle.std.proofs.Math.Seq.{drop-append_seam, drop-length}
-use Rattle.std.proofs.lemmas.Bool.{eqb-true}
+use Rattle.std.proofs.lemmas.Bool.{eqb-true, and_parts, and_from}
 use Rattle.ballot_law.specs.declared.addresses.Addr.{Addr}
 use Rattle.ballot_law.specs.declared.addresses.RunId.{RunId}
 use Rattle.ballot_law.specs.declared.cards.Kept.{Kept}
@@ -17,7 +17,7 @@ use Rattle.sentinel_rules.specs.Facts.{IsWithinEvent}
 use Rattle.sentinel_rules.specs.Takes.{Next, next}
 use Rattle.sentinel_rules.proofs.Choices.{same_addr-equal}
 use Rattle.sentinel_outbox.specs.declared.faults.StoreFault.{StoreFault}
-use Rattle.sentinel_outbox.specs.declared.faults.StoreFault.TheVariants.{Nothing, Refused as WasRefused}
+use Rattle.sentinel_outbox.specs.declared.faults.StoreFault.TheVariants.{Refused as WasRefused}
 use Rattle.sentinel_outbox.specs.declared.phase.Phase.TheVariants.{Ready, Halted}
 use Rattle.sentinel_core.specs.Sentinels.{Whole, is_flush}
 use Rattle.sentinel_cell.specs.declared.entry.Entry.{Entry}
@@ -27,10 +27,6 @@ use Rattle.sentinel_cell.specs.Histories.{World, IsStep, IsLeft, IsText, after, 
 
 -- Whether two kept parts are the same
 
-both : (a b : Bool) → (a && b) ≡ true → (a ≡ true) × (b ≡ true)
-both true b e = (refl, e)
-both false b e = absurd (true≢false (sym e))
-
 same_number : (a b : ℕ) → (a == b) ≡ true → a ≡ b
 same_number a b e = eqb-true a b e
 
@@ -39,16 +35,16 @@ candidate_true None None e = refl
 candidate_true None (Some d) e = absurd (true≢false (sym e))
 candidate_true (Some c) None e = absurd (true≢false (sym e))
 candidate_true (Some c) (Some d) e =
-    let one = both (c.hi == d.hi) (c.lo == d.lo) e in
+    let one = and_parts (c.hi == d.hi) (c.lo == d.lo) e in
     let hi : c.hi ≡ d.hi = same_number c.hi d.hi one.0 in
     let lo : c.lo ≡ d.lo = same_number c.lo d.lo one.1 in
     λ i. Some (record { hi = hi i; lo = lo i })
 
 entry_true : (a b : KeptMaster) → same_entry a b ≡ true → a ≡ b
 entry_true a b e =
-    let one = both (a.card.epoch == b.card.epoch) (same_addr a.card.addr b.card.addr && ((a.voted == b.voted) && same_candidate a.candidate b.candidate)) e in
-    let two = both (same_addr a.card.addr b.card.addr) ((a.voted == b.voted) && same_candidate a.candidate b.candidate) one.1 in
-    let three = both (a.voted == b.voted) (same_candidate a.candidate b.candidate) two.1 in
+    let one = and_parts (a.card.epoch == b.card.epoch) (same_addr a.card.addr b.card.addr && ((a.voted == b.voted) && same_candidate a.candidate b.candidate)) e in
+    let two = and_parts (same_addr a.card.addr b.card.addr) ((a.voted == b.voted) && same_candidate a.candidate b.candidate) one.1 in
+    let three = and_parts (a.voted == b.voted) (same_candidate a.candidate b.candidate) two.1 in
     let epoch : a.card.epoch ≡ b.card.epoch = same_number a.card.epoch b.card.epoch one.0 in
     let addr : a.card.addr ≡ b.card.addr = same_addr-equal a.card.addr b.card.addr two.0 in
     let voted : a.voted ≡ b.voted = same_number a.voted b.voted three.0 in
@@ -60,40 +56,36 @@ entries_true [] [] e = refl
 entries_true [] (y ∷ ys) e = absurd (true≢false (sym e))
 entries_true (x ∷ xs) [] e = absurd (true≢false (sym e))
 entries_true (x ∷ xs) (y ∷ ys) e =
-    let one = both (same_entry x y) (same_entries xs ys) e in
+    let one = and_parts (same_entry x y) (same_entries xs ys) e in
     let first : x ≡ y = entry_true x y one.0 in
     let rest : xs ≡ ys = entries_true xs ys one.1 in
     λ i. first i ∷ rest i
 
 pub kept_true : (a b : Kept) → same_kept a b ≡ true → a ≡ b
 kept_true a b e =
-    let one = both (a.current == b.current) (same_entries a.masters b.masters) e in
+    let one = and_parts (a.current == b.current) (same_entries a.masters b.masters) e in
     let current : a.current ≡ b.current = same_number a.current b.current one.0 in
     let masters : a.masters ≡ b.masters = entries_true a.masters b.masters one.1 in
     λ i. record { current = current i; masters = masters i }
 
-all_true : (a b : Bool) → a ≡ true → b ≡ true → (a && b) ≡ true
-all_true true b p q = q
-all_true false b p q = absurd (true≢false (sym p))
-
 addr_same : (a : Addr) → same_addr a a ≡ true
-addr_same a = all_true (a.ip == a.ip) (a.port == a.port) (eq-eqb a.ip a.ip refl) (eq-eqb a.port a.port refl)
+addr_same a = and_from (a.ip == a.ip) (a.port == a.port) (eq-eqb a.ip a.ip refl) (eq-eqb a.port a.port refl)
 
 candidate_same : (c : Option RunId) → same_candidate c c ≡ true
 candidate_same None = refl
-candidate_same (Some c) = all_true (c.hi == c.hi) (c.lo == c.lo) (eq-eqb c.hi c.hi refl) (eq-eqb c.lo c.lo refl)
+candidate_same (Some c) = and_from (c.hi == c.hi) (c.lo == c.lo) (eq-eqb c.hi c.hi refl) (eq-eqb c.lo c.lo refl)
 
 entries_same : (xs : List KeptMaster) → same_entries xs xs ≡ true
 entries_same [] = refl
 entries_same (x ∷ xs) =
-    all_true (same_entry x x) (same_entries xs xs)
-    (all_true (x.card.epoch == x.card.epoch) (same_addr x.card.addr x.card.addr && ((x.voted == x.voted) && same_candidate x.candidate x.candidate)) (eq-eqb x.card.epoch x.card.epoch refl)
-    (all_true (same_addr x.card.addr x.card.addr) ((x.voted == x.voted) && same_candidate x.candidate x.candidate) (addr_same x.card.addr)
-    (all_true (x.voted == x.voted) (same_candidate x.candidate x.candidate) (eq-eqb x.voted x.voted refl) (candidate_same x.candidate))))
+    and_from (same_entry x x) (same_entries xs xs)
+    (and_from (x.card.epoch == x.card.epoch) (same_addr x.card.addr x.card.addr && ((x.voted == x.voted) && same_candidate x.candidate x.candidate)) (eq-eqb x.card.epoch x.card.epoch refl)
+    (and_from (same_addr x.card.addr x.card.addr) ((x.voted == x.voted) && same_candidate x.candidate x.candidate) (addr_same x.card.addr)
+    (and_from (x.voted == x.voted) (same_candidate x.candidate x.candidate) (eq-eqb x.voted x.voted refl) (candidate_same x.candidate))))
     (entries_same xs)
 
 pub kept_same : (a b : Kept) → a ≡ b → same_kept a b ≡ true
-kept_same a b e = subst (λ (x : Kept). same_kept a x ≡ true) e (all_true (a.current == a.current) (same_entries a.masters a.masters) (eq-eqb a.current a.current refl) (entries_same a.masters))
+kept_same a b e = subst (λ (x : Kept). same_kept a x ≡ true) e (and_from (a.current == a.current) (same_entries a.masters a.masters) (eq-eqb a.current a.current refl) (entries_same a.masters))
 
 must_case : (changed same : Bool) (a b : Kept) → same_kept a b ≡ same → (changed ≡ true ↔ (a ≢ b)) → changed ≡ not same
 must_case true true a b e h = absurd (h.0 refl (kept_true a b e))
@@ -215,12 +207,3 @@ pends {P} {X} r false e f = absurd (not_ok r e (f refl).1)
     not_ok : (r : Result X StoreFault) → r ≡ Err WasRefused → IsOk r → ⊥
     not_ok (Ok x) e h = cc
     not_ok (Err y) e h = true≢false (sym h)
-
-pub on_ok : {X E P : Type 0} (answer : Result X E) → is_err answer ≡ false → OnOk answer P → P
-on_ok (Ok x) e p = p
-on_ok (Err fault) e p = absurd (let no : ⊥ = cc in no)
-
-pub refused_of : {X : Type 0} (answer : Result X StoreFault) → is_err answer ≡ true → ¬ (answer ≡ Err Nothing) → answer ≡ Err WasRefused
-refused_of (Ok x) e n = absurd (let no : ⊥ = cc in no)
-refused_of (Err Nothing) e n = absurd (n refl)
-refused_of (Err WasRefused) e n = refl

@@ -5,6 +5,7 @@ use Rattle.ballot_law.specs.Rosters.{master_at}
 use Rattle.sentinel_rules.proofs.KeptParts.{kept_at}
 use Rattle.atomic_table.specs.Table.{opening}
 use Rattle.ballot_law.specs.Ballots.{card_of}
+use Rattle.ballot_law.specs.declared.cards.TheConstants.{MAX_EPOCH}
 use Rattle.sentinel_conf.specs.Rewritten.{IsKeptPart}
 use Rattle.sentinel_rules.specs.Plans.{addr_at, master_count}
 use Rattle.sentinel_outbox.specs.declared.phase.Phase.{Phase}
@@ -21,10 +22,10 @@ settled_at m w is = let h : IsSettled Ready m.core m.stored = subst (λ (p : Pha
 
 -- a stored configuration is of the master's list, and of an epoch that has come
 pub is_listed : (m : Whole) (k : ℕ) → IsKeptPart m.plan.conf m.stored → k < master_count m.plan
-    → ((card_of m.stored k).epoch ≤ 281474976710655) × Contains (master_at m.plan.conf.roster k).nodes (card_of m.stored k).addr
+    → ((card_of m.stored k).epoch ≤ MAX_EPOCH) × Contains (master_at m.plan.conf.roster k).nodes (card_of m.stored k).addr
 is_listed m k part lt =
     let at = kept_at m.plan.conf m.stored k lt part in
-    let high : m.stored.current ≤ 281474976710655 = part.current in
+    let high : m.stored.current ≤ MAX_EPOCH = part.current in
     let low : (card_of m.stored k).epoch ≤ m.stored.current = at.epoch in
     (omega arith, at.addr)
 

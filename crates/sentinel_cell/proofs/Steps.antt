@@ -20,6 +20,9 @@ use Rattle.sentinel_cell.specs.Turns.{total, share_of, looks, looks_of, Queued, 
 use Rattle.sentinel_cell.proofs.Fronts.{begins_self, begins_empty, begins_more, begins_through, begins_longer, compared, calls-append, calls_between, calls_begin}
 use Rattle.sentinel_cell.proofs.Totals.{total_at, total_set, total-append, total_below, no_share}
 
+pub same_ticket : (a b : ℕ) → Waiting a ≡ Waiting b → a ≡ b
+same_ticket a b e = cc
+
 not_serving : (t : ℕ) (st st' : Stage) → st' ≡ Serving t → st ≡ st' → looks st ≡ 0
 not_serving t st st' a b = ap looks (b ∙ a)
 
@@ -190,9 +193,6 @@ module _ {C : Type 0} (Legal : List Entry → Type 0) (stored : List Entry → �
 
   waiting_serves : (st : Stage) (u : ℕ) → st ≡ Waiting u → (t : ℕ) → st ≡ Serving t → ⊥
   waiting_serves st u a t b = let e : Waiting u ≡ Serving t = sym a ∙ b in cc
-
-  same_ticket : (a b : ℕ) → Waiting a ≡ Waiting b → a ≡ b
-  same_ticket a b e = cc
 
   same_turn : (a b : ℕ) → Serving a ≡ Serving b → a ≡ b
   same_turn a b e = cc

@@ -1,6 +1,7 @@
 //! A configuration in one word: its epoch, and the place of its address in the master's list.
 
 ghost use Rattle.std.specs.Prelude.{◌≡◌, ◌<◌, ◌≤◌, ◌/◌, ◌%◌, length, Contains};
+ghost use Rattle.ballot_law.specs.declared.cards.TheConstants.{MAX_EPOCH};
 ghost use Rattle.ballot_law.specs.Rosters.{master_at};
 ghost use Rattle.sentinel_cell.specs.Words.{node_at};
 ghost use Rattle.sentinel_cell.specs.Turns.{unpacked};
@@ -8,7 +9,7 @@ ghost use Rattle.sentinel_cell.specs.Turns.{unpacked};
 use ballot_law::{Addr, Card, Roster};
 
 fn packed(epoch: u64, place: u16) -> u64
-    requires { epoch ≤ 281474976710655 }
+    requires { epoch ≤ MAX_EPOCH }
     ensures epoch { result / 65536 ≡ epoch }
     ensures place { result % 65536 ≡ place }
 {
@@ -19,7 +20,7 @@ fn packed(epoch: u64, place: u16) -> u64
 #[tactic(auto, using(crate::proofs::Places::not_there))]
 pub fn word_of(roster: &Roster, m: u16, card: Card) -> u64
     requires master { m < length roster.now.masters }
-    requires card { (card.epoch ≤ 281474976710655) × Contains (master_at roster.now m).nodes card.addr }
+    requires card { (card.epoch ≤ MAX_EPOCH) × Contains (master_at roster.now m).nodes card.addr }
     ensures { unpacked (node_at roster.now) m result ≡ card }
 {
     let place = roster.place_of(m, card.addr).unwrap();

@@ -5,7 +5,8 @@ use Rattle.std.specs.List.{list_any, flat_map, filter_map, cons_option, zip, All
 use Rattle.std.proofs.lemmas.Bool.{or_parts, or_from, true≢false, false_from_ne_true, cases_Bool}
 use Rattle.ballot_law.specs.Ordered.{repeats}
 use Rattle.sentinel_conf.specs.Meaning.{last, greatest}
-use Rattle.sentinel_conf.proofs.SetLemmas.{In, Rises, IsOrder, each_in, each_from}
+use Rattle.sentinel_conf.proofs.SetLemmas.{In, IsOrder, each_in, each_from}
+use Rattle.ballot_law.proofs.Rising.{Rises}
 use Rattle.sentinel_conf.proofs.OrderLemmas.{IsSame}
 
 pub in_append_left : {X : Type 0} (x : X) (xs ys : List X) → In x xs → In x (xs ++ ys)
@@ -161,7 +162,7 @@ pub apart_rises : {X : Type 0} (before same : X → X → Bool) (o : IsOrder bef
 apart_rises before same o s [] r = tt
 apart_rises before same o s (x ∷ xs) r = (
   each_from (λ y. same y x ≡ false) xs (λ y i. false_from_ne_true (same y x) (λ e.
-      true≢false (sym (each_in (λ y. before x y ≡ true) xs r.0 y i) ∙ ap (before x) (s.equal y x e) ∙ o.irreflexive x))),
+      true≢false (sym (each_in (λ y. before x y ≡ true) xs r.0 y i) ∙ ap (before x) (s.equal y x e) ∙ o.strict.irreflexive x))),
   apart_rises before same o s xs r.1,
 )
 

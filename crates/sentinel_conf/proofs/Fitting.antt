@@ -1,5 +1,6 @@
 -- A conf that was read, and its rewritten file, which is never too long.
-use Rattle.std.proofs.Common.{◌≡◌, ℕ, suc, ◌≤◌, List, [], ◌∷◌, length, map, refl, ap, sym, ◌∙◌, arith, subst}
+use Rattle.std.proofs.Common.{◌≡◌, ℕ, ◌≤◌, List, length, ap, sym, ◌∙◌, arith, subst}
+use Rattle.std.proofs.lemmas.List.{length-map}
 use Rattle.ballot_law.specs.declared.cards.Kept.{Kept}
 use Rattle.sentinel_conf.specs.Meaning.{ConfPlan}
 use Rattle.sentinel_conf.specs.Rewritten.{rewritten, IsKeptPart}
@@ -24,15 +25,11 @@ whole_text conf seen kept text v r h k =
 pub read_part : (conf seen : ConfPlan) → seen ≡ conf → IsRead seen → IsKeptPart conf conf.kept
 read_part conf seen v r = let read = subst IsRead v r in (conf_is read.bytes conf read.reads).kept
 
-length-map : {X Y : Type 0} (f : X → Y) (xs : List X) → length (map f xs) ≡ length xs
-length-map f [] = refl
-length-map f (x ∷ xs) = ap suc (length-map f xs)
-
 -- each master has its settings
 pub all_set : (conf seen : ConfPlan) → seen ≡ conf → IsRead seen → length conf.settings ≡ length conf.roster.masters
 all_set conf seen v r =
     let read = subst IsRead v r in
     let is = conf_is read.bytes conf read.reads in
     ap length (sym is.settings)
-    ∙ length-map (settings_of (kept_settings conf)) (names conf)
-    ∙ length-map (λ (master : MasterPlan). master.name) conf.roster.masters
+    ∙ length-map (names conf) (settings_of (kept_settings conf))
+    ∙ length-map conf.roster.masters (λ (master : MasterPlan). master.name)

@@ -9,6 +9,8 @@ use Rattle.ballot_law.specs.Orders.{same_bytes, same_addr, same_id, addr_before,
 use Rattle.sentinel_conf.specs.Meaning.{member_before}
 use Rattle.sentinel_conf.proofs.SetLemmas.{IsOrder}
 use Rattle.ballot_law.proofs.WordLemmas.{same_bytes-refl, same_bytes-true}
+use Rattle.ballot_law.proofs.Rising.{bytes_strict}
+use Rattle.ballot_law.proofs.HelloLemmas.{addr_one}
 
 -- a test of equality
 pub record IsSame {X : Type 0} (same : X → X → Bool) : Type 0 where
@@ -20,8 +22,10 @@ same_number = record { of_equal = λ x. let e : eqb x x ≡ true = grind (arith,
 
 number_order : IsOrder ltb
 number_order = record {
-  irreflexive = λ x. let e : ltb x x ≡ false = grind (arith, nat_tests) in e;
-  transitive = λ x y z h g. let e : ltb x z ≡ true = grind (arith, nat_tests) in e;
+  strict = record {
+    irreflexive = λ x. let e : ltb x x ≡ false = grind (arith, nat_tests) in e;
+    transitive = λ x y z h g. let e : ltb x z ≡ true = grind (arith, nat_tests) in e;
+  };
   tied = λ x y h g. let e : x ≡ y = grind (arith, nat_tests) in e;
 }
 
@@ -32,7 +36,7 @@ module _ {X A B : Type 0} (p : X → A) (q : X → B) (whole : (x y : X) → p x
 
   module _ (o : IsOrder f) (s : IsSame same) (u : IsOrder g) where
     chain_by : (x y z : X) → (f (p x) (p y) ≡ true) ⊎ ((same (p x) (p y) && g (q x) (q y)) ≡ true) → (f (p y) (p z) ≡ true) ⊎ ((same (p y) (p z) && g (q y) (q z)) ≡ true) → lex x z ≡ true
-    chain_by x y z (inl h) (inl k) = or_left (f (p x) (p z)) (same (p x) (p z) && g (q x) (q z)) (o.transitive (p x) (p y) (p z) h k)
+    chain_by x y z (inl h) (inl k) = or_left (f (p x) (p z)) (same (p x) (p z) && g (q x) (q z)) (o.strict.transitive (p x) (p y) (p z) h k)
     chain_by x y z (inl h) (inr k) =
         let both = and_parts (same (p y) (p z)) (g (q y) (q z)) k in
         or_left (f (p x) (p z)) (same (p x) (p z) && g (q x) (q z)) (ap (f (p x)) (sym (s.equal (p y) (p z) both.0)) ∙ h)
@@ -43,7 +47,7 @@ module _ {X A B : Type 0} (p : X → A) (q : X → B) (whole : (x y : X) → p x
         let one = and_parts (same (p x) (p y)) (g (q x) (q y)) h in
         let two = and_parts (same (p y) (p z)) (g (q y) (q z)) k in
         or_right (f (p x) (p z)) (same (p x) (p z) && g (q x) (q z))
-        (and_from (same (p x) (p z)) (g (q x) (q z)) (ap (λ a. same a (p z)) (s.equal (p x) (p y) one.0) ∙ two.0) (u.transitive (q x) (q y) (q z) one.1 two.1))
+        (and_from (same (p x) (p z)) (g (q x) (q z)) (ap (λ a. same a (p z)) (s.equal (p x) (p y) one.0) ∙ two.0) (u.strict.transitive (q x) (q y) (q z) one.1 two.1))
 
     first_ties : (x y : X) → lex x y ≡ false → lex y x ≡ false → p x ≡ p y
     first_ties x y h k =
@@ -62,10 +66,12 @@ module _ {X A B : Type 0} (p : X → A) (q : X → B) (whole : (x y : X) → p x
 
     pub lex_order : IsOrder lex
     lex_order = record {
-      irreflexive = λ x.
-          or_from (f (p x) (p x)) (same (p x) (p x) && g (q x) (q x)) (o.irreflexive (p x)) (and_right (same (p x) (p x)) (g (q x) (q x)) (u.irreflexive (q x)));
-      transitive = λ x y z h k.
-          chain_by x y z (or_cases (f (p x) (p y)) (same (p x) (p y) && g (q x) (q y)) h) (or_cases (f (p y) (p z)) (same (p y) (p z) && g (q y) (q z)) k);
+      strict = record {
+        irreflexive = λ x.
+            or_from (f (p x) (p x)) (same (p x) (p x) && g (q x) (q x)) (o.strict.irreflexive (p x)) (and_right (same (p x) (p x)) (g (q x) (q x)) (u.strict.irreflexive (q x)));
+        transitive = λ x y z h k.
+            chain_by x y z (or_cases (f (p x) (p y)) (same (p x) (p y) && g (q x) (q y)) h) (or_cases (f (p y) (p z)) (same (p y) (p z) && g (q y) (q z)) k);
+      };
       tied = λ x y h k.
           let e = first_ties x y h k in
           whole x y e (u.tied (q x) (q y) (second_free x y e h) (second_free y x (sym e) k));
@@ -77,9 +83,6 @@ module _ {X A B : Type 0} (p : X → A) (q : X → B) (whole : (x y : X) → p x
       equal = λ x y h. let both = and_parts (same (p x) (p y)) (b (q x) (q y)) h in whole x y (s.equal (p x) (p y) both.0) (t.equal (q x) (q y) both.1);
     }
 
-whole_addr : (a b : Addr) → a.ip ≡ b.ip → a.port ≡ b.port → a ≡ b
-whole_addr a b e f = ap (λ i. let x : Addr = record { ip = i; port = a.port } in x) e ∙ ap (λ p. let x : Addr = record { ip = b.ip; port = p } in x) f
-
 whole_id : (a b : RunId) → a.hi ≡ b.hi → a.lo ≡ b.lo → a ≡ b
 whole_id a b e f = ap (λ i. let x : RunId = record { hi = i; lo = a.lo } in x) e ∙ ap (λ p. let x : RunId = record { hi = b.hi; lo = p } in x) f
 
@@ -87,10 +90,10 @@ whole_member : (a b : Member) → a.id ≡ b.id → a.addr ≡ b.addr → a ≡ 
 whole_member a b e f = ap (λ i. let x : Member = record { id = i; addr = a.addr } in x) e ∙ ap (λ p. let x : Member = record { id = b.id; addr = p } in x) f
 
 pub addr_order : IsOrder addr_before
-addr_order = lex_order (λ (a : Addr). a.ip) (λ (a : Addr). a.port) whole_addr ltb eqb ltb number_order same_number number_order
+addr_order = lex_order (λ (a : Addr). a.ip) (λ (a : Addr). a.port) addr_one ltb eqb ltb number_order same_number number_order
 
 pub addr_same : IsSame same_addr
-addr_same = lex_same (λ (a : Addr). a.ip) (λ (a : Addr). a.port) whole_addr ltb eqb ltb number_order same_number number_order eqb same_number
+addr_same = lex_same (λ (a : Addr). a.ip) (λ (a : Addr). a.port) addr_one ltb eqb ltb number_order same_number number_order eqb same_number
 
 pub id_order : IsOrder id_before
 id_order = lex_order (λ (a : RunId). a.hi) (λ (a : RunId). a.lo) whole_id ltb eqb ltb number_order same_number number_order
@@ -103,33 +106,6 @@ member_order = lex_order (λ (a : Member). a.id) (λ (a : Member). a.addr) whole
 
 pub bytes_same : IsSame same_bytes
 bytes_same = record { of_equal = same_bytes-refl; equal = same_bytes-true }
-
-bytes_irreflexive : (xs : List ℕ) → bytes_before xs xs ≡ false
-bytes_irreflexive [] = refl
-bytes_irreflexive (x ∷ xs) = or_from (ltb x x) (eqb x x && bytes_before xs xs) (number_order.irreflexive x) (and_right (eqb x x) (bytes_before xs xs) (bytes_irreflexive xs))
-
-bytes_chain_by : (x y z : ℕ) (xs ys zs : List ℕ) → (bytes_before xs ys ≡ true → bytes_before ys zs ≡ true → bytes_before xs zs ≡ true)
-    → (ltb x y ≡ true) ⊎ ((eqb x y && bytes_before xs ys) ≡ true) → (ltb y z ≡ true) ⊎ ((eqb y z && bytes_before ys zs) ≡ true) → (ltb x z || (eqb x z && bytes_before xs zs)) ≡ true
-bytes_chain_by x y z xs ys zs t (inl h) (inl k) = or_left (ltb x z) (eqb x z && bytes_before xs zs) (number_order.transitive x y z h k)
-bytes_chain_by x y z xs ys zs t (inl h) (inr k) =
-    let both = and_parts (eqb y z) (bytes_before ys zs) k in
-    or_left (ltb x z) (eqb x z && bytes_before xs zs) (ap (ltb x) (sym (same_number.equal y z both.0)) ∙ h)
-bytes_chain_by x y z xs ys zs t (inr h) (inl k) =
-    let both = and_parts (eqb x y) (bytes_before xs ys) h in
-    or_left (ltb x z) (eqb x z && bytes_before xs zs) (ap (λ a. ltb a z) (same_number.equal x y both.0) ∙ k)
-bytes_chain_by x y z xs ys zs t (inr h) (inr k) =
-    let one = and_parts (eqb x y) (bytes_before xs ys) h in
-    let two = and_parts (eqb y z) (bytes_before ys zs) k in
-    or_right (ltb x z) (eqb x z && bytes_before xs zs) (and_from (eqb x z) (bytes_before xs zs) (ap (λ a. eqb a z) (same_number.equal x y one.0) ∙ two.0) (t one.1 two.1))
-
-bytes_transitive : (xs ys zs : List ℕ) → bytes_before xs ys ≡ true → bytes_before ys zs ≡ true → bytes_before xs zs ≡ true
-bytes_transitive [] [] zs h k = cc
-bytes_transitive [] (y ∷ ys) [] h k = cc
-bytes_transitive [] (y ∷ ys) (z ∷ zs) h k = refl
-bytes_transitive (x ∷ xs) [] zs h k = cc
-bytes_transitive (x ∷ xs) (y ∷ ys) [] h k = cc
-bytes_transitive (x ∷ xs) (y ∷ ys) (z ∷ zs) h k =
-    bytes_chain_by x y z xs ys zs (bytes_transitive xs ys zs) (or_cases (ltb x y) (eqb x y && bytes_before xs ys) h) (or_cases (ltb y z) (eqb y z && bytes_before ys zs) k)
 
 bytes_free_by : (x y : ℕ) (xs ys : List ℕ) → x ≡ y → (eqb x y ≡ false) ⊎ (bytes_before xs ys ≡ false) → bytes_before xs ys ≡ false
 bytes_free_by x y xs ys e (inl h) = absurd (true≢false (sym (same_number.of_equal x) ∙ ap (eqb x) e ∙ h))
@@ -148,4 +124,4 @@ bytes_tied (x ∷ xs) (y ∷ ys) h k =
     cc
 
 pub bytes_order : IsOrder bytes_before
-bytes_order = record { irreflexive = bytes_irreflexive; transitive = bytes_transitive; tied = bytes_tied }
+bytes_order = record { strict = bytes_strict; tied = bytes_tied }

@@ -12,7 +12,7 @@ use Rattle.ballot_law.specs.declared.rosters.Member.{Member}
 use Rattle.ballot_law.specs.Ordered.{in_order, repeats}
 use Rattle.ballot_law.specs.Rosters.{Roster, MasterPlan}
 use Rattle.ballot_law.specs.Orders.{same_bytes, same_id, same_addr, addr_before, bytes_before}
-use Rattle.ballot_law.specs.RosterFaults.{fault_of, first_that_fits, tests}
+use Rattle.ballot_law.specs.RosterFaults.{fault_of, tests}
 use Rattle.conf_lines.specs.declared.faults.ConfKind.{ConfKind}
 use Rattle.conf_lines.specs.declared.faults.ConfKind.TheVariants.{TooLong, NotUtf8, UnknownMaster, NoMyId, Roster as FaultyRoster}
 use Rattle.conf_lines.specs.declared.faults.ConfFault.{ConfFault}
@@ -37,8 +37,10 @@ use Rattle.sentinel_conf.specs.Reading.{FILE_MAX, line_fault, unknown_fault, fir
 use Rattle.conf_lines.specs.Faults.{fault_at}
 use Rattle.conf_lines.specs.Lines.{state_name, spoken_of}
 use Rattle.conf_lines.proofs.SpacedWords.{HasNoLf, lines-ended}
-use Rattle.ballot_law.proofs.WordLemmas.{same_bytes-refl, same_bytes-true}
-use Rattle.sentinel_conf.proofs.SetLemmas.{In, Rises, each_in, each_from, in_order_is}
+use Rattle.ballot_law.proofs.WordLemmas.{same_bytes-refl, same_bytes-true, some_if-is, some_if-true}
+use Rattle.ballot_law.proofs.Fits.{none_fits}
+use Rattle.sentinel_conf.proofs.SetLemmas.{In, each_in, each_from, in_order_is}
+use Rattle.ballot_law.proofs.Rising.{Rises}
 use Rattle.sentinel_conf.proofs.OrderLemmas.{addr_order, addr_same, id_same, member_order, bytes_order, bytes_same}
 use Rattle.conf_lines.proofs.StateLemmas.{IsAddr, IsId, IsName, IsState, no_lf_spelled}
 use Rattle.sentinel_conf.proofs.SizeLemmas.{rewritten_size, longest_is}
@@ -86,15 +88,6 @@ pub record IsConf (conf : ConfPlan) : Type 0 where
   pub kept : IsKeptPart conf conf.kept
   pub size : length (rewritten conf (longest conf.kept)) ≤ FILE_MAX
 
--- the faults of a roster that there aren't
-none_fits_by : {F : Type 0} (b : Bool) (fault : F) (rest : List (Bool × F)) → first_that_fits ((b, fault) ∷ rest) ≡ None → (b ≡ false) × (first_that_fits rest ≡ None)
-none_fits_by true fault rest h = cc
-none_fits_by false fault rest h = (refl, h)
-
-none_fits : {F : Type 0} (ts : List (Bool × F)) → first_that_fits ts ≡ None → AllByRecursion (λ t. t.0 ≡ false) ts
-none_fits [] h = tt
-none_fits (t ∷ ts) h = let both = none_fits_by t.0 t.1 ts h in (both.0, none_fits ts both.1)
-
 pub record NoFault (plan : Roster) : Type 0 where
   pub some_sentinel : eqb (length plan.sentinels) 0 ≡ false
   pub few_sentinels : ltb 64 (length plan.sentinels) ≡ false
@@ -124,13 +117,6 @@ map_map f g (x ∷ xs) = ap (λ t. g (f x) ∷ t) (map_map f g xs)
 pub map_same : {X Y : Type 0} (f g : X → Y) (xs : List X) → ((x : X) → In x xs → f x ≡ g x) → map f xs ≡ map g xs
 map_same f g [] h = refl
 map_same f g (x ∷ xs) h = let e : f x ≡ g x = h x (inl refl) in let r : map f xs ≡ map g xs = map_same f g xs (λ y i. h y (inr i)) in cc
-
-given_if : {X : Type 0} (b : Bool) (x y : X) → some_if b x ≡ Some y → (b ≡ true) × (x ≡ y)
-given_if true x y h = (refl, (let e : x ≡ y = cc in e))
-given_if false x y h = cc
-
-gives_if : {X : Type 0} (b : Bool) (x : X) → b ≡ true → some_if b x ≡ Some x
-gives_if b x e = ap (λ t. some_if t x) e
 
 nothing : {X : Type 0} (x : X) (P : Type 0) → None ≡ Some x → P
 nothing x P e = cc
@@ -382,14 +368,14 @@ module _ (conf : ConfPlan) (kept : Kept) (c : IsConf conf) (k : IsKeptPart conf 
       id = λ a e. nothing a (In a p.0.nodes) e;
       current = λ a e. nothing a (In a p.0.nodes) e;
       monitor = λ q j a e.
-          let g = given_if (same_bytes p.0.name q.0.name) q.1.card.addr a e in
+          let g = some_if-is (same_bytes p.0.name q.0.name) q.1.card.addr a e in
           let f : p ≡ q = one_pair p q i j g.0 in
           subst (λ w. In w p.0.nodes) (ap (λ r. r.1.card.addr) f ∙ g.1) (addr_in p i);
       config = λ q j a e. nothing a (In a p.0.nodes) e;
       leader = λ q j a e. nothing a (In a p.0.nodes) e;
       candidate = λ q j d f a e. nothing a (In a p.0.nodes) e;
       replica = λ q j b l a e.
-          let g = given_if (same_bytes p.0.name q.0.name) b a e in
+          let g = some_if-is (same_bytes p.0.name q.0.name) b a e in
           let f : p ≡ q = one_pair p q i j g.0 in
           subst (λ w. In w p.0.nodes) g.1 (subst (λ (r : MasterPlan × KeptMaster). In b r.0.nodes) (sym f) l);
       known = λ q j m l a e. nothing a (In a p.0.nodes) e;
@@ -404,14 +390,14 @@ module _ (conf : ConfPlan) (kept : Kept) (c : IsConf conf) (k : IsKeptPart conf 
           | inl t ↦
               let e : p.1.card.addr ≡ a = addr_same.equal p.1.card.addr a t in
               to_filter_map (node_of p.0.name) (Monitor p.0.name p.1.card.addr p.0.quorum) a lines_of_state monitor_in
-              (gives_if (same_bytes p.0.name p.0.name) p.1.card.addr (same_bytes-refl p.0.name) ∙ ap Some e)
+              (some_if-true (same_bytes p.0.name p.0.name) p.1.card.addr (same_bytes-refl p.0.name) ∙ ap Some e)
           | inr f ↦
               to_filter_map (node_of p.0.name) (KnownReplica p.0.name a) a lines_of_state
               (of_master p i (KnownReplica p.0.name a)
               (inr (inr (inr (in_append_right (KnownReplica p.0.name a) (candidate_states p.0.name p.1.candidate) (map (KnownReplica p.0.name) (replicas p.0 p.1) ++ map (λ member. KnownSentinel p.0.name member.addr member.id) (others conf))
               (in_append_left (KnownReplica p.0.name a) (map (KnownReplica p.0.name) (replicas p.0 p.1)) (map (λ member. KnownSentinel p.0.name member.addr member.id) (others conf))
               (in_map (KnownReplica p.0.name) a (replicas p.0 p.1) (to_filter (λ addr. not (same_addr p.1.card.addr addr)) a p.0.nodes (not_from_false (same_addr p.1.card.addr a) f) l))))))))
-              (gives_if (same_bytes p.0.name p.0.name) a (same_bytes-refl p.0.name))
+              (some_if-true (same_bytes p.0.name p.0.name) a (same_bytes-refl p.0.name))
         ]
 
     nodes_again : in_order addr_before (filter_map (node_of p.0.name) lines_of_state) ≡ p.0.nodes
@@ -426,14 +412,14 @@ module _ (conf : ConfPlan) (kept : Kept) (c : IsConf conf) (k : IsKeptPart conf 
         (each_state (Gives (quorum_of p.0.name) (λ y. y ≡ p.0.quorum)) (record {
           id = λ y e. nothing y (y ≡ p.0.quorum) e;
           current = λ y e. nothing y (y ≡ p.0.quorum) e;
-          monitor = λ q j y e. let g = given_if (same_bytes p.0.name q.0.name) q.0.quorum y e in sym g.1 ∙ ap (λ r. r.0.quorum) (sym (one_pair p q i j g.0));
+          monitor = λ q j y e. let g = some_if-is (same_bytes p.0.name q.0.name) q.0.quorum y e in sym g.1 ∙ ap (λ r. r.0.quorum) (sym (one_pair p q i j g.0));
           config = λ q j y e. nothing y (y ≡ p.0.quorum) e;
           leader = λ q j y e. nothing y (y ≡ p.0.quorum) e;
           candidate = λ q j d f y e. nothing y (y ≡ p.0.quorum) e;
           replica = λ q j b l y e. nothing y (y ≡ p.0.quorum) e;
           known = λ q j m l y e. nothing y (y ≡ p.0.quorum) e;
         }))
-        (Monitor p.0.name p.1.card.addr p.0.quorum) monitor_in (gives_if (same_bytes p.0.name p.0.name) p.0.quorum (same_bytes-refl p.0.name))
+        (Monitor p.0.name p.1.card.addr p.0.quorum) monitor_in (some_if-true (same_bytes p.0.name p.0.name) p.0.quorum (same_bytes-refl p.0.name))
 
     card_again : last (monitored_at p.0.name) no_addr lines_of_state ≡ p.1.card.addr
     card_again =
@@ -441,14 +427,14 @@ module _ (conf : ConfPlan) (kept : Kept) (c : IsConf conf) (k : IsKeptPart conf 
         (each_state (Gives (monitored_at p.0.name) (λ y. y ≡ p.1.card.addr)) (record {
           id = λ y e. nothing y (y ≡ p.1.card.addr) e;
           current = λ y e. nothing y (y ≡ p.1.card.addr) e;
-          monitor = λ q j y e. let g = given_if (same_bytes p.0.name q.0.name) q.1.card.addr y e in sym g.1 ∙ ap (λ r. r.1.card.addr) (sym (one_pair p q i j g.0));
+          monitor = λ q j y e. let g = some_if-is (same_bytes p.0.name q.0.name) q.1.card.addr y e in sym g.1 ∙ ap (λ r. r.1.card.addr) (sym (one_pair p q i j g.0));
           config = λ q j y e. nothing y (y ≡ p.1.card.addr) e;
           leader = λ q j y e. nothing y (y ≡ p.1.card.addr) e;
           candidate = λ q j d f y e. nothing y (y ≡ p.1.card.addr) e;
           replica = λ q j b l y e. nothing y (y ≡ p.1.card.addr) e;
           known = λ q j m l y e. nothing y (y ≡ p.1.card.addr) e;
         }))
-        (Monitor p.0.name p.1.card.addr p.0.quorum) monitor_in (gives_if (same_bytes p.0.name p.0.name) p.1.card.addr (same_bytes-refl p.0.name))
+        (Monitor p.0.name p.1.card.addr p.0.quorum) monitor_in (some_if-true (same_bytes p.0.name p.0.name) p.1.card.addr (same_bytes-refl p.0.name))
 
     epoch_again : last (config_of p.0.name) 0 lines_of_state ≡ p.1.card.epoch
     epoch_again =
@@ -457,13 +443,13 @@ module _ (conf : ConfPlan) (kept : Kept) (c : IsConf conf) (k : IsKeptPart conf 
           id = λ y e. nothing y (y ≡ p.1.card.epoch) e;
           current = λ y e. nothing y (y ≡ p.1.card.epoch) e;
           monitor = λ q j y e. nothing y (y ≡ p.1.card.epoch) e;
-          config = λ q j y e. let g = given_if (same_bytes p.0.name q.0.name) q.1.card.epoch y e in sym g.1 ∙ ap (λ r. r.1.card.epoch) (sym (one_pair p q i j g.0));
+          config = λ q j y e. let g = some_if-is (same_bytes p.0.name q.0.name) q.1.card.epoch y e in sym g.1 ∙ ap (λ r. r.1.card.epoch) (sym (one_pair p q i j g.0));
           leader = λ q j y e. nothing y (y ≡ p.1.card.epoch) e;
           candidate = λ q j d f y e. nothing y (y ≡ p.1.card.epoch) e;
           replica = λ q j b l y e. nothing y (y ≡ p.1.card.epoch) e;
           known = λ q j m l y e. nothing y (y ≡ p.1.card.epoch) e;
         }))
-        (ConfigEpoch p.0.name p.1.card.epoch) (of_master p i (ConfigEpoch p.0.name p.1.card.epoch) (inr (inl refl))) (gives_if (same_bytes p.0.name p.0.name) p.1.card.epoch (same_bytes-refl p.0.name))
+        (ConfigEpoch p.0.name p.1.card.epoch) (of_master p i (ConfigEpoch p.0.name p.1.card.epoch) (inr (inl refl))) (some_if-true (same_bytes p.0.name p.0.name) p.1.card.epoch (same_bytes-refl p.0.name))
 
     voted_again : last (voted_of p.0.name) 0 lines_of_state ≡ p.1.voted
     voted_again =
@@ -473,12 +459,12 @@ module _ (conf : ConfPlan) (kept : Kept) (c : IsConf conf) (k : IsKeptPart conf 
           current = λ y e. nothing y (y ≡ p.1.voted) e;
           monitor = λ q j y e. nothing y (y ≡ p.1.voted) e;
           config = λ q j y e. nothing y (y ≡ p.1.voted) e;
-          leader = λ q j y e. let g = given_if (same_bytes p.0.name q.0.name) q.1.voted y e in sym g.1 ∙ ap (λ r. r.1.voted) (sym (one_pair p q i j g.0));
+          leader = λ q j y e. let g = some_if-is (same_bytes p.0.name q.0.name) q.1.voted y e in sym g.1 ∙ ap (λ r. r.1.voted) (sym (one_pair p q i j g.0));
           candidate = λ q j d f y e. nothing y (y ≡ p.1.voted) e;
           replica = λ q j b l y e. nothing y (y ≡ p.1.voted) e;
           known = λ q j m l y e. nothing y (y ≡ p.1.voted) e;
         }))
-        (LeaderEpoch p.0.name p.1.voted) (of_master p i (LeaderEpoch p.0.name p.1.voted) (inr (inr (inl refl)))) (gives_if (same_bytes p.0.name p.0.name) p.1.voted (same_bytes-refl p.0.name))
+        (LeaderEpoch p.0.name p.1.voted) (of_master p i (LeaderEpoch p.0.name p.1.voted) (inr (inr (inl refl)))) (some_if-true (same_bytes p.0.name p.0.name) p.1.voted (same_bytes-refl p.0.name))
 
     candidate_found : (s : StateLine) → In s lines_of_state → Gives (candidate_of p.0.name) (λ y. p.1.candidate ≡ Some y) s
     candidate_found = each_state (Gives (candidate_of p.0.name) (λ y. p.1.candidate ≡ Some y)) (record {
@@ -487,7 +473,7 @@ module _ (conf : ConfPlan) (kept : Kept) (c : IsConf conf) (k : IsKeptPart conf 
       monitor = λ q j y e. nothing y (p.1.candidate ≡ Some y) e;
       config = λ q j y e. nothing y (p.1.candidate ≡ Some y) e;
       leader = λ q j y e. nothing y (p.1.candidate ≡ Some y) e;
-      candidate = λ q j d f y e. let g = given_if (same_bytes p.0.name q.0.name) d y e in ap (λ r. r.1.candidate) (one_pair p q i j g.0) ∙ f ∙ ap Some g.1;
+      candidate = λ q j d f y e. let g = some_if-is (same_bytes p.0.name q.0.name) d y e in ap (λ r. r.1.candidate) (one_pair p q i j g.0) ∙ f ∙ ap Some g.1;
       replica = λ q j b l y e. nothing y (p.1.candidate ≡ Some y) e;
       known = λ q j m l y e. nothing y (p.1.candidate ≡ Some y) e;
     })
@@ -498,7 +484,7 @@ module _ (conf : ConfPlan) (kept : Kept) (c : IsConf conf) (k : IsKeptPart conf 
       of_master p i (LeaderId p.0.name y)
           (inr (inr (inr (in_append_left (LeaderId p.0.name y) (candidate_states p.0.name p.1.candidate) (map (KnownReplica p.0.name) (replicas p.0 p.1) ++ map (λ member. KnownSentinel p.0.name member.addr member.id) (others conf))
           (in_candidate p.0.name p.1.candidate y e))))),
-      gives_if (same_bytes p.0.name p.0.name) y (same_bytes-refl p.0.name),
+      some_if-true (same_bytes p.0.name p.0.name) y (same_bytes-refl p.0.name),
     )
 
     candidate_again : candidate_at (last (voted_of p.0.name) 0 lines_of_state) (first_given (candidate_of p.0.name) lines_of_state) ≡ p.1.candidate

@@ -35,8 +35,9 @@ use Rattle.ballot_law.specs.Results.{◌>>=◌}
 use Rattle.sentinel_conf.specs.Reading.{FILE_MAX, line_fault, unknown_fault, first_fault, unless, guard, found, roster_checked, kept_lines_of, whole_conf, conf_of_lines, conf_of_bytes}
 use Rattle.conf_lines.specs.Faults.{fault_at}
 use Rattle.conf_lines.proofs.SpacedWords.{HasNoLf}
-use Rattle.ballot_law.proofs.WordLemmas.{same_bytes-refl}
-use Rattle.sentinel_conf.proofs.SetLemmas.{In, Rises, each_in, each_from, rises_in_order, from_in_order, to_in_order}
+use Rattle.ballot_law.proofs.WordLemmas.{same_bytes-refl, some_if-is}
+use Rattle.sentinel_conf.proofs.SetLemmas.{In, each_in, each_from, from_in_order, to_in_order}
+use Rattle.ballot_law.proofs.Rising.{Rises, in_order_rises}
 use Rattle.sentinel_conf.proofs.OrderLemmas.{addr_order, member_order, bytes_order}
 use Rattle.conf_lines.proofs.StateLemmas.{IsAddr, IsId, IsName, IsState}
 use Rattle.sentinel_conf.proofs.FileLemmas.{in_map, each_map, to_filter_map, each_filter_map, in_filter_map, from_filter, greatest-le}
@@ -138,10 +139,6 @@ zip_map : {X A B : Type 0} (R : A → B → Type 0) (f : X → A) (g : X → B) 
 zip_map R f g [] h = tt
 zip_map R f g (x ∷ xs) h = (h x (inl refl), zip_map R f g xs (λ y i. h y (inr i)))
 
-given_if : {X : Type 0} (b : Bool) (x y : X) → some_if b x ≡ Some y → (b ≡ true) × (x ≡ y)
-given_if true x y h = (refl, (let e : x ≡ y = cc in e))
-given_if false x y h = cc
-
 module _ (bytes : List ℕ) (u : IsUtf8 bytes) (id : RunId) where
   abbrev texts : List (List ℕ)
   texts = lines bytes
@@ -210,7 +207,7 @@ module _ (bytes : List ℕ) (u : IsUtf8 bytes) (id : RunId) where
   master_valid : (n : List ℕ) → In n (names_of ss) → IsMaster (master_of ss n)
   master_valid n i = record {
     name = name_valid;
-    order = rises_in_order addr_before addr_order (filter_map (node_of n) ss);
+    order = in_order_rises addr_before addr_order.strict (filter_map (node_of n) ss);
     nodes = each_from IsAddr (in_order addr_before (filter_map (node_of n) ss)) (λ a j.
         each_filter_map (node_of n) IsAddr ss (λ s q b e. node_by s b (state_valid s q) e) a (from_in_order addr_before addr_order (filter_map (node_of n) ss) a j));
     quorum = last_fact (quorum_of n) (λ q. q ≤ 4294967295) 0 ss (omega arith) (λ s q w e. quorum_by s w (state_valid s q) e);
@@ -229,8 +226,8 @@ module _ (bytes : List ℕ) (u : IsUtf8 bytes) (id : RunId) where
     name_valid = let m = monitored n i in named_by m.0 (state_valid m.0 m.1) m.2
 
     node_by : (s : StateLine) (b : Addr) → IsState s → node_of n s ≡ Some b → IsAddr b
-    node_by (Monitor m a q) b v e = subst IsAddr (given_if (same_bytes n m) a b e).1 v.1
-    node_by (KnownReplica m a) b v e = subst IsAddr (given_if (same_bytes n m) a b e).1 v.1
+    node_by (Monitor m a q) b v e = subst IsAddr (some_if-is (same_bytes n m) a b e).1 v.1
+    node_by (KnownReplica m a) b v e = subst IsAddr (some_if-is (same_bytes n m) a b e).1 v.1
     node_by (MyId m) b v e = cc
     node_by (CurrentEpoch m) b v e = cc
     node_by (ConfigEpoch m a) b v e = cc
@@ -239,7 +236,7 @@ module _ (bytes : List ℕ) (u : IsUtf8 bytes) (id : RunId) where
     node_by (LeaderId m q) b v e = cc
 
     quorum_by : (s : StateLine) (w : ℕ) → IsState s → quorum_of n s ≡ Some w → w ≤ 4294967295
-    quorum_by (Monitor m a q) w v e = let f : q ≡ w = (given_if (same_bytes n m) q w e).1 in let l : q ≤ 4294967295 = v.2 in omega arith
+    quorum_by (Monitor m a q) w v e = let f : q ≡ w = (some_if-is (same_bytes n m) q w e).1 in let l : q ≤ 4294967295 = v.2 in omega arith
     quorum_by (MyId m) w v e = cc
     quorum_by (CurrentEpoch m) w v e = cc
     quorum_by (ConfigEpoch m a) w v e = cc
@@ -280,7 +277,7 @@ module _ (bytes : List ℕ) (u : IsUtf8 bytes) (id : RunId) where
   epoch_bound (LeaderId n i) e v h = cc
 
   config_is_epoch : (n : List ℕ) (s : StateLine) (e : ℕ) → config_of n s ≡ Some e → epoch_of s ≡ Some e
-  config_is_epoch n (ConfigEpoch m d) e h = ap Some (given_if (same_bytes n m) d e h).1
+  config_is_epoch n (ConfigEpoch m d) e h = ap Some (some_if-is (same_bytes n m) d e h).1
   config_is_epoch n (CurrentEpoch d) e h = cc
   config_is_epoch n (LeaderEpoch m d) e h = cc
   config_is_epoch n (Monitor m a q) e h = cc
@@ -290,7 +287,7 @@ module _ (bytes : List ℕ) (u : IsUtf8 bytes) (id : RunId) where
   config_is_epoch n (LeaderId m i) e h = cc
 
   voted_is_epoch : (n : List ℕ) (s : StateLine) (e : ℕ) → voted_of n s ≡ Some e → epoch_of s ≡ Some e
-  voted_is_epoch n (LeaderEpoch m d) e h = ap Some (given_if (same_bytes n m) d e h).1
+  voted_is_epoch n (LeaderEpoch m d) e h = ap Some (some_if-is (same_bytes n m) d e h).1
   voted_is_epoch n (CurrentEpoch d) e h = cc
   voted_is_epoch n (ConfigEpoch m d) e h = cc
   voted_is_epoch n (Monitor m a q) e h = cc
@@ -372,9 +369,9 @@ module _ (bytes : List ℕ) (u : IsUtf8 bytes) (id : RunId) where
               known = known_line (names conf) (line_of t) (λ n g. name_in n (spoken_known (filter_map name_of ss) (line_of t) n
                   (each_in (λ l. unknown_fault (filter_map name_of ss) l ≡ None) all (each_clean (unknown_fault (filter_map name_of ss)) [] all (none_clean (λ _. unknown_fault (filter_map name_of ss)) 1 [] all known)) (line_of t) (in_map line_of t texts f.1)) g));
             });
-        name_order = subst (Rises bytes_before) (sym names_are) (rises_in_order bytes_before bytes_order (filter_map name_of ss));
+        name_order = subst (Rises bytes_before) (sym names_are) (in_order_rises bytes_before bytes_order.strict (filter_map name_of ss));
         masters = each_from IsMaster (map (master_of ss) (names_of ss)) (each_map (master_of ss) IsMaster (names_of ss) master_valid);
-        order = rises_in_order member_before member_order ((record { id = id; addr = own_addr (settings all) }) ∷ filter_map known_of ss);
+        order = in_order_rises member_before member_order.strict ((record { id = id; addr = own_addr (settings all) }) ∷ filter_map known_of ss);
         members = members_valid own_id;
         own = to_in_order member_before member_order ((record { id = id; addr = own_addr (settings all) }) ∷ filter_map known_of ss) (own conf) (inl (ap (λ t. let m : Member = record { id = id; addr = own_addr t } in m) settings_kept));
         roster = roster;

@@ -1,6 +1,7 @@
 -- The roster that the lines give is in order already.
 use Rattle.std.proofs.Common.{◌≡◌, ℕ, Bool, true, false, ◌||◌, ◌&&◌, List, [], ◌∷◌, map, refl, ap, sym, ◌∙◌, None}
 use Rattle.std.specs.List.{list_any, AllByRecursion, filter_map}
+use Rattle.std.proofs.lemmas.Bool.{or_parts}
 use Rattle.ballot_law.specs.declared.rosters.Member.{Member}
 use Rattle.ballot_law.specs.Ordered.{add, in_order, repeats}
 use Rattle.ballot_law.specs.Orders.{same_id, id_before, addr_before, bytes_before}
@@ -10,7 +11,8 @@ use Rattle.ballot_law.proofs.Placing.{add_before}
 use Rattle.conf_lines.specs.declared.lines.StateLine.{StateLine}
 use Rattle.sentinel_conf.specs.Meaning.{member_before, names_of, master_of, members_of, plan_of}
 use Rattle.conf_lines.specs.Values.{name_of, node_of, known_of}
-use Rattle.sentinel_conf.proofs.SetLemmas.{Rises, IsOrder, rises_in_order}
+use Rattle.sentinel_conf.proofs.SetLemmas.{IsOrder}
+use Rattle.ballot_law.proofs.Rising.{Rises, in_order_rises}
 use Rattle.sentinel_conf.proofs.OrderLemmas.{addr_order, id_order, member_order, bytes_order}
 use Rattle.sentinel_conf.proofs.ReadAgain.{no_fault, map_map, map_same}
 
@@ -18,7 +20,7 @@ abbrev IsOneWay : {X : Type 0} → (X → X → Bool) → Type 0
 IsOneWay {X} before = (x y : X) → before x y ≡ true → before y x ≡ false
 
 one_way_by : {X : Type 0} (before : X → X → Bool) (o : IsOrder before) (x y : X) (t : Bool) → before y x ≡ t → before x y ≡ true → before y x ≡ false
-one_way_by before o x y true e h = let both : before x x ≡ true = o.transitive x y x h e in let none : before x x ≡ false = o.irreflexive x in cc
+one_way_by before o x y true e h = let both : before x x ≡ true = o.strict.transitive x y x h e in let none : before x x ≡ false = o.strict.irreflexive x in cc
 one_way_by before o x y false e h = e
 
 one_way : {X : Type 0} (before : X → X → Bool) → IsOrder before → IsOneWay before
@@ -52,31 +54,23 @@ id_first true same after h e = refl
 id_first false true after h e = cc
 id_first false false after h e = h
 
-or_false_left : (a b : Bool) → (a || b) ≡ false → a ≡ false
-or_false_left true b h = h
-or_false_left false b h = refl
-
-or_false_right : (a b : Bool) → (a || b) ≡ false → b ≡ false
-or_false_right true b h = cc
-or_false_right false b h = h
-
 ids_later : (a : Member) (xs : List Member) → AllByRecursion (λ b. member_before a b ≡ true) xs → list_any (one_id a) xs ≡ false → AllByRecursion (λ b. by_id a b ≡ true) xs
 ids_later a [] h e = tt
 ids_later a (b ∷ xs) h e = (
-  id_first (id_before a.id b.id) (same_id a.id b.id) (addr_before a.addr b.addr) h.0 (or_false_left (one_id a b) (list_any (one_id a) xs) e),
-  ids_later a xs h.1 (or_false_right (one_id a b) (list_any (one_id a) xs) e),
+  id_first (id_before a.id b.id) (same_id a.id b.id) (addr_before a.addr b.addr) h.0 (or_parts (one_id a b) (list_any (one_id a) xs) e).0,
+  ids_later a xs h.1 (or_parts (one_id a b) (list_any (one_id a) xs) e).1,
 )
 
 rises_ids : (xs : List Member) → Rises member_before xs → repeats one_id xs ≡ false → Rises by_id xs
 rises_ids [] h e = h
 rises_ids (a ∷ xs) h e =
-    (ids_later a xs h.0 (or_false_left (list_any (one_id a) xs) (repeats one_id xs) e), rises_ids xs h.1 (or_false_right (list_any (one_id a) xs) (repeats one_id xs) e))
+    (ids_later a xs h.0 (or_parts (list_any (one_id a) xs) (repeats one_id xs) e).0, rises_ids xs h.1 (or_parts (list_any (one_id a) xs) (repeats one_id xs) e).1)
 
 master_again : (states : List StateLine) (name : List ℕ) → nodes_in_order (master_of states name) ≡ master_of states name
 master_again states name =
     let nodes = filter_map (node_of name) states in
     ap (λ t. let m : MasterPlan = record (master_of states name) { nodes = t } in m)
-    (stays addr_before (one_way addr_before addr_order) (in_order addr_before nodes) (rises_in_order addr_before addr_order nodes))
+    (stays addr_before (one_way addr_before addr_order) (in_order addr_before nodes) (in_order_rises addr_before addr_order.strict nodes))
 
 masters_again : (states : List StateLine) (names : List (List ℕ)) → map nodes_in_order (map (master_of states) names) ≡ map (master_of states) names
 masters_again states names = sym (map_map (master_of states) nodes_in_order names) ∙ map_same (λ n. nodes_in_order (master_of states n)) (master_of states) names (λ n i. master_again states n)
@@ -89,8 +83,8 @@ ordered_again own states h =
     let by_name : MasterPlan → MasterPlan → Bool = λ a b. bytes_before a.name b.name in
     let given = filter_map name_of states in
     ap (λ t. let p : Roster = record { sentinels = t; masters = in_order by_name (map nodes_in_order masters) } in p)
-    (stays by_id (λ a b k. one_way id_before id_order a.id b.id k) members (rises_ids members (rises_in_order member_before member_order (own ∷ filter_map known_of states)) none.ids))
+    (stays by_id (λ a b k. one_way id_before id_order a.id b.id k) members (rises_ids members (in_order_rises member_before member_order.strict (own ∷ filter_map known_of states)) none.ids))
     ∙ ap (λ t. let p : Roster = record { sentinels = members; masters = in_order by_name t } in p) (masters_again states (names_of states))
     ∙ ap (λ t. let p : Roster = record { sentinels = members; masters = t } in p)
     (stays by_name (λ a b k. one_way bytes_before bytes_order a.name b.name k) masters
-    (rises_map bytes_before by_name (master_of states) (λ x y k. k) (names_of states) (rises_in_order bytes_before bytes_order given)))
+    (rises_map bytes_before by_name (master_of states) (λ x y k. k) (names_of states) (in_order_rises bytes_before bytes_order.strict given)))

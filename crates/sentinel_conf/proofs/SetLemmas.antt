@@ -1,22 +1,19 @@
 -- Lists in order, each element once: two of the same elements are equal.
-use Rattle.std.proofs.Common.{◌≡◌, Bool, true, false, List, [], ◌∷◌, refl, ap, sym, ◌∙◌, subst, ◌⊎◌, inl, inr}
+use Rattle.std.proofs.Common.{◌≡◌, Bool, true, false, List, [], ◌∷◌, refl, sym, ◌∙◌, subst, ◌⊎◌, inl, inr}
 use Rattle.std.specs.List.{AllByRecursion}
 use Rattle.std.proofs.lemmas.Bool.{true≢false}
 use Rattle.ballot_law.specs.Ordered.{add, in_order}
+use Rattle.ballot_law.proofs.Placing.{add_at, add_before, add_tied}
+use Rattle.ballot_law.proofs.Rising.{IsStrict, Rises, in_order_rises}
 
+-- a strict order in which only equal elements tie
 pub record IsOrder {X : Type 0} (before : X → X → Bool) : Type 0 where
-  pub irreflexive : (x : X) → before x x ≡ false
-  pub transitive : (x y z : X) → before x y ≡ true → before y z ≡ true → before x z ≡ true
+  pub strict : IsStrict before
   pub tied : (x y : X) → before x y ≡ false → before y x ≡ false → x ≡ y
 
 abbrev pub In : {X : Type 0} → X → List X → Type 0
 In x [] = ⊥
 In x (y ∷ ys) = (x ≡ y) ⊎ In x ys
-
--- each element stands before all that follow
-abbrev pub Rises : {X : Type 0} → (X → X → Bool) → List X → Type 0
-Rises before [] = Unit {0}
-Rises before (x ∷ xs) = AllByRecursion (λ y. before x y ≡ true) xs × Rises before xs
 
 pub each_in : {X : Type 0} (P : X → Type 0) (xs : List X) → AllByRecursion P xs → (x : X) → In x xs → P x
 each_in P [] h x i = absurd i
@@ -28,19 +25,6 @@ each_from P [] h = tt
 each_from P (y ∷ ys) h = (h y (inl refl), each_from P ys (λ x i. h x (inr i)))
 
 module _ {X : Type 0} (before : X → X → Bool) where
-  add_at : (x y : X) (ys : List X) → before y x ≡ true → add before x (y ∷ ys) ≡ y ∷ add before x ys
-  add_at x y ys e = ap (λ t. elim t as (λ _. List X) [ true ↦ y ∷ add before x ys | false ↦ elim (before x y) as (λ _. List X) [ true ↦ x ∷ y ∷ ys | false ↦ y ∷ ys ] ]) e
-
-  add_before : (x y : X) (ys : List X) → before y x ≡ false → before x y ≡ true → add before x (y ∷ ys) ≡ x ∷ y ∷ ys
-  add_before x y ys e f =
-      ap (λ t. elim t as (λ _. List X) [ true ↦ y ∷ add before x ys | false ↦ elim (before x y) as (λ _. List X) [ true ↦ x ∷ y ∷ ys | false ↦ y ∷ ys ] ]) e
-      ∙ ap (λ t. elim t as (λ _. List X) [ true ↦ x ∷ y ∷ ys | false ↦ y ∷ ys ]) f
-
-  add_tied : (x y : X) (ys : List X) → before y x ≡ false → before x y ≡ false → add before x (y ∷ ys) ≡ y ∷ ys
-  add_tied x y ys e f =
-      ap (λ t. elim t as (λ _. List X) [ true ↦ y ∷ add before x ys | false ↦ elim (before x y) as (λ _. List X) [ true ↦ x ∷ y ∷ ys | false ↦ y ∷ ys ] ]) e
-      ∙ ap (λ t. elim t as (λ _. List X) [ true ↦ x ∷ y ∷ ys | false ↦ y ∷ ys ]) f
-
   -- what stands in the list after an addition
   abbrev Adds : X → List X → List X → Type 0
   Adds x ys zs = ((z : X) → In z zs → (z ≡ x) ⊎ In z ys) × ((z : X) → (z ≡ x) ⊎ In z ys → In z zs)
@@ -73,9 +57,9 @@ module _ {X : Type 0} (before : X → X → Bool) where
 
   module _ (o : IsOrder before) where
     add_adds_by : (x y : X) (ys : List X) (s t : Bool) → before y x ≡ s → before x y ≡ t → Adds x ys (add before x ys) → Adds x (y ∷ ys) (add before x (y ∷ ys))
-    add_adds_by x y ys true t e f a = subst (Adds x (y ∷ ys)) (sym (add_at x y ys e)) (behind_adds x y ys (add before x ys) a)
-    add_adds_by x y ys false true e f a = subst (Adds x (y ∷ ys)) (sym (add_before x y ys e f)) (front_adds x (y ∷ ys))
-    add_adds_by x y ys false false e f a = subst (Adds x (y ∷ ys)) (sym (add_tied x y ys e f)) (there_adds x y ys (o.tied x y f e))
+    add_adds_by x y ys true t e f a = subst (Adds x (y ∷ ys)) (sym (add_at before x y ys e)) (behind_adds x y ys (add before x ys) a)
+    add_adds_by x y ys false true e f a = subst (Adds x (y ∷ ys)) (sym (add_before before x y ys e f)) (front_adds x (y ∷ ys))
+    add_adds_by x y ys false false e f a = subst (Adds x (y ∷ ys)) (sym (add_tied before x y ys e f)) (there_adds x y ys (o.tied x y f e))
 
     add_adds : (x : X) (ys : List X) → Adds x ys (add before x ys)
     add_adds x [] = front_adds x []
@@ -93,36 +77,14 @@ module _ {X : Type 0} (before : X → X → Bool) where
     to_in_order [] z i = absurd i
     to_in_order (x ∷ xs) z i = (add_adds x (in_order before xs)).1 z (in_cases x xs (in_order before xs) (to_in_order xs) z i)
 
-    above_added : (y x : X) (ys zs : List X) → Adds x ys zs → before y x ≡ true → AllByRecursion (λ z. before y z ≡ true) ys → AllByRecursion (λ z. before y z ≡ true) zs
-    above_added y x ys zs a e h =
-        each_from (λ z. before y z ≡ true) zs (λ z i.
-        elim (a.0 z i) as (λ _. before y z ≡ true) [ inl f ↦ ap (before y) f ∙ e | inr j ↦ each_in (λ z. before y z ≡ true) ys h z j ])
-
-    above_all : (x y : X) (ys : List X) → before x y ≡ true → AllByRecursion (λ z. before y z ≡ true) ys → AllByRecursion (λ z. before x z ≡ true) ys
-    above_all x y ys e h = each_from (λ z. before x z ≡ true) ys (λ z i. o.transitive x y z e (each_in (λ z. before y z ≡ true) ys h z i))
-
-    add_rises_by : (x y : X) (ys : List X) (s t : Bool) → before y x ≡ s → before x y ≡ t → Rises before (y ∷ ys) → Rises before (add before x ys) → Rises before (add before x (y ∷ ys))
-    add_rises_by x y ys true t e f r s =
-        subst (Rises before) (sym (add_at x y ys e)) (above_added y x ys (add before x ys) (add_adds x ys) e r.0, s)
-    add_rises_by x y ys false true e f r s = subst (Rises before) (sym (add_before x y ys e f)) ((f, above_all x y ys f r.0), r)
-    add_rises_by x y ys false false e f r s = subst (Rises before) (sym (add_tied x y ys e f)) r
-
-    add_rises : (x : X) (ys : List X) → Rises before ys → Rises before (add before x ys)
-    add_rises x [] r = (tt, tt)
-    add_rises x (y ∷ ys) r = add_rises_by x y ys (before y x) (before x y) refl refl r (add_rises x ys r.1)
-
-    pub rises_in_order : (xs : List X) → Rises before (in_order before xs)
-    rises_in_order [] = tt
-    rises_in_order (x ∷ xs) = add_rises x (in_order before xs) (rises_in_order xs)
-
     not_above : (x : X) (ys : List X) → AllByRecursion (λ y. before x y ≡ true) ys → In x ys → ⊥
-    not_above x ys h i = true≢false (sym (each_in (λ y. before x y ≡ true) ys h x i) ∙ o.irreflexive x)
+    not_above x ys h i = true≢false (sym (each_in (λ y. before x y ≡ true) ys h x i) ∙ o.strict.irreflexive x)
 
     heads_by : (x y : X) (xs ys : List X) → Rises before (x ∷ xs) → Rises before (y ∷ ys) → (x ≡ y) ⊎ In x ys → (y ≡ x) ⊎ In y xs → x ≡ y
     heads_by x y xs ys r s (inl e) j = e
     heads_by x y xs ys r s (inr i) (inl e) = sym e
     heads_by x y xs ys r s (inr i) (inr j) =
-        absurd (true≢false (sym (o.transitive x y x (each_in (λ z. before x z ≡ true) xs r.0 y j) (each_in (λ z. before y z ≡ true) ys s.0 x i)) ∙ o.irreflexive x))
+        absurd (true≢false (sym (o.strict.transitive x y x (each_in (λ z. before x z ≡ true) xs r.0 y j) (each_in (λ z. before y z ≡ true) ys s.0 x i)) ∙ o.strict.irreflexive x))
 
     tail_in : (x y : X) (xs ys : List X) → Rises before (x ∷ xs) → x ≡ y → ((z : X) → In z (x ∷ xs) → In z (y ∷ ys)) → (z : X) → In z xs → In z ys
     tail_in x y xs ys r e h z i =
@@ -143,4 +105,4 @@ module _ {X : Type 0} (before : X → X → Bool) where
     -- the elements of a list in order, put in order
     pub in_order_is : (xs ys : List X) → Rises before ys → ((z : X) → In z xs → In z ys) → ((z : X) → In z ys → In z xs) → in_order before xs ≡ ys
     in_order_is xs ys r h g =
-        same_elements (in_order before xs) ys (rises_in_order xs) r (λ z i. h z (from_in_order xs z i)) (λ z i. to_in_order xs z (g z i))
+        same_elements (in_order before xs) ys (in_order_rises before o.strict xs) r (λ z i. h z (from_in_order xs z i)) (λ z i. to_in_order xs z (g z i))

@@ -21,7 +21,8 @@ use Rattle.sentinel_conf.specs.Meaning.{ConfPlan}
 use Rattle.ballot_law.specs.declared.cards.Kept.{Kept}
 use Rattle.sentinel_conf.specs.Rewritten.{others, candidate_states, master_states, state_lines, rewritten, longest, at_last_epoch, IsKeptMaster, IsKeptPart}
 use Rattle.conf_lines.specs.Words.{ended}
-use Rattle.sentinel_conf.proofs.SetLemmas.{In, Rises}
+use Rattle.sentinel_conf.proofs.SetLemmas.{In}
+use Rattle.ballot_law.proofs.Rising.{Rises}
 use Rattle.sentinel_conf.proofs.Candidates.{length-id}
 use Rattle.sentinel_conf.proofs.OrderLemmas.{addr_order, addr_same}
 use Rattle.sentinel_conf.proofs.FileLemmas.{Apart, apart_rises, in_from_at, filter_yes, filter_no}

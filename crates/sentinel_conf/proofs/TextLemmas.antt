@@ -19,6 +19,7 @@ use Rattle.ballot_law.specs.declared.cards.TheConstants.{MAX_EPOCH}
 use Rattle.conf_lines.specs.Words.{ended}
 use Rattle.conf_lines.proofs.SpacedWords.{HasNoLf}
 use Rattle.ballot_law.proofs.WordLemmas.{spells_decimal, spells_hex, some_if-some}
+use Rattle.ballot_law.proofs.CutLemmas.{line_ends, line_goes_on}
 use Rattle.conf_lines.proofs.StateLemmas.{IsState, IsAddr, IsId}
 
 abbrev AreLow : List ℕ → Type 0
@@ -127,12 +128,6 @@ back_text pre bs u =
     let t = IsUtf8-drop (pre ++ 10 ∷ bs) (length pre + 1) u (IsCharBoundary-after_ascii (pre ++ 10 ∷ bs) (length pre) u (omega (arith, length-append pre (10 ∷ bs))) (omega arith)) in
     subst IsUtf8 (drop-append-add pre (10 ∷ bs) 1) t
 
-lines_at_lf : (b : ℕ) (bs : List ℕ) → eqb b 10 ≡ true → lines (b ∷ bs) ≡ [] ∷ lines bs
-lines_at_lf b bs e = ap (λ t. elim t as (λ _. List (List ℕ)) [ true ↦ [] ∷ lines bs | false ↦ with_first b (lines bs) ]) e
-
-lines_in_line : (b : ℕ) (bs : List ℕ) → eqb b 10 ≡ false → lines (b ∷ bs) ≡ with_first b (lines bs)
-lines_in_line b bs e = ap (λ t. elim t as (λ _. List (List ℕ)) [ true ↦ [] ∷ lines bs | false ↦ with_first b (lines bs) ]) e
-
 nil_front : (ts : List (List ℕ)) → AllByRecursion IsTextLine (attached [] ts) → AllByRecursion IsTextLine ts
 nil_front [] h = tt
 nil_front (t ∷ ts) h = h
@@ -146,11 +141,11 @@ text_lines_by : (t : Bool) (pre : List ℕ) (b : ℕ) (bs : List ℕ) → eqb b 
 text_lines_by true pre b bs e h u rest =
     let f : b ≡ 10 = grind (arith, nat_tests, e) in
     let v : IsUtf8 (pre ++ 10 ∷ bs) = subst (λ c. IsUtf8 (pre ++ c ∷ bs)) f u in
-    subst (λ ts. AllByRecursion IsTextLine (attached pre ts)) (sym (lines_at_lf b bs e))
+    subst (λ ts. AllByRecursion IsTextLine (attached pre ts)) (sym (line_ends b bs e))
     ((subst IsTextLine (sym (append_nil pre)) (h, front_text pre bs v)), nil_front (lines bs) (rest [] tt (back_text pre bs v)))
 text_lines_by false pre b bs e h u rest =
     let n : b ≢ 10 = λ f. grind (arith, nat_tests, e) in
-    subst (λ ts. AllByRecursion IsTextLine (attached pre ts)) (sym (lines_in_line b bs e))
+    subst (λ ts. AllByRecursion IsTextLine (attached pre ts)) (sym (line_goes_on b bs e))
     (subst (AllByRecursion IsTextLine) (attached_front pre b (lines bs)) (rest (pre ++ b ∷ []) (no_lf_push pre b h n) (subst IsUtf8 (sym (append_assoc pre (b ∷ []) bs)) u)))
 
 text_lines_from : (bs : List ℕ) (pre : List ℕ) → HasNoLf pre → IsUtf8 (pre ++ bs) → AllByRecursion IsTextLine (attached pre (lines bs))

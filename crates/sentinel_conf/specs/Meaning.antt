@@ -11,6 +11,8 @@ use Rattle.ballot_law.specs.declared.cards.KeptMaster.{KeptMaster}
 use Rattle.ballot_law.specs.declared.cards.Kept.{Kept}
 use Rattle.ballot_law.specs.Rosters.{no_addr}
 use Rattle.sentinel_conf.specs.declared.settings.Settings.{Settings}
+use Rattle.sentinel_conf.specs.declared.settings.TheConstants.{DEFAULT_SETTINGS}
+use Rattle.sentinel_conf.specs.declared.meaning.TheConstants.{DEFAULT_PORT, DEFAULT_IP}
 use Rattle.conf_lines.specs.declared.lines.StateLine.{StateLine}
 use Rattle.conf_lines.specs.declared.lines.Setting.{Setting}
 use Rattle.conf_lines.specs.Values.{name_of, quorum_of, monitored_at, node_of, config_of, voted_of, candidate_of, epoch_of, known_of, port_of, announce_ip_of, announce_port_of, after_of, syncs_of, timeout_of}
@@ -85,19 +87,19 @@ abbrev pub kept_of : List StateLine → Kept
 kept_of states = record { current = greatest (filter_map epoch_of states); masters = map (kept_master_of states) (names_of states) }
 
 abbrev pub own_port : List Setting → ℕ
-own_port settings = last port_of 26379 settings
+own_port settings = last port_of DEFAULT_PORT settings
 
 abbrev pub own_addr : List Setting → Addr
 own_addr settings = record {
-  ip = last announce_ip_of 2130706433 settings;
+  ip = last announce_ip_of DEFAULT_IP settings;
   port = last announce_port_of (own_port settings) settings;
 }
 
 abbrev pub settings_of : List Setting → List ℕ → Settings
 settings_of settings name = record {
-  after_ms = last (after_of name) 30000 settings;
-  parallel_syncs = last (syncs_of name) 1 settings;
-  timeout = last (timeout_of name) 180000 settings;
+  after_ms = last (after_of name) DEFAULT_SETTINGS.after_ms settings;
+  parallel_syncs = last (syncs_of name) DEFAULT_SETTINGS.parallel_syncs settings;
+  timeout = last (timeout_of name) DEFAULT_SETTINGS.timeout settings;
 }
 
 abbrev pub plan_of : Member → List StateLine → Roster

@@ -28,4 +28,4 @@ pub use conf_lines::{ConfFault, ConfKind};
 pub use conf_store::{ConfStore, FileStore, FileText, LoadFault, MemoryStore, StoreRefused};
 pub use conf_text::{ConfText, FILE_MAX};
 pub use laws::{law_read_again, law_run_ids};
-pub use settings::Settings;
+pub use settings::{DEFAULT_SETTINGS, Settings};

@@ -6,16 +6,16 @@ ghost use Rattle.conf_lines.specs.Values.{name_of, my_id_of, node_of, quorum_of,
 ghost use Rattle.sentinel_conf.specs.Meaning.{first_given, last, greatest, master_of, candidate_at, kept_master_of, members_of, own_port, own_addr, settings_of};
 
 use crate::members::{Listed, members_in_order};
-use crate::settings::Settings;
+use crate::settings::{DEFAULT_SETTINGS, Settings};
 use ballot_law::{Addr, Card, KeptMaster, Member, Name, RunId, Watched, ordered};
 use conf_lines::{Setting, StateLine};
 use std::alloc::{AllocError, Global};
 
 /// The port of a Sentinel that names none.
-const DEFAULT_PORT: u16 = 26_379;
+pub(crate) const DEFAULT_PORT: u16 = 26_379;
 
 /// The ip of a Sentinel that announces none: 127.0.0.1.
-const DEFAULT_IP: u32 = 2_130_706_433;
+pub(crate) const DEFAULT_IP: u32 = 2_130_706_433;
 
 /// The names that the monitor lines give, in the order of the lines.
 pub fn names_given(alloc: Global, states: &[StateLine]) -> Result<Vec<Name>, AllocError>
@@ -217,15 +217,16 @@ fn settings_of(settings: &[Setting], name: &Name) -> Settings
     ensures { result ≡ settings_of settings.now name.now }
 {
     Settings {
-        after_ms: settings
-            .iter()
-            .fold(30_000, |ms, setting| setting.after_of(name).unwrap_or(ms)),
+        after_ms: settings.iter().fold(
+            DEFAULT_SETTINGS.after_ms,
+            |ms, setting| setting.after_of(name).unwrap_or(ms),
+        ),
         parallel_syncs: settings.iter().fold(
-            1,
+            DEFAULT_SETTINGS.parallel_syncs,
             |count, setting| setting.syncs_of(name).unwrap_or(count),
         ),
         timeout: settings.iter().fold(
-            180_000,
+            DEFAULT_SETTINGS.timeout,
             |ms, setting| setting.timeout_of(name).unwrap_or(ms),
         ),
     }

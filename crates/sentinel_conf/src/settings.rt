@@ -11,3 +11,11 @@ pub struct Settings {
     /// `sentinel failover-timeout`, in milliseconds; 1 to 4,294,967,295.
     pub timeout: u64,
 }
+
+/// What holds of a master for which the file doesn't say otherwise: 30 seconds, one replica at a time, three minutes, as the comments of
+/// sentinel.conf have it.
+pub const DEFAULT_SETTINGS: Settings = Settings {
+    after_ms: 30_000,
+    parallel_syncs: 1,
+    timeout: 180_000,
+};

@@ -1,6 +1,6 @@
 -- What a store holds after an input was stored, or refused.
 use Rattle.std.proofs.Common.{◌≡◌, ◌≢◌, ◌⊎◌, ◌≤◌, ℕ, Bool, true, false, List, [], ◌∷◌, Option, Some, None, inl, inr, subst, sym, ap, refl, ◌∙◌}
-use Rattle.std.specs.Prelude.{IfSome, OnOk, Result, Ok, Err, is_err, ◌||◌}
+use Rattle.std.specs.Prelude.{IfSome, OnOk, Result, Ok, Err, is_err}
 use Rattle.std.proofs.lemmas.Bool.Decides.{eqb_tells}
 use Rattle.ballot_law.specs.declared.addresses.Addr.{Addr}
 use Rattle.ballot_law.specs.declared.addresses.RunId.{RunId}
@@ -91,10 +91,6 @@ pub refused_of : {X : Type 0} (answer : Result X StoreFault) → is_err answer �
 refused_of (Ok x) e n = absurd (let no : ⊥ = cc in no)
 refused_of (Err Nothing) e n = absurd (n refl)
 refused_of (Err Refused) e n = refl
-
-pub or_false : (a b : Bool) → (a || b) ≡ false → a ≡ false
-or_false true b e = e
-or_false false b e = refl
 
 -- ---- the store
 

@@ -1,3 +1,4 @@
 pub mod Holding
 pub mod NewsSteps
 pub mod PuttingBack
+pub mod Flushes

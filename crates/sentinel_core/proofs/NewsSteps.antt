@@ -3,6 +3,7 @@ use Rattle.std.proofs.Common.{◌≡◌, ◌≤◌, ℕ, true, false, List, [], 
 use Rattle.std.proofs.lemmas.Bool.{true≢false}
 use Rattle.ballot_law.specs.declared.events.Event.{Event}
 use Rattle.ballot_law.specs.declared.events.Event.TheVariants.{Command, Tick, Answered, Pinged, InfoRead, HelloRead, Become, Handed}
+use Rattle.ballot_law.specs.declared.messages.TheConstants.{OUTPUTS_MAX}
 use Rattle.sentinel_rules.specs.declared.frames.Frame.{Frame}
 use Rattle.sentinel_rules.specs.declared.frames.TheConstants.{FRAMES_MAX}
 use Rattle.sentinel_rules.specs.Plans.{Plan}
@@ -16,10 +17,10 @@ use Rattle.watched_nodes.proofs.RoomLemmas.{added_all}
 use Rattle.sentinel_core.specs.Sentinels.{is_command}
 
 -- all frames had room
-pub after_news : (old new : State) (cleared : List Frame) (part : Part) → cleared ≡ [] → length part.frames ≤ 1536
+pub after_news : (old new : State) (cleared : List Frame) (part : Part) → cleared ≡ [] → length part.frames ≤ OUTPUTS_MAX
     → new ≡ with_part (record old { frames = cleared }) part → new ≡ record old { core = part.core; frames = part.frames }
 after_news old new cleared part none few e =
-    let limit : FRAMES_MAX ≡ 1536 = refl in
+    let limit : FRAMES_MAX ≡ OUTPUTS_MAX = refl in
     e
     ∙ ap (λ (frames : List Frame). let x : State = record old { core = part.core; frames = added frames part.frames } in x) none
     ∙ ap (λ (frames : List Frame). let x : State = record old { core = part.core; frames = frames } in x) (added_all [] part.frames (omega (arith, few, limit)))

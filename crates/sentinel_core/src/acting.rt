@@ -2,6 +2,7 @@
 
 ghost use Rattle.std.specs.Prelude.{◌≡◌, ◌≤◌, ◌<◌, length, map, false};
 ghost use Rattle.std.specs.List.{AllByRecursion};
+ghost use Rattle.ballot_law.specs.declared.messages.TheConstants.{OUTPUTS_MAX, ANSWER_MAX, SHOWN_MAX};
 ghost use Rattle.ballot_law.specs.Clocks.{clock};
 ghost use Rattle.sentinel_outbox.specs.Outboxes.{Fits, room_of_sentinel};
 ghost use Rattle.sentinel_core.specs.Formers.{former_of, put_back};
@@ -91,8 +92,8 @@ fn output_of(plan: &Plan, core: &Core, frame: Frame) -> Output
 
 /// The answer to a command, in the outbox's buffers where it needs them.
 fn answer(state: &mut State, now: u64, command: &Command, outbox: &mut Outbox) -> Body
-    requires text { 65536 ≤ outbox.old.text_room }
-    requires list { 16 ≤ outbox.old.list_room }
+    requires text { ANSWER_MAX ≤ outbox.old.text_room }
+    requires list { SHOWN_MAX ≤ outbox.old.list_room }
     ensures state { state.new
         ≡ record state.old { core = (commanded state.old.plan (clock now) command.now state.old.core).core } }
     ensures body { result ≡ (commanded state.old.plan (clock now) command.now state.old.core).body }
@@ -208,7 +209,7 @@ fn hold_answer(
 fn hold_frames(state: &State, outbox: &mut Outbox)
     requires named { AllByRecursion (IsNamed state.now.plan) state.now.frames }
     requires fits { Fits outbox.old room_of_sentinel }
-    requires few { length state.now.frames ≤ 1536 }
+    requires few { length state.now.frames ≤ OUTPUTS_MAX }
     ensures held { outbox.new.held ≡ map (output_of state.now.plan state.now.core) state.now.frames }
     ensures shown { outbox.new.shown ≡ outbox.old.shown }
     ensures room { length outbox.new.held ≤ outbox.new.shown_room }
@@ -223,7 +224,7 @@ fn hold_frames(state: &State, outbox: &mut Outbox)
 /// What an event does that is no command. What it may overwrite of what is kept is taken down.
 fn act_on_news(state: &mut State, input: &Input, outbox: &mut Outbox, former: &mut Former)
     requires kind { is_command input.now.event ≡ false }
-    requires few { length (part_of state.old.plan (clock input.now.now) input.now.event state.old.core).frames ≤ 1536 }
+    requires few { length (part_of state.old.plan (clock input.now.now) input.now.event state.old.core).frames ≤ OUTPUTS_MAX }
     requires fits { Fits outbox.old room_of_sentinel }
     ensures former { former.new
         ≡ former_of state.old.core.kept (concerned state.old.plan input.entry.now.event state.old.core.kept) }
@@ -243,7 +244,7 @@ fn act_on_news(state: &mut State, input: &Input, outbox: &mut Outbox, former: &m
 
 /// What an event does that may be a command. What it may overwrite of what is kept is taken down.
 fn act_on(state: &mut State, input: &Input, outbox: &mut Outbox, former: &mut Former)
-    requires few { length (part_of state.old.plan (clock input.now.now) input.now.event state.old.core).frames ≤ 1536 }
+    requires few { length (part_of state.old.plan (clock input.now.now) input.now.event state.old.core).frames ≤ OUTPUTS_MAX }
     requires fits { Fits outbox.old room_of_sentinel }
     ensures former { former.new
         ≡ former_of state.old.core.kept (concerned state.old.plan input.entry.now.event state.old.core.kept) }

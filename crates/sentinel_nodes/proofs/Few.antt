@@ -1,5 +1,5 @@
 -- What a Sentinel puts out shows the configurations of 16 masters at most.
-use Rattle.std.proofs.Common.{◌≡◌, ◌≤◌, ◌+◌, ℕ, zero, suc, List, [], ◌∷◌, length, Option, Some, None, map, arith, refl, ap, ◌∙◌, subst, sym, Bool, Result, Ok, Err, OnOk}
+use Rattle.std.proofs.Common.{◌≡◌, ◌≤◌, ℕ, List, [], ◌∷◌, length, Option, Some, None, map, arith, ◌∙◌, subst, sym, Bool, Result, Ok, Err, OnOk}
 use Rattle.std.specs.List.{AllByRecursion}
 use Rattle.std.proofs.lemmas.List.{length-map}
 use Rattle.std.specs.Prelude.{not, ◌&&◌}
@@ -17,16 +17,13 @@ use Rattle.sentinel_outbox.specs.declared.faults.TakeFault.{TakeFault}
 use Rattle.sentinel_outbox.specs.declared.took.Took.{Took}
 use Rattle.sentinel_rules.specs.declared.frames.Frame.{Frame}
 use Rattle.sentinel_rules.specs.declared.frames.Frame.TheVariants.{PingTo, InfoTo, HelloTo, AskTo, PromoteTo, FollowTo, NoteOf}
-use Rattle.sentinel_rules.specs.Answers.{commanded, asked_of, asked_at, master_with_card, named, about, numbers_from, all_masters}
+use Rattle.sentinel_rules.specs.Answers.{commanded, asked_of, asked_at, master_with_card, named, about, all_masters}
 use Rattle.sentinel_rules.specs.Facts.{IsSoundPlan}
 use Rattle.sentinel_rules.specs.Parts.{output_of, shown_of}
 use Rattle.sentinel_rules.specs.Plans.{Plan, master_count}
 use Rattle.sentinel_rules.specs.States.{Core, is_master_down, is_tilted}
 use Rattle.sentinel_rules.specs.Takes.{next, next_at, part_of, cleared}
-
-numbers : (first count : ℕ) → length (numbers_from first count) ≡ count
-numbers first zero = refl
-numbers first (suc count) = ap suc (numbers (first + 1) count)
+use Rattle.sentinel_rules.proofs.Choices.{length-numbers_from}
 
 asked_few : (plan : Plan) (now : ℕ) (addr : Addr) (epoch : ℕ) (candidate : Option RunId) (m : Option ℕ) (core : Core) → IsFewIn (asked_of plan now addr epoch candidate m core).body
 asked_few plan now addr epoch candidate None core = tt
@@ -42,7 +39,7 @@ answer_few plan now Ping core p = tt
 answer_few plan now (IsMasterDownByAddr addr epoch candidate) core p = asked_few plan now addr epoch candidate (master_with_card core.kept.masters addr) core
 answer_few plan now (GetMasterAddrByName name) core p = tt
 answer_few plan now Masters core p =
-    let many : length (map (shown_of core) (all_masters plan)) ≡ master_count plan = length-map (all_masters plan) (shown_of core) ∙ numbers 0 (master_count plan) in
+    let many : length (map (shown_of core) (all_masters plan)) ≡ master_count plan = length-map (all_masters plan) (shown_of core) ∙ length-numbers_from 0 (master_count plan) in
     omega (arith, many, p.conf.few_masters)
 answer_few plan now (Master name) core p = about_few core (named plan name) _ (λ m. omega arith)
 answer_few plan now (Replicas name) core p = about_few core (named plan name) _ (λ m. omega arith)

@@ -2,10 +2,9 @@
 use Rattle.std.proofs.Common.{inl, inr, ◌≡◌, ◌≢◌, ◌↔◌, ◌⊎◌, ℕ, ◌≤◌, ◌<◌, ◌||◌, Bool, true, false, Option, Some, None, List, [], ◌∷◌, ◌++◌, length, nat_lt, refl, sym, ◌∙◌, ap, subst, arith, Result, Ok, Err, is_ok, OnOk, IsOk, IfOk, IsErrOf, IsTrue, IsFalse}
 use Rattle.std.specs.Prelude.{All}
 use Rattle.std.specs.List.{AllByRecursion}
-use Rattle.std.proofs.lemmas.Bool.{le-ltb}
+use Rattle.std.proofs.lemmas.Bool.{le-ltb, or_cases, or_left, or_right, or_parts}
 use Rattle.ballot_law.specs.declared.cards.Kept.{Kept}
 use Rattle.ballot_law.specs.declared.events.Event.{Event}
-use Rattle.ballot_law.specs.declared.events.Event.TheVariants.{Tick, Command as Commanded, Answered, Pinged, InfoRead, HelloRead, Become, Handed}
 use Rattle.ballot_law.specs.declared.commands.Command.TheVariants as command
 use Rattle.ballot_law.specs.declared.messages.NodeName.TheVariants.{SentinelAt}
 use Rattle.ballot_law.specs.declared.messages.Output.{Output}
@@ -13,6 +12,7 @@ use Rattle.ballot_law.specs.declared.steps.KeptText.TheVariants.{Old, New}
 use Rattle.ballot_law.specs.Rosters.{Roster, id_of, size}
 use Rattle.ballot_law.specs.Ballots.{Parts, Moved, restored}
 use Rattle.ballot_law.specs.Worlds.{Sentinel, State, Ready, Pending, Stored, Halted, Stopped, IsFlush, Choice, IsRightOutput, taken, stored_now, ended, ended_new, started}
+use Rattle.ballot_law.proofs.States.{pending_or_not}
 use Rattle.sentinel_conf.specs.Meaning.{ConfPlan}
 use Rattle.sentinel_conf.specs.Reading.{FILE_MAX, conf_of_bytes}
 use Rattle.sentinel_conf.specs.Rewritten.{rewritten, IsKeptPart}
@@ -21,6 +21,7 @@ use Rattle.sentinel_rules.specs.States.{Core, opened}
 use Rattle.sentinel_rules.specs.Steps.{IsPartsOf, IsTake, OpenedIsSound}
 use Rattle.sentinel_rules.specs.Takes.{next}
 use Rattle.sentinel_core.specs.Sentinels.{Whole, IsWhole, is_flush, is_pending}
+use Rattle.sentinel_core.proofs.Flushes.{flush_told, flush_is}
 use Rattle.sentinel_outbox.specs.declared.phase.Phase.{Phase}
 use Rattle.sentinel_outbox.specs.declared.phase.Phase.TheVariants as phase
 use Rattle.sentinel_outbox.specs.declared.faults.StoreFault.{StoreFault}
@@ -40,63 +41,6 @@ use Rattle.sentinel_nodes.proofs.Listed.{outputs_listed}
 use Rattle.sentinel_nodes.proofs.Wins.{won_of}
 
 -- A take
-
--- FLUSHCONFIG to the model, and to the Sentinel
-flush_told : (event : Event) → IsFlush event → is_flush event ≡ true
-flush_told (Commanded sender command.FlushConfig) f = refl
-flush_told (Tick _ _) f = elim f [ ]
-flush_told (Commanded sender command.Ping) f = elim f [ ]
-flush_told (Commanded sender (command.IsMasterDownByAddr _ _ _)) f = elim f [ ]
-flush_told (Commanded sender (command.GetMasterAddrByName _)) f = elim f [ ]
-flush_told (Commanded sender command.Masters) f = elim f [ ]
-flush_told (Commanded sender (command.Master _)) f = elim f [ ]
-flush_told (Commanded sender (command.Replicas _)) f = elim f [ ]
-flush_told (Commanded sender (command.Sentinels _)) f = elim f [ ]
-flush_told (Commanded sender command.MyId) f = elim f [ ]
-flush_told (Commanded sender command.Subscribe) f = elim f [ ]
-flush_told (Commanded sender (command.CkQuorum _)) f = elim f [ ]
-flush_told (Answered _ _ _ _ _ _) f = elim f [ ]
-flush_told (Pinged _ _) f = elim f [ ]
-flush_told (InfoRead _ _) f = elim f [ ]
-flush_told (HelloRead _) f = elim f [ ]
-flush_told (Become _ _ _) f = elim f [ ]
-flush_told (Handed _) f = elim f [ ]
-
-flush_is : (event : Event) → is_flush event ≡ true → IsFlush event
-flush_is (Commanded sender command.FlushConfig) e = tt
-flush_is (Commanded sender command.Ping) e = cc
-flush_is (Commanded sender (command.IsMasterDownByAddr addr epoch candidate)) e = cc
-flush_is (Commanded sender (command.GetMasterAddrByName name)) e = cc
-flush_is (Commanded sender command.Masters) e = cc
-flush_is (Commanded sender (command.Master name)) e = cc
-flush_is (Commanded sender (command.Replicas name)) e = cc
-flush_is (Commanded sender (command.Sentinels name)) e = cc
-flush_is (Commanded sender command.MyId) e = cc
-flush_is (Commanded sender command.Subscribe) e = cc
-flush_is (Commanded sender (command.CkQuorum name)) e = cc
-flush_is (Tick m random) e = cc
-flush_is (Answered voter m addr down leader epoch) e = cc
-flush_is (Pinged node reply) e = cc
-flush_is (InfoRead node text) e = cc
-flush_is (HelloRead text) e = cc
-flush_is (Become priority offset link_down) e = cc
-flush_is (Handed message) e = cc
-
-or_cases : (a b : Bool) → a || b ≡ true → (a ≡ true) ⊎ (b ≡ true)
-or_cases true b e = inl refl
-or_cases false b e = inr e
-
-or_left : (a b : Bool) → a ≡ true → a || b ≡ true
-or_left true b e = refl
-or_left false b e = cc
-
-or_right : (a b : Bool) → b ≡ true → a || b ≡ true
-or_right true b e = refl
-or_right false b e = e
-
-or_false : (a b : Bool) → a || b ≡ false → a ≡ false
-or_false true b e = cc
-or_false false b e = refl
 
 -- what the model stores, and what the Sentinel does
 must_store_is : (event : Event) (changed : Bool) (old new old_kept new_kept : Kept) → (IsTrue changed ↔ (new ≢ old)) → old_kept ≡ old → new_kept ≡ new → (changed || is_flush event ≡ true) ↔ (IsFlush event ⊎ (new_kept ≢ old_kept))
@@ -160,7 +104,7 @@ taken_sentinel before after text now event changed outputs took roster s h =
         won = won_of roster before.plan.place event t.ballots s.parts t.moved_to after.core
             (subst (λ r. Moved r before.plan.place event t.ballots (record s.parts { casts = []; wins = [] }) t.moved_to) h.has_roster t.moved) t.parts_after;
         pending = pending_as after (taken s choice) after.phase (changed || is_flush event) took.phase_is refl
-            (λ none. took.unchanged (or_false changed (is_flush event) none) ∙ same ∙ sym took.stored);
+            (λ none. took.unchanged (or_parts changed (is_flush event) none).0 ∙ same ∙ sym took.stored);
       };
     }
 
@@ -398,13 +342,6 @@ stop_new_at s Stored e = refl
 stop_new_at s Halted e = refl
 stop_new_at s Stopped e = refl
 
-is_pending_state : (state : State) → (state ≡ Pending) ⊎ (state ≢ Pending)
-is_pending_state Ready = inr (λ e. cc)
-is_pending_state Pending = inl refl
-is_pending_state Stored = inr (λ e. cc)
-is_pending_state Halted = inr (λ e. cc)
-is_pending_state Stopped = inr (λ e. cc)
-
 -- the Sentinel was stored before it was stopped
 pub record StoppedNew (before middle after : Whole) (file file2 : File) (result : Result (Unit {0}) StoreFault) : Type 0 where
   pub asked : file.refusal ≡ None
@@ -427,7 +364,7 @@ stop_new_sentinel before middle after again size file file2 result roster s n h 
 
 pub stop_new : (before middle after : Whole) → AgainOf before.core.kept → SizeOf → (file file2 : File) (result : Result (Unit {0}) StoreFault) (roster : Roster) (image : Image) → StoppedNew before middle after file file2 result → IsImageOf before file.text roster image →
     IsImageOf after file2.text roster (stopped_image New image)
-stop_new before middle after again size file file2 result roster (OfSentinel s) n h = stop_new_sentinel before middle after again size file file2 result roster s n h (is_pending_state s.state)
+stop_new before middle after again size file file2 result roster (OfSentinel s) n h = stop_new_sentinel before middle after again size file file2 result roster s n h (pending_or_not s.state)
 stop_new before middle after again size file file2 result roster (OfOther o) n h = elim h [ ]
 
 -- A start

@@ -4,9 +4,8 @@ use Rattle.ballot_law.specs.declared.messages.NodeName.{NodeName}
 use Rattle.ballot_law.specs.declared.messages.NodeName.TheVariants.{SentinelAt}
 use Rattle.ballot_law.specs.declared.messages.Output.{Output}
 use Rattle.ballot_law.specs.declared.messages.Output.TheVariants.{Send, Tell}
-use Rattle.ballot_law.specs.declared.messages.TheConstants.{OUTPUTS_MAX}
+use Rattle.ballot_law.specs.declared.messages.TheConstants.{OUTPUTS_MAX, ANSWER_MAX, SHOWN_MAX}
 use Rattle.sentinel_outbox.specs.declared.room.Room.{Room}
-use Rattle.sentinel_outbox.specs.declared.room.TheConstants.{ANSWER_MAX, SHOWN_MAX}
 
 -- the room for one answer of the port that isn't in use: bytes of its text, configurations that it shows
 pub record SpareRoom : Type 0 where

@@ -3,13 +3,7 @@
 ghost use Rattle.std.specs.Prelude.{◌≡◌};
 ghost use Rattle.sentinel_outbox.specs.Outboxes.{room_of_sentinel};
 
-use ballot_law::OUTPUTS_MAX;
-
-/// How many bytes one answer of a Sentinel's port has at most.
-pub(crate) const ANSWER_MAX: u32 = 65_536;
-
-/// How many configurations one answer shows at most: one of each master.
-pub(crate) const SHOWN_MAX: u32 = 16;
+use ballot_law::{ANSWER_MAX, OUTPUTS_MAX, SHOWN_MAX};
 
 /// How much room an `Outbox` needs for the outputs of one input.
 #[derive(Clone, Copy, Debug, PartialEq, Eq)]
@@ -40,8 +34,8 @@ impl Room {
     {
         Room {
             outputs: OUTPUTS_MAX as u32,
-            text: ANSWER_MAX,
-            shown: SHOWN_MAX,
+            text: ANSWER_MAX as u32,
+            shown: SHOWN_MAX as u32,
         }
     }
 }

@@ -9,7 +9,7 @@ ghost use Rattle.sentinel_rules.specs.News.{is_heeded};
 ghost use Rattle.sentinel_rules.specs.Plans.{roster_of, me, group_size, master_count, settings_at, nodes_of, addr_at, node_place, first_number, node_name, node_numbered, node_named};
 
 use ballot_law::{Addr, Hello, Member, Name, NodeName, Roster, RunId, Watched};
-use sentinel_conf::{Conf, Settings};
+use sentinel_conf::{Conf, DEFAULT_SETTINGS, Settings};
 use std::marker::Model;
 
 /// A data node of the roster: the number of its master, and its place among that master's nodes.
@@ -131,11 +131,7 @@ impl Plan {
     pub fn settings(&self, m: u16) -> Settings
         ensures { result ≡ settings_at self.now m }
     {
-        self.conf.settings(m).unwrap_or(Settings {
-            after_ms: 30_000,
-            parallel_syncs: 1,
-            timeout: 180_000,
-        })
+        self.conf.settings(m).unwrap_or(DEFAULT_SETTINGS)
     }
 
     /// The data nodes of a master, by address; none where there is no such master.

@@ -15,6 +15,7 @@ use Rattle.ballot_law.proofs.CountedVotes.{both, eqb-true, eqb-same}
 use Rattle.sentinel_rules.specs.Plans.{Plan, master_count, nodes_of, addr_at, node_place}
 use Rattle.sentinel_rules.specs.States.{Core, card_place, is_node_down}
 use Rattle.sentinel_rules.specs.Ticks.{at_places, candidate_of, candidates_of, limits_of, best_of}
+use Rattle.sentinel_rules.specs.Answers.{numbers_from}
 use Rattle.sentinel_rules.specs.Facts.{IsSoundPlan}
 use Rattle.sentinel_rules.proofs.Turns.{Best}
 
@@ -90,7 +91,11 @@ eligible candidates now limits zero place h = absurd (cc)
 eligible candidates now limits (suc n) place h =
     eligible_by candidates now limits n place (choice_below candidates now limits n) (eligible candidates now limits n place) h
 
-length-at_places : {X : Type 0} (f : ℕ → X) (place count : ℕ) → length (at_places f place count) ≡ count
+pub length-numbers_from : (first count : ℕ) → length (numbers_from first count) ≡ count
+length-numbers_from first zero = refl
+length-numbers_from first (suc count) = ap suc (length-numbers_from (first + 1) count)
+
+pub length-at_places : {X : Type 0} (f : ℕ → X) (place count : ℕ) → length (at_places f place count) ≡ count
 length-at_places f place zero = refl
 length-at_places f place (suc count) = ap suc (length-at_places f (place + 1) count)
 

@@ -19,7 +19,7 @@ all_later d e [] (k ∷ ks) h i = absurd i
 all_later d e (m ∷ ms) [] h i = absurd i
 all_later d e (m ∷ ms) (k ∷ ks) h i = (later d e m k h i.0, all_later d e ms ks h i.1)
 
-zip_at : (d : ℕ) (ms : List MasterPlan) (ks : List KeptMaster) (place : ℕ) → place < length ms → AllZip (IsKeptMaster d) ms ks → IsKeptMaster d (slice_index_or ms place no_master) (slice_index_or ks place no_kept)
+pub zip_at : (d : ℕ) (ms : List MasterPlan) (ks : List KeptMaster) (place : ℕ) → place < length ms → AllZip (IsKeptMaster d) ms ks → IsKeptMaster d (slice_index_or ms place no_master) (slice_index_or ks place no_kept)
 zip_at d [] ks place h i = absurd (omega arith)
 zip_at d (m ∷ ms) [] place h i = absurd i
 zip_at d (m ∷ ms) (k ∷ ks) zero h i = i.0

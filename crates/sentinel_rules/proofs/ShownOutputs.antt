@@ -1,5 +1,5 @@
 -- What is put out shows what is kept.
-use Rattle.std.proofs.Common.{◌≡◌, ℕ, zero, suc, ◌+◌, ◌<◌, ◌≤◌, Bool, true, false, Option, Some, None, List, [], ◌∷◌, ◌++◌, length, map, slice_index_or, refl, sym, ap, subst, ◌∙◌, arith}
+use Rattle.std.proofs.Common.{◌≡◌, ℕ, ◌+◌, ◌<◌, ◌≤◌, Bool, true, false, Option, Some, None, List, [], ◌∷◌, ◌++◌, map, refl, sym, ap, subst, ◌∙◌, arith}
 use Rattle.std.specs.Prelude.{All, Contains}
 use Rattle.std.specs.List.{AllByRecursion}
 use Rattle.std.proofs.lemmas.List.Elements.{All-nil, All-cons}
@@ -17,6 +17,7 @@ use Rattle.ballot_law.specs.Hellos.{IsHello, IsAddr}
 use Rattle.ballot_law.specs.Messages.{Vote, advertised, vote_shown, published, passed_on}
 use Rattle.ballot_law.specs.Rosters.{master_at, master_named, no_addr}
 use Rattle.ballot_law.specs.Worlds.{IsRightOutput}
+use Rattle.ballot_law.proofs.Placing.{get_or_any}
 use Rattle.ballot_law.proofs.RosterLemmas.{named_master}
 use Rattle.sentinel_rules.specs.declared.frames.Frame.{Frame}
 use Rattle.sentinel_rules.specs.declared.frames.Frame.TheVariants.{PingTo, InfoTo, HelloTo, AskTo, PromoteTo, FollowTo, NoteOf}
@@ -75,14 +76,9 @@ showing plan parts target body cards votes hellos text =
       no_hello_text = text;
     }
 
-in_range : {X : Type 0} (xs : List X) (k : ℕ) (d e : X) → k < length xs → slice_index_or xs k d ≡ slice_index_or xs k e
-in_range [] k d e lt = absurd (omega arith)
-in_range (x ∷ xs) zero d e lt = refl
-in_range (x ∷ xs) (suc k) d e lt = in_range xs k d e (omega arith)
-
 listed_addr : (plan : Plan) (m : ℕ) (addr : Addr) → IsSoundPlan plan → m < master_count plan → Contains (nodes_of plan m) addr → IsAddr addr
 listed_addr plan m addr p lt c =
-    subst (λ (a : Addr). IsAddr a) (in_range (nodes_of plan m) c.0 no_addr addr c.1 ∙ c.2) (p.conf.listed m c.0 lt c.1)
+    subst (λ (a : Addr). IsAddr a) (get_or_any (nodes_of plan m) c.0 no_addr addr c.1 ∙ c.2) (p.conf.listed m c.0 lt c.1)
 
 pub hello_is_hello : (plan : Plan) (core : Core) (m : ℕ) → IsSoundPlan plan → IsSound plan core → m < master_count plan → IsHello (hello_of_master plan core m)
 hello_is_hello plan core m p s lt =

@@ -44,11 +44,11 @@ turn_vote f vote (row ∷ rows) =
 
 -- As many replicas as before
 
-length-by_place : (change : ℕ → Replica → Replica) (place : ℕ) (xs : List Replica) → length (by_place change place xs) ≡ length xs
+pub length-by_place : (change : ℕ → Replica → Replica) (place : ℕ) (xs : List Replica) → length (by_place change place xs) ≡ length xs
 length-by_place change place [] = refl
 length-by_place change place (x ∷ xs) = ap suc (length-by_place change (place + 1) xs)
 
-length-told : (test : ℕ → Bool) (now : ℕ) (xs : List Replica) → length (told test now xs) ≡ length xs
+pub length-told : (test : ℕ → Bool) (now : ℕ) (xs : List Replica) → length (told test now xs) ≡ length xs
 unfolding told
 length-told test now xs = length-by_place (λ place replica. if test place then sent_now now else replica) 0 xs
 

@@ -7,6 +7,7 @@ use Rattle.ballot_law.specs.declared.messages.NodeName.TheVariants.{StoreAt}
 use Rattle.ballot_law.specs.Orders.{same_addr}
 use Rattle.ballot_law.specs.Rosters.{Roster, MasterPlan, master_at, id_of, size, no_addr}
 use Rattle.sentinel_conf.specs.declared.settings.Settings.{Settings}
+use Rattle.sentinel_conf.specs.declared.settings.TheConstants.{DEFAULT_SETTINGS}
 use Rattle.sentinel_conf.specs.Meaning.{ConfPlan}
 
 pub record Plan : Type 0 where
@@ -27,12 +28,8 @@ group_size plan = size (roster_of plan)
 abbrev pub master_count : Plan → ℕ
 master_count plan = length (roster_of plan).masters
 
--- what sentinel.conf takes where a setting isn't given
-abbrev pub default_settings : Settings
-default_settings = record { after_ms = 30000; parallel_syncs = 1; timeout = 180000 }
-
 abbrev pub settings_at : Plan → (m : ℕ) → Settings
-settings_at plan m = slice_index_or plan.conf.settings m default_settings
+settings_at plan m = slice_index_or plan.conf.settings m DEFAULT_SETTINGS
 
 -- the data nodes of a master, by address
 abbrev pub nodes_of : Plan → (m : ℕ) → List Addr

@@ -27,7 +27,8 @@ use Rattle.failover_states.specs.declared.states.FailoverState.TheVariants.{Idle
 use Rattle.node_texts.specs.declared.faults.TextFault.TheVariants.{FieldCount, EpochTooLarge}
 use Rattle.node_texts.specs.Hellos.{hello_of}
 use Rattle.sentinel_conf.specs.declared.settings.Settings.{Settings}
-use Rattle.sentinel_rules.specs.Plans.{Plan, roster_of, default_settings}
+use Rattle.sentinel_conf.specs.declared.settings.TheConstants.{DEFAULT_SETTINGS}
+use Rattle.sentinel_rules.specs.Plans.{Plan, roster_of}
 use Rattle.sentinel_rules.specs.States.{Core, opened, master_of, failover_of}
 use Rattle.sentinel_rules.specs.Votes.{book_of}
 use Rattle.sentinel_rules.specs.Ticks.{count_of}
@@ -91,15 +92,15 @@ plan_of digit others ports settings kept =
 
 -- four Sentinels and a master without replicas, as without a file
 abbrev pub default_plan : Kept → Plan
-default_plan kept = plan_of 0 (10 ∷ 11 ∷ 12 ∷ []) (6379 ∷ []) default_settings kept
+default_plan kept = plan_of 0 (10 ∷ 11 ∷ 12 ∷ []) (6379 ∷ []) DEFAULT_SETTINGS kept
 
 -- three Sentinels, a master and two replicas, down after 5 seconds
 abbrev pub group_plan : Kept → Plan
-group_plan kept = plan_of 10 (11 ∷ 12 ∷ []) (6379 ∷ 6380 ∷ 6381 ∷ []) (record default_settings { after_ms = 5000 }) kept
+group_plan kept = plan_of 10 (11 ∷ 12 ∷ []) (6379 ∷ 6380 ∷ 6381 ∷ []) (record DEFAULT_SETTINGS { after_ms = 5000 }) kept
 
 -- the same with five Sentinels
 abbrev pub five_plan : Kept → Plan
-five_plan kept = plan_of 10 (11 ∷ 12 ∷ 13 ∷ 14 ∷ []) (6379 ∷ 6380 ∷ 6381 ∷ []) (record default_settings { after_ms = 5000 }) kept
+five_plan kept = plan_of 10 (11 ∷ 12 ∷ 13 ∷ 14 ∷ []) (6379 ∷ 6380 ∷ 6381 ∷ []) (record DEFAULT_SETTINGS { after_ms = 5000 }) kept
 
 -- Inputs, each with its reading of the clock
 
@@ -516,7 +517,7 @@ wide_plan =
     10
     (11 ∷ 12 ∷ [])
     (6379 ∷ 6380 ∷ 6381 ∷ 6382 ∷ 6383 ∷ [])
-    (record default_settings { after_ms = 5000 })
+    (record DEFAULT_SETTINGS { after_ms = 5000 })
     (kept_at_epoch 0)
 
 -- the fourth replica is promoted

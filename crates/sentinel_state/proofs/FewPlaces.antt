@@ -1,7 +1,8 @@
 -- A failover keeps its places few, whatever is done to it.
-use Rattle.std.proofs.Common.{◌≡◌, ℕ, ◌+◌, ◌≤◌, Bool, true, false, cond, List, [], ◌∷◌, length, map, Option, Some, None, refl, ap, sym, subst, arith}
+use Rattle.std.proofs.Common.{◌≡◌, ℕ, ◌≤◌, Bool, true, false, cond, List, [], ◌∷◌, length, map, Option, Some, None, ap, sym, subst, arith}
 use Rattle.std.specs.Prelude.{IfSome, unwrap_or}
 use Rattle.std.proofs.Math.ListN.{length-set}
+use Rattle.std.proofs.lemmas.List.{length-map}
 use Rattle.ballot_law.specs.declared.addresses.Addr.{Addr}
 use Rattle.ballot_law.specs.declared.addresses.RunId.{RunId}
 use Rattle.failover_states.specs.declared.states.FailoverState.{FailoverState}
@@ -11,24 +12,13 @@ use Rattle.failover_states.specs.declared.replicas.Replica.{Replica}
 use Rattle.failover_states.specs.Calls.{choice_of, promoted, reconfigured}
 use Rattle.failover_states.specs.Failovers.{Failover, ended}
 use Rattle.failover_states.specs.Known.{Known}
-use Rattle.failover_states.specs.Replicas.{by_place, told, sent_now, forgotten, unordered, expired, followed, replica_at, is_due, is_next}
+use Rattle.failover_states.specs.Replicas.{told, forgotten, unordered, expired, followed, replica_at, is_due, is_next}
 use Rattle.failover_states.specs.Table.{TableRow, Turn, table, first_that_fits, vote_of, turn_in, turned, quieted, expiring, chosen, can_be_told, busy_count}
+use Rattle.sentinel_rules.proofs.Turns.{length-told}
 use Rattle.sentinel_state.specs.Places.{HasFewPlaces}
 
-length-map-any : {X Y : Type 0} (f : X → Y) (xs : List X) → length (map f xs) ≡ length xs
-length-map-any f [] = refl
-length-map-any f (x ∷ xs) = omega (arith, length-map-any f xs)
-
-length-by_place : (change : ℕ → Replica → Replica) (place : ℕ) (xs : List Replica) → length (by_place change place xs) ≡ length xs
-length-by_place change place [] = refl
-length-by_place change place (x ∷ xs) = omega (arith, length-by_place change (place + 1) xs)
-
-length-told : (test : ℕ → Bool) (now : ℕ) (xs : List Replica) → length (told test now xs) ≡ length xs
-unfolding told
-length-told test now xs = length-by_place (λ place replica. cond (test place) (sent_now now) replica) 0 xs
-
 mapped : (change : Replica → Replica) (xs : List Replica) → length xs ≤ 256 → length (map change xs) ≤ 256
-mapped change xs h = omega (arith, h, length-map-any change xs)
+mapped change xs h = omega (arith, h, length-map xs change)
 
 pub few_ended : (f : Failover) → HasFewPlaces f → HasFewPlaces (ended f)
 few_ended f h = (mapped forgotten f.replicas h.0, omega arith)

@@ -1,5 +1,5 @@
 -- The best replica stands at one of the master's nodes.
-use Rattle.std.proofs.Common.{◌≡◌, ℕ, zero, suc, ◌+◌, ◌<◌, ◌≤◌, Bool, true, false, cond, List, length, Option, Some, None, refl, arith}
+use Rattle.std.proofs.Common.{◌≡◌, ℕ, zero, suc, ◌<◌, ◌≤◌, Bool, true, false, cond, List, length, Option, Some, None, arith}
 use Rattle.std.specs.Prelude.{IfSome, option_map, ◌&&◌}
 use Rattle.ballot_law.specs.declared.addresses.Addr.{Addr}
 use Rattle.replica_choice.specs.declared.candidates.Candidate.{Candidate}
@@ -7,7 +7,8 @@ use Rattle.replica_choice.specs.declared.candidates.Limits.{Limits}
 use Rattle.replica_choice.specs.Choices.{candidate_at, is_eligible, is_better, with_place, choice_below, choice_of}
 use Rattle.sentinel_rules.specs.Plans.{Plan, nodes_of, addr_at}
 use Rattle.sentinel_rules.specs.States.{Core}
-use Rattle.sentinel_rules.specs.Ticks.{at_places, candidate_of, candidates_of, limits_of, best_of}
+use Rattle.sentinel_rules.specs.Ticks.{candidate_of, candidates_of, limits_of, best_of}
+use Rattle.sentinel_rules.proofs.Choices.{length-at_places}
 
 one_of : (b : Bool) (place best : ℕ) → best < place → IfSome (cond b (Some place) (Some best)) (λ k. k < suc place)
 one_of true place best h = omega arith
@@ -26,10 +27,6 @@ with_within candidates now limits (Some best) place h =
 below_within : (candidates : List Candidate) (now : ℕ) (limits : Limits) (n : ℕ) → IfSome (choice_below candidates now limits n) (λ k. k < n)
 below_within candidates now limits zero = tt
 below_within candidates now limits (suc n) = with_within candidates now limits (choice_below candidates now limits n) n (below_within candidates now limits n)
-
-length-at_places : {X : Type 0} (f : ℕ → X) (place count : ℕ) → length (at_places f place count) ≡ count
-length-at_places f place zero = refl
-length-at_places f place (suc count) = omega (arith, length-at_places f (place + 1) count)
 
 with_addr : (plan : Plan) (m n : ℕ) (choice : Option ℕ) → n ≤ 256 → IfSome choice (λ k. k < n)
     → (let best : Option (ℕ × Addr) = option_map (λ k. (k, addr_at plan m k)) choice in IfSome {T = ℕ × Addr} best (λ b. b.0 ≤ 256))

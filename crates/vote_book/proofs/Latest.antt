@@ -3,6 +3,7 @@ use Rattle.std.proofs.Common.{◌≡◌, ◌≢◌, ℕ, ◌<◌, ◌≤◌, Boo
 use Rattle.std.specs.Prelude.{MatchOption, nat_lt}
 use Rattle.std.specs.List.{AllByRecursion}
 use Rattle.std.proofs.lemmas.Bool.Decides.{nat_tests}
+use Rattle.std.proofs.lemmas.Bool.{ltb-true}
 use Rattle.ballot_law.specs.declared.hearings.HeardVote.{HeardVote}
 use Rattle.ballot_law.specs.VotesHeard.{Hearing, greater, latest, IsLatest}
 
@@ -19,9 +20,6 @@ differ a b e = λ same. grind (arith, nat_tests)
 
 agree : (a b : ℕ) → eqb a b ≡ true → a ≡ b
 agree a b e = grind (arith, nat_tests)
-
-less : (a b : ℕ) → nat_lt a b ≡ true → a < b
-less a b e = grind (arith, nat_tests)
 
 at_most : (a b : ℕ) → nat_lt a b ≡ false → b ≤ a
 at_most a b e = grind (arith, nat_tests)
@@ -66,7 +64,7 @@ all_below es voter epoch kept lt t =
     ((λ same. lt), all_weaker (Below voter kept.epoch) (Below voter epoch) (λ x below same. let b : x.vote.epoch < kept.epoch = below same in omega arith) t.earlier t.none_earlier))
 
 own : (h : Hearing) (es : List Hearing) (voter : ℕ) (kept : HeardVote) (newer : Bool) → nat_lt kept.epoch h.vote.epoch ≡ newer → h.voter ≡ voter → IsLatest es voter kept → IsLatest (h ∷ es) voter (cond newer h.vote kept)
-own h es voter kept true e same t = first h es voter same (all_below es voter h.vote.epoch kept (less kept.epoch h.vote.epoch e) t)
+own h es voter kept true e same t = first h es voter same (all_below es voter h.vote.epoch kept (ltb-true kept.epoch h.vote.epoch e) t)
 own h es voter kept false e same t = later_one h es voter kept (λ _. at_most kept.epoch h.vote.epoch e) t
 
 step : (h : Hearing) (es : List Hearing) (voter : ℕ) (told : Option HeardVote) (his : Bool) → eqb h.voter voter ≡ his → Told es voter told → Told (h ∷ es) voter (cond his (Some (greater told h.vote)) told)

@@ -1,17 +1,18 @@
 -- The pick has most votes of the epoch, and the smaller id on a tie.
-use Rattle.std.proofs.Common.{◌≡◌, ℕ, zero, suc, ◌+◌, ◌<◌, ◌≤◌, Bool, true, false, cond, Option, Some, None, refl, ap, ◌∙◌, ⊎_elim, arith, eqb, ltb}
-use Rattle.std.specs.Prelude.{MatchOption, unwrap_or, ◌⊎◌, ◌&&◌}
+use Rattle.std.proofs.Common.{◌≡◌, ℕ, zero, suc, ◌+◌, ◌<◌, ◌≤◌, Bool, true, false, cond, Option, Some, None, refl, ap, ◌∙◌, ⊎_elim, arith, eqb}
+use Rattle.std.specs.Prelude.{MatchOption, unwrap_or, ◌⊎◌}
 use Rattle.std.proofs.lemmas.Bool.Decides.{nat_tests}
+use Rattle.std.proofs.lemmas.Bool.{and_parts}
 use Rattle.ballot_law.specs.declared.addresses.RunId.{RunId}
 use Rattle.ballot_law.specs.Counts.{count_below}
 use Rattle.ballot_law.specs.Orders.{same_id, id_before}
 use Rattle.ballot_law.specs.declared.hearings.HeardVote.{HeardVote}
 use Rattle.ballot_law.specs.VotesHeard.{is_for, count_in, leads, leader_of, with_vote, leader_below, pick_in, IsPick}
+use Rattle.ballot_law.proofs.CountedVotes.{same_id-equal}
+use Rattle.ballot_law.proofs.Counting.{below_suc}
+use Rattle.ballot_law.proofs.Rising.{lex, lex_trans, lex_irrefl, id_strict}
 
 -- Counts
-
-below : (i n : ℕ) → i < suc n → (i < n) ⊎ (i ≡ n)
-below i n lt = grind arith
 
 counted : (p : ℕ → Bool) (n : ℕ) (b : Bool) → p n ≡ b → count_below p (suc n) ≡ cond b (count_below p n + 1) (count_below p n)
 counted p n b e = ap (λ (v : Bool). cond v (count_below p n + 1) (count_below p n)) e
@@ -22,7 +23,7 @@ some_counted p (suc n) v lt e = known (p n) refl (λ l. some_counted p n v l e)
   where
     known : (b : Bool) → p n ≡ b → (v < n → 0 < count_below p n) → 0 < count_below p (suc n)
     known true h earlier = rw (counted p n true h) (omega arith)
-    known false h earlier = rw (counted p n false h) (⊎_elim earlier (λ same. let clash : p n ≡ true = rw (← same) e in cc) (below v n lt))
+    known false h earlier = rw (counted p n false h) (⊎_elim earlier (λ same. let clash : p n ≡ true = rw (← same) e in cc) (below_suc v n lt))
 
 none_counted : (p : ℕ → Bool) (n : ℕ) → ((v : ℕ) → v < n → p v ≡ false) → count_below p n ≡ 0
 none_counted p zero h = refl
@@ -41,40 +42,17 @@ counted_some p (suc n) h = known (p n) refl (counted_some p n)
 
 -- The order of candidates
 
-abbrev lex : (p q : ℕ) → Bool → Bool
-lex p q inner = cond (eqb p q) inner (ltb q p)
-
-lex_trans : (p q r : ℕ) (x y z : Bool) → (x ≡ true → y ≡ true → z ≡ true) → lex p q x ≡ true → lex q r y ≡ true → lex p r z ≡ true
-lex_trans p q r x y z inner h k = grind (arith, nat_tests)
-
-lex_irrefl : (p : ℕ) (x : Bool) → x ≡ false → lex p p x ≡ false
-lex_irrefl p x h = grind (arith, nat_tests)
-
 lex_le : (p q : ℕ) (x : Bool) → lex p q x ≡ false → p ≤ q
 lex_le p q x h = grind (arith, nat_tests)
 
 lex_tie : (p q : ℕ) (x : Bool) → lex p q x ≡ false → p ≡ q → x ≡ false
 lex_tie p q x h e = grind (arith, nat_tests)
 
-id_trans : (a b c : RunId) → id_before a b ≡ true → id_before b c ≡ true → id_before a c ≡ true
-id_trans a b c h k = grind (arith, nat_tests)
-
-id_irrefl : (a : RunId) → id_before a a ≡ false
-id_irrefl a = grind (arith, nat_tests)
-
 lead_trans : (count : RunId → ℕ) (a b c : RunId) → leads count a b ≡ true → leads count b c ≡ true → leads count a c ≡ true
-lead_trans count a b c h k = lex_trans (count a) (count b) (count c) (id_before a b) (id_before b c) (id_before a c) (id_trans a b c) h k
+lead_trans count a b c h k = lex_trans (count a) (count b) (count c) (id_before a b) (id_before b c) (id_before a c) (id_strict.transitive a b c) h k
 
 lead_irrefl : (count : RunId → ℕ) (a : RunId) → leads count a a ≡ false
-lead_irrefl count a = lex_irrefl (count a) (id_before a a) (id_irrefl a)
-
-same_parts : (a b : ℕ) (c d : ℕ) → (eqb a b && eqb c d) ≡ true → (a ≡ b) × (c ≡ d)
-same_parts a b c d h = (grind (arith, nat_tests), grind (arith, nat_tests))
-
-same_id_is_equal : (a b : RunId) → same_id a b ≡ true → a ≡ b
-same_id_is_equal a b h =
-    let parts = same_parts a.hi b.hi a.lo b.lo h in
-    ap (λ (hi : ℕ). record { hi = hi; lo = a.lo }) parts.0 ∙ ap (λ (lo : ℕ). record { hi = b.hi; lo = lo }) parts.1
+lead_irrefl count a = lex_irrefl (count a) (id_before a a) (id_strict.irreflexive a)
 
 id_same : (a : RunId) → same_id a a ≡ true
 id_same a = grind (arith, nat_tests)
@@ -99,23 +77,19 @@ Led count votes epoch n leader = MatchOption leader (NoVote votes epoch n) (IsLe
 -- a voter without a vote of the epoch changes nothing
 without : (count : RunId → ℕ) (votes : Votes) (epoch n : ℕ) (leader : Option RunId) → ((candidate : RunId) → is_for epoch candidate (votes n) ≡ false) → Led count votes epoch n leader → Led count votes epoch (suc n) leader
 without count votes epoch n None no_vote led =
-    λ v candidate lt. ⊎_elim (λ l. led v candidate l) (λ same. rw same (no_vote candidate)) (below v n lt)
+    λ v candidate lt. ⊎_elim (λ l. led v candidate l) (λ same. rw same (no_vote candidate)) (below_suc v n lt)
 without count votes epoch n (Some leader) no_vote led =
     record {
       voter = led.voter;
       first = let l = led.first in omega arith;
       has = led.has;
       none_ahead = λ v candidate lt e.
-          ⊎_elim (λ l. led.none_ahead v candidate l e) (λ same. let never = no_vote candidate in let clash : is_for epoch candidate (votes n) ≡ true = rw (← same) e in cc) (below v n lt);
+          ⊎_elim (λ l. led.none_ahead v candidate l e) (λ same. let never = no_vote candidate in let clash : is_for epoch candidate (votes n) ≡ true = rw (← same) e in cc) (below_suc v n lt);
     }
 
 -- a vote of the epoch is for its candidate alone
 own_candidate : (epoch : ℕ) (vote : HeardVote) (candidate : RunId) → is_for epoch candidate (Some vote) ≡ true → vote.candidate ≡ candidate
-own_candidate epoch vote candidate e = same_id_is_equal vote.candidate candidate (second (eqb vote.epoch epoch) (same_id vote.candidate candidate) e)
-  where
-    second : (a b : Bool) → (a && b) ≡ true → b ≡ true
-    second true b h = h
-    second false b h = cc
+own_candidate epoch vote candidate e = same_id-equal vote.candidate candidate (and_parts (eqb vote.epoch epoch) (same_id vote.candidate candidate) e).1
 
 new_leader : (count : RunId → ℕ) (votes : Votes) (epoch n : ℕ) (vote : HeardVote) → votes n ≡ Some vote → eqb vote.epoch epoch ≡ true → ((v : ℕ) (candidate : RunId) → v < n → is_for epoch candidate (votes v) ≡ true → leads count candidate vote.candidate ≡ false) → IsLeader count votes epoch (suc n) vote.candidate
 new_leader count votes epoch n vote is e ahead =
@@ -128,7 +102,7 @@ new_leader count votes epoch n vote is e ahead =
           (λ l. ahead v candidate l h)
           (λ same. let at_n : is_for epoch candidate (votes n) ≡ true = rw (← same) h in let his : is_for epoch candidate (Some vote) ≡ true = rw is at at_n in
           rw (← own_candidate epoch vote candidate his) (lead_irrefl count vote.candidate))
-          (below v n lt);
+          (below_suc v n lt);
     }
 
 old_leader : (count : RunId → ℕ) (votes : Votes) (epoch n : ℕ) (vote : HeardVote) (leader : RunId) → votes n ≡ Some vote → leads count vote.candidate leader ≡ false → IsLeader count votes epoch n leader → IsLeader count votes epoch (suc n) leader
@@ -141,7 +115,7 @@ old_leader count votes epoch n vote leader is behind led =
           ⊎_elim
           (λ l. led.none_ahead v candidate l h)
           (λ same. let at_n : is_for epoch candidate (votes n) ≡ true = rw (← same) h in let his : is_for epoch candidate (Some vote) ≡ true = rw is at at_n in rw (← own_candidate epoch vote candidate his) behind)
-          (below v n lt);
+          (below_suc v n lt);
     }
 
 taken : (count : RunId → ℕ) (votes : Votes) (epoch n : ℕ) (vote : HeardVote) (leader : Option RunId) → votes n ≡ Some vote → eqb vote.epoch epoch ≡ true → Led count votes epoch n leader → IsLeader count votes epoch (suc n) (leader_of count leader vote.candidate)

@@ -1,29 +1,21 @@
 -- Hex digits, read one at a time.
-use Rattle.std.proofs.Common.{◌≡◌, ℕ, zero, suc, ◌+◌, ◌*◌, ◌/◌, ◌%◌, ◌^◌, ◌≤◌, ◌<◌, Bool, true, false, ◌&&◌, List, [], ◌∷◌, ◌++◌, length, append_assoc, append-nil, refl, ap, sym, ◌∙◌, arith, Option, Some, None}
+use Rattle.std.proofs.Common.{◌≡◌, ℕ, zero, suc, ◌+◌, ◌*◌, ◌/◌, ◌%◌, ◌^◌, ◌≤◌, ◌<◌, ◌&&◌, List, [], ◌∷◌, ◌++◌, length, append_assoc, append-nil, refl, ap, sym, ◌∙◌, arith, Option, Some, None}
 use Rattle.std.specs.List.{list_all}
 use Rattle.std.proofs.Math.Nat.{pow-le-pow_right, pow-suc, add-mul, add_assoc, mul_assoc, mul_comm}
 use Rattle.ballot_law.specs.Words.{some_if, is_hex, hex_value, hex_on, hex, hex_digit}
-use Rattle.ballot_law.proofs.WordLemmas.{some_if-some}
+use Rattle.ballot_law.proofs.WordLemmas.{some_if-some, some_if-is, some_if-none, hex_on-append}
 
 -- the number that these digits make after the number so far
 abbrev pub hex_tail : ℕ → List ℕ → Option ℕ
 hex_tail n bs = some_if (list_all is_hex bs) (hex_on n bs)
 
-pub some_value : {X : Type 0} (t : Bool) (x y : X) → some_if t x ≡ Some y → x ≡ y
-some_value true x y e = cc
-some_value false x y e = absurd cc
-
-pub none_test : {X : Type 0} (t : Bool) (x : X) → some_if t x ≡ None → t ≡ false
-none_test true x e = absurd cc
-none_test false x e = refl
-
 pub hex_more : (n c d : ℕ) (bs : List ℕ) → Some d ≡ some_if (is_hex c) (hex_value c) → hex_tail n (c ∷ bs) ≡ hex_tail (n * 16 + d) bs
 hex_more n c d bs e =
     ap (λ t. some_if (t && list_all is_hex bs) (hex_on (n * 16 + hex_value c) bs)) (some_if-some (is_hex c) (hex_value c) d (sym e))
-    ∙ ap (λ v. hex_tail (n * 16 + v) bs) (some_value (is_hex c) (hex_value c) d (sym e))
+    ∙ ap (λ v. hex_tail (n * 16 + v) bs) (some_if-is (is_hex c) (hex_value c) d (sym e)).1
 
 pub hex_stops : (n c : ℕ) (bs : List ℕ) → None ≡ some_if (is_hex c) (hex_value c) → hex_tail n (c ∷ bs) ≡ None
-hex_stops n c bs e = ap (λ t. some_if (t && list_all is_hex bs) (hex_on (n * 16 + hex_value c) bs)) (none_test (is_hex c) (hex_value c) (sym e))
+hex_stops n c bs e = ap (λ t. some_if (t && list_all is_hex bs) (hex_on (n * 16 + hex_value c) bs)) (some_if-none (is_hex c) (hex_value c) (sym e))
 
 -- below 16 digits there is room for one more in 64 bits
 pub hex_room : (i : ℕ) → i < 16 → 16 ^ i ≤ 16 ^ 15
@@ -43,10 +35,6 @@ hex_on-behind n (b ∷ bs) =
     ∙ add_assoc (n * 16 * p) (v * p) rest
     ∙ ap (λ t. t + (v * p + rest)) (sym place)
     ∙ ap (λ t. n * 16 ^ suc (length bs) + t) (sym (ap (λ t. hex_on t bs) none ∙ hex_on-behind v bs))
-
-hex_on-append : (n : ℕ) (xs ys : List ℕ) → hex_on n (xs ++ ys) ≡ hex_on (hex_on n xs) ys
-hex_on-append n [] ys = refl
-hex_on-append n (x ∷ xs) ys = hex_on-append (n * 16 + hex_value x) xs ys
 
 -- 32 digits are twice 16
 pub hex_halves : (xs ys : List ℕ) → length ys ≡ 16 → hex_on 0 (xs ++ ys) ≡ hex_on 0 xs * 2 ^ 64 + hex_on 0 ys

@@ -1,14 +1,13 @@
 -- Decimal digits, read one at a time.
-use Rattle.std.proofs.Common.{◌≡◌, ℕ, ◌+◌, ◌-◌, ◌*◌, ◌^◌, ◌≤◌, ◌<◌, Bool, true, false, ◌&&◌, ltb, leb, List, [], ◌∷◌, length, get_or, refl, ap, sym, ◌∙◌, arith, Option, Some, None, inl, inr, decimal}
+use Rattle.std.proofs.Common.{◌≡◌, ℕ, ◌+◌, ◌-◌, ◌*◌, ◌^◌, ◌≤◌, ◌<◌, Bool, true, false, ◌&&◌, ltb, leb, List, [], ◌∷◌, length, get_or, refl, ap, sym, ◌∙◌, arith, Option, Some, None, decimal}
 use Rattle.std.specs.List.{list_all}
-use Rattle.std.proofs.lemmas.Bool.{and_parts, and_from, lt-ltb, ltb-true, leb-true, le-leb, cases_lt}
+use Rattle.std.proofs.lemmas.Bool.{and_parts, and_from, lt-ltb, ltb-true, leb-true, le-leb}
 use Rattle.std.proofs.lemmas.Bool.Decides.{nat_tests}
-use Rattle.std.proofs.lemmas.Fmt.{decimal-digits_value, first_decimal, decimal_digit}
+use Rattle.std.proofs.lemmas.Fmt.{decimal-digits_value}
 use Rattle.std.proofs.lemmas.Str.Parse.{IsNumeralModel, IsDigitsTest, FoldsDigits, numerals_by_fold}
 use Rattle.ballot_law.specs.Words.{some_if, then_some, is_digit, number_on, number_within, canonical_within}
 use Rattle.ballot_law.specs.Orders.{same_bytes}
-use Rattle.ballot_law.proofs.WordLemmas.{some_if-some, same_bytes-refl, same_bytes-true}
-use Rattle.words.proofs.HexLemmas.{some_value, none_test}
+use Rattle.ballot_law.proofs.WordLemmas.{some_if-some, same_bytes-refl, same_bytes-true, some_if-is, some_if-none, decimal_leads}
 
 -- the number within the bounds that these digits make after the number so far
 abbrev pub tail_within : ℕ → ℕ → ℕ → List ℕ → Option ℕ
@@ -44,7 +43,7 @@ pub digit_more : (low high n c m : ℕ) (bs : List ℕ) → Some m ≡ some_if (
 digit_more low high n c m bs e =
     let test = is_digit c && ltb (n * 10 + (c - 48)) (2 ^ 64) in
     let both = and_parts (is_digit c) (ltb (n * 10 + (c - 48)) (2 ^ 64)) (some_if-some test (n * 10 + (c - 48)) m (sym e)) in
-    tail_digit low high n c bs both.0 ∙ ap (λ k. tail_within low high k bs) (some_value test (n * 10 + (c - 48)) m (sym e))
+    tail_digit low high n c bs both.0 ∙ ap (λ k. tail_within low high k bs) (some_if-is test (n * 10 + (c - 48)) m (sym e)).1
 
 stops_by : (low high n c : ℕ) (bs : List ℕ) (t : Bool) → is_digit c ≡ t → high < 2 ^ 64 → (t && ltb (n * 10 + (c - 48)) (2 ^ 64)) ≡ false → tail_within low high n (c ∷ bs) ≡ None
 stops_by low high n c bs true e h f =
@@ -53,7 +52,7 @@ stops_by low high n c bs true e h f =
 stops_by low high n c bs false e h f = tail_other low high n c bs e
 
 pub digit_stops : (low high n c : ℕ) (bs : List ℕ) → high < 2 ^ 64 → None ≡ some_if (is_digit c && ltb (n * 10 + (c - 48)) (2 ^ 64)) (n * 10 + (c - 48)) → tail_within low high n (c ∷ bs) ≡ None
-digit_stops low high n c bs h e = stops_by low high n c bs (is_digit c) refl h (none_test (is_digit c && ltb (n * 10 + (c - 48)) (2 ^ 64)) (n * 10 + (c - 48)) (sym e))
+digit_stops low high n c bs h e = stops_by low high n c bs (is_digit c) refl h (some_if-none (is_digit c && ltb (n * 10 + (c - 48)) (2 ^ 64)) (n * 10 + (c - 48)) (sym e))
 
 -- ---- numbers without leading zeros
 
@@ -77,22 +76,14 @@ pub record IsNumberOf (n : ℕ) (bs : List ℕ) : Type 0 where
 
 within_some : (low high n : ℕ) (o : Option ℕ) → then_some o (λ m. some_if (leb low m && leb m high) m) ≡ Some n → o ≡ Some n
 within_some low high n None e = absurd cc
-within_some low high n (Some m) e = ap Some (some_value (leb low m && leb m high) m n e)
+within_some low high n (Some m) e = ap Some (some_if-is (leb low m && leb m high) m n e).1
 
 number_is : (low high n : ℕ) (bs : List ℕ) → number_within low high bs ≡ Some n → IsNumberOf n bs
 number_is low high n bs e =
     let test = ltb 0 (length bs) && list_all is_digit bs in
     let o : some_if test (number_on 0 bs) ≡ Some n = within_some low high n (some_if test (number_on 0 bs)) e in
     let both = and_parts (ltb 0 (length bs)) (list_all is_digit bs) (some_if-some test (number_on 0 bs) n o) in
-    record { some = ltb-true 0 (length bs) both.0; digits = both.1; value = some_value test (number_on 0 bs) n o }
-
--- only 0 begins with 0
-decimal_leads : (n : ℕ) → n < 2 ^ 64 → get_or (decimal n) 0 0 ≡ 48 → length (decimal n) ≡ 1
-decimal_leads n lt e =
-    elim (cases_lt 0 n) [
-      | inl above ↦ let first = first_decimal n above lt in absurd (omega arith)
-      | inr none ↦ ap length (decimal_digit n (omega arith))
-    ]
+    record { some = ltb-true 0 (length bs) both.0; digits = both.1; value = (some_if-is test (number_on 0 bs) n o).1 }
 
 canonical_of : (low high n : ℕ) (bs : List ℕ) → number_within low high bs ≡ Some n → canonical_within low high bs ≡ some_if (same_bytes bs (decimal n)) n
 canonical_of low high n bs e = ap (λ o. then_some o (λ m. some_if (same_bytes bs (decimal m)) m)) e

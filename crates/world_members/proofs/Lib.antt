@@ -1,4 +1,4 @@
-mod Searching
+pub mod Searching
 mod Loops
 mod Names
 mod FiledVotes

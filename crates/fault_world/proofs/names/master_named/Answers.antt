@@ -1,4 +1,4 @@
-use Rattle.fault_world.proofs.MasterNames.{named_in}
+use Rattle.ballot_law.proofs.RosterLemmas.{named_in}
 use Rattle.fault_world.proofs.names.master_named.Goals as goal
 
 pub returns-clause-value : goal.returns-clause-value

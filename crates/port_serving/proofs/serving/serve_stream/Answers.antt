@@ -2,8 +2,8 @@ use Rattle.std.proofs.Common.{◌++◌, ◌∙◌, ◌≤◌, ◌*◌, ◌+◌, 
 use Rattle.std.proofs.lemmas.Result.{err_from_is_err_and}
 use Rattle.std.proofs.lemmas.List.{append-nil}
 use Rattle.std.specs.Io.KnownBytes.{Consumes}
-use Rattle.port_serving.proofs.KnownBytes.{appends_twice, appends_nothing}
-use Rattle.port_serving.proofs.Steps.{opened_idle, nothing_read, read_more, read_none, idle_cut, served, idle_later, ends_here, answers_counted}
+use Rattle.port_serving.proofs.KnownBytes.{appends_twice, appends_nothing, consumes_twice}
+use Rattle.port_serving.proofs.Steps.{opened_idle, nothing_read, read_none, idle_cut, served, idle_later, ends_here, answers_counted}
 use Rattle.port_serving.proofs.serving.serve_stream.Goals as goal
 use Rattle.port_serving.proofs.serving.serve_stream.Goals.{in-Ok+in_ok-take_piece-in-Ok, in-Err+else-ne}
 
@@ -25,7 +25,7 @@ returns-in-Ok-eq0-clause-served g c =
     let nothing = rw c.in-Ok-eq0.field-0-test at read.0 in (
       so_far.0,
       so_far.1,
-      subst (λ xs. Consumes (g.R.Read.remaining c.args.reader.now) (g.R.Read.remaining c.read.new.self) xs) (append-nil so_far.0) (read_more _ _ _ _ _ so_far.2 nothing),
+      subst (λ xs. Consumes (g.R.Read.remaining c.args.reader.now) (g.R.Read.remaining c.read.new.self) xs) (append-nil so_far.0) (consumes_twice _ _ _ _ _ so_far.2 nothing),
       so_far.3,
       served plan c.args.now core (g.S.ConfStore.held c.args.store.now) so_far.0 so_far.1 _ _ _ _ _ so_far.4,
     )
@@ -45,7 +45,7 @@ returns-in_err-take_piece-in-Ok-clause-served g c =
     let p = err_from_is_err_and c.from_residual.result c.from_residual.ensures.1 in (
       so_far.0 ++ piece,
       so_far.1 ++ took.0,
-      read_more _ _ _ _ _ so_far.2 read.0,
+      consumes_twice _ _ _ _ _ so_far.2 read.0,
       appends_twice _ _ _ _ _ so_far.3 took.1,
       rw (p.1, p.2) (
           ends_here plan later c.args.now at c.loop-turn.invariant.3 c.loop-turn.invariant.2 core held (so_far.0 ++ piece) (so_far.1 ++ took.0)
@@ -84,7 +84,7 @@ loop-turn-preserved g c =
             (
               so_far.0 ++ take w.in-Ok.count c.read.new.buf,
               so_far.1 ++ took.0,
-              read_more _ _ _ _ _ so_far.2 read.0,
+              consumes_twice _ _ _ _ _ so_far.2 read.0,
               rw w.writer-is (appends_twice _ _ _ _ _ so_far.3 took.1),
               rw (w.connection-is, w.sentinel-is, w.store-is) took.2,
               longer,

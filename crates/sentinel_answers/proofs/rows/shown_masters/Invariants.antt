@@ -1,4 +1,5 @@
 use Rattle.std.proofs.Common.{◌≡◌, ◌≤◌, map, vec_len, vec_capacity}
+use Rattle.ballot_law.specs.declared.messages.TheConstants.{SHOWN_MAX}
 use Rattle.sentinel_rules.specs.Parts.{shown_of}
 use Rattle.sentinel_rules.specs.Answers.{numbers_from}
 use Rattle.sentinel_answers.proofs.rows.shown_masters.Given as goal
@@ -8,5 +9,5 @@ invariant-loop-m l =
     record {
       value : l.shown.items ≡ map (shown_of l.core) (numbers_from 0 l.m);
       len : vec_len l.shown ≡ l.m;
-      room : 16 ≤ vec_capacity l.shown;
+      room : SHOWN_MAX ≤ vec_capacity l.shown;
     }

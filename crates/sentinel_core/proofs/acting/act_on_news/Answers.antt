@@ -1,5 +1,6 @@
 use Rattle.std.proofs.Common.{◌≤◌, length, map, subst, sym, ap, ◌∙◌}
 use Rattle.std.specs.List.{AllByRecursion}
+use Rattle.ballot_law.specs.declared.messages.TheConstants.{OUTPUTS_MAX}
 use Rattle.ballot_law.specs.Clocks.{clock}
 use Rattle.sentinel_rules.specs.Named.{IsNamed}
 use Rattle.sentinel_rules.specs.Parts.{Part, output_of}
@@ -21,7 +22,7 @@ hold_frames-requires-clause-few c =
     let old = c.args.state.now in
     let part : Part = part_of old.plan (clock c.args.input.now.now) c.args.input.now.event old.core in
     let after = after_news old c.hear.new.state c.clear.new.self part c.clear.ensures c.requires.few c.hear.ensures.state in
-    subst (λ (s : State). length s.frames ≤ 1536) (sym after) c.requires.few
+    subst (λ (s : State). length s.frames ≤ OUTPUTS_MAX) (sym after) c.requires.few
 
 pub returns-clause-plan : goal.returns-clause-plan
 returns-clause-plan c = ap (λ (s : State). s.plan) c.hear.ensures.state

@@ -1,6 +1,7 @@
 use Rattle.std.proofs.Common.{◌++◌, length, ap, sym, ◌∙◌, arith}
 use Rattle.bounded_list.proofs.Bounded.{bounded_again}
-use Rattle.port_answers.specs.Room.{ANSWER_MAX, bounded}
+use Rattle.ballot_law.specs.declared.messages.TheConstants.{ANSWER_MAX}
+use Rattle.port_answers.specs.Room.{bounded}
 use Rattle.port_answers.proofs.Filling.{pushed_whole, pushed_part}
 use Rattle.port_answers.proofs.answer_text.AnswerTextByteSink.push.Goals as goal
 

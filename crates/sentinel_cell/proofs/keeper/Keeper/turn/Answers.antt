@@ -8,7 +8,8 @@ use Rattle.sentinel_rules.specs.Takes.{next}
 use Rattle.sentinel_outbox.specs.declared.phase.Phase.TheVariants.{Ready, Pending, Halted}
 use Rattle.sentinel_cell.proofs.Opening.{settled_at}
 use Rattle.sentinel_core.specs.Sentinels.{Whole, is_pending, is_flush}
-use Rattle.sentinel_cell.proofs.Keeping.{stored_turn, refused_turn, runs, ran, pends, on_ok, refused_of}
+use Rattle.sentinel_cell.proofs.Keeping.{stored_turn, refused_turn, runs, ran, pends}
+use Rattle.sentinel_core.proofs.Holding.{on_ok, refused_of}
 use Rattle.sentinel_cell.specs.Histories.{World, IsLeft}
 use Rattle.sentinel_cell.proofs.keeper.Keeper.turn.Given.{Over}
 use Rattle.sentinel_cell.proofs.keeper.Keeper.turn.Goals as goal

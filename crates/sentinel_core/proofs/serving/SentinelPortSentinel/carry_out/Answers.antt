@@ -1,8 +1,9 @@
 use Rattle.std.proofs.Common.{◌≡◌, ◌∙◌, sym, ap, Bool, true, false, true≢false}
+use Rattle.std.proofs.lemmas.Bool.{or_parts}
 use Rattle.sentinel_rules.specs.Plans.{Plan}
 use Rattle.sentinel_outbox.specs.declared.phase.Phase.TheVariants.{Pending}
 use Rattle.sentinel_core.specs.Sentinels.{is_pending, is_flush}
-use Rattle.sentinel_core.proofs.Holding.{on_ok, refused_of, or_false, same_kept, holds_stored, holds_refused}
+use Rattle.sentinel_core.proofs.Holding.{on_ok, refused_of, same_kept, holds_stored, holds_refused}
 use Rattle.sentinel_core.proofs.serving.SentinelPortSentinel.carry_out.Goals as goal
 
 pub returns-then-is_err-clause-refused : goal.returns-then-is_err-clause-refused
@@ -28,7 +29,7 @@ returns-clause-stored g c = λ first before h.
     (λ must. on_ok c.store.result no_fault (c.store.ensures.written (was ∙ ap Pending must)))
     (λ may. (
       ap g.S.ConfStore.held (on_ok c.store.result no_fault (c.store.ensures.untouched (was ∙ ap Pending may)).0),
-      same_kept _ _ (λ differs. true≢false (sym (c.in-Ok.ensures.changed.1 differs) ∙ or_false changed _ may)),
+      same_kept _ _ (λ differs. true≢false (sym (c.in-Ok.ensures.changed.1 differs) ∙ (or_parts changed _ may).0)),
     ))
     h
     )
