@@ -1,6 +1,7 @@
 -- Votes that are counted are votes of so many different Sentinels.
 use Rattle.std.proofs.Common.{◌≡◌, ℕ, zero, suc, ◌+◌, ◌<◌, ◌≤◌, Bool, true, false, cond, Option, Some, None, List, [], ◌∷◌, length, refl, ap, subst, ◌∙◌, inl, inr, ⊎_elim, arith, eqb}
 use Rattle.std.specs.Prelude.{◌⊎◌, ◌&&◌, Contains, nat_lt, if◌then◌else◌}
+use Rattle.std.proofs.lemmas.Bool.{eqb-true}
 use Rattle.std.proofs.lemmas.Bool.Decides.{nat_tests}
 use Rattle.ballot_law.specs.declared.addresses.RunId.{RunId}
 use Rattle.ballot_law.specs.declared.hearings.HeardVote.{HeardVote}
@@ -15,9 +16,6 @@ use Rattle.ballot_law.specs.VotesHeard.{Hearing, greater, latest, is_for, is_lea
 
 abbrev with_one : (ℕ → Bool) → (one : ℕ) → ℕ → Bool
 with_one p one v = if eqb v one then true else p v
-
-pub eqb-true : (a b : ℕ) → eqb a b ≡ true → a ≡ b
-eqb-true a b h = grind (arith, nat_tests)
 
 eqb-of_less : (v one : ℕ) → v < one → eqb v one ≡ false
 eqb-of_less v one lt = grind (arith, nat_tests)

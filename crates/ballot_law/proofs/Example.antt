@@ -18,6 +18,7 @@ use Rattle.ballot_law.specs.declared.rosters.Member.{Member}
 use Rattle.ballot_law.specs.declared.steps.KeptText.TheVariants.{New}
 use Rattle.ballot_law.specs.declared.steps.Step.{Step}
 use Rattle.ballot_law.specs.declared.steps.Step.TheVariants.{Take, Deliver, Store, Release, Stop, Start, Answer as AnswerNow}
+use Rattle.ballot_law.specs.declared.rosters.TheConstants.{NODES_MAX}
 use Rattle.ballot_law.specs.Rosters.{Roster, HasNode, master_at}
 use Rattle.ballot_law.specs.RosterFaults.{IsRoster}
 use Rattle.ballot_law.specs.Names.{IsNameByte}
@@ -341,7 +342,7 @@ starts =
         }
 
 -- the members are in order, and no fault fits them
-few_nodes : (m : ℕ) → m < 1 → length (master_at roster m).nodes ≤ 256
+few_nodes : (m : ℕ) → m < 1 → length (master_at roster m).nodes ≤ NODES_MAX
 few_nodes zero l = lit≤ tt
 few_nodes (suc m) l = absurd (omega arith)
 

@@ -4,6 +4,7 @@ use Rattle.std.specs.Prelude.{◌==◌, decimal}
 use Rattle.std.specs.List.{AllByRecursion}
 use Rattle.std.proofs.lemmas.Bool.Decides.{nat_tests}
 use Rattle.std.proofs.lemmas.List.Elements.{recursion_from_All}
+use Rattle.std.proofs.lemmas.Option.{same_Some}
 use Rattle.ballot_law.specs.declared.addresses.Addr.{Addr}
 use Rattle.ballot_law.specs.declared.addresses.RunId.{RunId}
 use Rattle.ballot_law.specs.declared.cards.Card.{Card}
@@ -37,7 +38,7 @@ pub fields_of-with_commas : (f : List ℕ) (fs : List (List ℕ)) → ArePlain f
 fields_of-with_commas f [] h hs = fields_of-last f h
 fields_of-with_commas f (g ∷ gs) h hs = fields_of-more f (with_commas (g ∷ gs)) h ∙ ap (λ t. f ∷ t) (fields_of-with_commas g gs hs.0 hs.1)
 
-plain_word : (w : List ℕ) → IsWord w → ArePlain w
+pub plain_word : (w : List ℕ) → IsWord w → ArePlain w
 plain_word [] h = tt
 plain_word (b ∷ bs) h = h
 
@@ -80,18 +81,15 @@ fields_of-hello_text h w =
     )
 
 -- the readers have each value back from its word
-some_one : {X : Type 0} (x y : X) → Some x ≡ Some y → x ≡ y
-some_one x y h = cc
-
 pub decimal_one : (m n : ℕ) → m < 2 ^ 64 → n < 2 ^ 64 → decimal m ≡ decimal n → m ≡ n
 decimal_one m n h k e =
-    some_one m n (sym (number-spells m (decimal m) (spells_decimal m h)) ∙ ap number e ∙ number-spells n (decimal n) (spells_decimal n k))
+    same_Some m n (sym (number-spells m (decimal m) (spells_decimal m h)) ∙ ap number e ∙ number-spells n (decimal n) (spells_decimal n k))
 
 pub ip_text_one : (m n : ℕ) → m < 2 ^ 32 → n < 2 ^ 32 → ip_text m ≡ ip_text n → m ≡ n
-ip_text_one m n h k e = some_one m n (sym (ip-ip_text m h) ∙ ap ip e ∙ ip-ip_text n k)
+ip_text_one m n h k e = same_Some m n (sym (ip-ip_text m h) ∙ ap ip e ∙ ip-ip_text n k)
 
 pub id_text_one : (a b : RunId) → IsRunId a → IsRunId b → id_text a ≡ id_text b → a ≡ b
-id_text_one a b h k e = some_one a b (sym (run_id-id_text a h.hi h.lo) ∙ ap run_id e ∙ run_id-id_text b k.hi k.lo)
+id_text_one a b h k e = same_Some a b (sym (run_id-id_text a h.hi h.lo) ∙ ap run_id e ∙ run_id-id_text b k.hi k.lo)
 
 pub addr_one : (a b : Addr) → a.ip ≡ b.ip → a.port ≡ b.port → a ≡ b
 addr_one a b i p = λ t. record { ip = i t; port = p t }

@@ -6,6 +6,7 @@ use Rattle.std.proofs.lemmas.Bool.{ltb-false, or_parts}
 use Rattle.std.proofs.lemmas.List.{length-map}
 use Rattle.std.proofs.lemmas.List.Elements.{All-nil, All-cons, All-get_or}
 use Rattle.ballot_law.specs.declared.rosters.Member.{Member}
+use Rattle.ballot_law.specs.declared.rosters.TheConstants.{NODES_MAX}
 use Rattle.ballot_law.specs.Rosters.{Roster, MasterPlan, no_master, nodes_in_order}
 use Rattle.ballot_law.specs.Orders.{addr_before, id_before, bytes_before}
 use Rattle.ballot_law.specs.Ordered.{in_order}
@@ -15,13 +16,13 @@ use Rattle.ballot_law.proofs.Placing.{in_order_len, in_order_all}
 
 -- no master of the roster has many nodes
 abbrev IsFewNodes : MasterPlan → Type 0
-IsFewNodes master = length master.nodes ≤ 256
+IsFewNodes master = length master.nodes ≤ NODES_MAX
 
 few_by : (masters : List MasterPlan) → list_any (λ (master : MasterPlan). nat_lt 256 (length master.nodes)) masters ≡ false → All IsFewNodes (map nodes_in_order masters)
 few_by [] h = All-nil IsFewNodes
 few_by (master ∷ masters) h =
     let both = or_parts (nat_lt 256 (length master.nodes)) (list_any (λ (master : MasterPlan). nat_lt 256 (length master.nodes)) masters) h in
-    let few : length master.nodes ≤ 256 = ltb-false 256 (length master.nodes) both.0 in
+    let few : length master.nodes ≤ NODES_MAX = ltb-false NODES_MAX (length master.nodes) both.0 in
     let kept : length (in_order addr_before master.nodes) ≤ length master.nodes = in_order_len addr_before master.nodes in
     All-cons IsFewNodes (nodes_in_order master) (map nodes_in_order masters) (omega arith) (few_by masters both.1)
 

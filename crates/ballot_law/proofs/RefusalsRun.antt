@@ -18,13 +18,14 @@ use Rattle.ballot_law.specs.declared.messages.Output.TheVariants.{Send}
 use Rattle.ballot_law.specs.declared.steps.KeptText.{KeptText}
 use Rattle.ballot_law.specs.declared.steps.KeptText.TheVariants.{Old, New}
 use Rattle.ballot_law.specs.declared.steps.Step.{Step}
+use Rattle.ballot_law.specs.declared.rosters.TheConstants.{NODES_MAX}
 use Rattle.ballot_law.specs.Rosters.{HasNode, master_at}
 use Rattle.ballot_law.specs.RosterFaults.{IsRoster}
 use Rattle.ballot_law.specs.Messages.{Vote, published, passed_on}
 use Rattle.ballot_law.specs.Ballots.{Ballot, Open, Cast, Win_at, Choose, Enact, vote, kept_of, card_of, voted_of}
 use Rattle.ballot_law.specs.Worlds.{Ready, Stopped, Other, World, sentinel_at, IsFlush, Choice, IsChoice, IsPassable, after_refused, after_stop, after_answer, stores_of, started, Run}
 use Rattle.ballot_law.specs.Law.{IsWellFormed, IsFiled, IsFresh, IsFreshOther, IsStart}
-use Rattle.ballot_law.specs.Refusals.{addr, own_id, roster, first_card, second_card, first_file, begin, me, pong, question, others_speak, asked, refused_old, refused_new, elected, flushed, steps, IsEnd, RefusalsHappen}
+use Rattle.ballot_law.specs.Refusals.{addr, own_id, roster, first_card, second_card, first_file, begin, me, pong, question, others_speak, asked, refused_old, refused_new, elected, flushed, steps, IsEnd, RefusalsHappen, listed}
 use Rattle.ballot_law.proofs.Runs.{steps_join}
 use Rattle.ballot_law.proofs.Scripts.{choose, take_as, store_as, release_as, start_as, other_takes, other_stores, other_releases, message, event_from, becomes, IsCard, held_none, held_one, right_cards, only_first}
 
@@ -100,11 +101,6 @@ speaking = (
 
 abbrev told : Message
 told = message me (ClientAt 5) (AddressAnswer (Some (record { master = 0; card = first_card })))
-
-abbrev listed : Message
-listed =
-    message me (PortAt 0)
-    (PortReply ((record { master = 0; card = first_card }) ∷ (record { master = 1; card = second_card }) ∷ []) [])
 
 -- with nothing changed
 abbrev tells : World → Message → Choice
@@ -400,6 +396,7 @@ ends : IsEnd w35
 ends =
     record {
       messages = (0, lit< tt, refl);
+      listed_is = (4, lit< tt, refl);
       votes = refl;
       elected_are = refl;
       said = refl;
@@ -488,7 +485,7 @@ is_roster =
     record {
       few_sentinels = lit≤ tt;
       few_masters = lit≤ tt;
-      few_nodes = both (λ m. length (master_at roster m).nodes ≤ 256) (lit≤ tt) (lit≤ tt);
+      few_nodes = both (λ m. length (master_at roster m).nodes ≤ NODES_MAX) (lit≤ tt) (lit≤ tt);
       made = ∣ record { given = roster; fits = refl; in_order = refl } ∣₁;
     }
 

@@ -3,7 +3,7 @@ use Rattle.std.proofs.Common.{◌≡◌, ℕ, zero, suc, ◌<◌, Bool, true, fa
 use Rattle.std.specs.List.{AllByRecursion}
 use Rattle.std.specs.Cmp.Lexicographic.{slice_cmp}
 use Rattle.std.specs.Ordering.{is_lt, nat_cmp, ordering_then}
-use Rattle.std.proofs.lemmas.Bool.{and_parts, and_from, and_right, or_cases, or_left, or_right, or_from, true≢false, cases_order}
+use Rattle.std.proofs.lemmas.Bool.{eqb-true, and_parts, and_from, and_right, or_cases, or_left, or_right, or_from, true≢false, cases_order}
 use Rattle.std.proofs.lemmas.Bool.Decides.{nat_tests}
 use Rattle.ballot_law.specs.Ordered.{add, in_order}
 use Rattle.ballot_law.specs.Orders.{id_before, bytes_before}
@@ -90,23 +90,20 @@ less_not x = grind (arith, nat_tests)
 less_on : (x y z : ℕ) → ltb x y ≡ true → ltb y z ≡ true → ltb x z ≡ true
 less_on x y z h k = grind (arith, nat_tests)
 
-eqb_is : (x y : ℕ) → eqb x y ≡ true → x ≡ y
-eqb_is x y h = grind (arith, nat_tests)
-
 -- by a number, and where it is the same by more
 module _ (x y z : ℕ) (p q r : Bool) where
   pub first_then_on : (p ≡ true → q ≡ true → r ≡ true) → (ltb x y ≡ true) ⊎ ((eqb x y && p) ≡ true) → (ltb y z ≡ true) ⊎ ((eqb y z && q) ≡ true) → (ltb x z || (eqb x z && r)) ≡ true
   first_then_on t (inl h) (inl k) = or_left (ltb x z) (eqb x z && r) (less_on x y z h k)
   first_then_on t (inl h) (inr k) =
       let both = and_parts (eqb y z) q k in
-      or_left (ltb x z) (eqb x z && r) (ap (ltb x) (sym (eqb_is y z both.0)) ∙ h)
+      or_left (ltb x z) (eqb x z && r) (ap (ltb x) (sym (eqb-true y z both.0)) ∙ h)
   first_then_on t (inr h) (inl k) =
       let both = and_parts (eqb x y) p h in
-      or_left (ltb x z) (eqb x z && r) (ap (λ a. ltb a z) (eqb_is x y both.0) ∙ k)
+      or_left (ltb x z) (eqb x z && r) (ap (λ a. ltb a z) (eqb-true x y both.0) ∙ k)
   first_then_on t (inr h) (inr k) =
       let one = and_parts (eqb x y) p h in
       let two = and_parts (eqb y z) q k in
-      or_right (ltb x z) (eqb x z && r) (and_from (eqb x z) r (ap (λ a. eqb a z) (eqb_is x y one.0) ∙ two.0) (t one.1 two.1))
+      or_right (ltb x z) (eqb x z && r) (and_from (eqb x z) r (ap (λ a. eqb a z) (eqb-true x y one.0) ∙ two.0) (t one.1 two.1))
 
 pub id_strict : IsStrict id_before
 id_strict = record {

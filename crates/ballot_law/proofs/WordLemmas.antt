@@ -13,6 +13,7 @@ use Rattle.std.proofs.Math.Nat.{pow-suc}
 use Rattle.std.proofs.Math.Seq.{take-append_seam, drop-append_seam}
 use Rattle.ballot_law.specs.declared.addresses.Addr.{Addr}
 use Rattle.ballot_law.specs.declared.addresses.RunId.{RunId}
+use Rattle.ballot_law.specs.declared.names.TheConstants.{NAME_MAX}
 use Rattle.ballot_law.specs.Orders.{same_bytes}
 use Rattle.ballot_law.specs.Words.{some_if, then_some, is_digit, number_on, number, number_within, is_name_byte, name, with_first, parts, ip_part, ip_of_parts, ip, ip_text, port, address, is_hex, hex_value, hex_on, run_id, hex_digit, hex, id_text}
 
@@ -240,11 +241,20 @@ spells_hex (suc k) n h =
     let e : 16 ^ suc k ≡ 16 ^ k * 16 = pow-suc 16 k in
     hex_more k n (hex k (n / 16)) (spells_hex k (n / 16) (omega arith))
 
+-- every run id has 40 digits
+pub length-hex : (k n : ℕ) → length (hex k n) ≡ k
+unfolding hex
+length-hex zero n = refl
+length-hex (suc k) n = omega (arith, length-append (hex k (n / 16)) (hex_digit (n % 16) ∷ []), length-hex k (n / 16))
+
+pub length-id_text : (id : RunId) → length (id_text id) ≡ 40
+length-id_text id = omega (arith, length-append (hex 32 id.hi) (hex 8 id.lo), length-hex 32 id.hi, length-hex 8 id.lo)
+
 pub run_id-id_text : (id : RunId) → id.hi < 2 ^ 128 → id.lo < 2 ^ 32 → run_id (id_text id) ≡ Some id
 run_id-id_text id h l =
     let a = spells_hex 32 id.hi h in
     let b = spells_hex 8 id.lo l in
-    let len : length (id_text id) ≡ 40 = omega (arith, length-append (hex 32 id.hi) (hex 8 id.lo), a.len, b.len) in
+    let len = length-id_text id in
     some_if-true ((eqb (length (id_text id)) 40) && list_all is_hex (id_text id)) (record { hi = hex_on 0 (take 32 (id_text id)); lo = hex_on 0 (drop 32 (id_text id)) })
     (and_from (eqb (length (id_text id)) 40) (list_all is_hex (id_text id)) (grind (arith, nat_tests, len))
     (list_all-append is_hex (hex 32 id.hi) (hex 8 id.lo) ∙ and_from (list_all is_hex (hex 32 id.hi)) (list_all is_hex (hex 8 id.lo)) a.digits b.digits))
@@ -258,7 +268,7 @@ pub word_id_text : (id : RunId) → id.hi < 2 ^ 128 → id.lo < 2 ^ 32 → IsWor
 word_id_text id h l =
     let a = spells_hex 32 id.hi h in
     let b = spells_hex 8 id.lo l in
-    word_plain (id_text id) (omega (arith, length-append (hex 32 id.hi) (hex 8 id.lo), a.len)) (high_append 45 (hex 32 id.hi) (hex 8 id.lo) a.high b.high)
+    word_plain (id_text id) (omega (arith, length-id_text id)) (high_append 45 (hex 32 id.hi) (hex 8 id.lo) a.high b.high)
 
 -- names
 name_byte_plain : (b : ℕ) → is_name_byte b ≡ true → 45 ≤ b
@@ -303,9 +313,9 @@ decimal_leads n lt e =
 
 pub word_name : (n m : List ℕ) → name n ≡ Some m → IsWord n
 word_name n m h =
-    let all = some_if-some (ltb 0 (length n) && (leb (length n) 64 && list_all is_name_byte n)) n m h in
-    let first = and_parts (ltb 0 (length n)) (leb (length n) 64 && list_all is_name_byte n) all in
-    let second = and_parts (leb (length n) 64) (list_all is_name_byte n) first.1 in
+    let all = some_if-some (ltb 0 (length n) && (leb (length n) NAME_MAX && list_all is_name_byte n)) n m h in
+    let first = and_parts (ltb 0 (length n)) (leb (length n) NAME_MAX && list_all is_name_byte n) all in
+    let second = and_parts (leb (length n) NAME_MAX) (list_all is_name_byte n) first.1 in
     word_plain n (let l : 0 < length n = grind (arith, nat_tests, first.0) in l) (name_bytes_plain n second.1)
 
 -- so many hex digits make a number below that power of 16

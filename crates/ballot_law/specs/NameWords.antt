@@ -5,6 +5,7 @@ use Rattle.std.proofs.Common.{get_or, refl, ap, sym, ◌∙◌, subst, arith}
 use Rattle.std.proofs.lemmas.Bool.{and_from, and_parts}
 use Rattle.std.proofs.lemmas.Bool.Decides.{nat_tests}
 use Rattle.std.proofs.lemmas.List.Sums.{AllPass-from_list_all, list_all-from_AllPass}
+use Rattle.ballot_law.specs.declared.names.TheConstants.{NAME_MAX}
 use Rattle.ballot_law.specs.Names.{IsName, IsNameByte}
 use Rattle.ballot_law.specs.Words.{some_if, is_name_byte, name}
 
@@ -16,20 +17,20 @@ test_byte b h = grind (arith, nat_tests)
 
 -- the test in the definition of `name`
 abbrev is_name : List ℕ → Bool
-is_name bytes = nat_lt 0 (length bytes) && (nat_le (length bytes) 64 && list_all is_name_byte bytes)
+is_name bytes = nat_lt 0 (length bytes) && (nat_le (length bytes) NAME_MAX && list_all is_name_byte bytes)
 
 is_name-true : (bytes : List ℕ) → IsName bytes → is_name bytes ≡ true
 is_name-true bytes h =
-    and_from (nat_lt 0 (length bytes)) (nat_le (length bytes) 64 && list_all is_name_byte bytes) (let k : 1 ≤ length bytes = h.0 in let a : nat_lt 0 (length bytes) ≡ true = grind (arith, nat_tests) in a)
-    (and_from (nat_le (length bytes) 64) (list_all is_name_byte bytes) (let k : length bytes ≤ 64 = h.1 in let b : nat_le (length bytes) 64 ≡ true = grind (arith, nat_tests) in b)
+    and_from (nat_lt 0 (length bytes)) (nat_le (length bytes) NAME_MAX && list_all is_name_byte bytes) (let k : 1 ≤ length bytes = h.0 in let a : nat_lt 0 (length bytes) ≡ true = grind (arith, nat_tests) in a)
+    (and_from (nat_le (length bytes) NAME_MAX) (list_all is_name_byte bytes) (let k : length bytes ≤ NAME_MAX = h.1 in let b : nat_le (length bytes) NAME_MAX ≡ true = grind (arith, nat_tests) in b)
     (list_all-from_AllPass is_name_byte bytes (λ k d l. byte_test (get_or bytes k d) (h.2 k d l))))
 
 name_only : (bytes : List ℕ) → is_name bytes ≡ true → IsName bytes
 name_only bytes h =
-    let one = and_parts (nat_lt 0 (length bytes)) (nat_le (length bytes) 64 && list_all is_name_byte bytes) h in
-    let two = and_parts (nat_le (length bytes) 64) (list_all is_name_byte bytes) one.1 in
+    let one = and_parts (nat_lt 0 (length bytes)) (nat_le (length bytes) NAME_MAX && list_all is_name_byte bytes) h in
+    let two = and_parts (nat_le (length bytes) NAME_MAX) (list_all is_name_byte bytes) one.1 in
     let a : 1 ≤ length bytes = grind (arith, nat_tests, one.0) in
-    let b : length bytes ≤ 64 = grind (arith, nat_tests, two.0) in
+    let b : length bytes ≤ NAME_MAX = grind (arith, nat_tests, two.0) in
     (a, b, λ k d l. test_byte (get_or bytes k d) (AllPass-from_list_all is_name_byte bytes two.1 k d l))
 
 pub name_is : (bytes : List ℕ) → IsName bytes → name bytes ≡ Some bytes

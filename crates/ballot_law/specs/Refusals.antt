@@ -10,7 +10,7 @@ use Rattle.ballot_law.specs.declared.commands.Command.TheVariants.{GetMasterAddr
 use Rattle.ballot_law.specs.declared.events.Event.{Event}
 use Rattle.ballot_law.specs.declared.events.Event.TheVariants.{Tick, Command, Become}
 use Rattle.ballot_law.specs.declared.events.Input.{Input}
-use Rattle.ballot_law.specs.declared.messages.Body.TheVariants.{PingText, AddressAsk}
+use Rattle.ballot_law.specs.declared.messages.Body.TheVariants.{PingText, AddressAsk, PortReply}
 use Rattle.ballot_law.specs.declared.messages.Message.{Message}
 use Rattle.ballot_law.specs.declared.messages.NodeName.{NodeName}
 use Rattle.ballot_law.specs.declared.messages.NodeName.TheVariants.{SentinelAt, StoreAt, ClientAt, PortAt}
@@ -98,6 +98,15 @@ pong = record { sender = StoreAt 0; target = me; body = PingText false (codes "P
 abbrev pub question : Message
 question = record { sender = ClientAt 5; target = me; body = AddressAsk first_name }
 
+-- one answer that shows the configurations of both masters
+abbrev pub listed : Message
+listed =
+    record {
+      sender = me;
+      target = PortAt 0;
+      body = PortReply ((record { master = 0; card = first_card }) ∷ (record { master = 1; card = second_card }) ∷ []) [];
+    }
+
 abbrev pub at_zero : Event → Input
 at_zero event = record { now = 0; event = event }
 
@@ -175,6 +184,8 @@ says m card = record { sentinel = 0; master = m; card = card }
 -- what the world shows at the end
 pub record IsEnd (last : World) : Type 0 where
   pub messages : Contains last.messages pong
+  -- MASTERS is answered by one message that shows both configurations
+  pub listed_is : Contains last.messages listed
   pub votes : last.votes ≡ vote 0 1 5 own_id ∷ vote 0 0 (MAX_EPOCH - 1) own_id ∷ vote 0 1 MAX_EPOCH own_id ∷ []
   -- the failover whose store was refused with the new text is no election
   pub elected_are : last.elected ≡ (let e : Election = record { sentinel = 0; master = 1; epoch = MAX_EPOCH } in e) ∷ []

@@ -3,6 +3,7 @@ use Rattle.std.specs.Prelude.{◌≡◌, ℕ, ◌<◌, ◌≤◌, ◌⊎◌, Res
 use Rattle.std.specs.List.{list_any, flat_map}
 use Rattle.ballot_law.specs.declared.addresses.Addr.{Addr}
 use Rattle.ballot_law.specs.declared.rosters.RosterFault.{RosterFault}
+use Rattle.ballot_law.specs.declared.rosters.TheConstants.{SENTINELS_MAX, MASTERS_MAX, NODES_MAX}
 use Rattle.ballot_law.specs.declared.rosters.RosterFault.TheVariants.{NoSentinel, TooManySentinels, NoMaster, TooManyMasters, SameName, NoNode, TooManyNodes, QuorumZero, SameRunId, SharedAddress, NoMemory}
 use Rattle.ballot_law.specs.Ordered.{repeats}
 use Rattle.ballot_law.specs.Rosters.{Roster, master_at, ordered}
@@ -16,9 +17,9 @@ first_that_fits (test ∷ tests) = elim test.0 [ true ↦ Some test.1 | false �
 abbrev pub first_tests : Roster → List (Bool × RosterFault)
 first_tests roster =
     (length roster.sentinels == 0, NoSentinel)
-    ∷ (nat_lt 64 (length roster.sentinels), TooManySentinels)
+    ∷ (nat_lt SENTINELS_MAX (length roster.sentinels), TooManySentinels)
     ∷ (length roster.masters == 0, NoMaster)
-    ∷ (nat_lt 16 (length roster.masters), TooManyMasters)
+    ∷ (nat_lt MASTERS_MAX (length roster.masters), TooManyMasters)
     ∷ (repeats (λ a b. same_bytes a.name b.name) roster.masters, SameName)
     ∷ []
 
@@ -29,7 +30,7 @@ addresses roster = map (λ member. member.addr) roster.sentinels ++ flat_map (λ
 abbrev pub last_tests : Roster → List (Bool × RosterFault)
 last_tests roster =
     (list_any (λ master. length master.nodes == 0) roster.masters, NoNode)
-    ∷ (list_any (λ master. nat_lt 256 (length master.nodes)) roster.masters, TooManyNodes)
+    ∷ (list_any (λ master. nat_lt NODES_MAX (length master.nodes)) roster.masters, TooManyNodes)
     ∷ (list_any (λ master. master.quorum == 0) roster.masters, QuorumZero)
     ∷ (repeats (λ a b. same_id a.id b.id) roster.sentinels, SameRunId)
     ∷ (repeats same_addr (addresses roster), SharedAddress)
@@ -53,7 +54,7 @@ pub record IsMade (roster : Roster) : Type 0 where
   pub in_order : roster ≡ ordered given
 
 pub record IsRoster (roster : Roster) : Type 0 where
-  pub few_sentinels : length roster.sentinels ≤ 64
-  pub few_masters : length roster.masters ≤ 16
-  pub few_nodes : (m : ℕ) → m < length roster.masters → length (master_at roster m).nodes ≤ 256
+  pub few_sentinels : length roster.sentinels ≤ SENTINELS_MAX
+  pub few_masters : length roster.masters ≤ MASTERS_MAX
+  pub few_nodes : (m : ℕ) → m < length roster.masters → length (master_at roster m).nodes ≤ NODES_MAX
   pub made : ∥ IsMade roster ∥₁

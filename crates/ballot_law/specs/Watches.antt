@@ -59,34 +59,34 @@ down_since opened calls now after as_master = earlier_of (silent_at opened calls
 -- What is kept. `at` is a reading as it counts.
 
 -- what a watch keeps of the calls
-pub record Watched : Type 0 where
+pub record WatchState : Type 0 where
   pub silent_from : ℕ
   pub replica_since : Option ℕ
 
 -- what is kept is what these calls, after an opening at this moment, tell
-pub record StandsForCalls (watched : Watched) (opened : ℕ) (calls : List WatchCall) : Type 0 where
+pub record StandsForCalls (watched : WatchState) (opened : ℕ) (calls : List WatchCall) : Type 0 where
   pub silent_from : watched.silent_from ≡ silent_from opened calls
   pub replica_since : watched.replica_since ≡ replica_since calls
 
 -- a watch just opened: silence counts from now, and no role was reported
-abbrev pub opened_at : (at : ℕ) → Watched
+abbrev pub opened_at : (at : ℕ) → WatchState
 opened_at at = record { silent_from = at; replica_since = None }
 
 -- a valid reply ends the silence, any other changes nothing
-abbrev pub after_reply : (at : ℕ) → PingReply → Watched → Watched
+abbrev pub after_reply : (at : ℕ) → PingReply → WatchState → WatchState
 after_reply at reply watched = if is_valid reply then record watched { silent_from = at } else watched
 
 -- a report of being a master ends the time as a replica; one of being a replica begins it, unless it runs already
-abbrev pub after_role : (at : ℕ) → DataRole → Watched → Watched
+abbrev pub after_role : (at : ℕ) → DataRole → WatchState → WatchState
 after_role at Master watched = record watched { replica_since = None }
 after_role at Replica watched = record watched { replica_since = Some (unwrap_or watched.replica_since at) }
 
 -- a change of the master's address starts the time as a replica anew, where it runs
-abbrev pub after_change : (at : ℕ) → Watched → Watched
+abbrev pub after_change : (at : ℕ) → WatchState → WatchState
 after_change at watched = record watched { replica_since = option_map (λ _. at) watched.replica_since }
 
 -- since when the node is subjectively down, by what is kept
-abbrev pub down_since_of : Watched → (now after : ℕ) → (as_master : Bool) → Option ℕ
+abbrev pub down_since_of : WatchState → (now after : ℕ) → (as_master : Bool) → Option ℕ
 down_since_of watched now after as_master =
     earlier_of
     (passed_at watched.silent_from after now)
@@ -98,25 +98,25 @@ KeepsOpening = (at : ℕ) → StandsForCalls (opened_at at) at []
 
 abbrev pub KeepsReplies : Type 0
 KeepsReplies =
-    (watched : Watched) (opened at : ℕ) (reply : PingReply) (calls : List WatchCall) →
+    (watched : WatchState) (opened at : ℕ) (reply : PingReply) (calls : List WatchCall) →
     StandsForCalls watched opened calls →
     StandsForCalls (after_reply at reply watched) opened (HeardReply at reply ∷ calls)
 
 abbrev pub KeepsRoles : Type 0
 KeepsRoles =
-    (watched : Watched) (opened at : ℕ) (role : DataRole) (calls : List WatchCall) →
+    (watched : WatchState) (opened at : ℕ) (role : DataRole) (calls : List WatchCall) →
     StandsForCalls watched opened calls →
     StandsForCalls (after_role at role watched) opened (ReportedRole at role ∷ calls)
 
 abbrev pub KeepsChanges : Type 0
 KeepsChanges =
-    (watched : Watched) (opened at : ℕ) (calls : List WatchCall) →
+    (watched : WatchState) (opened at : ℕ) (calls : List WatchCall) →
     StandsForCalls watched opened calls →
     StandsForCalls (after_change at watched) opened (ChangedCard at ∷ calls)
 
 -- and tells the same of the node
 abbrev pub KeepsDown : Type 0
 KeepsDown =
-    (watched : Watched) (opened : ℕ) (calls : List WatchCall) (now after : ℕ) (as_master : Bool) →
+    (watched : WatchState) (opened : ℕ) (calls : List WatchCall) (now after : ℕ) (as_master : Bool) →
     StandsForCalls watched opened calls →
     down_since_of watched now after as_master ≡ down_since opened calls now after as_master

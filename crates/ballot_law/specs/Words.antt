@@ -4,6 +4,7 @@ use Rattle.std.specs.List.{list_all}
 use Rattle.std.specs.Char.{to_ascii_lowercase}
 use Rattle.ballot_law.specs.declared.addresses.Addr.{Addr}
 use Rattle.ballot_law.specs.declared.addresses.RunId.{RunId}
+use Rattle.ballot_law.specs.declared.names.TheConstants.{NAME_MAX}
 use Rattle.ballot_law.specs.Orders.{same_bytes}
 pub use Rattle.ballot_law.specs.Cuts.{with_first, cut_at}
 
@@ -51,7 +52,7 @@ is_name_byte b =
 
 -- 1 to 64 letters, digits, `.`, `-` and `_`
 abbrev pub name : List ℕ → Option (List ℕ)
-name bytes = some_if (nat_lt 0 (length bytes) && (nat_le (length bytes) 64 && list_all is_name_byte bytes)) bytes
+name bytes = some_if (nat_lt 0 (length bytes) && (nat_le (length bytes) NAME_MAX && list_all is_name_byte bytes)) bytes
 
 -- the parts around the dots
 abbrev pub parts : List ℕ → List (List ℕ)

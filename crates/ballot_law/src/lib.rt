@@ -43,6 +43,6 @@ pub use ordering::{Placed, ordered};
 pub use periods::{REPLICA_MS, REPORT_MS, STEP_MS, TILT_MS};
 pub use records::{Advertisement, Election, Win};
 pub use replies::{DataRole, Hello, Info, PingReply, Role};
-pub use rosters::{Member, Roster, RosterFault, Watched};
+pub use rosters::{MASTERS_MAX, Member, NODES_MAX, Roster, RosterFault, SENTINELS_MAX, Watched};
 pub use steps::{KeptText, Step};
 pub use texts::{ShortText, Text};

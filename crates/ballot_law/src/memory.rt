@@ -1,4 +1,4 @@
-//! Want of memory.
+//! A refused allocation.
 
 use std::alloc::{AllocError, AllocFailed};
 use thiserror::Error;

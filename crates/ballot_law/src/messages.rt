@@ -4,6 +4,7 @@ use crate::addresses::{Addr, RunId};
 use crate::cards::{Card, Shown, ShownList};
 use crate::names::Name;
 use crate::replies::{Hello, Info, Role};
+use crate::rosters::MASTERS_MAX;
 use crate::texts::{ShortText, Text};
 
 /// A node, by its place among those of its kind: Sentinels by run id; data nodes master by master in the roster's
@@ -89,7 +90,7 @@ pub const OUTPUTS_MAX: usize = 1_536;
 pub const ANSWER_MAX: usize = 65_536;
 
 /// The greatest number of configurations that one output shows: one of each master.
-pub const SHOWN_MAX: usize = 16;
+pub const SHOWN_MAX: usize = MASTERS_MAX;
 
 /// What one input of a node gives: messages, and notes, which are sent to no node.
 #[derive(Debug, Drop)]

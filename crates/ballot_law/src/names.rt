@@ -16,7 +16,7 @@ pub const NAME_MAX: usize = 64;
 /// Names are ordered as their bytes are.
 #[derive(Clone, Copy, Debug, PartialEq, Eq, PartialOrd, Ord, Hash)]
 pub struct Name {
-    bytes: [u8; 64],
+    bytes: [u8; NAME_MAX],
     len: u8,
 }
 

@@ -4,6 +4,7 @@ ghost use Rattle.std.specs.Prelude.{◌≡◌, ◌==◌, ◌<◌, ◌≤◌, ◌
 ghost use Rattle.std.specs.List.{flat_map, list_any};
 ghost use Rattle.ballot_law.specs.Rosters.{need, HasNode, nodes_in_order, master_at, no_addr, HasDistinctIds, HasDistinctNames};
 ghost use Rattle.ballot_law.specs.Orders.{same_addr, same_bytes, bytes_before};
+ghost use Rattle.ballot_law.specs.declared.rosters.TheConstants.{SENTINELS_MAX, MASTERS_MAX, NODES_MAX};
 ghost use Rattle.ballot_law.specs.declared.rosters.RosterFault.TheVariants.{NoMemory};
 ghost use Rattle.ballot_law.specs.RosterFaults.{IsRoster, Makes, fault_of, first_that_fits, first_tests, last_tests, addresses};
 
@@ -15,6 +16,15 @@ use crate::ordering::{Keyed, Placed, has_repeats, ordered};
 use std::alloc::{AllocError, Global};
 use std::marker::Model;
 use thiserror::Error;
+
+/// The greatest number of Sentinels of a group.
+pub const SENTINELS_MAX: usize = 64;
+
+/// The greatest number of masters that a group watches.
+pub const MASTERS_MAX: usize = 16;
+
+/// The greatest number of data nodes of one master, itself among them.
+pub const NODES_MAX: usize = 256;
 
 /// A Sentinel of the roster.
 #[derive(Clone, Copy, Debug, PartialEq, Eq)]
@@ -195,18 +205,18 @@ impl From<AllocError> for RosterFault {
 fn first_fault(sentinels: &[Member], masters: &[Watched]) -> Option<RosterFault>
     ensures fault { result
         ≡ first_that_fits (first_tests (record { sentinels = sentinels.now; masters = masters.now })) }
-    ensures small { IfNone result ((length sentinels.now ≤ 64) × (length masters.now ≤ 16)) }
+    ensures small { IfNone result ((length sentinels.now ≤ SENTINELS_MAX) × (length masters.now ≤ MASTERS_MAX)) }
 {
     if sentinels.is_empty() {
         return Some(RosterFault::NoSentinel);
     }
-    if sentinels.len() > 64 {
+    if sentinels.len() > SENTINELS_MAX {
         return Some(RosterFault::TooManySentinels);
     }
     if masters.is_empty() {
         return Some(RosterFault::NoMaster);
     }
-    if masters.len() > 16 {
+    if masters.len() > MASTERS_MAX {
         return Some(RosterFault::TooManyMasters);
     }
     if has_repeats(masters) {
@@ -222,11 +232,11 @@ fn has_no_node(masters: &[Watched]) -> bool
     masters.iter().any(|master| master.nodes.is_empty())
 }
 
-/// Whether some master has more than 256 nodes.
+/// Whether some master has more nodes than a master may have.
 fn has_many_nodes(masters: &[Watched]) -> bool
-    ensures { result ≡ list_any (λ master. nat_lt 256 (length master.nodes)) masters.now }
+    ensures { result ≡ list_any (λ master. nat_lt NODES_MAX (length master.nodes)) masters.now }
 {
-    masters.iter().any(|master| master.nodes.len() > 256)
+    masters.iter().any(|master| master.nodes.len() > NODES_MAX)
 }
 
 /// Whether some master's quorum is 0.
@@ -269,7 +279,7 @@ fn has_node(nodes: &[Addr], addr: Addr) -> bool
 
 /// The place of an address among the nodes of a master.
 fn place_among(nodes: &[Addr], addr: Addr) -> Option<u16>
-    requires { length nodes.now ≤ 256 }
+    requires { length nodes.now ≤ NODES_MAX }
     ensures some { IfSome result (λ k. (k < length nodes.now) × (slice_index_or nodes.now k no_addr ≡ addr)) }
     ensures none { IfNone result ((k : ℕ) → k < length nodes.now → slice_index_or nodes.now k no_addr ≢ addr) }
 {
@@ -301,7 +311,7 @@ fn copies_of(alloc: Global, masters: &[Watched]) -> Result<Vec<Watched>, AllocEr
 fn judge(alloc: Global, sentinels: &[Member], masters: &[Watched]) -> Result<(), RosterFault>
     ensures fits { OnOk result
         (fault_of (record { sentinels = sentinels.now; masters = masters.now }) ≡ None) }
-    ensures small { OnOk result ((length sentinels.now ≤ 64) × (length masters.now ≤ 16)) }
+    ensures small { OnOk result ((length sentinels.now ≤ SENTINELS_MAX) × (length masters.now ≤ MASTERS_MAX)) }
     ensures refused { IfErr result (λ fault. (fault ≡ NoMemory)
         ⊎ (fault_of (record { sentinels = sentinels.now; masters = masters.now }) ≡ Some fault)) }
 {
@@ -316,7 +326,7 @@ fn judge(alloc: Global, sentinels: &[Member], masters: &[Watched]) -> Result<(),
 }
 
 impl Roster {
-    /// The roster of these members in order, or the first fault that fits, with the members dropped. Want of memory may
+    /// The roster of these members in order, or the first fault that fits, with the members dropped. A refused allocation may
     /// stand in place of any other answer.
     #[tactic(auto, using(crate::proofs::Placing::in_order_len))]
     pub fn new(

@@ -1,6 +1,7 @@
 -- What a node may send, and what it may be given to take.
 use Rattle.std.specs.Prelude.{◌<◌, ◌≤◌, ◌^◌, List, length}
 use Rattle.std.specs.List.{AllByRecursion}
+use Rattle.ballot_law.specs.declared.messages.TheConstants.{SHOWN_MAX}
 use Rattle.ballot_law.specs.declared.cards.Shown.{Shown}
 use Rattle.ballot_law.specs.declared.events.Event.{Event}
 use Rattle.ballot_law.specs.declared.events.Event.TheVariants.{Become, Handed}
@@ -27,9 +28,9 @@ abbrev pub IsSendableOutput : Output → Type 0
 IsSendableOutput (Send message) = IsSendable message
 IsSendableOutput (Tell note) = Unit {0}
 
--- an answer of the port shows the configurations of 16 masters at most
+-- an answer of the port shows one configuration of each master at most
 abbrev pub IsFewIn : Body → Type 0
-IsFewIn (PortReply shown text) = length shown ≤ 16
+IsFewIn (PortReply shown text) = length shown ≤ SHOWN_MAX
 IsFewIn body = Unit {0}
 
 abbrev pub IsFewShown : Output → Type 0

@@ -1,8 +1,8 @@
 -- A client's way to the address of a master: what it does next, by what came of what it did.
 use Rattle.std.specs.Prelude.{ℕ, ◌+◌, ◌<◌, ◌≤◌, Bool, true, false, nat_lt, List, ◌++◌, length, take, drop, Option, Some, None, if◌then◌else◌}
 use Rattle.ballot_law.specs.declared.addresses.Addr.{Addr}
+use Rattle.ballot_law.specs.declared.rosters.TheConstants.{SENTINELS_MAX}
 use Rattle.client_queries.specs.declared.moves.Move.{Move}
-use Rattle.client_queries.specs.declared.moves.TheConstants.{SENTINELS_MAX}
 use Rattle.client_queries.specs.declared.moves.Move.TheVariants.{Ask, Connect, CheckRole, Wait, NoSentinel, Done}
 
 -- the Sentinels in the order in which they are asked, and the next move

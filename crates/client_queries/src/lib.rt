@@ -9,5 +9,6 @@
 mod moves;
 mod quests;
 
-pub use moves::{Move, SENTINELS_MAX};
+pub use ballot_law::SENTINELS_MAX;
+pub use moves::Move;
 pub use quests::{Quest, QuestFault};

@@ -2,11 +2,12 @@
 
 ghost use Rattle.std.specs.Prelude.{◌≡◌, ◌↔◌, ◌<◌, length, slice_get, IfOk, IsErrOf, unwrap_or};
 ghost use Rattle.std.specs.Option.{is_some};
+ghost use Rattle.ballot_law.specs.declared.rosters.TheConstants.{SENTINELS_MAX};
 ghost use Rattle.client_queries.specs.declared.moves.Move.TheVariants.{Ask};
 ghost use Rattle.client_queries.specs.Queries.{query, to_front, ask_after, after, Answered, Connected, Failed, RoleWas, Waited, IsSound};
 
-use crate::moves::{Move, SENTINELS_MAX};
-use ballot_law::Addr;
+use crate::moves::Move;
+use ballot_law::{Addr, SENTINELS_MAX};
 use std::alloc::{AllocError, Global};
 use std::marker::Model;
 use thiserror::Error;
@@ -79,7 +80,7 @@ fn ask_after(sentinels: &[Addr], place: usize) -> Move
 impl Quest {
     /// A search that begins with the first Sentinel of the list, of 1 to 64 of them.
     ///
-    /// The only other error is want of memory.
+    /// The only other error is a refused allocation.
     pub fn new(alloc: Global, list: &[Addr]) -> Result<Quest, QuestFault>
         ensures first { IfOk result (λ quest. quest ≡ query list.now (Ask 0)) }
         ensures empty { IsErrOf result QuestFault.Empty ↔ (length list.now ≡ 0) }

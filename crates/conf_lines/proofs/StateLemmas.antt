@@ -10,7 +10,7 @@ use Rattle.conf_lines.specs.declared.lines.StateLine.{StateLine}
 use Rattle.conf_lines.specs.declared.lines.StateLine.TheVariants.{MyId, CurrentEpoch, Monitor, ConfigEpoch, LeaderEpoch, LeaderId, KnownReplica, KnownSentinel}
 use Rattle.conf_lines.specs.declared.lines.Line.TheVariants as line
 use Rattle.ballot_law.specs.Words.{name, address, run_id, ip_text, id_text}
-use Rattle.conf_lines.specs.Lines.{wanted, epoch, count, line_of, line_of_words, state_words, spelled}
+use Rattle.conf_lines.specs.Lines.{given_or, epoch, count, line_of, line_of_words, state_words, spelled}
 use Rattle.ballot_law.specs.declared.cards.TheConstants.{MAX_EPOCH}
 use Rattle.conf_lines.proofs.SpacedWords.{AreWords, words_of-spaced, HasNoLf, no_lf_spaced}
 use Rattle.ballot_law.proofs.WordLemmas.{IsWord}
@@ -71,28 +71,28 @@ address-is : (a : Addr) → IsAddr a → address (ip_text a.ip) (decimal a.port)
 address-is a h = address-text a h.ip h.low h.high
 
 words_say : (state : StateLine) → IsState state → line_of_words (codes "sentinel" ∷ state_words state) ≡ line.State state
-words_say (MyId id) v = ap (λ i. wanted BadRunId i (λ id. line.State (MyId id))) (run_id-id_text id v.hi v.lo)
-words_say (CurrentEpoch e) v = ap (λ i. wanted BadNumber i (λ e. line.State (CurrentEpoch e))) (epoch-decimal e v)
+words_say (MyId id) v = ap (λ i. given_or BadRunId i (λ id. line.State (MyId id))) (run_id-id_text id v.hi v.lo)
+words_say (CurrentEpoch e) v = ap (λ i. given_or BadNumber i (λ e. line.State (CurrentEpoch e))) (epoch-decimal e v)
 words_say (Monitor n a q) v =
-    ap (λ m. wanted BadName m (λ n. wanted BadAddress (address (ip_text a.ip) (decimal a.port)) (λ a. wanted BadNumber (count (decimal q)) (λ q. line.State (Monitor n a q))))) v.0
-    ∙ ap (λ m. wanted BadAddress m (λ a. wanted BadNumber (count (decimal q)) (λ q. line.State (Monitor n a q)))) (address-is a v.1)
-    ∙ ap (λ m. wanted BadNumber m (λ q. line.State (Monitor n a q))) (count-decimal q v.2)
+    ap (λ m. given_or BadName m (λ n. given_or BadAddress (address (ip_text a.ip) (decimal a.port)) (λ a. given_or BadNumber (count (decimal q)) (λ q. line.State (Monitor n a q))))) v.0
+    ∙ ap (λ m. given_or BadAddress m (λ a. given_or BadNumber (count (decimal q)) (λ q. line.State (Monitor n a q)))) (address-is a v.1)
+    ∙ ap (λ m. given_or BadNumber m (λ q. line.State (Monitor n a q))) (count-decimal q v.2)
 words_say (ConfigEpoch n e) v =
-    ap (λ m. wanted BadName m (λ n. wanted BadNumber (epoch (decimal e)) (λ e. line.State (ConfigEpoch n e)))) v.0
-    ∙ ap (λ m. wanted BadNumber m (λ e. line.State (ConfigEpoch n e))) (epoch-decimal e v.1)
+    ap (λ m. given_or BadName m (λ n. given_or BadNumber (epoch (decimal e)) (λ e. line.State (ConfigEpoch n e)))) v.0
+    ∙ ap (λ m. given_or BadNumber m (λ e. line.State (ConfigEpoch n e))) (epoch-decimal e v.1)
 words_say (LeaderEpoch n e) v =
-    ap (λ m. wanted BadName m (λ n. wanted BadNumber (epoch (decimal e)) (λ e. line.State (LeaderEpoch n e)))) v.0
-    ∙ ap (λ m. wanted BadNumber m (λ e. line.State (LeaderEpoch n e))) (epoch-decimal e v.1)
+    ap (λ m. given_or BadName m (λ n. given_or BadNumber (epoch (decimal e)) (λ e. line.State (LeaderEpoch n e)))) v.0
+    ∙ ap (λ m. given_or BadNumber m (λ e. line.State (LeaderEpoch n e))) (epoch-decimal e v.1)
 words_say (LeaderId n i) v =
-    ap (λ m. wanted BadName m (λ n. wanted BadRunId (run_id (id_text i)) (λ i. line.State (LeaderId n i)))) v.0
-    ∙ ap (λ m. wanted BadRunId m (λ i. line.State (LeaderId n i))) (run_id-id_text i v.1.hi v.1.lo)
+    ap (λ m. given_or BadName m (λ n. given_or BadRunId (run_id (id_text i)) (λ i. line.State (LeaderId n i)))) v.0
+    ∙ ap (λ m. given_or BadRunId m (λ i. line.State (LeaderId n i))) (run_id-id_text i v.1.hi v.1.lo)
 words_say (KnownReplica n a) v =
-    ap (λ m. wanted BadName m (λ n. wanted BadAddress (address (ip_text a.ip) (decimal a.port)) (λ a. line.State (KnownReplica n a)))) v.0
-    ∙ ap (λ m. wanted BadAddress m (λ a. line.State (KnownReplica n a))) (address-is a v.1)
+    ap (λ m. given_or BadName m (λ n. given_or BadAddress (address (ip_text a.ip) (decimal a.port)) (λ a. line.State (KnownReplica n a)))) v.0
+    ∙ ap (λ m. given_or BadAddress m (λ a. line.State (KnownReplica n a))) (address-is a v.1)
 words_say (KnownSentinel n a i) v =
-    ap (λ m. wanted BadName m (λ n. wanted BadAddress (address (ip_text a.ip) (decimal a.port)) (λ a. wanted BadRunId (run_id (id_text i)) (λ i. line.State (KnownSentinel n a i))))) v.0
-    ∙ ap (λ m. wanted BadAddress m (λ a. wanted BadRunId (run_id (id_text i)) (λ i. line.State (KnownSentinel n a i)))) (address-is a v.1)
-    ∙ ap (λ m. wanted BadRunId m (λ i. line.State (KnownSentinel n a i))) (run_id-id_text i v.2.hi v.2.lo)
+    ap (λ m. given_or BadName m (λ n. given_or BadAddress (address (ip_text a.ip) (decimal a.port)) (λ a. given_or BadRunId (run_id (id_text i)) (λ i. line.State (KnownSentinel n a i))))) v.0
+    ∙ ap (λ m. given_or BadAddress m (λ a. given_or BadRunId (run_id (id_text i)) (λ i. line.State (KnownSentinel n a i)))) (address-is a v.1)
+    ∙ ap (λ m. given_or BadRunId m (λ i. line.State (KnownSentinel n a i))) (run_id-id_text i v.2.hi v.2.lo)
 
 pub line_of-spelled : (state : StateLine) → IsState state → line_of (spelled state) ≡ line.State state
 line_of-spelled state v = ap line_of_words (words_of-spaced (codes "sentinel") (state_words state) (are_words state v)) ∙ words_say state v

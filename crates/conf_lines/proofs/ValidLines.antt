@@ -6,6 +6,7 @@ use Rattle.std.proofs.lemmas.Bool.{and_parts}
 use Rattle.std.proofs.lemmas.Bool.Decides.{nat_tests}
 use Rattle.std.proofs.lemmas.List.Folds.{list_all-append}
 use Rattle.std.proofs.lemmas.List.{take-append-drop}
+use Rattle.ballot_law.specs.declared.names.TheConstants.{NAME_MAX}
 use Rattle.ballot_law.specs.declared.addresses.Addr.{Addr}
 use Rattle.ballot_law.specs.declared.addresses.RunId.{RunId}
 use Rattle.ballot_law.specs.Orders.{same_bytes}
@@ -19,14 +20,14 @@ use Rattle.conf_lines.specs.declared.lines.Line.TheVariants as line
 use Rattle.conf_lines.specs.Words.{words_of}
 use Rattle.ballot_law.specs.Words.{some_if, then_some, number_within, is_name_byte, name, parts, ip_part, ip_of_parts, ip, port, address, is_hex, hex_on, run_id, lower}
 use Rattle.ballot_law.proofs.WordLemmas.{some_if-is, then_some-is, number_within-is, hex_on-small}
-use Rattle.conf_lines.specs.Lines.{wanted, epoch, count, my_id_line, current_line, monitor_line, config_line, leader_line, leader_id_line, replica_line, sentinel_line, port_line, announce_ip_line, announce_port_line, down_after_line, parallel_syncs_line, timeout_line, first_named, sentinel_directives, sentinel_words, line_of_words, line_of}
+use Rattle.conf_lines.specs.Lines.{given_or, epoch, count, my_id_line, current_line, monitor_line, config_line, leader_line, leader_id_line, replica_line, sentinel_line, port_line, announce_ip_line, announce_port_line, down_after_line, parallel_syncs_line, timeout_line, first_named, sentinel_directives, sentinel_words, line_of_words, line_of}
 use Rattle.ballot_law.specs.declared.cards.TheConstants.{MAX_EPOCH}
 use Rattle.conf_lines.proofs.StateLemmas.{IsAddr, IsId, IsName, IsState}
 
 -- what is read of one word
 named : (w n : List ℕ) → name w ≡ Some n → IsName n
 named w n h =
-    let k = some_if-is (ltb 0 (length w) && (leb (length w) 64 && list_all is_name_byte w)) w n h in
+    let k = some_if-is (ltb 0 (length w) && (leb (length w) NAME_MAX && list_all is_name_byte w)) w n h in
     subst (λ t. name t ≡ Some t) k.1 (ap (λ t. some_if t w) k.0)
 
 part_within : (w : List ℕ) (n : ℕ) → ip_part w ≡ Some n → n ≤ 255
@@ -85,84 +86,84 @@ IsLine (line.Setting setting) = IsSetting setting
 IsLine line.Kept = Unit {0}
 IsLine (line.Faulty kind) = Unit {0}
 
-wanted_is : {X : Type 0} (kind : ConfKind) (o : Option X) (f : X → Line) → ((x : X) → o ≡ Some x → IsLine (f x)) → IsLine (wanted kind o f)
-wanted_is kind None f h = tt
-wanted_is kind (Some x) f h = h x refl
+given_or_is : {X : Type 0} (kind : ConfKind) (o : Option X) (f : X → Line) → ((x : X) → o ≡ Some x → IsLine (f x)) → IsLine (given_or kind o f)
+given_or_is kind None f h = tt
+given_or_is kind (Some x) f h = h x refl
 
 my_id_is : (ws : List (List ℕ)) → IsLine (my_id_line ws)
-my_id_is (i ∷ []) = wanted_is BadRunId (run_id i) (λ id. line.State (MyId id)) (λ id e. identified i id e)
+my_id_is (i ∷ []) = given_or_is BadRunId (run_id i) (λ id. line.State (MyId id)) (λ id e. identified i id e)
 my_id_is _ = tt
 
 current_is : (ws : List (List ℕ)) → IsLine (current_line ws)
-current_is (w ∷ []) = wanted_is BadNumber (epoch w) (λ e. line.State (CurrentEpoch e)) (λ e f. (number_within-is 0 MAX_EPOCH w e f).1)
+current_is (w ∷ []) = given_or_is BadNumber (epoch w) (λ e. line.State (CurrentEpoch e)) (λ e f. (number_within-is 0 MAX_EPOCH w e f).1)
 current_is _ = tt
 
 monitor_is : (ws : List (List ℕ)) → IsLine (monitor_line ws)
 monitor_is (n ∷ i ∷ p ∷ q ∷ []) =
-    wanted_is BadName (name n) (λ name. wanted BadAddress (address i p) (λ addr. wanted BadNumber (count q) (λ quorum. line.State (Monitor name addr quorum)))) (λ m e.
-    wanted_is BadAddress (address i p) (λ addr. wanted BadNumber (count q) (λ quorum. line.State (Monitor m addr quorum))) (λ a f.
-    wanted_is BadNumber (count q) (λ quorum. line.State (Monitor m a quorum)) (λ r g. (named n m e, addressed i p a f, (number_within-is 0 4294967295 q r g).1))))
+    given_or_is BadName (name n) (λ name. given_or BadAddress (address i p) (λ addr. given_or BadNumber (count q) (λ quorum. line.State (Monitor name addr quorum)))) (λ m e.
+    given_or_is BadAddress (address i p) (λ addr. given_or BadNumber (count q) (λ quorum. line.State (Monitor m addr quorum))) (λ a f.
+    given_or_is BadNumber (count q) (λ quorum. line.State (Monitor m a quorum)) (λ r g. (named n m e, addressed i p a f, (number_within-is 0 4294967295 q r g).1))))
 monitor_is _ = tt
 
 config_is : (ws : List (List ℕ)) → IsLine (config_line ws)
 config_is (n ∷ w ∷ []) =
-    wanted_is BadName (name n) (λ name. wanted BadNumber (epoch w) (λ epoch. line.State (ConfigEpoch name epoch))) (λ m e.
-    wanted_is BadNumber (epoch w) (λ epoch. line.State (ConfigEpoch m epoch)) (λ d f. (named n m e, (number_within-is 0 MAX_EPOCH w d f).1)))
+    given_or_is BadName (name n) (λ name. given_or BadNumber (epoch w) (λ epoch. line.State (ConfigEpoch name epoch))) (λ m e.
+    given_or_is BadNumber (epoch w) (λ epoch. line.State (ConfigEpoch m epoch)) (λ d f. (named n m e, (number_within-is 0 MAX_EPOCH w d f).1)))
 config_is _ = tt
 
 leader_is : (ws : List (List ℕ)) → IsLine (leader_line ws)
 leader_is (n ∷ w ∷ []) =
-    wanted_is BadName (name n) (λ name. wanted BadNumber (epoch w) (λ epoch. line.State (LeaderEpoch name epoch))) (λ m e.
-    wanted_is BadNumber (epoch w) (λ epoch. line.State (LeaderEpoch m epoch)) (λ d f. (named n m e, (number_within-is 0 MAX_EPOCH w d f).1)))
+    given_or_is BadName (name n) (λ name. given_or BadNumber (epoch w) (λ epoch. line.State (LeaderEpoch name epoch))) (λ m e.
+    given_or_is BadNumber (epoch w) (λ epoch. line.State (LeaderEpoch m epoch)) (λ d f. (named n m e, (number_within-is 0 MAX_EPOCH w d f).1)))
 leader_is _ = tt
 
 leader_id_is : (ws : List (List ℕ)) → IsLine (leader_id_line ws)
 leader_id_is (n ∷ r ∷ []) =
-    wanted_is BadName (name n) (λ name. wanted BadRunId (run_id r) (λ id. line.State (LeaderId name id))) (λ m e.
-    wanted_is BadRunId (run_id r) (λ id. line.State (LeaderId m id)) (λ id f. (named n m e, identified r id f)))
+    given_or_is BadName (name n) (λ name. given_or BadRunId (run_id r) (λ id. line.State (LeaderId name id))) (λ m e.
+    given_or_is BadRunId (run_id r) (λ id. line.State (LeaderId m id)) (λ id f. (named n m e, identified r id f)))
 leader_id_is _ = tt
 
 replica_is : (ws : List (List ℕ)) → IsLine (replica_line ws)
 replica_is (n ∷ i ∷ p ∷ []) =
-    wanted_is BadName (name n) (λ name. wanted BadAddress (address i p) (λ addr. line.State (KnownReplica name addr))) (λ m e.
-    wanted_is BadAddress (address i p) (λ addr. line.State (KnownReplica m addr)) (λ a f. (named n m e, addressed i p a f)))
+    given_or_is BadName (name n) (λ name. given_or BadAddress (address i p) (λ addr. line.State (KnownReplica name addr))) (λ m e.
+    given_or_is BadAddress (address i p) (λ addr. line.State (KnownReplica m addr)) (λ a f. (named n m e, addressed i p a f)))
 replica_is _ = tt
 
 sentinel_is : (ws : List (List ℕ)) → IsLine (sentinel_line ws)
 sentinel_is (n ∷ i ∷ p ∷ r ∷ []) =
-    wanted_is BadName (name n) (λ name. wanted BadAddress (address i p) (λ addr. wanted BadRunId (run_id r) (λ id. line.State (KnownSentinel name addr id)))) (λ m e.
-    wanted_is BadAddress (address i p) (λ addr. wanted BadRunId (run_id r) (λ id. line.State (KnownSentinel m addr id))) (λ a f.
-    wanted_is BadRunId (run_id r) (λ id. line.State (KnownSentinel m a id)) (λ id g. (named n m e, addressed i p a f, identified r id g))))
+    given_or_is BadName (name n) (λ name. given_or BadAddress (address i p) (λ addr. given_or BadRunId (run_id r) (λ id. line.State (KnownSentinel name addr id)))) (λ m e.
+    given_or_is BadAddress (address i p) (λ addr. given_or BadRunId (run_id r) (λ id. line.State (KnownSentinel m addr id))) (λ a f.
+    given_or_is BadRunId (run_id r) (λ id. line.State (KnownSentinel m a id)) (λ id g. (named n m e, addressed i p a f, identified r id g))))
 sentinel_is _ = tt
 
 port_is : (ws : List (List ℕ)) → IsLine (port_line ws)
-port_is (p ∷ []) = wanted_is BadNumber (port p) (λ port. line.Setting (Port port)) (λ n e. number_within-is 1 65535 p n e)
+port_is (p ∷ []) = given_or_is BadNumber (port p) (λ port. line.Setting (Port port)) (λ n e. number_within-is 1 65535 p n e)
 port_is _ = tt
 
 announce_ip_is : (ws : List (List ℕ)) → IsLine (announce_ip_line ws)
-announce_ip_is (i ∷ []) = wanted_is BadAddress (ip i) (λ ip. line.Setting (AnnounceIp ip)) (λ n e. ip_within (parts i) n e)
+announce_ip_is (i ∷ []) = given_or_is BadAddress (ip i) (λ ip. line.Setting (AnnounceIp ip)) (λ n e. ip_within (parts i) n e)
 announce_ip_is _ = tt
 
 announce_port_is : (ws : List (List ℕ)) → IsLine (announce_port_line ws)
-announce_port_is (p ∷ []) = wanted_is BadNumber (port p) (λ port. line.Setting (AnnouncePort port)) (λ n e. number_within-is 1 65535 p n e)
+announce_port_is (p ∷ []) = given_or_is BadNumber (port p) (λ port. line.Setting (AnnouncePort port)) (λ n e. number_within-is 1 65535 p n e)
 announce_port_is _ = tt
 
 down_after_is : (ws : List (List ℕ)) → IsLine (down_after_line ws)
 down_after_is (n ∷ m ∷ []) =
-    wanted_is BadName (name n) (λ name. wanted BadNumber (number_within 1 4294967295 m) (λ ms. line.Setting (DownAfter name ms))) (λ k e.
-    wanted_is BadNumber (number_within 1 4294967295 m) (λ ms. line.Setting (DownAfter k ms)) (λ x f. tt))
+    given_or_is BadName (name n) (λ name. given_or BadNumber (number_within 1 4294967295 m) (λ ms. line.Setting (DownAfter name ms))) (λ k e.
+    given_or_is BadNumber (number_within 1 4294967295 m) (λ ms. line.Setting (DownAfter k ms)) (λ x f. tt))
 down_after_is _ = tt
 
 parallel_syncs_is : (ws : List (List ℕ)) → IsLine (parallel_syncs_line ws)
 parallel_syncs_is (n ∷ m ∷ []) =
-    wanted_is BadName (name n) (λ name. wanted BadNumber (count m) (λ c. line.Setting (ParallelSyncs name c))) (λ k e.
-    wanted_is BadNumber (count m) (λ c. line.Setting (ParallelSyncs k c)) (λ x f. tt))
+    given_or_is BadName (name n) (λ name. given_or BadNumber (count m) (λ c. line.Setting (ParallelSyncs name c))) (λ k e.
+    given_or_is BadNumber (count m) (λ c. line.Setting (ParallelSyncs k c)) (λ x f. tt))
 parallel_syncs_is _ = tt
 
 timeout_is : (ws : List (List ℕ)) → IsLine (timeout_line ws)
 timeout_is (n ∷ m ∷ []) =
-    wanted_is BadName (name n) (λ name. wanted BadNumber (number_within 1 4294967295 m) (λ ms. line.Setting (FailoverTimeout name ms))) (λ k e.
-    wanted_is BadNumber (number_within 1 4294967295 m) (λ ms. line.Setting (FailoverTimeout k ms)) (λ x f. tt))
+    given_or_is BadName (name n) (λ name. given_or BadNumber (number_within 1 4294967295 m) (λ ms. line.Setting (FailoverTimeout name ms))) (λ k e.
+    given_or_is BadNumber (number_within 1 4294967295 m) (λ ms. line.Setting (FailoverTimeout k ms)) (λ x f. tt))
 timeout_is _ = tt
 
 chosen_is : (t : Bool) (l m : Line) → IsLine l → IsLine m → IsLine (elim t as (λ _. Line) [ true ↦ l | false ↦ m ])

@@ -15,9 +15,9 @@ use Rattle.conf_lines.specs.Words.{words_of, spaced}
 use Rattle.ballot_law.specs.Words.{number_within, name, ip, ip_text, port, address, run_id, id_text, lower}
 
 -- what the word gives, or the fault
-abbrev pub wanted : {X : Type 0} → ConfKind → Option X → (X → Line) → Line
-wanted kind None f = Faulty kind
-wanted kind (Some x) f = f x
+abbrev pub given_or : {X : Type 0} → ConfKind → Option X → (X → Line) → Line
+given_or kind None f = Faulty kind
+given_or kind (Some x) f = f x
 
 abbrev pub epoch : List ℕ → Option ℕ
 epoch = number_within 0 MAX_EPOCH
@@ -47,46 +47,46 @@ four f _ = Faulty BadDirective
 
 -- the lines of each directive, from the words after it
 abbrev pub my_id_line : List (List ℕ) → Line
-my_id_line = one (λ i. wanted BadRunId (run_id i) (λ id. line.State (MyId id)))
+my_id_line = one (λ i. given_or BadRunId (run_id i) (λ id. line.State (MyId id)))
 
 abbrev pub current_line : List (List ℕ) → Line
-current_line = one (λ e. wanted BadNumber (epoch e) (λ epoch. line.State (CurrentEpoch epoch)))
+current_line = one (λ e. given_or BadNumber (epoch e) (λ epoch. line.State (CurrentEpoch epoch)))
 
 abbrev pub monitor_line : List (List ℕ) → Line
-monitor_line = four (λ n i p q. wanted BadName (name n) (λ name. wanted BadAddress (address i p) (λ addr. wanted BadNumber (count q) (λ quorum. line.State (Monitor name addr quorum)))))
+monitor_line = four (λ n i p q. given_or BadName (name n) (λ name. given_or BadAddress (address i p) (λ addr. given_or BadNumber (count q) (λ quorum. line.State (Monitor name addr quorum)))))
 
 abbrev pub config_line : List (List ℕ) → Line
-config_line = two (λ n e. wanted BadName (name n) (λ name. wanted BadNumber (epoch e) (λ epoch. line.State (ConfigEpoch name epoch))))
+config_line = two (λ n e. given_or BadName (name n) (λ name. given_or BadNumber (epoch e) (λ epoch. line.State (ConfigEpoch name epoch))))
 
 abbrev pub leader_line : List (List ℕ) → Line
-leader_line = two (λ n e. wanted BadName (name n) (λ name. wanted BadNumber (epoch e) (λ epoch. line.State (LeaderEpoch name epoch))))
+leader_line = two (λ n e. given_or BadName (name n) (λ name. given_or BadNumber (epoch e) (λ epoch. line.State (LeaderEpoch name epoch))))
 
 abbrev pub leader_id_line : List (List ℕ) → Line
-leader_id_line = two (λ n r. wanted BadName (name n) (λ name. wanted BadRunId (run_id r) (λ id. line.State (LeaderId name id))))
+leader_id_line = two (λ n r. given_or BadName (name n) (λ name. given_or BadRunId (run_id r) (λ id. line.State (LeaderId name id))))
 
 abbrev pub replica_line : List (List ℕ) → Line
-replica_line = three (λ n i p. wanted BadName (name n) (λ name. wanted BadAddress (address i p) (λ addr. line.State (KnownReplica name addr))))
+replica_line = three (λ n i p. given_or BadName (name n) (λ name. given_or BadAddress (address i p) (λ addr. line.State (KnownReplica name addr))))
 
 abbrev pub sentinel_line : List (List ℕ) → Line
-sentinel_line = four (λ n i p r. wanted BadName (name n) (λ name. wanted BadAddress (address i p) (λ addr. wanted BadRunId (run_id r) (λ id. line.State (KnownSentinel name addr id)))))
+sentinel_line = four (λ n i p r. given_or BadName (name n) (λ name. given_or BadAddress (address i p) (λ addr. given_or BadRunId (run_id r) (λ id. line.State (KnownSentinel name addr id)))))
 
 abbrev pub port_line : List (List ℕ) → Line
-port_line = one (λ p. wanted BadNumber (port p) (λ port. line.Setting (Port port)))
+port_line = one (λ p. given_or BadNumber (port p) (λ port. line.Setting (Port port)))
 
 abbrev pub announce_ip_line : List (List ℕ) → Line
-announce_ip_line = one (λ i. wanted BadAddress (ip i) (λ ip. line.Setting (AnnounceIp ip)))
+announce_ip_line = one (λ i. given_or BadAddress (ip i) (λ ip. line.Setting (AnnounceIp ip)))
 
 abbrev pub announce_port_line : List (List ℕ) → Line
-announce_port_line = one (λ p. wanted BadNumber (port p) (λ port. line.Setting (AnnouncePort port)))
+announce_port_line = one (λ p. given_or BadNumber (port p) (λ port. line.Setting (AnnouncePort port)))
 
 abbrev pub down_after_line : List (List ℕ) → Line
-down_after_line = two (λ n m. wanted BadName (name n) (λ name. wanted BadNumber (milliseconds m) (λ ms. line.Setting (DownAfter name ms))))
+down_after_line = two (λ n m. given_or BadName (name n) (λ name. given_or BadNumber (milliseconds m) (λ ms. line.Setting (DownAfter name ms))))
 
 abbrev pub parallel_syncs_line : List (List ℕ) → Line
-parallel_syncs_line = two (λ n c. wanted BadName (name n) (λ name. wanted BadNumber (count c) (λ count. line.Setting (ParallelSyncs name count))))
+parallel_syncs_line = two (λ n c. given_or BadName (name n) (λ name. given_or BadNumber (count c) (λ count. line.Setting (ParallelSyncs name count))))
 
 abbrev pub timeout_line : List (List ℕ) → Line
-timeout_line = two (λ n m. wanted BadName (name n) (λ name. wanted BadNumber (milliseconds m) (λ ms. line.Setting (FailoverTimeout name ms))))
+timeout_line = two (λ n m. given_or BadName (name n) (λ name. given_or BadNumber (milliseconds m) (λ ms. line.Setting (FailoverTimeout name ms))))
 
 -- the directive of this name, with the words after it, or else what comes next
 abbrev pub first_named : List ℕ → List (List ℕ × (List (List ℕ) → Line)) → List (List ℕ) → Line

@@ -141,7 +141,7 @@ impl MemoryStore {
 
     /// Has `passes` calls of `replace` be served and the next one answer `StoreRefused`; then the new text stands if `new`, and else
     /// the old one. The calls behind it are served again. One refusal is asked for at a time: this takes the place of one that was
-    /// asked for before and hasn't come. A call that want of memory refuses on the way isn't served, and doesn't count.
+    /// asked for before and hasn't come. A call that fails on the way for memory isn't served, and doesn't count.
     pub fn refuse_after(&mut self, passes: u32, new: bool)
         ensures { self.new
             ≡ record self.old { refusal = Some (record { passes = passes; new = new }) } }

@@ -16,7 +16,7 @@ use Rattle.ballot_law.specs.declared.addresses.Addr.{Addr}
 use Rattle.ballot_law.specs.Hellos.{IsRunId}
 use Rattle.node_texts.specs.Infos.{IsInfo}
 use Rattle.node_texts.specs.Roles.{IsRole}
-use Rattle.resp2_frames.specs.Frame.{IsLine}
+use Rattle.resp2_frames.proofs.Lines.{pong_line}
 use Rattle.ballot_law.specs.Messages.{published}
 use Rattle.ballot_law.specs.Worlds.{IsPassable}
 use Rattle.boxed_nodes.specs.Sendable.{IsSendable, IsSendableOutput, IsTakeable}
@@ -133,9 +133,6 @@ all_of_store k count server (Become priority offset link_down) = tt
 
 -- ---- all may be sent
 
-line_of_pong : IsLine (codes "PONG")
-line_of_pong = search rules
-
 readable_info : (server : Server) → IsServer server → IsInfo (info_of server)
 readable_info server s = record {
   id = λ id e. subst IsRunId (cc) s.id;
@@ -155,7 +152,7 @@ sendable k server message s h = record {
       let published_now : IsSendable (record message { body = Publish hello }) = subst (λ body. IsSendable (record message { body = body })) (is_published message.body hello e) h in
       record { within = published_now.within; writable = published_now.writable };
   replied = λ answer e. each_reply (λ body. IsSendableOutput (send (StoreAt k) message.sender body)) server
-      (record { within = tt; writable = line_of_pong })
+      (record { within = tt; writable = pong_line })
       (record { within = tt; writable = readable_info server s })
       (record { within = tt; writable = readable_role server s server.follows refl })
       (record { within = tt; writable = tt })

@@ -16,9 +16,9 @@ pub struct Watch {
 }
 
 impl Model for Watch {
-    ghost use Rattle.ballot_law.specs.Watches.{Watched};
+    ghost use Rattle.ballot_law.specs.Watches.{WatchState};
 
-    ghost Value = { Watched };
+    ghost Value = { WatchState };
 
     ghost view = { λ watch. record {
       silent_from = watch.silent_from;

@@ -28,9 +28,9 @@ pub struct Failover {
 }
 
 impl Model for Failover {
-    ghost use Rattle.failover_states.specs.Failovers.{Failover as Course};
+    ghost use Rattle.failover_states.specs.Failovers.{Failover as FailoverModel};
 
-    ghost Value = { Course };
+    ghost Value = { FailoverModel };
 
     ghost view = { λ f. record {
       state = f.state;

@@ -56,8 +56,7 @@ impl Report {
 
     /// Adds a number.
     fn add_number(&mut self, number: u64) -> Result<(), NoMemory> {
-        add_number(&mut self.text, number)?;
-        Ok(())
+        add_number(&mut self.text, number)
     }
 
     /// Adds a name.

@@ -38,7 +38,7 @@ pub struct Port {
 }
 
 impl Port {
-    /// Listens on 127.0.0.1 at this port. An error is the system's, as where the port is taken; `OutOfMemory` is a want of memory.
+    /// Listens on 127.0.0.1 at this port. An error is the system's, as where the port is taken; `OutOfMemory` is a refused allocation.
     pub fn open<N: Net>(net: &N, alloc: Global, port: u16) -> io::Result<Port> {
         let poll = Poll::new(net)?;
         let address = SocketAddr::from((Ipv4Addr::LOCALHOST, port));
@@ -203,7 +203,7 @@ impl Port {
         }
     }
 
-    /// Serves until `ending` isn't 0. The error is the system's, where it tells of no connection any more, or a want of memory.
+    /// Serves until `ending` isn't 0. The error is the system's, where it tells of no connection any more, or a refused allocation.
     pub fn serve<J: Which, S: ConfStore, R: Wait + Clock>(
         &mut self,
         rt: &R,

@@ -23,7 +23,7 @@ const TICK_MS: u64 = 100;
 /// How long a link waits for a message before it looks whether the group ends, in milliseconds.
 const LINK_MS: u64 = 50;
 
-/// Whether the Sentinel goes on after this. A refused store halts it, and a want of memory loses the input alone.
+/// Whether the Sentinel goes on after this. A refused store halts it, and a refused allocation loses the input alone.
 fn goes_on<R: Log>(rt: &R, group: &GroupState, acted: Result<(), ActFault>) -> bool {
     match acted {
         Ok(()) | Err(ActFault::NoMemory) => true,

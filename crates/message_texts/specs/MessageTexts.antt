@@ -85,10 +85,3 @@ IsWritable _ = Unit {0}
 abbrev pub IsWritableOutput : Output → Type 0
 IsWritableOutput (Send message) = IsWritable message.body
 IsWritableOutput (Tell note) = Unit {0}
-
--- the answers of a port that are written with no value made of them
-abbrev pub IsStraight : Body → Type 0
-IsStraight (Answer master addr down leader epoch) = Unit {0}
-IsStraight (PingText is_error text) = Unit {0}
-IsStraight (AddressAnswer shown) = Unit {0}
-IsStraight _ = ⊥

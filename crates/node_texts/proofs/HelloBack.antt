@@ -3,7 +3,7 @@ use Rattle.std.proofs.Common.{◌≡◌, ℕ, ◌≤◌, Bool, true, false, ◌&
 use Rattle.std.specs.Prelude.{decimal}
 use Rattle.std.specs.Result.{IfOk}
 use Rattle.std.specs.Str.{is_utf8}
-use Rattle.std.proofs.lemmas.Bool.{and_parts}
+use Rattle.std.proofs.lemmas.Bool.{and_parts, not-true}
 use Rattle.std.proofs.lemmas.Bool.Decides.{nat_tests}
 use Rattle.ballot_law.specs.declared.addresses.Addr.{Addr}
 use Rattle.ballot_law.specs.declared.addresses.RunId.{RunId}
@@ -16,13 +16,13 @@ use Rattle.ballot_law.specs.Results.{◌>>=◌, wanted}
 use Rattle.ballot_law.specs.Words.{are_digits, has_leading_zero, is_decimal, number_within, canonical_port, name, with_first, cut_at, ip, ip_text, run_id, id_text}
 use Rattle.ballot_law.proofs.WordLemmas.{some_if-some, some_if-is, number_within-is}
 use Rattle.ballot_law.proofs.CutLemmas.{some_parts}
-use Rattle.words.proofs.NumberLemmas.{canonical_same}
+use Rattle.words.proofs.NumberLemmas.{canonical_by_lead}
 use Rattle.node_texts.specs.declared.faults.TextFault.{TextFault}
-use Rattle.node_texts.specs.declared.faults.TextFault.TheVariants.{BadField}
+use Rattle.node_texts.specs.declared.faults.TextFault.TheVariants.{BadField, EpochTooLarge}
 use Rattle.node_texts.specs.declared.hello_fields.Sender.{Sender}
 use Rattle.node_texts.specs.declared.hello_fields.OfMaster.{OfMaster}
 use Rattle.node_texts.specs.Faults.{unless_not}
-use Rattle.node_texts.specs.Hellos.{epoch, sender_of, master_of, within_epochs, hello_from, hello_of_parts, hello_of}
+use Rattle.node_texts.specs.Hellos.{epoch, sender_of, master_of, hello_from, hello_of_parts, hello_of}
 use Rattle.node_texts.proofs.WordsBack.{IsWithin, canonical_is, ip_is, run_id_is}
 
 -- ---- the commas
@@ -49,16 +49,12 @@ with_commas-parts (b ∷ bs) = commas_by b bs (eqb b 44) refl (with_commas-parts
 
 -- ---- epochs and names
 
-leads : (bytes : List ℕ) (t : Bool) → (ltb 1 (length bytes) && eqb (get_or bytes 0 0) 48) ≡ t → not t ≡ true → get_or bytes 0 0 ≡ 48 → length bytes ≤ 1
-leads bytes true e h z = absurd cc
-leads bytes false e h z = grind (arith, nat_tests, e, z)
-
 epoch_by : (bytes : List ℕ) (n : ℕ) → is_decimal bytes ≡ true → number_within 0 MAX_EPOCH bytes ≡ Some n → IsWithin 0 MAX_EPOCH n bytes
 epoch_by bytes n d h =
     let range = number_within-is 0 MAX_EPOCH bytes n h in
     let both = and_parts (are_digits bytes) (not (has_leading_zero bytes)) d in
     let most : n ≤ 281474976710655 = range.1 in
-    canonical_is 0 MAX_EPOCH n bytes (canonical_same 0 MAX_EPOCH n bytes (omega arith) h (leads bytes (has_leading_zero bytes) refl both.1))
+    canonical_is 0 MAX_EPOCH n bytes (canonical_by_lead 0 MAX_EPOCH n bytes false (omega arith) h (not-true (has_leading_zero bytes) both.1))
 
 pub epoch_is : (bytes : List ℕ) (n : ℕ) → epoch bytes ≡ Some (Some n) → IsWithin 0 MAX_EPOCH n bytes
 epoch_is bytes n h =
@@ -128,7 +124,7 @@ record HelloMade (s : Sender) (m : OfMaster) (hello : Hello) : Type 0 where
   pub epoch : m.epoch ≡ Some hello.card.epoch
 
 made_by : (s : Sender) (m : OfMaster) (hello : Hello) (oc oe : Option ℕ) → s.current ≡ oc → m.epoch ≡ oe
-    → (within_epochs oc >>= λ current. within_epochs oe >>= λ epoch. Ok (record { addr = s.addr; id = s.id; current = current; master = m.name; card = record { epoch = epoch; addr = m.addr } })) ≡ Ok hello
+    → (wanted EpochTooLarge oc >>= λ current. wanted EpochTooLarge oe >>= λ epoch. Ok (record { addr = s.addr; id = s.id; current = current; master = m.name; card = record { epoch = epoch; addr = m.addr } })) ≡ Ok hello
     → HelloMade s m hello
 made_by s m hello None oe ec ee h = absurd cc
 made_by s m hello (Some c) None ec ee h = absurd cc

@@ -18,6 +18,7 @@ use Rattle.ballot_law.specs.Cuts.{lines}
 use Rattle.ballot_law.specs.Words.{then_some, number, with_first, ip_text, id_text}
 use Rattle.ballot_law.proofs.WordLemmas.{ArePlain, IsWord, spells_decimal, number_within-decimal, ip-ip_text, word_ip_text, word_decimal, port-decimal, run_id-id_text, word_id_text}
 use Rattle.ballot_law.proofs.CutLemmas.{line_goes_on}
+use Rattle.ballot_law.proofs.HelloLemmas.{plain_word}
 use Rattle.node_texts.specs.declared.info_fields.TheConstants.{COUNT_MAX}
 use Rattle.node_texts.specs.declared.info_fields.Fields.{Fields}
 use Rattle.node_texts.specs.Faults.{unless_not}
@@ -59,10 +60,6 @@ label_line (b ∷ label) value h p a =
     let range = and_parts (leb 45 b) (ltb b 128) both.0 in
     let rest = label_line label value both.1 p a in
     ((leb-true 45 b range.0, rest.0), IsAscii-cons b (label ++ value) (ltb-true b 128 range.1) rest.1)
-
-plain_word : (w : List ℕ) → IsWord w → ArePlain w
-plain_word [] h = tt
-plain_word (b ∷ bs) h = h
 
 number_line : (label : List ℕ) (n : ℕ) → list_all (λ b. leb 45 b && ltb b 128) label ≡ true → n ≤ COUNT_MAX → ArePlain (label ++ decimal n) × IsAscii (label ++ decimal n)
 number_line label n h le =

@@ -32,14 +32,10 @@ master_of name_word ip_word port_word epoch_word =
     wanted (BadField 8) (epoch epoch_word) >>= λ epoch.
     Ok (record { name = master; addr = record { ip = i; port = p }; epoch = epoch })
 
-abbrev pub within_epochs : Option ℕ → Result ℕ TextFault
-within_epochs None = Err EpochTooLarge
-within_epochs (Some epoch) = Ok epoch
-
 abbrev pub hello_from : Sender → OfMaster → Result Hello TextFault
 hello_from sender of_master =
-    within_epochs sender.current >>= λ current.
-    within_epochs of_master.epoch >>= λ epoch.
+    wanted EpochTooLarge sender.current >>= λ current.
+    wanted EpochTooLarge of_master.epoch >>= λ epoch.
     Ok (record {
       addr = sender.addr;
       id = sender.id;

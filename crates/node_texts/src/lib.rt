@@ -4,7 +4,6 @@
 //! commands of a data node; their answers are read here as far as a Sentinel needs them. Reading takes no memory.
 #![tactic(auto)]
 
-mod digits;
 mod drafts;
 mod encoding;
 mod faults;

@@ -3,6 +3,7 @@ use Rattle.std.proofs.Common.{ℕ, ◌+◌, ◌*◌, ◌≤◌, List, length, ap
 use Rattle.std.specs.Prelude.{codes}
 use Rattle.ballot_law.specs.declared.addresses.RunId.{RunId}
 use Rattle.ballot_law.specs.Words.{id_text}
+use Rattle.ballot_law.proofs.WordLemmas.{length-id_text}
 use Rattle.resp2_frames.specs.Frame.{Frame, spelling}
 use Rattle.resp2.specs.declared.command.CommandFault.{CommandFault}
 use Rattle.resp2.specs.declared.command.CommandFault.TheVariants.{NotACommand, UnknownCommand, WrongArguments, BadAddress, BadEpoch, BadRunId, UnknownChannel}
@@ -12,7 +13,7 @@ use Rattle.port_answers.specs.Answers.{master_frame, replica_frame, sentinel_fra
 use Rattle.port_answers.specs.Limits.{IsPlace, IsMasterRow, IsReplicaRow, Fits, MasterFits, MastersFit, ReplicasFit, SentinelsFit, LinesFit}
 use Rattle.bounded_list.proofs.Bounded.{bounded_all}
 use Rattle.port_answers.proofs.Subscribing.{subscribed_bytes}
-use Rattle.port_answers.proofs.Sizes.{master_size, replica_size, sentinel_size, rows_array, counted_size, bulk_size, id_size}
+use Rattle.port_answers.proofs.Sizes.{master_size, replica_size, sentinel_size, rows_array, counted_size, bulk_size}
 
 fits : (frame : Frame) (most : ℕ) → length (spelling frame) ≤ most → most ≤ ANSWER_MAX → Fits frame
 fits frame most size room =
@@ -46,7 +47,7 @@ fault_fits UnknownChannel = fits (command_fault UnknownChannel) 100 (omega arith
 
 id_fits : (id : RunId) → Fits (id_frame id)
 id_fits id =
-    let size = id_size id in
+    let size = length-id_text id in
     fits (id_frame id) (length (id_text id) + 7) (bulk_size (id_text id) (omega arith)) (omega arith)
 
 pub lines_fit : LinesFit

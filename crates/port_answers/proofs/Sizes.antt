@@ -5,7 +5,8 @@ use Rattle.std.specs.List.{AllByRecursion}
 use Rattle.std.proofs.lemmas.Fmt.{length-decimal-le}
 use Rattle.ballot_law.specs.declared.addresses.Addr.{Addr}
 use Rattle.ballot_law.specs.declared.addresses.RunId.{RunId}
-use Rattle.ballot_law.specs.Words.{ip_text, id_text, hex, hex_digit}
+use Rattle.ballot_law.specs.Words.{ip_text, id_text}
+use Rattle.ballot_law.proofs.WordLemmas.{length-id_text}
 use Rattle.resp2_frames.specs.Frame.{Frame, bulk, items, frames_of, count, spelling, spellings, line_end}
 use Rattle.resp2.proofs.Asks.{ip_size}
 use Rattle.resp2.proofs.AskFrames.{decimal_short}
@@ -23,14 +24,6 @@ port_size n h = length-decimal-le 5 n (omega arith) (omega arith) (omega arith)
 
 addr_size : (addr : Addr) → IsPlace addr → length (addr_text addr) ≤ 21
 addr_size addr h = omega (arith, length-append (ip_text addr.ip) (58 ∷ decimal addr.port), ip_size addr.ip h.ip, port_size addr.port h.port)
-
-hex_size : (k n : ℕ) → length (hex k n) ≡ k
-unfolding hex
-hex_size zero n = refl
-hex_size (suc k) n = omega (arith, length-append (hex k (n / 16)) (hex_digit (n % 16) ∷ []), hex_size k (n / 16))
-
-pub id_size : (id : RunId) → length (id_text id) ≡ 40
-id_size id = omega (arith, length-append (hex 32 id.hi) (hex 8 id.lo), hex_size 32 id.hi, hex_size 8 id.lo)
 
 master_flags_size : (down odown failing_over : Bool) → length (master_flags down odown failing_over) ≤ 41
 master_flags_size true true true = omega arith
@@ -168,7 +161,7 @@ replica_size row h =
 
 pub sentinel_size : (row : SentinelRow) → IsPlace row.addr → length (spelling (sentinel_frame row)) ≤ 210
 sentinel_size row h =
-    let id = id_size row.id in
+    let id = length-id_text row.id in
     let ip = ip_size row.addr.ip h.ip in
     let port = port_size row.addr.port h.port in
     let flags = node_flags_size row.down (codes "sentinel") in

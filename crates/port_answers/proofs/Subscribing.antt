@@ -4,7 +4,7 @@ use Rattle.std.proofs.lemmas.Fmt.{decimal_digit, decimal_step}
 use Rattle.resp2_frames.specs.Frame.{spelling}
 use Rattle.port_answers.specs.Answers.{subscribed}
 
-fourteen : decimal 14 ≡ 49 ∷ 52 ∷ []
+pub fourteen : decimal 14 ≡ 49 ∷ 52 ∷ []
 fourteen = decimal_step 14 (omega arith) (omega arith) ∙ (let one : decimal 1 ≡ 49 ∷ [] = decimal_digit 1 (omega arith) in rw (one) refl)
 
 pub subscribed_bytes : spelling subscribed

@@ -1,6 +1,8 @@
 -- What is short enough to have room.
 use Rattle.std.specs.Prelude.{◌≡◌, ℕ, ◌<◌, ◌≤◌, ◌^◌, List, length}
 use Rattle.std.specs.List.{AllByRecursion}
+use Rattle.ballot_law.specs.declared.names.TheConstants.{NAME_MAX}
+use Rattle.ballot_law.specs.declared.rosters.TheConstants.{MASTERS_MAX, NODES_MAX, SENTINELS_MAX}
 use Rattle.ballot_law.specs.declared.addresses.Addr.{Addr}
 use Rattle.ballot_law.specs.declared.addresses.RunId.{RunId}
 use Rattle.resp2_frames.specs.Frame.{Frame, spelling}
@@ -19,7 +21,7 @@ pub record IsPlace (addr : Addr) : Type 0 where
 
 -- a name of at most 64 bytes, and numbers of 64 bits
 pub record IsMasterRow (row : MasterRow) : Type 0 where
-  pub name : length row.name ≤ 64
+  pub name : length row.name ≤ NAME_MAX
   pub addr : IsPlace row.addr
   pub replicas : row.replicas < 2 ^ 64
   pub others : row.others < 2 ^ 64
@@ -46,15 +48,15 @@ MasterFits = (row : MasterRow) → IsMasterRow row → Fits (master_frame row)
 
 -- up to 16 masters
 abbrev pub MastersFit : Type 0
-MastersFit = (rows : List MasterRow) → length rows ≤ 16 → AllByRecursion IsMasterRow rows → Fits (masters_frame rows)
+MastersFit = (rows : List MasterRow) → length rows ≤ MASTERS_MAX → AllByRecursion IsMasterRow rows → Fits (masters_frame rows)
 
 -- up to 256 replicas
 abbrev pub ReplicasFit : Type 0
-ReplicasFit = (rows : List ReplicaRow) → length rows ≤ 256 → AllByRecursion IsReplicaRow rows → Fits (replicas_frame rows)
+ReplicasFit = (rows : List ReplicaRow) → length rows ≤ NODES_MAX → AllByRecursion IsReplicaRow rows → Fits (replicas_frame rows)
 
 -- up to 64 Sentinels
 abbrev pub SentinelsFit : Type 0
-SentinelsFit = (rows : List SentinelRow) → length rows ≤ 64 → AllByRecursion (λ (row : SentinelRow). IsPlace row.addr) rows → Fits (sentinels_frame rows)
+SentinelsFit = (rows : List SentinelRow) → length rows ≤ SENTINELS_MAX → AllByRecursion (λ (row : SentinelRow). IsPlace row.addr) rows → Fits (sentinels_frame rows)
 
 -- every line, whatever its number of 64 bits, its run id or its fault
 pub record LinesFit : Type 0 where

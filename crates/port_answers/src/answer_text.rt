@@ -9,7 +9,7 @@ ghost use Rattle.port_answers.specs.Room.{bounded};
 use ballot_law::{ANSWER_MAX, NoMemory, Text};
 use bounded_list::BoundedList;
 use resp2_frames::{ByteSink, push_bulk, push_kind, push_line, push_size};
-use std::alloc::{AllocError, Global};
+use std::alloc::Global;
 use std::marker::Model;
 
 /// Answers, one behind the other, in room of `ANSWER_MAX` bytes that was made beforehand, so that writing them takes no
@@ -28,8 +28,8 @@ impl Model for AnswerText {
 }
 
 impl AnswerText {
-    /// An empty text with its room; `AllocError` where there is no memory for it.
-    pub fn with_room(alloc: Global) -> Result<AnswerText, AllocError>
+    /// An empty text with its room; `NoMemory` where there is no memory for it.
+    pub fn with_room(alloc: Global) -> Result<AnswerText, NoMemory>
         ensures { IfOk result (λ answers. answers ≡ []) }
     {
         let bytes = BoundedList::with_room(alloc)?;

@@ -24,8 +24,10 @@ use Rattle.port_answers.specs.Room.{bounded}
 use Rattle.resp2.specs.declared.command.CommandFault.{CommandFault}
 use Rattle.resp2.specs.declared.command.CommandFault.TheVariants.{NotACommand, UnknownCommand, WrongArguments, BadAddress, BadEpoch, BadRunId, UnknownChannel}
 use Rattle.resp2_frames.specs.Frame.{Frame, spelling, IsLine}
+use Rattle.resp2_frames.proofs.Lines.{pong_line}
 use Rattle.sentinel_conf.specs.Meaning.{ConfPlan}
 use Rattle.sentinel_conf.specs.Rewritten.{IsKeptMaster, IsKeptPart}
+use Rattle.sentinel_rules.proofs.ShownEpochs.{voted_within}
 use Rattle.sentinel_rules.specs.Answers.{commanded, asked_of, master_with_card, named, about, reply, master_row, replica_rows, sentinel_rows, quorum_frame}
 use Rattle.sentinel_rules.specs.Plans.{Plan}
 use Rattle.sentinel_rules.specs.States.{Core}
@@ -45,23 +47,6 @@ line_fits BadRunId = refl
 line_fits UnknownChannel = refl
 
 -- ---- answers
-
--- no vote that is kept is of an epoch above the last one
-voted_in : (d : ℕ) (ms : List MasterPlan) (ks : List KeptMaster) (m : ℕ) → AllZip (IsKeptMaster d) ms ks → (slice_index_or ks m no_kept).voted ≤ d
-voted_in d [] [] m h = omega arith
-voted_in d [] (k ∷ ks) m h = absurd h
-voted_in d (one ∷ ms) [] m h = absurd h
-voted_in d (one ∷ ms) (k ∷ ks) zero h = h.0.voted
-voted_in d (one ∷ ms) (k ∷ ks) (suc m) h = voted_in d ms ks m h.1
-
-voted_within : (conf : ConfPlan) (kept : Kept) (m : ℕ) → IsKeptPart conf kept → voted_of kept m ≤ MAX_EPOCH
-voted_within conf kept m h = omega (arith, voted_in kept.current conf.roster.masters kept.masters m h.masters, h.current)
-
-plain : (b : ℕ) → 13 < b → (b ≢ 13) × (b ≢ 10)
-plain b h = (λ e. absurd (omega (arith, h, e)), λ e. absurd (omega (arith, h, e)))
-
-pong_line : IsLine (codes "PONG")
-pong_line = (plain 80 (omega arith), (plain 79 (omega arith), (plain 78 (omega arith), (plain 71 (omega arith), tt))))
 
 asked_writable : (plan : Plan) (now : ℕ) (addr : Addr) (epoch : ℕ) (candidate : Option RunId) (m : Option ℕ) (core : Core)
     → IsKeptPart plan.conf (asked_of plan now addr epoch candidate m core).core.kept → IsWritable (asked_of plan now addr epoch candidate m core).body

@@ -23,7 +23,7 @@ use Rattle.sentinel_rules.specs.Plans.{Plan}
 use Rattle.sentinel_rules.specs.States.{Core}
 use Rattle.sentinel_rules.specs.Takes.{Next, next}
 use Rattle.port_serving.specs.declared.fault.ServeFault.{ServeFault}
-use Rattle.port_serving.specs.declared.fault.ServeFault.TheVariants.{Frame as FaultyFrame, Read, Write, Halted as Refused, NoMemory as OutOfMemory}
+use Rattle.port_serving.specs.declared.fault.ServeFault.TheVariants.{Frame as FaultyFrame, Read, Write, Halted as ServeHalted, NoMemory as OutOfMemory}
 use Rattle.sentinel_outbox.specs.declared.phase.Phase.{Phase}
 use Rattle.sentinel_outbox.specs.declared.phase.Phase.TheVariants.{Ready, Halted}
 use Rattle.port_serving.specs.declared.serving.Served.{Served}
@@ -77,7 +77,7 @@ Holds conf first before kept (Some text) = ((kept ≡ first) × (before ≡ Some
 
 -- the Sentinel is ready but where a store was refused
 abbrev pub phase_of : ServeFault → Phase
-phase_of Refused = Halted
+phase_of ServeHalted = Halted
 phase_of (FaultyFrame fault) = Ready
 phase_of Read = Ready
 phase_of Write = Ready
@@ -141,7 +141,7 @@ module _ (plan : Plan) (now : ℕ) (first : Core) (before : Option (List ℕ)) w
   EndsWith input written (Err (FaultyFrame fault)) core stored = IsRefused input written fault core stored
   EndsWith input written (Err Write) core stored = IsCut input written core stored ⊎ IsCutAtRefusal input written core stored
   EndsWith input written (Err Read) core stored = IsCut input written core stored
-  EndsWith input written (Err Refused) core stored = IsCut input written core stored
+  EndsWith input written (Err ServeHalted) core stored = IsCut input written core stored
   EndsWith input written (Err OutOfMemory) core stored = IsCut input written core stored
 
   -- ---- on the way
@@ -178,7 +178,7 @@ module _ (plan : Plan) (now : ℕ) (first : Core) (before : Option (List ℕ)) w
   Breaks input written (FaultyFrame fault) text core stored = IsFaulted input written fault text core stored
   Breaks input written Read text core stored = IsStuck input written text core stored
   Breaks input written Write text core stored = IsStuck input written text core stored
-  Breaks input written Refused text core stored = IsStuck input written text core stored
+  Breaks input written ServeHalted text core stored = IsStuck input written text core stored
   Breaks input written OutOfMemory text core stored = IsStuck input written text core stored
 
 -- the bytes held begin with no whole value, and no fault shows

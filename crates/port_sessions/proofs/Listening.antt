@@ -4,6 +4,7 @@ use Rattle.std.proofs.lemmas.Fmt.{decimal_digit, decimal_step}
 use Rattle.std.specs.Prelude.{OnOk}
 use Rattle.resp2_frames.specs.Frame.{bulk, spelling}
 use Rattle.resp2_frames.specs.Writing.{Adds}
+use Rattle.port_answers.proofs.Subscribing.{fourteen}
 use Rattle.port_sessions.specs.Listening.{pong_message, message_frame}
 
 pub pong_bytes : spelling pong_message ≡ 42 ∷ 50 ∷ 13 ∷ 10 ∷ 36 ∷ 52 ∷ 13 ∷ 10 ∷ 112 ∷ 111 ∷ 110 ∷ 103 ∷ 13 ∷ 10 ∷ 36 ∷ 48 ∷ 13 ∷ 10 ∷ 13 ∷ 10 ∷ []
@@ -17,9 +18,6 @@ pong_bytes =
 abbrev pub note_front : List ℕ
 note_front =
     42 ∷ 51 ∷ 13 ∷ 10 ∷ 36 ∷ 55 ∷ 13 ∷ 10 ∷ 109 ∷ 101 ∷ 115 ∷ 115 ∷ 97 ∷ 103 ∷ 101 ∷ 13 ∷ 10 ∷ 36 ∷ 49 ∷ 52 ∷ 13 ∷ 10 ∷ 43 ∷ 115 ∷ 119 ∷ 105 ∷ 116 ∷ 99 ∷ 104 ∷ 45 ∷ 109 ∷ 97 ∷ 115 ∷ 116 ∷ 101 ∷ 114 ∷ 13 ∷ 10 ∷ []
-
-fourteen : decimal 14 ≡ 49 ∷ 52 ∷ []
-fourteen = decimal_step 14 (omega arith) (omega arith) ∙ (let one : decimal 1 ≡ 49 ∷ [] = decimal_digit 1 (omega arith) in rw (one) refl)
 
 pub note_bytes : (text : List ℕ) → note_front ++ spelling (bulk text) ≡ spelling (message_frame text)
 note_bytes text =

@@ -14,7 +14,7 @@ use Rattle.port_serving.specs.Serving.{output_bytes}
 use Rattle.std.specs.List.{flat_map}
 use Rattle.port_answers.specs.Answers.{command_fault}
 use Rattle.port_serving.specs.declared.fault.ServeFault.{ServeFault}
-use Rattle.port_serving.specs.declared.fault.ServeFault.TheVariants.{Frame as FaultyFrame, Read, Write, Halted as Refused, NoMemory as OutOfMemory}
+use Rattle.port_serving.specs.declared.fault.ServeFault.TheVariants.{Frame as FaultyFrame, Read, Write, Halted as ServeHalted, NoMemory as OutOfMemory}
 use Rattle.resp2.specs.declared.command.CommandFault.{CommandFault}
 use Rattle.resp2_frames.specs.Frame.{spelling}
 use Rattle.sentinel_cell.specs.declared.view.View.{View}
@@ -30,7 +30,7 @@ module _ (start : World) (now : ℕ) where
       → OnOk answer (text ≡ bytes) → IfErr answer (λ fault. fault ≡ OutOfMemory) → Responds start now p command bytes q → Ends start now p command answer text q
   wrote p command (Ok x) text bytes q ok err r = subst (λ (t : List ℕ). Responds start now p command t q) (sym ok) r
   wrote p command (Err OutOfMemory) text bytes q ok err r = inr (bytes, r)
-  wrote p command (Err Refused) text bytes q ok err r = absurd (let no : ⊥ = cc in no)
+  wrote p command (Err ServeHalted) text bytes q ok err r = absurd (let no : ⊥ = cc in no)
   wrote p command (Err Read) text bytes q ok err r = absurd (let no : ⊥ = cc in no)
   wrote p command (Err Write) text bytes q ok err r = absurd (let no : ⊥ = cc in no)
   wrote p command (Err (FaultyFrame f)) text bytes q ok err r = absurd (let no : ⊥ = cc in no)
@@ -75,7 +75,7 @@ module _ (start : World) (now : ℕ) where
   -- a turn that showed nothing
   pub turn_failed : (v : View) (listens after : Option ℕ) (command : Command) (fault : ServeFault) (w : View) → listens ≡ None → after ≡ None → takes_turn command ≡ true
       → ShowsNothing start now v command fault w → Fails start now (party v listens) (Ok command) fault (party w after)
-  turn_failed v listens after command Refused w silent still t h =
+  turn_failed v listens after command ServeHalted w silent still t h =
       record { what = command; is_it = refl; turn = t; silent = silent; why = h.0; not_memory = h.1; turned = h.2 }
   turn_failed v listens after command OutOfMemory w silent still t h = inl (λ i. party (h i) ((still ∙ sym silent) i))
   turn_failed v listens after command Read w silent still t h = h

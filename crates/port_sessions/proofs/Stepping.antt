@@ -3,7 +3,7 @@ use Rattle.std.proofs.Common.{◌≡◌, ◌≢◌, ◌⊎◌, ℕ, Bool, true, 
 use Rattle.std.proofs.lemmas.List.{append-nil}
 use Rattle.std.specs.Prelude.{OnOk, is_err}
 use Rattle.port_serving.specs.declared.fault.ServeFault.{ServeFault}
-use Rattle.port_serving.specs.declared.fault.ServeFault.TheVariants.{Frame as FaultyFrame, Read, Write, Halted as Refused, NoMemory as OutOfMemory}
+use Rattle.port_serving.specs.declared.fault.ServeFault.TheVariants.{Frame as FaultyFrame, Read, Write, Halted as ServeHalted, NoMemory as OutOfMemory}
 use Rattle.port_serving.specs.Serving.{last_line}
 use Rattle.resp2.specs.Commands.{command_of}
 use Rattle.resp2_frames.specs.declared.fault.FrameFault.{FrameFault}
@@ -72,7 +72,7 @@ module _ (start : World) (now : ℕ) where
   pub unanswered : (stream : List ℕ) (p : Party) (held : Held) (bytes : List ℕ) (m : Party) (asked : Result Command CommandFault) (after : Held) (q : Party) (why : ServeFault)
       → IsOnTheWay start now stream p held bytes m → Asks held (Ok (Some asked)) after → Fails start now m asked why q
       → Breaks start now stream p why bytes q
-  unanswered stream p held bytes m asked after q Refused a given ends =
+  unanswered stream p held bytes m asked after q ServeHalted a given ends =
       let next = value_asked stream a.values held asked after (a.rest, a.held_is, a.parts) given in
       record {
         values = a.values;

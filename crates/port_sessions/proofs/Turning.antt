@@ -14,7 +14,7 @@ use Rattle.sentinel_cell.specs.declared.entry.Entry.{Entry}
 use Rattle.sentinel_cell.specs.declared.entry.Outcome.{Outcome}
 use Rattle.sentinel_cell.specs.declared.entry.Outcome.TheVariants.{Stored}
 use Rattle.sentinel_cell.specs.declared.fault.ActFault.{ActFault}
-use Rattle.sentinel_cell.specs.declared.fault.ActFault.TheVariants.{NoMemory, Spent, Halted as Stopped, StoreRefused}
+use Rattle.sentinel_cell.specs.declared.fault.ActFault.TheVariants.{NoMemory, Spent, Halted, StoreRefused}
 use Rattle.sentinel_cell.specs.declared.view.View.{View}
 use Rattle.sentinel_cell.specs.Histories.{World, IsGood, IsLegal, IsStep, IsOutcome, after, after_outcome, replay}
 use Rattle.sentinel_cell.specs.Standing.{Adds, Faulted}
@@ -67,8 +67,8 @@ pub turned_err : (start : World) (now : ℕ) (v w : View) (command : Command) (o
     → Faulted start v (asked now command) outputs w fault → ShowsNothing start now v command (ended_by fault) w
 turned_err start now v w command outputs NoMemory h = h.1
 turned_err start now v w command outputs Spent h = (Spent, (λ e. let no : ⊥ = cc in no), (refl, h.1, h.2))
-turned_err start now v w command outputs Stopped h =
-    (Stopped, (λ e. let no : ⊥ = cc in no), subst (λ (l : List Output). Faulted start v (asked now command) l w Stopped) h.0 h)
+turned_err start now v w command outputs Halted h =
+    (Halted, (λ e. let no : ⊥ = cc in no), subst (λ (l : List Output). Faulted start v (asked now command) l w Halted) h.0 h)
 turned_err start now v w command outputs StoreRefused h =
     (StoreRefused, (λ e. let no : ⊥ = cc in no), subst (λ (l : List Output). Faulted start v (asked now command) l w StoreRefused) h.0 h)
 

@@ -1,14 +1,15 @@
 -- Which notes a session is told, and what it has then.
 use Rattle.std.specs.Prelude.{◌≡◌, ℕ, Bool, true, false, ◌&&◌, nat_lt, List, ◌++◌, Option, Some, None, Result, Ok, Err, replicate, slice_index_or, slice_set}
 use Rattle.ballot_law.specs.declared.messages.Note.{Note}
+use Rattle.ballot_law.specs.declared.rosters.TheConstants.{MASTERS_MAX}
 use Rattle.ballot_law.specs.Rosters.{Roster}
 use Rattle.resp2_frames.specs.Frame.{spelling}
 use Rattle.port_sessions.specs.Listening.{note_frame}
 use Rattle.port_sessions.specs.Talks.{Talk}
 
--- no master's configuration was told; a roster has at most 16 masters
+-- no master's configuration was told, of all that a roster has room for
 abbrev pub none_told : List (Option ℕ)
-none_told = replicate 16 None
+none_told = replicate MASTERS_MAX None
 
 -- the session listens since an entry before this one
 abbrev pub listened_before : Option ℕ → (entry : ℕ) → Bool

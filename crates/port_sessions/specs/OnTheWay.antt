@@ -6,7 +6,7 @@ use Rattle.ballot_law.specs.declared.messages.Output.{Output}
 use Rattle.ballot_law.specs.declared.messages.Output.TheVariants.{Send}
 use Rattle.message_texts.specs.MessageTexts.{IsWritable}
 use Rattle.port_serving.specs.declared.fault.ServeFault.{ServeFault}
-use Rattle.port_serving.specs.declared.fault.ServeFault.TheVariants.{Frame as FaultyFrame, Read, Write, Halted as Refused, NoMemory as OutOfMemory}
+use Rattle.port_serving.specs.declared.fault.ServeFault.TheVariants.{Frame as FaultyFrame, Read, Write, Halted as ServeHalted, NoMemory as OutOfMemory}
 use Rattle.port_serving.specs.Serving.{last_line}
 use Rattle.resp2.specs.declared.command.CommandFault.{CommandFault}
 use Rattle.resp2_frames.specs.declared.fault.FrameFault.{FrameFault}
@@ -15,7 +15,7 @@ use Rattle.resp2_frames.specs.Frame.{Frame}
 use Rattle.resp2_frames.specs.Stream.{Held, reading, Parts}
 use Rattle.sentinel_cell.specs.declared.entry.Outcome.TheVariants.{Stored}
 use Rattle.sentinel_cell.specs.declared.fault.ActFault.{ActFault}
-use Rattle.sentinel_cell.specs.declared.fault.ActFault.TheVariants.{NoMemory, Spent, Halted as Stopped, StoreRefused}
+use Rattle.sentinel_cell.specs.declared.fault.ActFault.TheVariants.{NoMemory, Spent, Halted as ActHalted, StoreRefused}
 use Rattle.sentinel_cell.specs.declared.view.View.{View}
 use Rattle.sentinel_cell.specs.Histories.{World}
 use Rattle.sentinel_cell.specs.Standing.{Adds, Faulted}
@@ -29,7 +29,7 @@ module _ (start : World) (now : ℕ) where
 
   -- it showed nothing
   abbrev pub ShowsNothing : View → Command → ServeFault → View → Type 0
-  ShowsNothing v command Refused w = (why : ActFault) × (why ≢ NoMemory) × Faulted start v (asked now command) [] w why
+  ShowsNothing v command ServeHalted w = (why : ActFault) × (why ≢ NoMemory) × Faulted start v (asked now command) [] w why
   ShowsNothing v command OutOfMemory w = w ≡ v
   ShowsNothing v command (FaultyFrame fault) w = ⊥
   ShowsNothing v command Read w = ⊥
@@ -42,7 +42,7 @@ module _ (start : World) (now : ℕ) where
 
   -- a value has no answer
   abbrev pub Fails : Party → Result Command CommandFault → ServeFault → Party → Type 0
-  Fails p command Refused q = IsHaltedAt start now p command q
+  Fails p command ServeHalted q = IsHaltedAt start now p command q
   Fails p command OutOfMemory q = (q ≡ p) ⊎ ((bytes : List ℕ) × Responds start now p command bytes q)
   Fails p command (FaultyFrame fault) q = ⊥
   Fails p command Read q = ⊥
@@ -84,9 +84,9 @@ module _ (start : World) (now : ℕ) where
 -- the fault that ends a session at a turn that shows nothing
 abbrev pub ended_by : ActFault → ServeFault
 ended_by NoMemory = OutOfMemory
-ended_by Spent = Refused
-ended_by Stopped = Refused
-ended_by StoreRefused = Refused
+ended_by Spent = ServeHalted
+ended_by ActHalted = ServeHalted
+ended_by StoreRefused = ServeHalted
 
 -- the fault that ends a session at a frame's fault, and what is put out for it
 abbrev pub Refuses : FrameFault → (line : List ℕ) → ServeFault → Type 0

@@ -13,7 +13,7 @@ use Rattle.ballot_law.specs.declared.messages.Output.{Output}
 use Rattle.message_texts.specs.MessageTexts.{message_bytes}
 use Rattle.port_answers.specs.Answers.{command_fault}
 use Rattle.port_serving.specs.declared.fault.ServeFault.{ServeFault}
-use Rattle.port_serving.specs.declared.fault.ServeFault.TheVariants.{Frame as FaultyFrame, Read, Write, Halted as Refused, NoMemory as OutOfMemory}
+use Rattle.port_serving.specs.declared.fault.ServeFault.TheVariants.{Frame as FaultyFrame, Read, Write, Halted as ServeHalted, NoMemory as OutOfMemory}
 use Rattle.port_serving.specs.Serving.{output_bytes, last_line}
 use Rattle.resp2.specs.declared.command.CommandFault.{CommandFault}
 use Rattle.resp2.specs.Commands.{command_of}
@@ -160,7 +160,7 @@ module _ (start : World) (now : ℕ) where
 
   abbrev pub Breaks : (stream : List ℕ) → Party → ServeFault → (bytes : List ℕ) → Party → Type 0
   Breaks stream p (FaultyFrame fault) bytes q = IsRefused stream fault p bytes q
-  Breaks stream p Refused bytes q = IsHalted stream p bytes q
+  Breaks stream p ServeHalted bytes q = IsHalted stream p bytes q
   Breaks stream p OutOfMemory bytes q = IsCut stream p bytes q
   Breaks stream p Read bytes q = ⊥
   Breaks stream p Write bytes q = ⊥

@@ -1,20 +1,18 @@
 //! A session as its callers see it.
 
 ghost use Rattle.std.specs.Prelude.{◌≡◌, ◌≤◌, ◌<◌, ◌++◌, ℕ, List, [], None, Some, OnOk, IfErr, IfSome, length, drop};
+ghost use Rattle.ballot_law.specs.declared.rosters.TheConstants.{MASTERS_MAX};
 ghost use Rattle.port_sessions.specs.Notes.{none_told, is_due, Notifies};
 ghost use Rattle.port_sessions.specs.Talks.{Receives, party};
 
 use crate::exchange::Exchange;
-use ballot_law::{NoMemory, Note, Roster};
+use ballot_law::{MASTERS_MAX, NoMemory, Note, Roster};
 use port_serving::ServeFault;
 use sentinel_cell::{Seat, SharedSentinel};
 use sentinel_conf::ConfStore;
 use std::alloc::Global;
 use std::marker::Model;
 use std::sync::Wait;
-
-/// The greatest number of masters that a roster has.
-const MASTERS_MAX: usize = 16;
 
 /// The conversation with one client of a port. Contracts see the bytes held, which came and are no whole value yet, the answers and notes
 /// that aren't sent yet, and the fault that ended it; whether it listens to notes, with the entry of its SUBSCRIBE; and of each master the epoch of
@@ -123,7 +121,7 @@ impl Session {
 
     /// Whether a note of this entry is news to the client.
     fn is_due(&self, note: &Note, entry: u64) -> bool
-        requires { note.now.master < 16 }
+        requires { note.now.master < MASTERS_MAX }
         ensures { result ≡ is_due self.now note.now entry }
     {
         let Some(since) = self.exchange.responder.listens else {

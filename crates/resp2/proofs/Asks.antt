@@ -10,7 +10,7 @@ use Rattle.ballot_law.specs.declared.commands.Command.TheVariants.{IsMasterDownB
 use Rattle.ballot_law.specs.Hellos.{IsAddr, IsRunId}
 use Rattle.ballot_law.specs.Results.{◌>>=◌, wanted}
 use Rattle.ballot_law.specs.Words.{then_some, canonical_within, canonical_address, ip_text, id_text, run_id, hex}
-use Rattle.ballot_law.proofs.WordLemmas.{ip-ip_text, run_id-id_text, spells_hex}
+use Rattle.ballot_law.proofs.WordLemmas.{ip-ip_text, run_id-id_text, length-id_text}
 use Rattle.resp2.specs.declared.command.CommandFault.TheVariants.{BadAddress, BadEpoch, BadRunId}
 use Rattle.resp2.specs.Commands.{candidate, candidate_text, ask_frame, command_of, IsCandidate}
 use Rattle.resp2_frames.specs.Frame.{spelling, IsFrame}
@@ -32,13 +32,10 @@ no_star word len = at (bytes_eq word (codes "*")) refl
     at true e = let same : word ≡ codes "*" = (bytes_eq-Decides word (codes "*")).0 e in let one : length word ≡ 1 = ap length same in absurd (omega arith)
     at false e = refl
 
-id_length : (id : RunId) → IsRunId id → length (id_text id) ≡ 40
-id_length id is = omega (arith, length-append (hex 32 id.hi) (hex 8 id.lo), (spells_hex 32 id.hi is.hi).len, (spells_hex 8 id.lo is.lo).len)
-
 candidate_again : (c : Option RunId) → IsCandidate c → candidate (candidate_text c) ≡ Some c
 candidate_again None is = refl
 candidate_again (Some id) is =
-    ap (λ (b : Bool). cond b (Some None) (then_some (run_id (id_text id)) (λ i. Some (Some i)))) (no_star (id_text id) (id_length id is))
+    ap (λ (b : Bool). cond b (Some None) (then_some (run_id (id_text id)) (λ i. Some (Some i)))) (no_star (id_text id) (length-id_text id))
     ∙ ap (λ (o : Option RunId). then_some o (λ i. Some (Some i))) (run_id-id_text id is.hi is.lo)
 
 pub ask_again : (addr : Addr) (epoch : ℕ) (c : Option RunId) → IsAddr addr → epoch ≤ MAX_EPOCH → IsCandidate c → command_of (ask_frame addr epoch c) ≡ Ok (IsMasterDownByAddr addr epoch c)
@@ -77,7 +74,7 @@ decimal_word n small = let le = decimal_short n small in omega arith
 
 candidate_short : (c : Option RunId) → IsCandidate c → length (candidate_text c) ≤ 100
 candidate_short None is = omega arith
-candidate_short (Some id) is = let len = id_length id is in omega arith
+candidate_short (Some id) is = let len = length-id_text id in omega arith
 
 pub ask_is_frame : (addr : Addr) (epoch : ℕ) (c : Option RunId) → IsAddr addr → epoch ≤ MAX_EPOCH → IsCandidate c → IsFrame (ask_frame addr epoch c)
 ask_is_frame addr epoch c is_addr most is_candidate =

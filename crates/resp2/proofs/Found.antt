@@ -17,6 +17,7 @@ use Rattle.resp2_frames.specs.Frame.{Frame, view, simple, fault, int, bulk, null
 use Rattle.resp2_frames.specs.Reading.{frame_at}
 use Rattle.resp2_frames.specs.Stream.{Held, reading, ended, bytes_in, held_size, Answers}
 use Rattle.resp2_frames.proofs.Streams.{read_is_spelled}
+use Rattle.resp2_frames.proofs.Passing.{spelled_some}
 use Rattle.resp2_frames.proofs.Window.{frame_again}
 use Rattle.resp2.proofs.AskFrames.{AreShort, short_array}
 
@@ -195,20 +196,10 @@ pub asks_found : (before after : Held) (asked : Result Command CommandFault) (co
 asks_found (reading bytes) after asked count open_is h e = (h.0, (drop count bytes, h.1, e), h.2)
 asks_found (ended k) after asked count open_is h e = absurd (let d = open_is in cc)
 
--- a spelling has a byte at least
-spelling_some : (f : Frame) → 0 < length (spelling f)
-spelling_some (simple text) = omega arith
-spelling_some (fault text) = omega arith
-spelling_some (int n) = omega arith
-spelling_some (bulk bytes) = omega arith
-spelling_some null_bulk = omega arith
-spelling_some (items fs) = omega arith
-spelling_some null_items = omega arith
-
 -- where a command stands at the front, no fault was answered
 pub found_open : (held : Held) (asked : Result Command CommandFault) (rest : List ℕ) → Found (bytes_in held) asked rest → held ≡ reading (bytes_in held)
 found_open (reading bytes) asked rest h = refl
-found_open (ended k) asked rest h = absurd (let some = spelling_some h.0 in let text : [] ≡ spelling h.0 ++ rest = (read_is_spelled [] h.0 rest h.1).0 in omega (arith, some, ap length text, length-append (spelling h.0) rest))
+found_open (ended k) asked rest h = absurd (let some = spelled_some h.0 in let text : [] ≡ spelling h.0 ++ rest = (read_is_spelled [] h.0 rest h.1).0 in omega (arith, some, ap length text, length-append (spelling h.0) rest))
 
 -- ---- how much is held
 
@@ -217,7 +208,7 @@ pub asks_fewer : (before after : Held) (answer : Result (Option (Result Command 
 asks_fewer (reading bytes) after (Ok (Some asked)) h =
     let text : bytes ≡ spelling h.0 ++ h.1.0 = (read_is_spelled bytes h.0 h.1.0 h.1.1).0 in
     let now : held_size after ≡ length h.1.0 = ap held_size h.1.2 in
-    omega (arith, now, ap length text, length-append (spelling h.0) h.1.0, spelling_some h.0)
+    omega (arith, now, ap length text, length-append (spelling h.0) h.1.0, spelled_some h.0)
 asks_fewer (reading bytes) after (Ok None) h = tt
 asks_fewer (reading bytes) after (Err f) h = tt
 asks_fewer (ended f) after (Ok given) h = absurd (let d = h.1.0 in cc)

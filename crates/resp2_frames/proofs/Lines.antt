@@ -1,5 +1,6 @@
 -- Lines: what is read as a line is one, and a line is read whatever follows.
-use Rattle.std.proofs.Common.{◌≡◌, ℕ, zero, suc, ◌+◌, ◌<◌, ◌≤◌, Bool, true, false, cond, eqb, ◌||◌, List, [], ◌∷◌, ◌++◌, length, take, drop, Ok, Err, refl, sym, ap, subst, ◌∙◌, arith, inl, inr}
+use Rattle.std.proofs.Common.{◌≡◌, ℕ, zero, suc, ◌+◌, ◌<◌, ◌≤◌, Bool, true, false, cond, eqb, ◌||◌, List, [], ◌∷◌, ◌++◌, length, take, drop, Ok, Err, refl, sym, ap, subst, ◌∙◌, arith, inl, inr, rules}
+use Rattle.std.specs.Prelude.{codes}
 use Rattle.std.proofs.lemmas.Bool.{eqb-true, eqb-false, ne_eqb, cases_lt}
 use Rattle.std.proofs.lemmas.List.{take_at, take_all, drop_at, take-append-drop, drop_all, take-append-le, drop-append-le}
 use Rattle.resp2_frames.specs.declared.fault.FrameFault.TheVariants.{MissingEnd}
@@ -40,6 +41,10 @@ end_stays p x (b ∷ bs) = elim (eqb b 13) as (λ v. Stays p ((cond v (Ok bs) (E
     second : (cs : List ℕ) → Stays p (expect 10 cs >>= λ rest. Ok (x, rest)) (expect 10 (cs ++ p) >>= λ rest. Ok (x, rest))
     second [] = tt
     second (c ∷ cs) = elim (eqb c 10) as (λ v. Stays p (cond v (Ok cs) (Err (Faulty MissingEnd)) >>= λ rest. Ok (x, rest)) (cond v (Ok (cs ++ p)) (Err (Faulty MissingEnd)) >>= λ rest. Ok (x, rest))) [ true ↦ refl | false ↦ refl ]
+
+-- what answers PING is a line
+pub pong_line : IsLine (codes "PONG")
+pong_line = search rules
 
 -- ---- the length of a line
 

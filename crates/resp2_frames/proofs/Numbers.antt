@@ -4,6 +4,7 @@ use Rattle.std.specs.Prelude.{ℤ, pos, negsuc, bytes_eq}
 use Rattle.std.specs.Fmt.{signed_decimal}
 use Rattle.std.specs.Str.{all_ascii_digits}
 use Rattle.std.specs.Char.{is_ascii_digit}
+use Rattle.std.proofs.lemmas.Option.{same_Some}
 use Rattle.std.proofs.lemmas.Bool.{eqb-true, and_parts, and_from, ltb-true, lt-ltb, leb-true, le-leb}
 use Rattle.std.proofs.lemmas.Bool.Decides.{nat_tests}
 use Rattle.std.proofs.lemmas.List.{take_more, at_drop_more}
@@ -21,9 +22,6 @@ use Rattle.resp2_frames.proofs.Steps.{chosen}
 pub own : IsNumeralModel (λ ds. all_ascii_digits ds ≡ true) (number_on 0)
 own = numerals_by_fold _ tells_all_ascii_digits number_on (record { empty = λ n. refl; more = λ n c cs h. refl })
 
-pub some_is : {A : Type 0} (x y : A) → (Some x ≡ Some y) → x ≡ y
-some_is x y e = cc
-
 -- the first byte of a decimal is 0 only where it is the only one
 leads : (b : ℕ) (bs : List ℕ) → not (has_leading_zero (b ∷ bs)) ≡ true → b ≡ 48 → length (b ∷ bs) ≡ 1
 leads b bs e zero_first = grind (arith, nat_tests, e, zero_first)
@@ -34,7 +32,7 @@ number_takes [] n lt e = absurd cc
 number_takes (b ∷ bs) n lt e =
     elim (chosen (is_decimal (b ∷ bs)) (Some (min (number_on 0 (b ∷ bs)) (2 ^ 64 - 1))) None (Some n) e) [
       | inl w ↦
-          let least : min (number_on 0 (b ∷ bs)) (2 ^ 64 - 1) ≡ n = some_is (min (number_on 0 (b ∷ bs)) (2 ^ 64 - 1)) n w.1 in
+          let least : min (number_on 0 (b ∷ bs)) (2 ^ 64 - 1) ≡ n = same_Some (min (number_on 0 (b ∷ bs)) (2 ^ 64 - 1)) n w.1 in
           let n_is : number_on 0 (b ∷ bs) ≡ n = omega arith in
           let parts = and_parts (are_digits (b ∷ bs)) (not (has_leading_zero (b ∷ bs))) w.0 in
           let digits = and_parts (ltb 0 (length (b ∷ bs))) (all_ascii_digits (b ∷ bs)) parts.0 in
@@ -118,7 +116,7 @@ negative_takes (b ∷ bs) n e = elim (chosen (eqb b 45) (if_some (number_of bs) 
               let le = leb-true k (2 ^ 63) parts.1 in
               let text : bs ≡ decimal k = number_takes bs k (omega arith) d in
               let back : suc (k - 1) ≡ k = omega arith in
-              let n_is : negsuc (k - 1) ≡ n = some_is (negsuc (k - 1)) n w.1 in
+              let n_is : negsuc (k - 1) ≡ n = same_Some (negsuc (k - 1)) n w.1 in
               let made : (b ∷ bs ≡ 45 ∷ decimal (suc (k - 1))) × (k - 1 < 2 ^ 63) = (rw (sign, text, back) refl, omega arith) in
               subst (λ (z : ℤ). (b ∷ bs ≡ signed_decimal z) × IsLong z) n_is made
           | inr w ↦ absurd cc
@@ -130,7 +128,7 @@ integer_cases (Some k) line n d h =
     elim (chosen (ltb k (2 ^ 63)) (Some (pos k)) None (Some n) h) [
       | inl w ↦
           let lt = ltb-true k (2 ^ 63) w.0 in
-          let n_is : pos k ≡ n = some_is (pos k) n w.1 in
+          let n_is : pos k ≡ n = same_Some (pos k) n w.1 in
           let made : (line ≡ decimal k) × (k < 2 ^ 63) = (number_takes line k (omega arith) d, lt) in
           subst (λ (z : ℤ). (line ≡ signed_decimal z) × IsLong z) n_is made
       | inr w ↦ absurd cc

@@ -110,7 +110,8 @@ passed_waits front outer n more rest u passed stops =
 
 -- ---- what an item and a header are made of
 
-spelled_some : (f : Frame) → 0 < length (spelling f)
+-- a spelling has a byte at least
+pub spelled_some : (f : Frame) → 0 < length (spelling f)
 spelled_some (simple text) = omega arith
 spelled_some (fault text) = omega arith
 spelled_some (int n) = omega arith

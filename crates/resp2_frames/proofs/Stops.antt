@@ -2,6 +2,7 @@
 use Rattle.std.proofs.Common.{◌≡◌, ◌≢◌, ℕ, suc, zero, ◌+◌, ◌-◌, ◌^◌, ◌<◌, ◌≤◌, min, Bool, true, false, cond, eqb, ltb, ◌||◌, ◌⊎◌, List, [], ◌∷◌, ◌++◌, length, take, drop, Option, Some, None, Result, Ok, Err, decimal, refl, sym, ap, subst, ◌∙◌, append_assoc, arith, inl, inr}
 use Rattle.std.specs.Prelude.{ℤ, bytes_eq}
 use Rattle.std.specs.Fmt.{signed_decimal}
+use Rattle.std.proofs.lemmas.Option.{same_Some}
 use Rattle.std.proofs.lemmas.Bool.{eqb-true, eqb-false, ltb-true, ltb-false}
 use Rattle.std.proofs.lemmas.List.{append-nil, take-append-drop, length-append, length-take}
 use Rattle.ballot_law.specs.Results.{◌>>=◌}
@@ -15,7 +16,7 @@ use Rattle.resp2_frames.specs.Reading.{if_some, expect, end_at, line_length, lin
 use Rattle.resp2_frames.specs.Faults.{OpenArray, opening, Within, IsKind, IsBehindLine, BeginsEnd, BreaksEnd, with_bulk, Begins, Shows}
 use Rattle.resp2_frames.proofs.Steps.{chosen}
 use Rattle.resp2_frames.proofs.Lines.{line_front, line_takes}
-use Rattle.resp2_frames.proofs.Numbers.{some_is, number_takes, size_takes, integer_again}
+use Rattle.resp2_frames.proofs.Numbers.{number_takes, size_takes, integer_again}
 use Rattle.resp2_frames.proofs.Takes.{Taken, value_takes}
 
 -- what a reading without a value says
@@ -130,7 +131,7 @@ size_stops line u e = size_by line u (min (number_on 0 line) (2 ^ 64 - 1)) (is_d
 pub number_is : (line : List ℕ) (n : ℕ) → number_of line ≡ Some n → (is_decimal line ≡ true) × (min (number_on 0 line) (2 ^ 64 - 1) ≡ n)
 unfolding number_of
 number_is line n e = elim (chosen (is_decimal line) (Some (min (number_on 0 line) (2 ^ 64 - 1))) None (Some n) e) [
-  | inl w ↦ (w.0, some_is (min (number_on 0 line) (2 ^ 64 - 1)) n w.1)
+  | inl w ↦ (w.0, same_Some (min (number_on 0 line) (2 ^ 64 - 1)) n w.1)
   | inr w ↦ absurd (let d : None ≡ Some n = w.1 in cc)
 ]
 

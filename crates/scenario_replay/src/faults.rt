@@ -39,7 +39,7 @@ impl From<RunFault> for ReplayFault {
 }
 
 impl From<ScenarioFault> for ReplayFault {
-    /// A line of a scenario that was read is read again: it is refused for want of memory alone.
+    /// A line of a scenario that was read is read again: only a refused allocation can refuse it.
     fn from(_error: ScenarioFault) -> ReplayFault {
         ReplayFault::NoMemory
     }

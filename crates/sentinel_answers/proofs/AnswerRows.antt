@@ -2,6 +2,7 @@
 use Rattle.std.proofs.Common.{◌≡◌, ◌≢◌, ℕ, zero, suc, ◌+◌, ◌-◌, ◌<◌, ◌≤◌, ◌^◌, Bool, true, false, ◌==◌, if◌then◌else◌, List, [], ◌∷◌, ◌++◌, length, map, refl, ap, sym, ◌∙◌, append-nil, append_assoc, add-one, add-zero, arith}
 use Rattle.std.proofs.lemmas.Bool.Decides.{nat_tests}
 use Rattle.std.specs.List.{flat_map, AllByRecursion}
+use Rattle.ballot_law.specs.declared.rosters.TheConstants.{MASTERS_MAX, NODES_MAX, SENTINELS_MAX}
 use Rattle.ballot_law.specs.declared.addresses.RunId.{RunId}
 use Rattle.resp2_frames.specs.Frame.{Frame, items, frames_of, spelling}
 use Rattle.port_answers.specs.declared.rows.MasterRow.{MasterRow}
@@ -169,7 +170,7 @@ array_whole frame_of rows text below n fit each count e =
     ∙ ap bounded (sym (rows_text frame_of rows))
     ∙ fit.whole
 
-pub masters_whole : (plan : Plan) (core : Core) (now n : ℕ) (text : List ℕ) → n ≡ master_count plan → n ≤ 16 → ((m : ℕ) → m < n → IsMasterRow (master_row plan core now m))
+pub masters_whole : (plan : Plan) (core : Core) (now n : ℕ) (text : List ℕ) → n ≡ master_count plan → n ≤ MASTERS_MAX → ((m : ℕ) → m < n → IsMasterRow (master_row plan core now m))
     → text ≡ bounded (header n ++ text_below (λ m. spelling (master_frame (master_row plan core now m))) n)
     → text ≡ spelling (masters_frame (map (master_row plan core now) (all_masters plan)))
 masters_whole plan core now n text is few each e =
@@ -194,23 +195,23 @@ rows_whole frame_of row_of P most one n text fit few each e =
     (but_text (λ row. spelling (frame_of row)) row_of one 0 n ∙ ap (text_below (text_but one (λ k. spelling (frame_of (row_of k))))) (let s : 0 + n ≡ n = omega arith in s))
     count e
 
-pub replicas_whole : (plan : Plan) (core : Core) (now m one n : ℕ) (text : List ℕ) → one ≡ card_place plan core m → n ≡ length (nodes_of plan m) → n ≤ 256
+pub replicas_whole : (plan : Plan) (core : Core) (now m one n : ℕ) (text : List ℕ) → one ≡ card_place plan core m → n ≡ length (nodes_of plan m) → n ≤ NODES_MAX
     → ((k : ℕ) → k < n → IsReplicaRow (replica_row plan core now m k))
     → text ≡ bounded (header (length (places_but one 0 n)) ++ text_below (text_but one (λ k. spelling (replica_frame (replica_row plan core now m k)))) n)
     → text ≡ spelling (replicas_frame (replica_rows plan core now m))
 replicas_whole plan core now m one n text own is few each e =
     let row_of = replica_row plan core now m in
-    rows_whole replica_frame row_of IsReplicaRow 256 one n text replicas_fit few each e
+    rows_whole replica_frame row_of IsReplicaRow NODES_MAX one n text replicas_fit few each e
     ∙ ap (λ k. spelling (replicas_frame (map row_of (places_but k 0 n)))) own
     ∙ ap (λ k. spelling (replicas_frame (map row_of (places_but (card_place plan core m) 0 k)))) is
 
-pub sentinels_whole : (plan : Plan) (core : Core) (now one n : ℕ) (text : List ℕ) → one ≡ plan.place → n ≡ group_size plan → n ≤ 64
+pub sentinels_whole : (plan : Plan) (core : Core) (now one n : ℕ) (text : List ℕ) → one ≡ plan.place → n ≡ group_size plan → n ≤ SENTINELS_MAX
     → ((k : ℕ) → k < n → IsPlace (sentinel_row plan core now k).addr)
     → text ≡ bounded (header (length (places_but one 0 n)) ++ text_below (text_but one (λ k. spelling (sentinel_frame (sentinel_row plan core now k)))) n)
     → text ≡ spelling (sentinels_frame (sentinel_rows plan core now))
 sentinels_whole plan core now one n text own is few each e =
     let row_of = sentinel_row plan core now in
-    rows_whole sentinel_frame row_of (λ (row : SentinelRow). IsPlace row.addr) 64 one n text sentinels_fit few each e
+    rows_whole sentinel_frame row_of (λ (row : SentinelRow). IsPlace row.addr) SENTINELS_MAX one n text sentinels_fit few each e
     ∙ ap (λ k. spelling (sentinels_frame (map row_of (places_but k 0 n)))) own
     ∙ ap (λ k. spelling (sentinels_frame (map row_of (places_but plan.place 0 k)))) is
 

@@ -20,7 +20,7 @@ use sentinel_state::{Core, Plan};
 
 /// The number of places, the one left out not counted.
 #[tactic(auto, using(crate::proofs::AnswerRows::but_within, crate::proofs::AnswerRows::but_without))]
-fn count_but(one: usize, count: usize) -> usize
+fn count_without(one: usize, count: usize) -> usize
     ensures { result ≡ length (places_but one 0 count) }
 {
     if one < count {
@@ -147,7 +147,7 @@ pub(crate) fn add_replicas(plan: &Plan, core: &Core, now: u64, m: u16, text: &mu
 {
     let own = core.card_place(plan, m);
     let count = plan.node_count(m);
-    text.add_count(count_but(own, count) as u64);
+    text.add_count(count_without(own, count) as u64);
     for k in 0..count {
         add_replica_but(plan, core, now, m, own, k, text);
     }
@@ -181,7 +181,7 @@ pub(crate) fn add_sentinels(plan: &Plan, core: &Core, now: u64, text: &mut Answe
 {
     let own = plan.place() as usize;
     let count = plan.group_size() as usize;
-    text.add_count(count_but(own, count) as u64);
+    text.add_count(count_without(own, count) as u64);
     for place in 0..count {
         add_sentinel_but(plan, core, now, own, place, text);
     }

@@ -24,7 +24,7 @@ use Rattle.std.specs.Result.{IfOk, OnErr}
 use Rattle.sentinel_cell.specs.declared.place.TicketsSpent.{TicketsSpent}
 use Rattle.sentinel_cell.specs.declared.fault.Reply.{Reply}
 use Rattle.sentinel_cell.specs.declared.fault.ActFault.{ActFault}
-use Rattle.sentinel_cell.specs.declared.fault.ActFault.TheVariants.{NoMemory, Spent, Halted as Stopped, StoreRefused}
+use Rattle.sentinel_cell.specs.declared.fault.ActFault.TheVariants.{NoMemory, Spent, Halted as ActHalted, StoreRefused}
 use Rattle.sentinel_cell.specs.declared.entry.Outcome.TheVariants.{Stored, Refused, Halted}
 use Rattle.atomic_table.specs.Seated.{TableId}
 use Rattle.sentinel_cell.proofs.Fronts.{calls-append, none_after}
@@ -235,6 +235,6 @@ adds_same start v w input outputs outcome a = (a.9, a.10, a.11)
 pub acted_same : (start : World) (v w : View) (input : Input) (outputs : List Output) (result : Result Reply ActFault) → Acted start v input outputs w result → (w.numbers ≡ v.numbers) × (w.answers ≡ v.answers) × (w.share ≡ v.share)
 acted_same start v w input outputs (Ok reply) a = adds_same start v w input outputs Stored a
 acted_same start v w input outputs (Err Spent) a = (a.1.1, a.1.2, a.1.3)
-acted_same start v w input outputs (Err Stopped) a = adds_same start v w input outputs Halted a.1
+acted_same start v w input outputs (Err ActHalted) a = adds_same start v w input outputs Halted a.1
 acted_same start v w input outputs (Err StoreRefused) a = adds_same start v w input outputs Refused a.1
 acted_same start v w input outputs (Err NoMemory) a = (ap (λ (x : View). x.numbers) a.1, ap (λ (x : View). x.answers) a.1, ap (λ (x : View). x.share) a.1)

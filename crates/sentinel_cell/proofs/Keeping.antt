@@ -15,7 +15,7 @@ use Rattle.sentinel_rules.specs.Plans.{Plan}
 use Rattle.sentinel_rules.specs.States.{Core}
 use Rattle.sentinel_rules.specs.Facts.{IsWithinEvent}
 use Rattle.sentinel_rules.specs.Takes.{Next, next}
-use Rattle.sentinel_rules.proofs.Choices.{same_addr-equal}
+use Rattle.sentinel_rules.proofs.Choices.{same_addr-equal, same_addr-same}
 use Rattle.sentinel_outbox.specs.declared.faults.StoreFault.{StoreFault}
 use Rattle.sentinel_outbox.specs.declared.faults.StoreFault.TheVariants.{Refused as WasRefused}
 use Rattle.sentinel_outbox.specs.declared.phase.Phase.TheVariants.{Ready, Halted}
@@ -68,9 +68,6 @@ kept_true a b e =
     let masters : a.masters ≡ b.masters = entries_true a.masters b.masters one.1 in
     λ i. record { current = current i; masters = masters i }
 
-addr_same : (a : Addr) → same_addr a a ≡ true
-addr_same a = and_from (a.ip == a.ip) (a.port == a.port) (eq-eqb a.ip a.ip refl) (eq-eqb a.port a.port refl)
-
 candidate_same : (c : Option RunId) → same_candidate c c ≡ true
 candidate_same None = refl
 candidate_same (Some c) = and_from (c.hi == c.hi) (c.lo == c.lo) (eq-eqb c.hi c.hi refl) (eq-eqb c.lo c.lo refl)
@@ -80,7 +77,7 @@ entries_same [] = refl
 entries_same (x ∷ xs) =
     and_from (same_entry x x) (same_entries xs xs)
     (and_from (x.card.epoch == x.card.epoch) (same_addr x.card.addr x.card.addr && ((x.voted == x.voted) && same_candidate x.candidate x.candidate)) (eq-eqb x.card.epoch x.card.epoch refl)
-    (and_from (same_addr x.card.addr x.card.addr) ((x.voted == x.voted) && same_candidate x.candidate x.candidate) (addr_same x.card.addr)
+    (and_from (same_addr x.card.addr x.card.addr) ((x.voted == x.voted) && same_candidate x.candidate x.candidate) (same_addr-same x.card.addr)
     (and_from (x.voted == x.voted) (same_candidate x.candidate x.candidate) (eq-eqb x.voted x.voted refl) (candidate_same x.candidate))))
     (entries_same xs)
 

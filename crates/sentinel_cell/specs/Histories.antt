@@ -20,7 +20,7 @@ use Rattle.sentinel_outbox.specs.declared.phase.Phase.TheVariants.{Ready, Halted
 use Rattle.sentinel_core.specs.Sentinels.{is_flush}
 use Rattle.sentinel_cell.specs.declared.entry.Entry.{Entry}
 use Rattle.sentinel_cell.specs.declared.entry.Outcome.{Outcome}
-use Rattle.sentinel_cell.specs.declared.entry.Outcome.TheVariants.{Stored, Refused, Halted as Stopped}
+use Rattle.sentinel_cell.specs.declared.entry.Outcome.TheVariants.{Stored, Refused, Halted as HaltedBefore}
 use Rattle.sentinel_cell.specs.declared.keeper.Keeper.{Keeper}
 use Rattle.atomic_table.specs.Table.{State}
 use Rattle.sentinel_cell.specs.declared.view.View.{View}
@@ -106,7 +106,7 @@ after_outcome w i failures Refused =
       refused = Some (text_of w i);
       failures = failures;
     }
-after_outcome w i failures Stopped =
+after_outcome w i failures HaltedBefore =
     record { plan = w.plan; core = w.core; stored = w.stored; halted = w.halted; text = w.text; refused = w.refused; failures = failures }
 
 abbrev pub after : World → Entry → World
@@ -118,7 +118,7 @@ abbrev pub IsOutcome : World → Input → List Output → ℕ → Outcome → T
 IsOutcome w i outputs failures Stored = (w.halted ≡ false) × (outputs ≡ (next_of w i).outputs) × (w.failures ≤ failures) × IsWithinEvent i.event
 IsOutcome w i outputs failures Refused =
     (w.halted ≡ false) × (outputs ≡ []) × (w.failures < failures) × IsWithinEvent i.event × (must_store w i ≡ true)
-IsOutcome w i outputs failures Stopped = (w.halted ≡ true) × (outputs ≡ []) × (w.failures ≤ failures)
+IsOutcome w i outputs failures HaltedBefore = (w.halted ≡ true) × (outputs ≡ []) × (w.failures ≤ failures)
 
 abbrev pub IsStep : World → Entry → Type 0
 IsStep w e = IsOutcome w e.input e.outputs e.failures e.outcome
@@ -179,7 +179,7 @@ abbrev pub entry_of : ℕ → Input → Outcome → ℕ → List Output → ℕ 
 entry_of number input outcome first shown failures = record { number = number; input = input; outcome = outcome; outputs = drop first shown; failures = failures }
 
 abbrev pub no_entry : Entry
-no_entry = record { number = 0; input = record { now = 0; event = Tick 0 0 }; outcome = Stopped; outputs = []; failures = 0 }
+no_entry = record { number = 0; input = record { now = 0; event = Tick 0 0 }; outcome = HaltedBefore; outputs = []; failures = 0 }
 
 -- The word has the stored configuration of the master after the entry, which is the one before or a newer one, and no other changes
 abbrev pub Announces : World → List Entry → Entry → ℕ → ℕ → Type 0

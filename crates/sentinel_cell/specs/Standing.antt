@@ -14,7 +14,7 @@ use Rattle.sentinel_cell.specs.declared.view.View.{View}
 use Rattle.sentinel_cell.specs.declared.view.Stage.TheVariants.{Idle}
 use Rattle.sentinel_cell.specs.declared.fault.Reply.{Reply}
 use Rattle.sentinel_cell.specs.declared.fault.ActFault.{ActFault}
-use Rattle.sentinel_cell.specs.declared.fault.ActFault.TheVariants.{NoMemory, Spent, Halted as Stopped, StoreRefused}
+use Rattle.sentinel_cell.specs.declared.fault.ActFault.TheVariants.{NoMemory, Spent, Halted as ActHalted, StoreRefused}
 use Rattle.sentinel_cell.specs.declared.entry.Outcome.TheVariants.{Stored, Refused, Halted}
 use Rattle.sentinel_cell.specs.declared.place.TicketsSpent.{TicketsSpent}
 use Rattle.sentinel_cell.specs.Calls.{Has, calls_by, AreOf}
@@ -75,7 +75,7 @@ IsSame v w = (w.front ≡ v.front) × (w.numbers ≡ v.numbers) × (w.answers �
 abbrev pub Faulted : World → View → Input → List Output → View → ActFault → Type 0
 Faulted start v input outputs w NoMemory = (outputs ≡ []) × (w ≡ v)
 Faulted start v input outputs w Spent = (outputs ≡ []) × IsSame v w × (9223372036854775808 ≤ w.tickets)
-Faulted start v input outputs w Stopped = (outputs ≡ []) × Adds start v input Halted outputs w
+Faulted start v input outputs w ActHalted = (outputs ≡ []) × Adds start v input Halted outputs w
 Faulted start v input outputs w StoreRefused = (outputs ≡ []) × Adds start v input Refused outputs w
 
 abbrev pub Acted : World → View → Input → List Output → View → Result Reply ActFault → Type 0
@@ -85,7 +85,7 @@ Acted start v input outputs w (Err fault) = Faulted start v input outputs w faul
 abbrev pub answer_of : Result (Outcome × ℕ) TicketsSpent → ℕ → ℕ → Result Reply ActFault
 answer_of (Ok (Stored, entry)) first end = Ok (record { first = first; count = end - first; entry = entry })
 answer_of (Ok (Refused, _)) first end = Err StoreRefused
-answer_of (Ok (Halted, _)) first end = Err Stopped
+answer_of (Ok (Halted, _)) first end = Err ActHalted
 answer_of (Err _) first end = Err Spent
 
 -- The Sentinel and its store are those that a legal history leaves, which begins with all that the seat had seen. Each answer that the seat

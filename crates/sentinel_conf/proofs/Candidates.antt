@@ -62,12 +62,3 @@ candidate_stays v o h = candidate_by v o (eqb v 0) refl h
 
 pub candidate_of_none : (v : ℕ) (o : Option RunId) → v ≡ 0 → candidate_at v o ≡ None
 candidate_of_none v o e = ap (λ t. candidate_at t o) e
-
--- every run id has 40 digits
-length-hex : (k n : ℕ) → length (hex k n) ≡ k
-unfolding hex
-length-hex zero n = refl
-length-hex (suc k) n = omega (arith, length-append (hex k (n / 16)) (hex_digit (n % 16) ∷ []), length-hex k (n / 16))
-
-pub length-id : (id : RunId) → length (id_text id) ≡ 40
-length-id id = omega (arith, length-append (hex 32 id.hi) (hex 8 id.lo), length-hex 32 id.hi, length-hex 8 id.lo)

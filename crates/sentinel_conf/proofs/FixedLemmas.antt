@@ -12,7 +12,9 @@ use Rattle.conf_lines.specs.Lines.{spelled}
 use Rattle.conf_lines.specs.Words.{ended}
 use Rattle.sentinel_conf.specs.Fixed.{FixedTexts, IsFixedText, fixed_of, changing_lines, with_fixed, all_with_fixed}
 use Rattle.sentinel_conf.specs.Rewritten.{text_of, candidate_states, replica_states, master_lines, sentinel_states}
-use Rattle.sentinel_conf.specs.Room.{ROOM, bounded}
+use Rattle.bounded_list.specs.BoundedLists.{bounded as bounded_to}
+use Rattle.sentinel_conf.specs.declared.conf_text.TheConstants.{ROOM}
+use Rattle.sentinel_conf.specs.Room.{bounded}
 use Rattle.sentinel_conf.proofs.RoomLemmas.{bounded-bounded, room_join, room_of, text_of-append}
 
 -- what is added may be cut first
@@ -24,7 +26,7 @@ cut_first (suc n) (suc m) [] (y ∷ ys) h = ap (λ t. y ∷ t) (cut_first n m []
 cut_first (suc n) (suc m) (x ∷ xs) ys h = ap (λ t. x ∷ t) (cut_first n (suc m) xs ys (omega arith))
 
 added_cut : (xs ys : List ℕ) → bounded (xs ++ bounded ys) ≡ bounded (xs ++ ys)
-unfolding bounded
+unfolding bounded_to
 added_cut xs ys = cut_first ROOM ROOM xs ys (omega arith)
 
 -- texts of which the room holds as much may stand for each other

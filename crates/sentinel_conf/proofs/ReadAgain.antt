@@ -5,6 +5,7 @@ use Rattle.std.specs.List.{list_any, flat_map, filter_map, zip, AllByRecursion}
 use Rattle.std.specs.Str.{IsUtf8, is_utf8}
 use Rattle.std.proofs.lemmas.Bool.{and_parts, and_right, or_cases, true≢false, false_from_ne_true, cases_Bool, not_from_true, not_from_false, le-ltb}
 use Rattle.std.proofs.lemmas.Str.{is_utf8-from_IsUtf8}
+use Rattle.ballot_law.specs.declared.rosters.TheConstants.{MASTERS_MAX, NODES_MAX, SENTINELS_MAX}
 use Rattle.ballot_law.specs.declared.addresses.Addr.{Addr}
 use Rattle.ballot_law.specs.declared.addresses.RunId.{RunId}
 use Rattle.ballot_law.specs.Hellos.{IsRunId}
@@ -90,11 +91,11 @@ pub record IsConf (conf : ConfPlan) : Type 0 where
 
 pub record NoFault (plan : Roster) : Type 0 where
   pub some_sentinel : eqb (length plan.sentinels) 0 ≡ false
-  pub few_sentinels : ltb 64 (length plan.sentinels) ≡ false
+  pub few_sentinels : ltb SENTINELS_MAX (length plan.sentinels) ≡ false
   pub some : eqb (length plan.masters) 0 ≡ false
-  pub few_masters : ltb 16 (length plan.masters) ≡ false
+  pub few_masters : ltb MASTERS_MAX (length plan.masters) ≡ false
   pub some_node : list_any (λ (master : MasterPlan). eqb (length master.nodes) 0) plan.masters ≡ false
-  pub few_nodes : list_any (λ (master : MasterPlan). ltb 256 (length master.nodes)) plan.masters ≡ false
+  pub few_nodes : list_any (λ (master : MasterPlan). ltb NODES_MAX (length master.nodes)) plan.masters ≡ false
   pub ids : repeats (λ (a b : Member). same_id a.id b.id) plan.sentinels ≡ false
 
 pub no_fault : (plan : Roster) → fault_of plan ≡ None → NoFault plan

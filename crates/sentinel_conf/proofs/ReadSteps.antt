@@ -19,7 +19,9 @@ use Rattle.sentinel_conf.specs.Meaning.{ConfPlan, states, settings, first_given,
 use Rattle.conf_lines.specs.Values.{name_of, my_id_of}
 use Rattle.sentinel_conf.specs.Rewritten.{rewritten, longest}
 use Rattle.conf_lines.specs.Words.{ended}
-use Rattle.sentinel_conf.specs.Room.{ROOM, bounded}
+use Rattle.bounded_list.specs.BoundedLists.{bounded as bounded_to}
+use Rattle.sentinel_conf.specs.declared.conf_text.TheConstants.{ROOM}
+use Rattle.sentinel_conf.specs.Room.{bounded}
 use Rattle.ballot_law.specs.Results.{◌>>=◌}
 use Rattle.sentinel_conf.specs.Reading.{FILE_MAX, line_fault, unknown_fault, first_fault, unless, guard, found, checked, roster_checked, sized, kept_lines_of, whole_conf, conf_of_lines, conf_of_bytes}
 use Rattle.conf_lines.specs.Faults.{fault_at}
@@ -116,11 +118,11 @@ kept_is_ended bytes kept u e = e ∙ ap (flat_map ended) (sym (kept_lines_again 
 
 -- the size of what the room holds
 pub over : (text whole : List ℕ) → text ≡ bounded whole → FILE_MAX < length text → FILE_MAX < length whole
-unfolding bounded
+unfolding bounded_to
 over text whole e h = let n : length text ≡ min ROOM (length whole) = ap length e ∙ length-take ROOM whole in omega arith
 
 pub under : (text whole : List ℕ) → text ≡ bounded whole → length text ≤ FILE_MAX → length whole ≤ FILE_MAX
-unfolding bounded
+unfolding bounded_to
 under text whole e h = let n : length text ≡ min ROOM (length whole) = ap length e ∙ length-take ROOM whole in omega arith
 
 -- the file as a whole

@@ -3,30 +3,26 @@ use Rattle.std.proofs.Common.{◌≡◌, ℕ, suc, min, Bool, true, if◌then◌
 use Rattle.std.proofs.lemmas.List.{take_all}
 use Rattle.std.specs.Prelude.{map, filter}
 use Rattle.std.specs.List.{flat_map}
-use Rattle.bounded_list.specs.BoundedLists.{bounded as bounded_to}
-use Rattle.bounded_list.proofs.Bounded.{bounded_more, added_fits}
+use Rattle.bounded_list.proofs.Bounded.{bounded_more, bounded_again}
+use Rattle.bounded_list.proofs.Bounded as lists
 use Rattle.conf_lines.specs.declared.lines.StateLine.{StateLine}
 use Rattle.conf_lines.specs.Lines.{spelled}
 use Rattle.sentinel_conf.specs.Rewritten.{text_of}
 use Rattle.conf_lines.specs.Words.{ended}
-use Rattle.sentinel_conf.specs.Room.{ROOM, bounded}
+use Rattle.sentinel_conf.specs.declared.conf_text.TheConstants.{ROOM}
+use Rattle.sentinel_conf.specs.Room.{bounded}
 use Rattle.sentinel_conf.proofs.FileLemmas.{filter_yes}
 
 pub bounded-bounded : (xs ys : List ℕ) → bounded (bounded xs ++ ys) ≡ bounded (xs ++ ys)
-unfolding bounded bounded_to
 bounded-bounded xs ys = bounded_more ROOM xs ys
-
-pub bounded_all : (xs : List ℕ) → length xs ≤ ROOM → bounded xs ≡ xs
-unfolding bounded
-bounded_all xs h = take_all ROOM xs h
 
 -- two texts, one after the other
 pub added_both : (old first second : List ℕ) → bounded (bounded (old ++ first) ++ second) ≡ bounded (old ++ (first ++ second))
-added_both old first second = bounded-bounded (old ++ first) second ∙ ap bounded (append_assoc old first second)
+added_both = lists.added_both ROOM
 
 module _ (old first second : List ℕ) where
   pub two_adds : (mid new : List ℕ) → mid ≡ bounded (old ++ first) → new ≡ bounded (mid ++ second) → new ≡ bounded (old ++ (first ++ second))
-  two_adds mid new e f = f ∙ ap (λ t. bounded (t ++ second)) e ∙ added_both old first second
+  two_adds mid new e f = lists.two_adds ROOM old mid new first second e f
 
   pub three_adds : (third mid other new : List ℕ) → mid ≡ bounded (old ++ first) → other ≡ bounded (mid ++ second) → new ≡ bounded (other ++ third)
       → new ≡ bounded (old ++ (first ++ (second ++ third)))
@@ -42,14 +38,9 @@ node_more name ip port rest =
     ap (λ t. 32 ∷ t) (append_assoc name (32 ∷ (ip ++ 32 ∷ port)) rest)
     ∙ ap (λ t. 32 ∷ (name ++ 32 ∷ t)) (append_assoc ip (32 ∷ port) rest)
 
-pub added_when : (xs ys fits : List ℕ) (k : ℕ) (ok : Bool) (new : List ℕ) → length xs ≤ ROOM → k ≡ min (length ys) (ROOM - length xs) → fits ≡ take k ys
-    → ok ≡ true → new ≡ (if ok then xs ++ fits else xs) → new ≡ bounded (xs ++ ys)
-unfolding bounded bounded_to
-added_when xs ys fits k ok new h e f g n = added_fits ROOM xs ys fits new k ok h e f g n
-
 -- what is added, up to what there is room for
 pub bounded-again : (xs : List ℕ) → bounded (bounded xs) ≡ bounded xs
-bounded-again xs = ap bounded (sym (append-nil (bounded xs))) ∙ bounded-bounded xs [] ∙ ap bounded (append-nil xs)
+bounded-again xs = bounded_again ROOM xs
 
 pub room_step : (out new piece rest : List ℕ) → new ≡ bounded (out ++ piece) → bounded (new ++ rest) ≡ bounded (out ++ (piece ++ rest))
 room_step out new piece rest e = ap (λ t. bounded (t ++ rest)) e ∙ added_both out piece rest

@@ -23,7 +23,7 @@ use Rattle.sentinel_conf.specs.Rewritten.{others, candidate_states, master_state
 use Rattle.conf_lines.specs.Words.{ended}
 use Rattle.sentinel_conf.proofs.SetLemmas.{In}
 use Rattle.ballot_law.proofs.Rising.{Rises}
-use Rattle.sentinel_conf.proofs.Candidates.{length-id}
+use Rattle.ballot_law.proofs.WordLemmas.{length-id_text}
 use Rattle.sentinel_conf.proofs.OrderLemmas.{addr_order, addr_same}
 use Rattle.sentinel_conf.proofs.FileLemmas.{Apart, apart_rises, in_from_at, filter_yes, filter_no}
 
@@ -64,7 +64,7 @@ leader_le n e h =
 leader_id_le : (n : List ℕ) (id : RunId) → length (spelled (LeaderId n id)) ≤ length (spelled (LeaderId n no_id))
 leader_id_le n id =
     behind (codes "sentinel") (codes "leader-id" ++ 32 ∷ (n ++ 32 ∷ id_text id)) (codes "leader-id" ++ 32 ∷ (n ++ 32 ∷ id_text no_id))
-    (behind (codes "leader-id") (n ++ 32 ∷ id_text id) (n ++ 32 ∷ id_text no_id) (behind n (id_text id) (id_text no_id) (omega (arith, length-id id, length-id no_id))))
+    (behind (codes "leader-id") (n ++ 32 ∷ id_text id) (n ++ 32 ∷ id_text no_id) (behind n (id_text id) (id_text no_id) (omega (arith, length-id_text id, length-id_text no_id))))
 
 candidate_le : (n : List ℕ) (o : Option RunId) → size (candidate_states n o) ≤ size (candidate_states n (Some no_id))
 candidate_le n None = omega arith

@@ -3,6 +3,7 @@ use Rattle.std.proofs.Common.{◌≡◌, ◌≢◌, ℕ, zero, suc, ◌≤◌, �
 use Rattle.std.specs.List.{list_any}
 use Rattle.std.proofs.lemmas.Bool.{true≢false, cases_order, ltb-false}
 use Rattle.std.proofs.lemmas.Bool.Decides.{nat_tests}
+use Rattle.ballot_law.specs.declared.rosters.TheConstants.{MASTERS_MAX, NODES_MAX, SENTINELS_MAX}
 use Rattle.ballot_law.specs.declared.addresses.Addr.{Addr}
 use Rattle.ballot_law.specs.declared.addresses.RunId.{RunId}
 use Rattle.ballot_law.specs.declared.rosters.Member.{Member}
@@ -88,11 +89,11 @@ module _ (conf : ConfPlan) (c : IsConf conf) where
   sound_by set =
       let none = no_fault conf.roster c.roster in
       record {
-        few_sentinels = ltb-false 64 (length conf.roster.sentinels) none.few_sentinels;
+        few_sentinels = ltb-false SENTINELS_MAX (length conf.roster.sentinels) none.few_sentinels;
         some_sentinel = some_of (length conf.roster.sentinels) none.some_sentinel;
-        few_masters = ltb-false 16 (length masters) none.few_masters;
+        few_masters = ltb-false MASTERS_MAX (length masters) none.few_masters;
         some_master = some_of (length masters) none.some;
-        few_nodes = λ m l. ltb-false 256 (length (at m).nodes) (none_at (λ (master : MasterPlan). ltb 256 (length master.nodes)) masters no_master m none.few_nodes l);
+        few_nodes = λ m l. ltb-false NODES_MAX (length (at m).nodes) (none_at (λ (master : MasterPlan). ltb NODES_MAX (length master.nodes)) masters no_master m none.few_nodes l);
         some_node = λ m l. some_of (length (at m).nodes) (none_at (λ (master : MasterPlan). eqb (length master.nodes) 0) masters no_master m none.some_node l);
         quorums = λ m l. let q : (at m).quorum ≤ 4294967295 = (master_is m l).quorum in omega arith;
         settings = set;

@@ -7,6 +7,7 @@ use Rattle.std.proofs.lemmas.Bool.{and_parts}
 use Rattle.std.proofs.lemmas.Bool.Decides.{nat_tests}
 use Rattle.std.proofs.lemmas.Str.{IsUtf8-append, IsUtf8-nil, IsUtf8-from_ascii, IsUtf8-take, IsUtf8-drop, IsCharBoundary-before_ascii, IsCharBoundary-after_ascii}
 use Rattle.std.proofs.Math.Seq.{take-append_seam, drop-append-add}
+use Rattle.ballot_law.specs.declared.names.TheConstants.{NAME_MAX}
 use Rattle.ballot_law.specs.declared.addresses.Addr.{Addr}
 use Rattle.ballot_law.specs.declared.addresses.RunId.{RunId}
 use Rattle.conf_lines.specs.declared.lines.StateLine.{StateLine}
@@ -51,9 +52,9 @@ low_decimal n h = low_by is_digit (λ b e. let l : b < 128 = grind (arith, nat_t
 
 low_name : (n : List ℕ) → name n ≡ Some n → AreLow n
 low_name n h =
-    let all = some_if-some (ltb 0 (length n) && (leb (length n) 64 && list_all is_name_byte n)) n n h in
-    let first = and_parts (ltb 0 (length n)) (leb (length n) 64 && list_all is_name_byte n) all in
-    low_by is_name_byte (λ b e. let l : b < 128 = grind (arith, nat_tests) in l) n (and_parts (leb (length n) 64) (list_all is_name_byte n) first.1).1
+    let all = some_if-some (ltb 0 (length n) && (leb (length n) NAME_MAX && list_all is_name_byte n)) n n h in
+    let first = and_parts (ltb 0 (length n)) (leb (length n) NAME_MAX && list_all is_name_byte n) all in
+    low_by is_name_byte (λ b e. let l : b < 128 = grind (arith, nat_tests) in l) n (and_parts (leb (length n) NAME_MAX) (list_all is_name_byte n) first.1).1
 
 low_ip : (n : ℕ) → n < 4294967296 → AreLow (ip_text n)
 low_ip n h =

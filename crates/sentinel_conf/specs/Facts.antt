@@ -1,5 +1,6 @@
 -- What is known of each conf that was read.
 use Rattle.std.specs.Prelude.{◌≡◌, ◌≢◌, ℕ, ◌≤◌, ◌<◌, ◌^◌, length, slice_index_or}
+use Rattle.ballot_law.specs.declared.rosters.TheConstants.{MASTERS_MAX, NODES_MAX, SENTINELS_MAX}
 use Rattle.ballot_law.specs.Hellos.{IsAddr, IsRunId}
 use Rattle.ballot_law.specs.Names.{IsName}
 use Rattle.ballot_law.specs.Rosters.{no_addr, no_member, master_at, HasDistinctIds, HasDistinctNames}
@@ -14,11 +15,11 @@ no_settings = record { after_ms = 0; parallel_syncs = 0; timeout = 0 }
 -- what is known of each conf: its sizes are within the limits, nothing stands in it twice, and each address, run id and
 -- name in it is one
 pub record IsSoundConf (conf : ConfPlan) : Type 0 where
-  pub few_sentinels : length conf.roster.sentinels ≤ 64
+  pub few_sentinels : length conf.roster.sentinels ≤ SENTINELS_MAX
   pub some_sentinel : 1 ≤ length conf.roster.sentinels
-  pub few_masters : length conf.roster.masters ≤ 16
+  pub few_masters : length conf.roster.masters ≤ MASTERS_MAX
   pub some_master : 1 ≤ length conf.roster.masters
-  pub few_nodes : (m : ℕ) → m < length conf.roster.masters → length (master_at conf.roster m).nodes ≤ 256
+  pub few_nodes : (m : ℕ) → m < length conf.roster.masters → length (master_at conf.roster m).nodes ≤ NODES_MAX
   pub some_node : (m : ℕ) → m < length conf.roster.masters → 1 ≤ length (master_at conf.roster m).nodes
   pub quorums : (m : ℕ) → m < length conf.roster.masters → (master_at conf.roster m).quorum < 2 ^ 32
   pub settings : length conf.settings ≡ length conf.roster.masters

@@ -3,6 +3,7 @@
 ghost use Rattle.std.specs.Prelude.{◌≡◌, ◌++◌, not, nat_lt, ◌<◌, ◌≤◌, ◌⊎◌, None, Some, Ok, Err, List, ℕ, map, length, IfOk, IfErr, OnOk, MatchResult, slice_index_or, true};
 ghost use Rattle.std.specs.List.{filter_map, flat_map, list_any};
 ghost use Rattle.std.specs.Str.{IsUtf8};
+ghost use Rattle.ballot_law.specs.declared.rosters.TheConstants.{SENTINELS_MAX};
 ghost use Rattle.ballot_law.specs.Orders.{same_id};
 ghost use Rattle.ballot_law.specs.RosterFaults.{fault_of};
 ghost use Rattle.ballot_law.specs.Rosters.{no_member};
@@ -318,7 +319,7 @@ pub fn check_size(alloc: Global, parts: &Parts) -> Result<(), ConfFault>
 /// The place of the Sentinel with this run id.
 pub fn place_of(members: &[Member], id: RunId) -> u16
     requires known { list_any (λ member. same_id id member.id) members.now ≡ true }
-    requires few { length members.now ≤ 64 }
+    requires few { length members.now ≤ SENTINELS_MAX }
     ensures place { result < length members.now }
     ensures id { (slice_index_or members.now result no_member).id ≡ id }
 {

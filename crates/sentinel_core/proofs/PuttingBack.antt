@@ -3,6 +3,7 @@ use Rattle.std.proofs.Common.{◌≡◌, ◌≢◌, ◌⊎◌, ℕ, ◌<◌, ◌
 use Rattle.std.specs.Prelude.{if◌then◌else◌}
 use Rattle.std.proofs.lemmas.Bool.{ltb-false, ltb-true}
 use Rattle.std.proofs.lemmas.Bool.Decides.{eqb_tells}
+use Rattle.std.proofs.lemmas.Option.{same_Some}
 use Rattle.ballot_law.specs.declared.cards.Kept.{Kept}
 use Rattle.ballot_law.specs.declared.cards.KeptMaster.{KeptMaster}
 use Rattle.ballot_law.specs.Ballots.{kept_of, no_kept}
@@ -32,10 +33,7 @@ masters_back kept kept2 (Some m) long f = by_place (nat_lt m (length kept.master
   where
     by_place : (b : Bool) → nat_lt m (length kept.masters) ≡ b
         → masters_before kept2.masters (if b then Some (let x : FormerEntry = record { master = m; entry = kept_of kept m } in x) else None) ≡ kept.masters
-    by_place true e = set_back kept.masters kept2.masters m long (ltb-true m (length kept.masters) e) (λ k apart. f k (λ s. apart (some_inj s)))
-      where
-        some_inj : {k : ℕ} → Some m ≡ Some k → k ≡ m
-        some_inj s = cc
+    by_place true e = set_back kept.masters kept2.masters m long (ltb-true m (length kept.masters) e) (λ k apart. f k (λ s. apart (sym (same_Some m k s))))
     by_place false e = ext_get_or no_kept kept2.masters kept.masters long (λ k h. f k (λ s. let same : m ≡ k = cc in let past = ltb-false m (length kept.masters) e in let no : ⊥ = omega (arith, past, h, same, long) in no))
 
 -- an input that changes the entry of this master alone

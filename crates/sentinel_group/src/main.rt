@@ -13,13 +13,14 @@ mod serving;
 
 use crate::checking::check;
 use crate::command_line::{command, refuse_unread, tell_words, words};
-use crate::failures::{fail, refuse_conf, refuse_file};
+use crate::failures::fail;
+use crate::group_files::file_of;
 use crate::replaying::replay;
 use crate::serving::{level_of, serve as serve_group};
 use clap::ArgMatches;
 use log::Logged;
 use log::sink::Console;
-use sentinel_conf::{Conf, ConfStore, FileStore, LoadFault, MemoryStore, read};
+use sentinel_conf::{Conf, ConfStore, MemoryStore, read};
 use sentinel_core::{Sentinel, ServeFault};
 use std::process::ExitCode;
 
@@ -56,17 +57,9 @@ fn answer_in_memory(rt: HostRuntime) -> ExitCode {
 
 /// Serves with the configuration of the file at the path, which is rewritten as what it holds changes.
 fn answer_from(rt: HostRuntime, path: &str) -> ExitCode {
-    let Ok(mut store) = FileStore::at(rt, rt.alloc(), path) else {
-        return fail(&rt, ServeFault::NoMemory);
-    };
-    let text = match store.load() {
-        Ok(text) => text,
-        Err(LoadFault::NoMemory) => return fail(&rt, ServeFault::NoMemory),
-        Err(LoadFault::Failed) => return refuse_file(&rt, path, 0, "Unreadable"),
-    };
-    match read(rt.alloc(), text.as_slice()) {
-        Ok(conf) => serve(rt, conf, &mut store),
-        Err(fault) => refuse_conf(&rt, path, fault),
+    match file_of(rt, path) {
+        Ok((conf, mut store)) => serve(rt, conf, &mut store),
+        Err(status) => status,
     }
 }
 

@@ -1,6 +1,7 @@
 //! INFO of data nodes: news for a failover, or a node that is wrong.
 
 ghost use Rattle.std.specs.Prelude.{◌≡◌, ◌≤◌};
+ghost use Rattle.ballot_law.specs.declared.rosters.TheConstants.{NODES_MAX};
 ghost use Rattle.ballot_law.specs.Clocks.{clock};
 ghost use Rattle.sentinel_rules.specs.News.{promotion, follows, follows_another, has_followed, reconfiguration, is_master_role, is_reconfiguring, wrong_since, is_overdue, says_master, can_be_followed, anew, correction, judged, info_kept, info_at_node, info_read};
 ghost use Rattle.sentinel_rules.specs.States.{failover_of};
@@ -137,7 +138,7 @@ fn can_be_followed(state: &State, m: u16, now: u64) -> bool
 /// Takes the INFO of a node that isn't the one of the configuration, while no failover runs: where it has long said that it is a
 /// master, or had another master, it is told to follow the node of the configuration.
 fn correct(state: &mut State, m: u16, k: u16, now: u64, info: &Info)
-    requires { k ≤ 256 }
+    requires { k ≤ NODES_MAX }
     ensures { state.new ≡ with_part state.old (correction state.old.plan m k (clock now) info.now state.old.core) }
 {
     let at = clock_of(now);
@@ -162,7 +163,7 @@ fn correct(state: &mut State, m: u16, k: u16, now: u64, info: &Info)
 
 /// Takes the INFO of a node as news for the failover, or where none runs as a sign of whether the node is wrong.
 fn judge(state: &mut State, m: u16, k: u16, now: u64, info: &Info)
-    requires { k ≤ 256 }
+    requires { k ≤ NODES_MAX }
     ensures { state.new ≡ with_part state.old (judged state.old.plan m k (clock now) info.now state.old.core) }
 {
     if state.core.is_failing_over(m) {
@@ -178,7 +179,7 @@ fn judge(state: &mut State, m: u16, k: u16, now: u64, info: &Info)
 
 /// Takes the INFO of a node of the roster: it is kept, and judged unless in TILT.
 fn hear_info(state: &mut State, m: u16, k: u16, now: u64, info: &Info)
-    requires { k ≤ 256 }
+    requires { k ≤ NODES_MAX }
     ensures { state.new ≡ with_part state.old (info_at_node state.old.plan m k (clock now) info.now state.old.core) }
 {
     keep_info(&mut state.core, m, k, now, info);

@@ -1,4 +1,4 @@
--- What a Sentinel puts out shows the configurations of 16 masters at most.
+-- What a Sentinel puts out shows one configuration of each master at most.
 use Rattle.std.proofs.Common.{◌≡◌, ◌≤◌, ℕ, List, [], ◌∷◌, length, Option, Some, None, map, arith, ◌∙◌, subst, sym, Bool, Result, Ok, Err, OnOk}
 use Rattle.std.specs.List.{AllByRecursion}
 use Rattle.std.proofs.lemmas.List.{length-map}

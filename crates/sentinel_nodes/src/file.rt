@@ -2,7 +2,7 @@
 
 ghost use Rattle.std.specs.Prelude.{◌≡◌, ◌≤◌, ◌<◌, ◌+◌, ◌^◌, ◌-◌, ℕ, Bool, List, Option, Some, None, if◌then◌else◌, ◌⊎◌, OnOk, OnErr, IfOk, is_ok, length, vec_capacity};
 ghost use Rattle.sentinel_conf.specs.Reading.{FILE_MAX};
-ghost use Rattle.sentinel_nodes.specs.Files.{File as Seen, outcome_of};
+ghost use Rattle.sentinel_nodes.specs.Files.{File as FileModel, outcome_of};
 
 use sentinel_conf::{ConfStore, FILE_MAX, FileText, LoadFault, NoMemory, StoreRefused};
 use std::alloc::Global;
@@ -19,9 +19,9 @@ pub(crate) struct File {
 impl Model for File {
     ghost use Rattle.std.specs.Prelude.{◌≤◌, vec_capacity};
     ghost use Rattle.sentinel_conf.specs.Reading.{FILE_MAX};
-    ghost use Rattle.sentinel_nodes.specs.Files.{File as Seen};
+    ghost use Rattle.sentinel_nodes.specs.Files.{File as FileModel};
 
-    ghost Value = { Seen };
+    ghost Value = { FileModel };
 
     ghost view = { λ file. record {
       text = file.text.items;

@@ -2,6 +2,7 @@
 
 ghost use Rattle.std.specs.Prelude.{slice_index_or, ◌≡◌, ◌<◌, ◌≤◌, ◌&&◌, ◌==◌, not, nat_lt, length, position, IfSome, IfNone, None, Some};
 ghost use Rattle.std.specs.List.{list_any};
+ghost use Rattle.ballot_law.specs.declared.rosters.TheConstants.{MASTERS_MAX, NODES_MAX, SENTINELS_MAX};
 ghost use Rattle.ballot_law.specs.Orders.{same_addr, same_id};
 ghost use Rattle.ballot_law.specs.Rosters.{no_member, master_at, master_named, need};
 ghost use Rattle.sentinel_rules.specs.Answers.{master_listing, named};
@@ -114,7 +115,7 @@ impl Plan {
     /// How many Sentinels there are, at most 64.
     pub fn group_size(&self) -> u16
         ensures value { result ≡ group_size self.now }
-        ensures few { result ≤ 64 }
+        ensures few { result ≤ SENTINELS_MAX }
     {
         self.conf.roster().sentinels().len() as u16
     }
@@ -122,7 +123,7 @@ impl Plan {
     /// How many masters there are, at most 16.
     pub fn master_count(&self) -> u16
         ensures value { result ≡ master_count self.now }
-        ensures few { result ≤ 16 }
+        ensures few { result ≤ MASTERS_MAX }
     {
         self.conf.roster().masters().len() as u16
     }
@@ -137,7 +138,7 @@ impl Plan {
     /// The data nodes of a master, by address; none where there is no such master.
     pub fn nodes(&self, m: u16) -> &[Addr]
         ensures value { result.now ≡ nodes_of self.now m }
-        ensures few { length result.now ≤ 256 }
+        ensures few { length result.now ≤ NODES_MAX }
     {
         match self.conf.roster().masters().get(m as usize) {
             Some(master) => master.nodes(),
@@ -148,7 +149,7 @@ impl Plan {
     /// The place of an address among a master's nodes; their number where it is none of them.
     pub fn node_place(&self, m: u16, addr: Addr) -> usize
         ensures value { result ≡ node_place self.now m addr }
-        ensures within { result ≤ 256 }
+        ensures within { result ≤ NODES_MAX }
     {
         let nodes = self.nodes(m);
         position_of(nodes, addr).unwrap_or(nodes.len())
@@ -204,7 +205,7 @@ impl Plan {
 
     /// The name of the data node at a place among a master's nodes.
     pub fn node_name(&self, m: u16, k: usize) -> NodeName
-        requires { k ≤ 256 }
+        requires { k ≤ NODES_MAX }
         ensures { result ≡ node_name self.now m k }
     {
         NodeName::StoreAt(self.first_number(m) + k as u16)
@@ -217,7 +218,7 @@ impl Plan {
         ensures none { IfNone result (node_numbered (roster_of self.now).masters 0 number ≡ None) }
         ensures known { IfSome result (λ at. at.master < master_count self.now) }
         ensures within { IfSome result (λ at. at.place < length (nodes_of self.now at.master)) }
-        ensures few { IfSome result (λ at. at.place ≤ 256) }
+        ensures few { IfSome result (λ at. at.place ≤ NODES_MAX) }
     {
         let mut left = number as usize;
         for master in 0..self.master_count() {
@@ -240,7 +241,7 @@ impl Plan {
         ensures none { IfNone result (node_named self.now name ≡ None) }
         ensures known { IfSome result (λ at. at.master < master_count self.now) }
         ensures within { IfSome result (λ at. at.place < length (nodes_of self.now at.master)) }
-        ensures few { IfSome result (λ at. at.place ≤ 256) }
+        ensures few { IfSome result (λ at. at.place ≤ NODES_MAX) }
     {
         match name {
             NodeName::StoreAt(number) => self.node_numbered(number),
@@ -293,7 +294,7 @@ impl Plan {
     /// How many data nodes a master has, at most 256.
     pub fn node_count(&self, m: u16) -> usize
         ensures value { result ≡ length (nodes_of self.now m) }
-        ensures few { result ≤ 256 }
+        ensures few { result ≤ NODES_MAX }
     {
         self.nodes(m).len()
     }

@@ -1,6 +1,7 @@
 -- An input changes at most the current epoch and the entry of the master that its event concerns.
 use Rattle.std.proofs.Common.{◌≡◌, ◌≢◌, ℕ, zero, suc, ◌+◌, Bool, true, false, Option, Some, None, refl, sym, ap, ◌∙◌}
 use Rattle.std.specs.Prelude.{Result, Ok, Err, is_some, nat_lt, not, ◌&&◌, ◌==◌, if◌then◌else◌}
+use Rattle.std.proofs.lemmas.Option.{same_Some}
 use Rattle.ballot_law.specs.declared.addresses.Addr.{Addr}
 use Rattle.ballot_law.specs.declared.addresses.RunId.{RunId}
 use Rattle.ballot_law.specs.declared.cards.Card.{Card}
@@ -311,10 +312,7 @@ inputs_change_at plan core now event = input_at plan (clock now) event (cleared 
 -- so that of one master alone
 one_of : (master : Option ℕ) (kept kept2 : Kept) → ChangesAt master kept kept2 → ChangesOne kept kept2
 one_of None kept kept2 f = (0, λ k apart. f k (λ e. let no : ⊥ = cc in no))
-one_of (Some m) kept kept2 f = (m, λ k apart. f k (λ e. apart (some_inj e)))
-  where
-    some_inj : {k : ℕ} → Some m ≡ Some k → k ≡ m
-    some_inj e = cc
+one_of (Some m) kept kept2 f = (m, λ k apart. f k (λ e. apart (sym (same_Some m k e))))
 
 pub inputs_change_one : InputsChangeOne
 inputs_change_one plan core now event =

@@ -2,7 +2,7 @@
 use Rattle.std.proofs.Common.{◌≡◌, ℕ, zero, suc, ◌+◌, ◌<◌, Bool, true, false, cond, eqb, Option, Some, None, List, [], ◌∷◌, length, get_or, refl, sym, ap, subst, ◌∙◌, ◌⊎◌, inl, inr, arith}
 use Rattle.std.specs.Prelude.{not, ◌&&◌, ◌||◌, option_map, position}
 use Rattle.std.specs.List.{position_or_len}
-use Rattle.std.proofs.lemmas.Bool.{lt-ltb, eqb-false, or_parts, cases_order}
+use Rattle.std.proofs.lemmas.Bool.{lt-ltb, eqb-true, eqb-false, or_parts, cases_order}
 use Rattle.std.proofs.lemmas.List.Quantifiers.{position-Some}
 use Rattle.ballot_law.specs.declared.addresses.Addr.{Addr}
 use Rattle.ballot_law.specs.Ballots.{card_of}
@@ -11,7 +11,7 @@ use Rattle.ballot_law.specs.Rosters.{no_addr}
 use Rattle.replica_choice.specs.declared.candidates.Candidate.{Candidate}
 use Rattle.replica_choice.specs.declared.candidates.Limits.{Limits}
 use Rattle.replica_choice.specs.Choices.{is_eligible, is_better, candidate_at, no_candidate, with_place, choice_below, choice_of}
-use Rattle.ballot_law.proofs.CountedVotes.{both, eqb-true, eqb-same}
+use Rattle.ballot_law.proofs.CountedVotes.{both, eqb-same}
 use Rattle.sentinel_rules.specs.Plans.{Plan, master_count, nodes_of, addr_at, node_place}
 use Rattle.sentinel_rules.specs.States.{Core, card_place, is_node_down}
 use Rattle.sentinel_rules.specs.Ticks.{at_places, candidate_of, candidates_of, limits_of, best_of}

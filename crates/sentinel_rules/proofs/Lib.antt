@@ -12,6 +12,7 @@ pub mod StepTicks
 pub mod ShownOutputs
 pub mod NamedFrames
 pub mod Limiting
+pub mod ShownEpochs
 pub mod InputSteps
 pub mod WorkedRows
 pub mod Ignoring

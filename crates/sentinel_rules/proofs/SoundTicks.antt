@@ -3,6 +3,7 @@ use Rattle.std.proofs.Common.{◌≡◌, ℕ, zero, suc, ◌+◌, ◌*◌, ◌<�
 use Rattle.std.specs.Prelude.{IfSome, is_some, not, unwrap_or, nat_lt, nat_le, ◌==◌, ◌&&◌, if◌then◌else◌}
 use Rattle.std.proofs.lemmas.Bool.{ltb-true, leb-true}
 use Rattle.std.proofs.lemmas.List.{length-append, length-map}
+use Rattle.ballot_law.specs.declared.rosters.TheConstants.{NODES_MAX, SENTINELS_MAX}
 use Rattle.ballot_law.specs.declared.addresses.RunId.{RunId}
 use Rattle.ballot_law.specs.declared.cards.Kept.{Kept}
 use Rattle.ballot_law.specs.declared.cards.TheConstants.{MAX_EPOCH}
@@ -89,14 +90,14 @@ three_each frames f place (x ∷ xs) =
 
 -- Sizes
 
-pub few_peers : (plan : Plan) (core : Core) → IsSoundPlan plan → IsSound plan core → length core.peers ≤ 64
+pub few_peers : (plan : Plan) (core : Core) → IsSoundPlan plan → IsSound plan core → length core.peers ≤ SENTINELS_MAX
 few_peers plan core p s =
-    let e : length core.peers ≡ group_size plan = s.peers in let l : group_size plan ≤ 64 = p.conf.few_sentinels in omega arith
+    let e : length core.peers ≡ group_size plan = s.peers in let l : group_size plan ≤ SENTINELS_MAX = p.conf.few_sentinels in omega arith
 
-pub few_nodes : (plan : Plan) (core : Core) (m : ℕ) → IsSoundPlan plan → IsSound plan core → m < master_count plan → length (master_of core m).nodes ≤ 256
+pub few_nodes : (plan : Plan) (core : Core) (m : ℕ) → IsSoundPlan plan → IsSound plan core → m < master_count plan → length (master_of core m).nodes ≤ NODES_MAX
 few_nodes plan core m p s lt =
     let e : length (master_of core m).nodes ≡ length (nodes_of plan m) = (s.each m lt).nodes in
-    let l : length (nodes_of plan m) ≤ 256 = p.conf.few_nodes m lt in
+    let l : length (nodes_of plan m) ≤ NODES_MAX = p.conf.few_nodes m lt in
     omega arith
 
 -- What is due
@@ -106,7 +107,7 @@ peers_keeps plan zero now core p s =
     record {
       sound = sound_alike plan core (record core { peers = changed_from (peer_after plan now) 0 core.peers }) refl refl (length-changed_from (peer_after plan now) 0 core.peers) s;
       few = let a : length (frames_from (peer_frames plan now) 0 core.peers) ≤ length core.peers = one_each (peer_frames plan now) (λ k x. one_frame (is_peer_due plan now k x) (PingTo _)) 0 core.peers in
-          let b : length core.peers ≤ 64 = few_peers plan core p s in
+          let b : length core.peers ≤ SENTINELS_MAX = few_peers plan core p s in
           omega arith;
     }
 peers_keeps plan (suc m) now core p s = keeps_quiet plan 64 core s
@@ -128,7 +129,7 @@ nodes_keeps plan m now core p lt s =
     record {
       sound = sound_master plan core m (record (master_of core m) { nodes = changed_from (node_after g) 0 nodes }) s (λ l. nodes_with plan core.kept m (master_of core m) (changed_from (node_after g) 0 nodes) (s.each m l) (length-changed_from (node_after g) 0 nodes));
       few = let a : length (frames_from (node_frames plan m g) 0 nodes) ≤ 3 * length nodes = three_each (node_frames plan m g) (λ k node. node_few plan m g k node) 0 nodes in
-          let b : length nodes ≤ 256 = few_nodes plan core m p s lt in
+          let b : length nodes ≤ NODES_MAX = few_nodes plan core m p s lt in
           omega arith;
     }
 
@@ -269,7 +270,7 @@ row_keeps plan m now core p lt busy s =
       few = let a : length promotes ≤ 1 = promote_few plan m turn.row (chosen_place turn.failover.state) in
           let b : length orders ≤ length turn.failover.replicas = one_each (order_frames plan m) (λ k replica. one_frame replica.ordered (FollowTo (node_name plan m k) m)) 0 turn.failover.replicas in
           let c : length turn.failover.replicas ≡ length (nodes_of plan m) = f.replicas in
-          let d : length (nodes_of plan m) ≤ 256 = p.conf.few_nodes m lt in
+          let d : length (nodes_of plan m) ≤ NODES_MAX = p.conf.few_nodes m lt in
           let e : length (promotes ++ orders) ≡ length promotes + length orders = length-append promotes orders in
           omega arith;
     }
@@ -347,7 +348,7 @@ ask_keeps plan m now started core p s =
     (λ h. record {
       sound = sound_master plan core m (record (master_of core m) { ask_sent = Some now }) s (λ lt. master_alike plan core.kept m (master_of core m) (record (master_of core m) { ask_sent = Some now }) (s.each m lt) refl refl refl refl);
       few = let a : length (frames_from (ask_frames plan m (ask_candidate plan core m)) 0 core.peers) ≤ length core.peers = one_each (ask_frames plan m (ask_candidate plan core m)) (λ k x. one_frame (not (k == plan.place)) (AskTo k m (ask_candidate plan core m))) 0 core.peers in
-          let b : length core.peers ≤ 64 = few_peers plan core p s in
+          let b : length core.peers ≤ SENTINELS_MAX = few_peers plan core p s in
           omega arith;
     })
 

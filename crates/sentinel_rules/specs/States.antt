@@ -11,7 +11,7 @@ use Rattle.ballot_law.specs.Clocks.{clock}
 use Rattle.ballot_law.specs.Reports.{is_odown_by, kept_at}
 use Rattle.ballot_law.specs.Rosters.{MasterPlan, master_at}
 use Rattle.ballot_law.specs.Tilts.{Turned, opened_clock}
-use Rattle.ballot_law.specs.Watches.{Watched, opened_at, down_since_of}
+use Rattle.ballot_law.specs.Watches.{WatchState, opened_at, down_since_of}
 use Rattle.failover_states.specs.declared.states.FailoverState.{FailoverState}
 use Rattle.failover_states.specs.declared.states.FailoverState.TheVariants.{Idle, WaitStart, SelectReplica, SendPromotion, WaitPromotion, ReconfReplicas, UpdateConfig}
 use Rattle.failover_states.specs.Failovers.{Failover}
@@ -21,7 +21,7 @@ use Rattle.sentinel_rules.specs.Plans.{Plan, roster_of, group_size, settings_at,
 -- of a data node: its watch, when its last valid reply to a PING came, its last INFO and when it came, when it was last sent a
 -- PING, an INFO and a hello, and since when it has been wrong: as a master, or with another master
 pub record NodeState : Type 0 where
-  pub watch : Watched
+  pub watch : WatchState
   pub last_ping : Option ℕ
   pub info : Option Info
   pub info_at : Option ℕ
@@ -33,7 +33,7 @@ pub record NodeState : Type 0 where
 
 -- of a Sentinel: its watch, and when it was last sent a PING
 pub record PeerState : Type 0 where
-  pub watch : Watched
+  pub watch : WatchState
   pub ping_sent : Option ℕ
 
 -- of a master: the votes heard, by the voter's place; the failover; what the other Sentinels last said, by place; its nodes; when

@@ -2,7 +2,7 @@
 
 ghost use Rattle.sentinel_rules.specs.Changes.{InputsChangeAt, InputsChangeOne, InputsRaiseCards, OpenedIsAhead};
 ghost use Rattle.sentinel_rules.specs.Ignored.{IgnoredChangesNothing};
-ghost use Rattle.sentinel_rules.specs.Limits.{MessagesComeWithin, OutputsAreWithin};
+ghost use Rattle.sentinel_rules.specs.Limits.{EpochsAreWithin, MessagesComeWithin, OutputsAreWithin};
 ghost use Rattle.sentinel_rules.specs.Named.{HellosNameMasters};
 ghost use Rattle.sentinel_rules.specs.Room.{InputsKeepFew};
 ghost use Rattle.sentinel_rules.specs.Steps.{InputsAreSteps, OpenedIsSound};
@@ -28,11 +28,12 @@ pub fn law_hellos_name_masters()
     ensures { HellosNameMasters }
 {}
 
-/// All numbers in what a sound core puts out are in range: epochs of questions, and addresses, run ids, names and epochs of hellos. A
-/// message of which this holds comes to a Sentinel as an event that it may take.
-#[tactic(auto, using(crate::proofs::Limiting::outputs_are_within, crate::proofs::Limiting::messages_come_within))]
+/// All numbers in what a sound core puts out are in range: epochs of questions, addresses, run ids, names and epochs of hellos, and the epochs
+/// of the votes and configurations that its answers and notes show. A message within the limits of a question and of a hello comes to a Sentinel as an event that it may take.
+#[tactic(auto, using(crate::proofs::Limiting::outputs_are_within, crate::proofs::Limiting::messages_come_within, crate::proofs::ShownEpochs::epochs_are_within))]
 pub fn law_outputs_are_within()
     ensures outputs { OutputsAreWithin }
+    ensures epochs { EpochsAreWithin }
     ensures events { MessagesComeWithin }
 {}
 

@@ -3,6 +3,7 @@ use Rattle.std.proofs.Common.{◌≡◌, ℕ, ◌≤◌, Bool, true, false, cond
 use Rattle.std.specs.Prelude.{IfSome, unwrap_or}
 use Rattle.std.proofs.Math.ListN.{length-set}
 use Rattle.std.proofs.lemmas.List.{length-map}
+use Rattle.ballot_law.specs.declared.rosters.TheConstants.{NODES_MAX}
 use Rattle.ballot_law.specs.declared.addresses.Addr.{Addr}
 use Rattle.ballot_law.specs.declared.addresses.RunId.{RunId}
 use Rattle.failover_states.specs.declared.states.FailoverState.{FailoverState}
@@ -17,13 +18,13 @@ use Rattle.failover_states.specs.Table.{TableRow, Turn, table, first_that_fits, 
 use Rattle.sentinel_rules.proofs.Turns.{length-told}
 use Rattle.sentinel_state.specs.Places.{HasFewPlaces}
 
-mapped : (change : Replica → Replica) (xs : List Replica) → length xs ≤ 256 → length (map change xs) ≤ 256
+mapped : (change : Replica → Replica) (xs : List Replica) → length xs ≤ NODES_MAX → length (map change xs) ≤ NODES_MAX
 mapped change xs h = omega (arith, h, length-map xs change)
 
 pub few_ended : (f : Failover) → HasFewPlaces f → HasFewPlaces (ended f)
 few_ended f h = (mapped forgotten f.replicas h.0, omega arith)
 
-pub few_promoted : (state : FailoverState) (f : Failover) → unwrap_or (choice_of state) 0 ≤ 256 → HasFewPlaces f → HasFewPlaces (promoted state f)
+pub few_promoted : (state : FailoverState) (f : Failover) → unwrap_or (choice_of state) 0 ≤ NODES_MAX → HasFewPlaces f → HasFewPlaces (promoted state f)
 few_promoted Idle f c h = h
 few_promoted (WaitStart epoch) f c h = h
 few_promoted (SelectReplica epoch) f c h = h
@@ -55,11 +56,11 @@ first_few f vote [] h r = h
 first_few f vote (row ∷ rows) h r =
     either row.fits (record { failover = row.leaves; row = Some row.row; vote = vote }) (first_that_fits f vote rows) r.0 (first_few f vote rows h r.1)
 
-few_chosen : (epoch : ℕ) (best : Option (ℕ × Addr)) (f : Failover) (k : Known) → IfSome best (λ b. b.0 ≤ 256) → HasFewPlaces f → HasFewPlaces (chosen epoch best f k)
+few_chosen : (epoch : ℕ) (best : Option (ℕ × Addr)) (f : Failover) (k : Known) → IfSome best (λ b. b.0 ≤ NODES_MAX) → HasFewPlaces f → HasFewPlaces (chosen epoch best f k)
 few_chosen epoch None f k b h = h
 few_chosen epoch (Some best) f k b h = (h.0, b)
 
-few_in : (state : FailoverState) (f : Failover) (k : Known) → IfSome k.best (λ b. b.0 ≤ 256) → unwrap_or (choice_of state) 0 ≤ 256 → HasFewPlaces f → HasFewPlaces (turn_in state f k).failover
+few_in : (state : FailoverState) (f : Failover) (k : Known) → IfSome k.best (λ b. b.0 ≤ NODES_MAX) → unwrap_or (choice_of state) 0 ≤ NODES_MAX → HasFewPlaces f → HasFewPlaces (turn_in state f k).failover
 few_in Idle f k b c h = first_few f (vote_of Idle k) (table Idle f k) h ((h.0, omega arith), tt)
 few_in (WaitStart epoch) f k b c h =
     first_few f (vote_of (WaitStart epoch) k) (table (WaitStart epoch) f k) h ((h.0, omega arith), (few_ended f h, (h, tt)))
@@ -71,9 +72,9 @@ few_in (WaitPromotion epoch choice former) f k b c h =
     first_few f (vote_of (WaitPromotion epoch choice former) k) (table (WaitPromotion epoch choice former) f k) h (few_ended f h, (h, tt))
 few_in (ReconfReplicas epoch choice former) f k b c h =
     let can = can_be_told choice former k in
-    let all : length (told (is_due can f.replicas) k.now f.replicas) ≤ 256 = omega (arith, h.0, length-told (is_due can f.replicas) k.now f.replicas) in
+    let all : length (told (is_due can f.replicas) k.now f.replicas) ≤ NODES_MAX = omega (arith, h.0, length-told (is_due can f.replicas) k.now f.replicas) in
     let next = is_next can (busy_count f.replicas) k.parallel_syncs f.replicas in
-    let some : length (told next k.now f.replicas) ≤ 256 = omega (arith, h.0, length-told next k.now f.replicas) in
+    let some : length (told next k.now f.replicas) ≤ NODES_MAX = omega (arith, h.0, length-told next k.now f.replicas) in
     first_few f (vote_of (ReconfReplicas epoch choice former) k) (table (ReconfReplicas epoch choice former) f k) h ((all, c), ((h.0, c), ((some, h.1), tt)))
 few_in (UpdateConfig epoch choice) f k b c h =
     first_few f (vote_of (UpdateConfig epoch choice) k) (table (UpdateConfig epoch choice) f k) h (few_ended f h, tt)
@@ -87,12 +88,12 @@ few_expiring (WaitPromotion epoch choice former) now f h = h
 few_expiring (ReconfReplicas epoch choice former) now f h = (mapped (expired now) f.replicas h.0, h.1)
 few_expiring (UpdateConfig epoch choice) now f h = h
 
-few_turned : (f : Failover) (k : Known) → IfSome k.best (λ b. b.0 ≤ 256) → HasFewPlaces f → HasFewPlaces (turned f k).failover
+few_turned : (f : Failover) (k : Known) → IfSome k.best (λ b. b.0 ≤ NODES_MAX) → HasFewPlaces f → HasFewPlaces (turned f k).failover
 few_turned f k b h =
     few_in f.state (expiring f.state k.now (quieted f)) k b h.1 (few_expiring f.state k.now (quieted f) (mapped unordered f.replicas h.0, h.1))
 
 pub few_after : (f after : Failover) (k : Known) (row : Option Row) (vote : Option RunId) → record { failover = after; row = row; vote = vote } ≡ turned f k
-    → IfSome k.best (λ b. b.0 ≤ 256) → HasFewPlaces f → HasFewPlaces after
+    → IfSome k.best (λ b. b.0 ≤ NODES_MAX) → HasFewPlaces f → HasFewPlaces after
 few_after f after k row vote e b h =
     let same : (turned f k).failover ≡ after = sym (ap (λ (t : Turn). t.failover) e) in
     subst (λ (x : Failover). HasFewPlaces x) same (few_turned f k b h)

@@ -1,6 +1,7 @@
 //! What a Sentinel keeps while it runs.
 
 ghost use Rattle.std.specs.Prelude.{◌≡◌, ◌<◌, ◌≤◌, length, map, IfOk, IfSome, IfNone, Some, slice_set};
+ghost use Rattle.ballot_law.specs.declared.rosters.TheConstants.{MASTERS_MAX, NODES_MAX, SENTINELS_MAX};
 ghost use Rattle.ballot_law.specs.Ballots.{card_of, kept_of, voted_of};
 ghost use Rattle.ballot_law.specs.Clocks.{clock};
 ghost use Rattle.sentinel_rules.specs.States.{opened, is_tilted, card_place, node_down_since, is_node_down, is_master_down, is_peer_down, is_odown_at, is_failing_over, is_idle, new_master, with_current, with_card, with_node, node_of, no_node, peer_of};
@@ -41,9 +42,9 @@ pub struct Core {
 
 impl Model for Core {
     ghost use Rattle.std.specs.Prelude.{◌≤◌, length};
-    ghost use Rattle.sentinel_rules.specs.States.{Core as Keeping};
+    ghost use Rattle.sentinel_rules.specs.States.{Core as CoreModel};
 
-    ghost Value = { Keeping };
+    ghost Value = { CoreModel };
 
     ghost view = { λ core. record {
       kept = core.kept;
@@ -54,15 +55,15 @@ impl Model for Core {
       won = core.won;
     } };
 
-    ghost invariant = { λ core. (length core.masters.items ≤ 16)
-        × ((length core.peers.items ≤ 64) × (length core.kept.masters ≤ 16)) };
+    ghost invariant = { λ core. (length core.masters.items ≤ MASTERS_MAX)
+        × ((length core.peers.items ≤ SENTINELS_MAX) × (length core.kept.masters ≤ MASTERS_MAX)) };
 }
 
 /// Each master of the plan, of which nothing was heard yet.
 fn opened_masters(alloc: Global, plan: &Plan, now: u64) -> Result<Vec<Master>, NoMemory>
     ensures value { IfOk result (λ masters. masters.items ≡ map (λ master.
         new_master (group_size plan.now) (length master.nodes) (clock now)) (roster_of plan.now).masters) }
-    ensures few { IfOk result (λ masters. length masters.items ≤ 16) }
+    ensures few { IfOk result (λ masters. length masters.items ≤ MASTERS_MAX) }
 {
     let mut masters = Vec::with_capacity(alloc, plan.master_count() as usize)?;
     for m in 0..plan.master_count() {
@@ -87,7 +88,7 @@ fn copy_of(alloc: Global, kept: &Kept) -> Result<Kept, AllocError>
 #[tactic(auto, using(crate::proofs::KeptLemmas::few_kept))]
 fn opened_kept(alloc: Global, plan: &Plan) -> Result<Kept, AllocError>
     ensures value { IfOk result (λ kept. kept ≡ plan.now.conf.kept) }
-    ensures few { IfOk result (λ kept. length kept.masters ≤ 16) }
+    ensures few { IfOk result (λ kept. length kept.masters ≤ MASTERS_MAX) }
 {
     let conf = plan.conf();
     let _sound = conf.roster();
@@ -120,7 +121,7 @@ fn card_position(masters: &[KeptMaster], addr: Addr) -> Option<usize>
 }
 
 impl Core {
-    /// What a Sentinel keeps at its start: what its file holds, and nothing else. The only error is want of memory.
+    /// What a Sentinel keeps at its start: what its file holds, and nothing else. The only error is a refused allocation.
     pub fn open(alloc: Global, plan: &Plan, now: u64) -> Result<Core, NoMemory>
         ensures { IfOk result (λ core. core ≡ opened plan.now now) }
     {
@@ -184,7 +185,7 @@ impl Core {
     /// The place of the node that a master's configuration names; their number where it is none of the master's.
     pub fn card_place(&self, plan: &Plan, m: u16) -> usize
         ensures value { result ≡ card_place plan.now self.now m }
-        ensures within { result ≤ 256 }
+        ensures within { result ≤ NODES_MAX }
     {
         plan.node_place(m, self.card(m).addr)
     }
@@ -355,7 +356,7 @@ impl Core {
     /// What is kept of each Sentinel, by its place.
     pub fn peers(&self) -> &[Peer]
         ensures value { result.now ≡ self.now.peers }
-        ensures few { length result.now ≤ 64 }
+        ensures few { length result.now ≤ SENTINELS_MAX }
     {
         self.peers.as_slice()
     }

@@ -1,6 +1,7 @@
 //! The failover that is kept of a master: how far it has come, its turns, and what moves it.
 
 ghost use Rattle.std.specs.Prelude.{◌≡◌, ◌<◌, ◌≤◌, true, IfSome, length};
+ghost use Rattle.ballot_law.specs.declared.rosters.TheConstants.{NODES_MAX};
 ghost use Rattle.ballot_law.specs.Clocks.{clock};
 ghost use Rattle.failover_states.specs.Calls.{choice_of, promoted, reconfigured};
 ghost use Rattle.failover_states.specs.Failovers.{ended};
@@ -17,7 +18,7 @@ use failover_states::{Act, Facts, FailoverState};
 impl Master {
     /// The failover takes the first row that fits.
     fn turn(&mut self, facts: &Facts) -> Act
-        requires { IfSome facts.now.best (λ best. best.0 ≤ 256) }
+        requires { IfSome facts.now.best (λ best. best.0 ≤ NODES_MAX) }
         ensures turn { record { failover = self.new.failover; row = result.row; vote = result.vote }
             ≡ turned self.old.failover (known facts.entry.now) }
         ensures rest { self.new ≡ record self.old { failover = self.new.failover } }
@@ -28,7 +29,7 @@ impl Master {
     /// The place of the replica that the failover chose.
     fn choice(&self) -> Option<u16>
         ensures value { result ≡ choice_of self.now.failover.state }
-        ensures few { IfSome result (λ place. place ≤ 256) }
+        ensures few { IfSome result (λ place. place ≤ NODES_MAX) }
     {
         self.failover.choice()
     }
@@ -36,7 +37,7 @@ impl Master {
     /// How many nodes the failover keeps.
     fn place_count(&self) -> usize
         ensures value { result ≡ length self.now.failover.replicas }
-        ensures few { result ≤ 256 }
+        ensures few { result ≤ NODES_MAX }
     {
         self.failover.node_count()
     }
@@ -66,7 +67,7 @@ impl Core {
     /// The place of the replica that a failover chose.
     pub fn choice(&self, m: u16) -> Option<u16>
         ensures value { result ≡ choice_of (failover_of self.now m).state }
-        ensures few { IfSome result (λ place. place ≤ 256) }
+        ensures few { IfSome result (λ place. place ≤ NODES_MAX) }
     {
         match self.masters.get(m as usize) {
             Some(master) => master.choice(),
@@ -77,7 +78,7 @@ impl Core {
     /// How many nodes a failover keeps.
     pub fn place_count(&self, m: u16) -> usize
         ensures value { result ≡ length (failover_of self.now m).replicas }
-        ensures few { result ≤ 256 }
+        ensures few { result ≤ NODES_MAX }
     {
         match self.masters.get(m as usize) {
             Some(master) => master.place_count(),
@@ -97,7 +98,7 @@ impl Core {
 
     /// The failover of a master takes the first row that fits. Without a master with this number nothing was found down.
     pub fn take_turn(&mut self, m: u16, facts: &Facts) -> Act
-        requires few { IfSome facts.now.best (λ best. best.0 ≤ 256) }
+        requires few { IfSome facts.now.best (λ best. best.0 ≤ NODES_MAX) }
         requires odown { facts.now.odown ≡ true → m < length self.old.masters }
         ensures state { self.new ≡ with_failover self.old m (turned (failover_of self.old m) (known facts.entry.now)).failover }
         ensures failover { failover_of self.new m ≡ (turned (failover_of self.old m) (known facts.entry.now)).failover }

@@ -1,6 +1,7 @@
 //! What is kept of a master.
 
 ghost use Rattle.std.specs.Prelude.{◌≡◌, ◌≤◌, length, IfOk};
+ghost use Rattle.ballot_law.specs.declared.rosters.TheConstants.{NODES_MAX};
 ghost use Rattle.ballot_law.specs.Clocks.{clock};
 ghost use Rattle.sentinel_rules.specs.States.{new_master};
 
@@ -44,7 +45,7 @@ impl Model for Master {
       odown = master.odown;
     } };
 
-    ghost invariant = { λ master. (length master.nodes.items ≤ 256) × HasFewPlaces master.failover };
+    ghost invariant = { λ master. (length master.nodes.items ≤ NODES_MAX) × HasFewPlaces master.failover };
 }
 
 impl Master {
@@ -55,7 +56,7 @@ impl Master {
         nodes: u16,
         now: u64,
     ) -> Result<Master, NoMemory>
-        requires { nodes ≤ 256 }
+        requires { nodes ≤ NODES_MAX }
         ensures { IfOk result (λ master. master ≡ new_master sentinels nodes (clock now)) }
     {
         Ok(Master {

@@ -1,6 +1,7 @@
 -- The best replica stands at one of the master's nodes.
 use Rattle.std.proofs.Common.{◌≡◌, ℕ, zero, suc, ◌<◌, ◌≤◌, Bool, true, false, cond, List, length, Option, Some, None, arith}
 use Rattle.std.specs.Prelude.{IfSome, option_map, ◌&&◌}
+use Rattle.ballot_law.specs.declared.rosters.TheConstants.{NODES_MAX}
 use Rattle.ballot_law.specs.declared.addresses.Addr.{Addr}
 use Rattle.replica_choice.specs.declared.candidates.Candidate.{Candidate}
 use Rattle.replica_choice.specs.declared.candidates.Limits.{Limits}
@@ -28,14 +29,14 @@ below_within : (candidates : List Candidate) (now : ℕ) (limits : Limits) (n : 
 below_within candidates now limits zero = tt
 below_within candidates now limits (suc n) = with_within candidates now limits (choice_below candidates now limits n) n (below_within candidates now limits n)
 
-with_addr : (plan : Plan) (m n : ℕ) (choice : Option ℕ) → n ≤ 256 → IfSome choice (λ k. k < n)
-    → (let best : Option (ℕ × Addr) = option_map (λ k. (k, addr_at plan m k)) choice in IfSome {T = ℕ × Addr} best (λ b. b.0 ≤ 256))
+with_addr : (plan : Plan) (m n : ℕ) (choice : Option ℕ) → n ≤ NODES_MAX → IfSome choice (λ k. k < n)
+    → (let best : Option (ℕ × Addr) = option_map (λ k. (k, addr_at plan m k)) choice in IfSome {T = ℕ × Addr} best (λ b. b.0 ≤ NODES_MAX))
 with_addr plan m n None few h = tt
 with_addr plan m n (Some k) few h = omega (arith, few, h)
 
-pub best_few : (plan : Plan) (core : Core) (m now : ℕ) → length (nodes_of plan m) ≤ 256 → IfSome (best_of plan core m now) (λ b. b.0 ≤ 256)
+pub best_few : (plan : Plan) (core : Core) (m now : ℕ) → length (nodes_of plan m) ≤ NODES_MAX → IfSome (best_of plan core m now) (λ b. b.0 ≤ NODES_MAX)
 best_few plan core m now few =
     let all = candidates_of plan core m now in
     let same : length all ≡ length (nodes_of plan m) = length-at_places (candidate_of plan core m now) 0 (length (nodes_of plan m)) in
-    let fits : length all ≤ 256 = omega (arith, few, same) in
+    let fits : length all ≤ NODES_MAX = omega (arith, few, same) in
     with_addr plan m (length all) (choice_of all now (limits_of plan core m now)) fits (below_within all now (limits_of plan core m now) (length all))

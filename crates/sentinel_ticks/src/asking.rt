@@ -1,6 +1,7 @@
 //! The questions to the other Sentinels whether a master is down.
 
 ghost use Rattle.std.specs.Prelude.{◌≡◌, ◌≤◌, length};
+ghost use Rattle.ballot_law.specs.declared.rosters.TheConstants.{SENTINELS_MAX};
 ghost use Rattle.ballot_law.specs.Clocks.{clock};
 ghost use Rattle.watched_nodes.specs.Room.{added};
 ghost use Rattle.sentinel_rules.specs.Parts.{frames_from};
@@ -15,7 +16,7 @@ use watched_nodes::{FrameList, Peer};
 
 /// Asks each other Sentinel whether a master is down, and for its vote where there is a candidate.
 fn ask_each(peers: &[Peer], plan: &Plan, m: u16, candidate: Option<RunId>, frames: &mut FrameList)
-    requires { length peers.now ≤ 64 }
+    requires { length peers.now ≤ SENTINELS_MAX }
     ensures { frames.new ≡ added frames.old (frames_from (ask_frames plan.now m candidate) 0 peers.now) }
 {
     let own = plan.place() as usize;

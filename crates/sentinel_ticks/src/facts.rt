@@ -1,21 +1,19 @@
 //! What a turn of a master's failover looks at: the best replica, which nodes are down, and the votes of its campaign.
 
 ghost use Rattle.std.specs.Prelude.{◌≡◌, ◌≤◌, [], None, IfSome, if◌then◌else◌, length, take};
+ghost use Rattle.ballot_law.specs.declared.rosters.TheConstants.{NODES_MAX};
 ghost use Rattle.ballot_law.specs.Clocks.{clock};
 ghost use Rattle.sentinel_rules.specs.Plans.{me, nodes_of};
 ghost use Rattle.sentinel_rules.specs.States.{card_place, is_node_down};
 ghost use Rattle.sentinel_rules.specs.Ticks.{candidate_of, candidates_of, at_places, down_for, limits_of, best_of, pick_of, count_of};
 ghost use Rattle.sentinel_ticks.specs.Rows.{looks_at_votes, looks_at_best, looks_at_nodes};
 
-use ballot_law::{Addr, RunId, clock_of};
+use ballot_law::{Addr, NODES_MAX, RunId, clock_of};
 use failover_states::FailoverState;
 use replica_choice::{Candidate, Limits, choose};
 use sentinel_state::State;
 use std::marker::Model;
 use watched_nodes::Node;
-
-/// The greatest number of data nodes of a master.
-const NODES_MAX: usize = 256;
 
 /// For how long something has been down, in milliseconds.
 fn down_for(since: Option<u64>, now: u64) -> u64
@@ -41,7 +39,7 @@ impl Model for DownPlaces {
 
     ghost view = { λ places. take places.count places.down };
 
-    ghost invariant = { λ places. places.count ≤ 256 };
+    ghost invariant = { λ places. places.count ≤ NODES_MAX };
 }
 
 /// Whether the rows of this state look at the votes heard.
@@ -185,7 +183,7 @@ pub(crate) fn count_for(state: &State, m: u16, epoch: u64, stage: FailoverState)
 #[tactic(auto, using(crate::proofs::FewBest::best_few))]
 pub(crate) fn best_for(state: &State, m: u16, now: u64, stage: FailoverState) -> Option<(u16, Addr)>
     ensures value { result ≡ (if looks_at_best stage then best_of state.now.plan state.now.core m (clock now) else None) }
-    ensures few { IfSome result (λ best. best.0 ≤ 256) }
+    ensures few { IfSome result (λ best. best.0 ≤ NODES_MAX) }
 {
     let _few = state.plan.nodes(m);
     if looks_at_best(stage) {

@@ -1,6 +1,7 @@
 //! The failover of a master: its start, and the row that it takes at each tick.
 
 ghost use Rattle.std.specs.Prelude.{◌≡◌, ◌<◌, ◌≤◌, true, false, IfSome, length};
+ghost use Rattle.ballot_law.specs.declared.rosters.TheConstants.{NODES_MAX};
 ghost use Rattle.ballot_law.specs.Clocks.{clock};
 ghost use Rattle.failover_states.specs.Calls.{choice_of};
 ghost use Rattle.failover_states.specs.Known.{known};
@@ -95,7 +96,7 @@ fn facts<'a>(
     requires down { down.now ≡ (looked_at stage (known_of state.now.plan state.now.core m (clock now) odown)).down }
     ensures turn { turned (failover_of state.now.core m) (known result) ≡ turn_of state.now.plan state.now.core m (clock now) odown }
     ensures odown { result.odown ≡ odown }
-    ensures few { IfSome result.best (λ best. best.0 ≤ 256) }
+    ensures few { IfSome result.best (λ best. best.0 ≤ NODES_MAX) }
 {
     let settings = state.plan.settings(m);
     let epoch = state.core.campaign_epoch(m);
@@ -144,7 +145,7 @@ fn order_replicas(core: &Core, plan: &Plan, m: u16, frames: &mut FrameList)
 
 /// Tells the replica at a place to follow the new master, where the last turn does.
 fn order_replica(core: &Core, plan: &Plan, m: u16, k: usize, frames: &mut FrameList)
-    requires { k ≤ 256 }
+    requires { k ≤ NODES_MAX }
     ensures { frames.new ≡ added frames.old (order_frames plan.now m k (replica_at (failover_of core.now m).replicas k)) }
 {
     let target = plan.node_name(m, k);

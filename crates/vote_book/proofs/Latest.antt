@@ -3,7 +3,7 @@ use Rattle.std.proofs.Common.{◌≡◌, ◌≢◌, ℕ, ◌<◌, ◌≤◌, Boo
 use Rattle.std.specs.Prelude.{MatchOption, nat_lt}
 use Rattle.std.specs.List.{AllByRecursion}
 use Rattle.std.proofs.lemmas.Bool.Decides.{nat_tests}
-use Rattle.std.proofs.lemmas.Bool.{ltb-true}
+use Rattle.std.proofs.lemmas.Bool.{eqb-true, eqb-false, ltb-true, ltb-false}
 use Rattle.ballot_law.specs.declared.hearings.HeardVote.{HeardVote}
 use Rattle.ballot_law.specs.VotesHeard.{Hearing, greater, latest, IsLatest}
 
@@ -14,15 +14,6 @@ all_weaker P Q f (x ∷ xs) h = (f x h.0, all_weaker P Q f xs h.1)
 all_joined : (P : Hearing → Type 0) (xs ys : List Hearing) → AllByRecursion P xs → AllByRecursion P ys → AllByRecursion P (xs ++ ys)
 all_joined P [] ys h k = k
 all_joined P (x ∷ xs) ys h k = (h.0, all_joined P xs ys h.1 k)
-
-differ : (a b : ℕ) → eqb a b ≡ false → a ≢ b
-differ a b e = λ same. grind (arith, nat_tests)
-
-agree : (a b : ℕ) → eqb a b ≡ true → a ≡ b
-agree a b e = grind (arith, nat_tests)
-
-at_most : (a b : ℕ) → nat_lt a b ≡ false → b ≤ a
-at_most a b e = grind (arith, nat_tests)
 
 abbrev Others : ℕ → Hearing → Type 0
 Others voter hearing = hearing.voter ≢ voter
@@ -65,14 +56,14 @@ all_below es voter epoch kept lt t =
 
 own : (h : Hearing) (es : List Hearing) (voter : ℕ) (kept : HeardVote) (newer : Bool) → nat_lt kept.epoch h.vote.epoch ≡ newer → h.voter ≡ voter → IsLatest es voter kept → IsLatest (h ∷ es) voter (cond newer h.vote kept)
 own h es voter kept true e same t = first h es voter same (all_below es voter h.vote.epoch kept (ltb-true kept.epoch h.vote.epoch e) t)
-own h es voter kept false e same t = later_one h es voter kept (λ _. at_most kept.epoch h.vote.epoch e) t
+own h es voter kept false e same t = later_one h es voter kept (λ _. ltb-false kept.epoch h.vote.epoch e) t
 
 step : (h : Hearing) (es : List Hearing) (voter : ℕ) (told : Option HeardVote) (his : Bool) → eqb h.voter voter ≡ his → Told es voter told → Told (h ∷ es) voter (cond his (Some (greater told h.vote)) told)
 step h es voter None true e t =
-    first h es voter (agree h.voter voter e) (all_weaker (Others voter) (Below voter h.vote.epoch) (λ x other same. absurd (other same)) es t)
-step h es voter None false e t = (differ h.voter voter e, t)
-step h es voter (Some kept) true e t = own h es voter kept (nat_lt kept.epoch h.vote.epoch) refl (agree h.voter voter e) t
-step h es voter (Some kept) false e t = later_one h es voter kept (λ same. absurd (differ h.voter voter e same)) t
+    first h es voter (eqb-true h.voter voter e) (all_weaker (Others voter) (Below voter h.vote.epoch) (λ x other same. absurd (other same)) es t)
+step h es voter None false e t = (eqb-false h.voter voter e, t)
+step h es voter (Some kept) true e t = own h es voter kept (nat_lt kept.epoch h.vote.epoch) refl (eqb-true h.voter voter e) t
+step h es voter (Some kept) false e t = later_one h es voter kept (λ same. absurd (eqb-false h.voter voter e same)) t
 
 pub latest_told : (heard : List Hearing) (voter : ℕ) → MatchOption (latest heard voter) (AllByRecursion (λ hearing. hearing.voter ≢ voter) heard) (λ vote. IsLatest heard voter vote)
 latest_told [] voter = tt

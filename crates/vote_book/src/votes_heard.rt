@@ -1,7 +1,7 @@
 //! The votes that were heard of for one master, one of each voter.
 
 ghost use Rattle.std.specs.Prelude.{◌≡◌, ℕ, ◌<◌, ◌≤◌, ◌^◌, ◌∷◌, ◌↔◌, List, [], None, IfOk, IsTrue, length, replicate};
-ghost use Rattle.ballot_law.specs.VotesHeard.{Hearing, hearing_of, latest, leads, leader_below, count_in, pick_in, IsElectedIn, kept_at, StandsFor, with_hearing};
+ghost use Rattle.ballot_law.specs.VotesHeard.{Hearing, hearing_of, latest, leads, leader_below, count_in, pick_in, IsPick, IsElectedIn, kept_at, StandsFor, with_hearing};
 
 use crate::VoteBook;
 use ballot_law::{HeardVote, NoMemory, RunId};
@@ -147,6 +147,7 @@ impl Heard {
         ensures pick { (heard : List Hearing) → StandsFor self.now heard →
             result ≡ pick_in (latest heard) (length self.now) epoch me }
         ensures kept { result ≡ pick_in (kept_at self.now) (length self.now) epoch me }
+        ensures most { IsPick (kept_at self.now) (length self.now) epoch me result }
     {
         pick_among(&self.votes, epoch, me)
     }

@@ -4,9 +4,10 @@ ghost use Rattle.std.specs.Prelude.{◌≡◌, ◌∷◌, [], IfOk};
 ghost use Rattle.sentinel_rules.specs.Parts.{frame_if};
 ghost use Rattle.watched_nodes.specs.Room.{added};
 
+use ballot_law::NoMemory;
 use bounded_list::BoundedList;
 use sentinel_rules::{FRAMES_MAX, Frame};
-use std::alloc::{AllocError, Global};
+use std::alloc::Global;
 use std::marker::Model;
 
 /// What one input has a Sentinel put out, in order, in room that was made beforehand, so that adding takes no memory.
@@ -25,8 +26,8 @@ impl Model for FrameList {
 }
 
 impl FrameList {
-    /// An empty list; the only error is want of memory.
-    pub fn with_room(alloc: Global) -> Result<FrameList, AllocError>
+    /// An empty list with its room; `NoMemory` where there is no memory for it.
+    pub fn with_room(alloc: Global) -> Result<FrameList, NoMemory>
         ensures { IfOk result (λ list. list ≡ []) }
     {
         let frames = BoundedList::with_room(alloc)?;

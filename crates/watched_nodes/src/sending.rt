@@ -1,6 +1,7 @@
 //! What is due to be sent: PINGs to the other Sentinels; PINGs, INFO and hellos to the data nodes.
 
 ghost use Rattle.std.specs.Prelude.{◌≡◌, ◌≤◌, length};
+ghost use Rattle.ballot_law.specs.declared.rosters.TheConstants.{NODES_MAX, SENTINELS_MAX};
 ghost use Rattle.ballot_law.specs.Clocks.{clock};
 ghost use Rattle.sentinel_rules.specs.Parts.{changed_from, frames_from};
 ghost use Rattle.sentinel_rules.specs.Ticks.{is_due, sent_at, ping_period, is_peer_due, peer_after, peer_frames, had_link_down, is_ping_due, is_info_due, is_hello_due, node_after, node_frames};
@@ -48,7 +49,7 @@ impl Peer {
 
     /// Sends the Sentinel at a place its PING where it is due.
     fn send(&mut self, plan: &Plan, now: u64, place: usize, frames: &mut FrameList)
-        requires { place ≤ 64 }
+        requires { place ≤ SENTINELS_MAX }
         ensures peer { self.new ≡ peer_after plan.now now place self.old }
         ensures frames { frames.new ≡ added frames.old (peer_frames plan.now now place self.old) }
     {
@@ -60,7 +61,7 @@ impl Peer {
 
 /// Sends each other Sentinel its PING where it is due. `now` is at most 2^62, here and below.
 pub fn send_each_peer(peers: &mut [Peer], plan: &Plan, now: u64, frames: &mut FrameList)
-    requires { length peers.old ≤ 64 }
+    requires { length peers.old ≤ SENTINELS_MAX }
     ensures peers { peers.new ≡ changed_from (peer_after plan.now now) 0 peers.old }
     ensures frames { frames.new ≡ added frames.old (frames_from (peer_frames plan.now now) 0 peers.old) }
 {
@@ -83,9 +84,9 @@ pub struct Sending {
 }
 
 impl Model for Sending {
-    ghost use Rattle.sentinel_rules.specs.Ticks.{Sending as Going};
+    ghost use Rattle.sentinel_rules.specs.Ticks.{Sending as SendingModel};
 
-    ghost Value = { Going };
+    ghost Value = { SendingModel };
 
     ghost view = { λ s. record {
       now = s.now;
@@ -140,7 +141,7 @@ impl Node {
     /// Sends the node at a place of a master what is due: PING, INFO, hello.
     #[tactic(auto, using(crate::proofs::RoomLemmas::added_both))]
     fn send(&mut self, plan: &Plan, m: u16, sending: Sending, k: usize, frames: &mut FrameList)
-        requires { k ≤ 256 }
+        requires { k ≤ NODES_MAX }
         ensures node { self.new ≡ node_after sending k self.old }
         ensures frames { frames.new ≡ added frames.old (node_frames plan.now m sending k self.old) }
     {
@@ -174,7 +175,7 @@ pub fn send_each_node(
     sending: Sending,
     frames: &mut FrameList,
 )
-    requires { length nodes.old ≤ 256 }
+    requires { length nodes.old ≤ NODES_MAX }
     ensures nodes { nodes.new ≡ changed_from (node_after sending) 0 nodes.old }
     ensures frames { frames.new ≡ added frames.old (frames_from (node_frames plan.now m sending) 0 nodes.old) }
 {

@@ -1,11 +1,11 @@
 -- Decimal digits, read one at a time.
-use Rattle.std.proofs.Common.{◌≡◌, ℕ, ◌+◌, ◌-◌, ◌*◌, ◌^◌, ◌≤◌, ◌<◌, Bool, true, false, ◌&&◌, ltb, leb, List, [], ◌∷◌, length, get_or, refl, ap, sym, ◌∙◌, arith, Option, Some, None, decimal}
+use Rattle.std.proofs.Common.{◌≡◌, ℕ, ◌+◌, ◌-◌, ◌*◌, ◌^◌, ◌≤◌, ◌<◌, Bool, true, false, cond, ◌&&◌, eqb, ltb, leb, List, [], ◌∷◌, length, get_or, refl, ap, sym, ◌∙◌, arith, Option, Some, None, decimal}
 use Rattle.std.specs.List.{list_all}
-use Rattle.std.proofs.lemmas.Bool.{and_parts, and_from, lt-ltb, ltb-true, leb-true, le-leb}
+use Rattle.std.proofs.lemmas.Bool.{eqb-true, and_parts, and_from, lt-ltb, ltb-true, leb-true, le-leb}
 use Rattle.std.proofs.lemmas.Bool.Decides.{nat_tests}
 use Rattle.std.proofs.lemmas.Fmt.{decimal-digits_value}
 use Rattle.std.proofs.lemmas.Str.Parse.{IsNumeralModel, IsDigitsTest, FoldsDigits, numerals_by_fold}
-use Rattle.ballot_law.specs.Words.{some_if, then_some, is_digit, number_on, number_within, canonical_within}
+use Rattle.ballot_law.specs.Words.{some_if, then_some, is_digit, has_leading_zero, number_on, number_within, canonical_within}
 use Rattle.ballot_law.specs.Orders.{same_bytes}
 use Rattle.ballot_law.proofs.WordLemmas.{some_if-some, same_bytes-refl, same_bytes-true, some_if-is, some_if-none, decimal_leads}
 
@@ -96,10 +96,10 @@ other_by n bs true e h z l =
     absurd (omega arith)
 other_by n bs false e h z l = refl
 
-pub canonical_other : (low high n : ℕ) (bs : List ℕ) → n < 2 ^ 64 → number_within low high bs ≡ Some n → get_or bs 0 0 ≡ 48 → 1 < length bs → canonical_within low high bs ≡ None
+canonical_other : (low high n : ℕ) (bs : List ℕ) → n < 2 ^ 64 → number_within low high bs ≡ Some n → get_or bs 0 0 ≡ 48 → 1 < length bs → canonical_within low high bs ≡ None
 canonical_other low high n bs h e z l = canonical_of low high n bs e ∙ other_by n bs (same_bytes bs (decimal n)) refl h z l
 
-pub canonical_same : (low high n : ℕ) (bs : List ℕ) → n < 2 ^ 64 → number_within low high bs ≡ Some n → (get_or bs 0 0 ≡ 48 → length bs ≤ 1) → canonical_within low high bs ≡ Some n
+canonical_same : (low high n : ℕ) (bs : List ℕ) → n < 2 ^ 64 → number_within low high bs ≡ Some n → (get_or bs 0 0 ≡ 48 → length bs ≤ 1) → canonical_within low high bs ≡ Some n
 canonical_same low high n bs h e z =
     let k = number_is low high n bs e in
     let lead : get_or bs 0 0 ≡ 48 → length bs ≡ 1 = λ i. let le = z i in let some = k.some in omega arith in
@@ -108,3 +108,10 @@ canonical_same low high n bs h e z =
     let text : bs ≡ decimal n = sym back ∙ ap decimal k.value in
     let same : same_bytes bs (decimal n) ≡ true = ap (same_bytes bs) (sym text) ∙ same_bytes-refl bs in
     canonical_of low high n bs e ∙ ap (λ t. some_if t n) same
+
+-- by whether a zero stands before other digits
+pub canonical_by_lead : (low high n : ℕ) (bs : List ℕ) (v : Bool) → n < 2 ^ 64 → number_within low high bs ≡ Some n → has_leading_zero bs ≡ v → canonical_within low high bs ≡ cond v None (Some n)
+canonical_by_lead low high n bs true h e z =
+    let both = and_parts (ltb 1 (length bs)) (eqb (get_or bs 0 0) 48) z in
+    canonical_other low high n bs h e (eqb-true (get_or bs 0 0) 48 both.1) (ltb-true 1 (length bs) both.0)
+canonical_by_lead low high n bs false h e z = canonical_same low high n bs h e (λ lead. grind (arith, nat_tests, z, lead))

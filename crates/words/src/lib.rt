@@ -8,6 +8,7 @@
 
 mod addresses;
 mod cuts;
+mod digits;
 mod numbers;
 mod run_ids;
 
@@ -16,5 +17,6 @@ pub use addresses::{
     port_of,
 };
 pub use cuts::{split_at_byte, split_line};
+pub use digits::{are_digits, is_decimal};
 pub use numbers::{add_number, canonical_number_of, number_of};
 pub use run_ids::{RUN_ID_LENGTH, run_id_of, run_id_text};

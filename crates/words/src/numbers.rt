@@ -3,8 +3,9 @@
 ghost use Rattle.std.specs.Prelude.{◌≡◌, ◌+◌, ◌-◌, ◌*◌, ◌^◌, ◌<◌, ◌≤◌, ◌&&◌, ◌++◌, nat_lt, length, decimal, IfSome, OnOk, OnErr, vec_len, vec_capacity};
 ghost use Rattle.ballot_law.specs.Words.{some_if, is_digit, number_within, canonical_within};
 
+use crate::digits::has_leading_zero;
+use ballot_law::NoMemory;
 use itoa::Buffer;
-use std::alloc::AllocError;
 
 /// The number that one more decimal digit makes, where it is a digit and the number fits 64 bits.
 fn with_digit(number: u64, digit: u8) -> Option<u64>
@@ -46,7 +47,7 @@ pub fn canonical_number_of(bytes: &[u8], low: u64, high: u64) -> Option<u64>
     ensures range { IfSome result (λ number. (low ≤ number) × (number ≤ high)) }
 {
     let number = number_of(bytes, low, high)?;
-    if bytes.len() > 1 && bytes[0] == b'0' {
+    if has_leading_zero(bytes) {
         None
     } else {
         Some(number)
@@ -55,8 +56,8 @@ pub fn canonical_number_of(bytes: &[u8], low: u64, high: u64) -> Option<u64>
 
 /// Adds a number in decimal at the end of a text.
 ///
-/// `AllocError` leaves the text as it was, and comes only where the text has no room for the digits.
-pub fn add_number(out: &mut Vec<u8>, number: u64) -> Result<(), AllocError>
+/// `NoMemory` leaves the text as it was, and comes only where the text has no room for the digits.
+pub fn add_number(out: &mut Vec<u8>, number: u64) -> Result<(), NoMemory>
     ensures added { OnOk result (out.new.items ≡ out.old.items ++ decimal number) }
     ensures len { OnOk result (vec_len out.new ≡ vec_len out.old + length (decimal number)) }
     ensures kept { OnErr result (out.new.items ≡ out.old.items) }
@@ -64,5 +65,6 @@ pub fn add_number(out: &mut Vec<u8>, number: u64) -> Result<(), AllocError>
     ensures full { OnErr result (vec_capacity out.old < vec_len out.old + length (decimal number)) }
 {
     let mut buffer = Buffer::new();
-    out.extend_from_slice(buffer.format(number).as_bytes())
+    out.extend_from_slice(buffer.format(number).as_bytes())?;
+    Ok(())
 }

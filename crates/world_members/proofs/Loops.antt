@@ -9,6 +9,7 @@ use Rattle.std.proofs.lemmas.List.Sums.{sum_by_more}
 use Rattle.std.proofs.lemmas.Option.{same_Some, slice_get_within}
 use Rattle.ballot_law.specs.declared.cards.Card.{Card}
 use Rattle.ballot_law.specs.declared.messages.NodeName.{NodeName}
+use Rattle.ballot_law.specs.declared.rosters.TheConstants.{NODES_MAX}
 use Rattle.ballot_law.specs.Rosters.{Roster, MasterPlan, no_master}
 use Rattle.ballot_law.specs.RosterFaults.{IsRoster}
 use Rattle.boxed_nodes.specs.Images.{Image, card_shown}
@@ -145,9 +146,9 @@ not_same roster m a b one other one_knows other_knows less tells-a tells-b apart
 pub counted_none : (masters : List MasterPlan) → CountedTo masters 0 0
 counted_none masters = record { value = refl; few = omega arith }
 
-few_at : (roster : Roster) (k : ℕ) (m : MasterPlan) → IsRoster roster → k < length roster.masters → m ≡ get_or roster.masters k m → length m.nodes ≤ 256
+few_at : (roster : Roster) (k : ℕ) (m : MasterPlan) → IsRoster roster → k < length roster.masters → m ≡ get_or roster.masters k m → length m.nodes ≤ NODES_MAX
 few_at roster k m made less e =
-    subst (λ (x : MasterPlan). length x.nodes ≤ 256) (sym (e ∙ get_or_default roster.masters k m no_master less)) (made.few_nodes k less)
+    subst (λ (x : MasterPlan). length x.nodes ≤ NODES_MAX) (sym (e ∙ get_or_default roster.masters k m no_master less)) (made.few_nodes k less)
 
 pub counted_more : (roster : Roster) (k count : ℕ) (m : MasterPlan) → IsRoster roster → k < length roster.masters → m ≡ get_or roster.masters k m → CountedTo roster.masters k count → CountedTo roster.masters (k + 1) (count + length m.nodes)
 counted_more roster k count m made less e c =

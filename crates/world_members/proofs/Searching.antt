@@ -5,6 +5,7 @@ use Rattle.std.specs.List.{sum_by}
 use Rattle.std.proofs.lemmas.Bool.{cases_eq}
 use Rattle.std.proofs.lemmas.Option.{same_Some, slice_get_within, slice_get_read, slice_get-get_or, get_or_from_slice_get}
 use Rattle.ballot_law.specs.declared.messages.NodeName.{NodeName}
+use Rattle.ballot_law.specs.declared.rosters.TheConstants.{NODES_MAX}
 use Rattle.ballot_law.specs.Rosters.{Roster, MasterPlan}
 use Rattle.boxed_nodes.specs.Images.{Image, card_shown}
 use Rattle.boxed_nodes.specs.Moves.{Shows, ShowsKind}
@@ -53,7 +54,7 @@ NamedBelow nodes numbered count name = HasAllBelow name nodes numbered count
 -- as many nodes as the first of the masters have
 pub record CountedTo (masters : List MasterPlan) (k count : ℕ) : Type 0 where
   pub value : count ≡ sum_by (λ master. length master.nodes) (take k masters)
-  pub few : count ≤ 256 * k
+  pub few : count ≤ NODES_MAX * k
 
 abbrev pub SameBelow : ℕ → (one other : Image → Type 0) → Type 0
 SameBelow k one other = (m : ℕ) → m < k → (x y : Image) → one x → other y → card_shown x m ≡ card_shown y m

@@ -3,8 +3,8 @@
 ghost use Rattle.std.specs.Prelude.{◌≡◌};
 ghost use Rattle.ballot_law.specs.Words.{are_digits, has_leading_zero, is_decimal};
 
-/// Whether these are one or more digits.
-pub(crate) fn are_digits(bytes: &[u8]) -> bool
+/// Whether these are one or more ASCII digits, of any number.
+pub fn are_digits(bytes: &[u8]) -> bool
     ensures { result ≡ are_digits bytes.now }
 {
     for byte in bytes {
@@ -16,14 +16,14 @@ pub(crate) fn are_digits(bytes: &[u8]) -> bool
 }
 
 /// Whether a zero stands before other bytes.
-fn has_leading_zero(bytes: &[u8]) -> bool
+pub(crate) fn has_leading_zero(bytes: &[u8]) -> bool
     ensures { result ≡ has_leading_zero bytes.now }
 {
     bytes.len() > 1 && bytes[0] == b'0'
 }
 
-/// Whether these are the digits of a number, of any size, without leading zeros.
-pub(crate) fn is_decimal(bytes: &[u8]) -> bool
+/// Whether these are the digits of a number, of any size, without leading zeros. Zero is `0`.
+pub fn is_decimal(bytes: &[u8]) -> bool
     ensures { result ≡ is_decimal bytes.now }
 {
     are_digits(bytes) && !has_leading_zero(bytes)
