@@ -45,4 +45,4 @@ pub use records::{Advertisement, Election, Win};
 pub use replies::{DataRole, Hello, Info, PingReply, Role};
 pub use rosters::{MASTERS_MAX, Member, NODES_MAX, Roster, RosterFault, SENTINELS_MAX, Watched};
 pub use steps::{KeptText, Step};
-pub use texts::{ShortText, Text};
+pub use texts::{SHORT_TEXT_MAX, ShortText, Text};

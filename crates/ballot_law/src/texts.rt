@@ -3,6 +3,7 @@
 ghost use Rattle.std.specs.Prelude.{◌≡◌, ◌↔◌, ◌≤◌, IsSome, IfSome, IfOk, length, nat_eq};
 ghost use Rattle.std.specs.Cmp.{partial_equiv_from_equiv};
 ghost use Rattle.std.specs.Cmp.Lexicographic.{pointwise, nat_list_eq_equiv};
+ghost use Rattle.ballot_law.specs.declared.texts.TheConstants.{SHORT_TEXT_MAX};
 
 use crate::memory::NoMemory;
 use crate::padding::padded;
@@ -70,10 +71,13 @@ impl Eq for Text {
     ghost laws = { nat_list_eq_equiv };
 }
 
-/// A text of at most 128 bytes that takes no memory of its own, as the answer to a PING.
+/// The greatest length of a short text, in bytes.
+pub const SHORT_TEXT_MAX: usize = 128;
+
+/// A text of at most `SHORT_TEXT_MAX` bytes that takes no memory of its own, as the answer to a PING.
 #[derive(Clone, Copy, Debug, PartialEq, Eq)]
 pub struct ShortText {
-    bytes: [u8; 128],
+    bytes: [u8; SHORT_TEXT_MAX],
     len: u8,
 }
 
@@ -94,12 +98,12 @@ impl Model for ShortText {
 }
 
 impl ShortText {
-    /// The text of these bytes; none where they are more than 128.
+    /// The text of these bytes; none where they are more than `SHORT_TEXT_MAX`.
     pub fn from_slice(bytes: &[u8]) -> Option<ShortText>
-        ensures fits { IsSome result ↔ (length bytes.now ≤ 128) }
+        ensures fits { IsSome result ↔ (length bytes.now ≤ SHORT_TEXT_MAX) }
         ensures value { IfSome result (λ text. text ≡ bytes.now) }
     {
-        if bytes.len() > 128 {
+        if bytes.len() > SHORT_TEXT_MAX {
             return None;
         }
         Some(ShortText {
