@@ -42,6 +42,7 @@ pub struct Core {
 
 impl Model for Core {
     ghost use Rattle.std.specs.Prelude.{◌≤◌, length};
+    ghost use Rattle.ballot_law.specs.declared.rosters.TheConstants.{MASTERS_MAX, SENTINELS_MAX};
     ghost use Rattle.sentinel_rules.specs.States.{Core as CoreModel};
 
     ghost Value = { CoreModel };

@@ -31,6 +31,7 @@ pub(crate) struct Master {
 
 impl Model for Master {
     ghost use Rattle.std.specs.Prelude.{◌≤◌, length};
+    ghost use Rattle.ballot_law.specs.declared.rosters.TheConstants.{NODES_MAX};
     ghost use Rattle.sentinel_rules.specs.States.{MasterState};
     ghost use Rattle.sentinel_state.specs.Places.{HasFewPlaces};
 

@@ -34,6 +34,7 @@ pub(crate) struct DownPlaces {
 
 impl Model for DownPlaces {
     ghost use Rattle.std.specs.Prelude.{◌≤◌, Bool, List, take};
+    ghost use Rattle.ballot_law.specs.declared.rosters.TheConstants.{NODES_MAX};
 
     ghost Value = { List Bool };
 
