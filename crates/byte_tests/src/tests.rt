@@ -3,6 +3,7 @@
 mod answers;
 mod bounded_lists;
 mod commands;
+mod common;
 mod conf_files;
 mod conf_stores;
 mod file_stores;

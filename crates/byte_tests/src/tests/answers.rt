@@ -1,9 +1,10 @@
 //! The bytes of each answer, as a client of the port would see them.
 
+use super::common::is_same;
 use ballot_law::{Addr, Name, RunId};
 use port_answers::{ANSWER_MAX, AnswerText, MasterRow, ReplicaRow, SentinelRow};
 use resp2::CommandFault;
-use std::test::Fail;
+use std::alloc::Global;
 use words::run_id_of;
 
 /// A master that is down by all accounts, and whose failover runs.
@@ -80,8 +81,8 @@ $40\r\naaaaaaaaaaaaaaaaaaaaaaaaaaaaaaaaaaaaaaaa\r\n\
 -ERR Protocol error\r\n";
 
 /// The run id of forty times this digit.
-fn id_of(digit: u8) -> Result<RunId, Fail> {
-    Ok(run_id_of(&[digit; 40]).ok_or("no run id")?)
+fn id_of(digit: u8) -> Option<RunId> {
+    run_id_of(&[digit; 40])
 }
 
 /// An address at 127.0.0.1.
@@ -99,10 +100,10 @@ fn master(
     is_failing: bool,
     quorum: u32,
     numbers: [u64; 6],
-) -> Result<MasterRow, Fail> {
+) -> Option<MasterRow> {
     let [replicas, others, after_ms, timeout, parallel_syncs, epoch] = numbers;
-    Ok(MasterRow {
-        name: Name::from_slice(name).ok_or("refused")?,
+    Some(MasterRow {
+        name: Name::from_slice(name)?,
         addr,
         down: is_failing,
         odown: is_failing,
@@ -117,96 +118,155 @@ fn master(
     })
 }
 
-#[test]
-fn a_master_with_all_flags(rt: HostRuntime) -> Result<(), Fail> {
-    let mut answers = AnswerText::with_room(rt.alloc())?;
-    let numbers = [2, 4, 30_000, 180_000, 1, 281_474_976_710_655];
-    answers.add_master(&master(b"mymaster", local(6379), true, 3, numbers)?);
-    assert!(rt; answers.as_slice() == FAILING_MASTER.as_bytes());
-    Ok(())
+/// Whether a master is answered so.
+fn is_answered(alloc: Global, row: Option<MasterRow>, wanted: &[u8]) -> bool {
+    let Some(row) = row else {
+        return false;
+    };
+    let Ok(mut answers) = AnswerText::with_room(alloc) else {
+        return false;
+    };
+    answers.add_master(&row);
+    is_same(answers.as_slice(), wanted)
 }
 
 #[test]
-fn a_master_with_no_flags(rt: HostRuntime) -> Result<(), Fail> {
-    let mut answers = AnswerText::with_room(rt.alloc())?;
+fn a_master_with_all_flags(rt: HostRuntime) {
+    let numbers = [2, 4, 30_000, 180_000, 1, 281_474_976_710_655];
+    let row = master(b"mymaster", local(6379), true, 3, numbers);
+    assert!(rt; is_answered(rt.alloc(), row, FAILING_MASTER.as_bytes()));
+}
+
+#[test]
+fn a_master_with_no_flags(rt: HostRuntime) {
     let addr = Addr {
         ip: 3_232_235_774,
         port: 16_379,
     };
     let numbers = [0, 12, 1, 4_294_967_295, 0, 0];
-    answers.add_master(&master(b"m.1", addr, false, 4_294_967_295, numbers)?);
-    assert!(rt; answers.as_slice() == RUNNING_MASTER.as_bytes());
-    Ok(())
+    let row = master(b"m.1", addr, false, 4_294_967_295, numbers);
+    assert!(rt; is_answered(rt.alloc(), row, RUNNING_MASTER.as_bytes()));
+}
+
+/// Whether a list of these replicas is answered so.
+fn are_replicas(alloc: Global, rows: &[ReplicaRow], wanted: &[u8]) -> bool {
+    let Ok(mut answers) = AnswerText::with_room(alloc) else {
+        return false;
+    };
+    answers.add_count(rows.len() as u64);
+    for row in rows {
+        answers.add_replica(row);
+    }
+    is_same(answers.as_slice(), wanted)
 }
 
 #[test]
-fn a_list_of_replicas(rt: HostRuntime) -> Result<(), Fail> {
-    let mut answers = AnswerText::with_room(rt.alloc())?;
-    answers.add_count(2);
-    answers.add_replica(&ReplicaRow {
-        addr: local(6380),
-        down: true,
-        priority: 100,
-        offset: 14_243,
-    });
-    answers.add_replica(&ReplicaRow {
-        addr: local(6381),
-        down: false,
-        priority: 0,
-        offset: 0,
-    });
-    assert!(rt; answers.as_slice() == REPLICAS.as_bytes());
-    Ok(())
+fn a_list_of_replicas(rt: HostRuntime) {
+    let rows = [
+        ReplicaRow {
+            addr: local(6380),
+            down: true,
+            priority: 100,
+            offset: 14_243,
+        },
+        ReplicaRow {
+            addr: local(6381),
+            down: false,
+            priority: 0,
+            offset: 0,
+        },
+    ];
+    assert!(rt; are_replicas(rt.alloc(), &rows, REPLICAS.as_bytes()));
+}
+
+/// A Sentinel whose run id is forty times this digit.
+fn sentinel(digit: u8, port: u16, down: bool) -> Option<SentinelRow> {
+    Some(SentinelRow {
+        id: id_of(digit)?,
+        addr: local(port),
+        down,
+    })
+}
+
+/// Whether a list of these Sentinels is answered so.
+fn are_sentinels(alloc: Global, rows: &[Option<SentinelRow>], wanted: &[u8]) -> bool {
+    let Ok(mut answers) = AnswerText::with_room(alloc) else {
+        return false;
+    };
+    answers.add_count(rows.len() as u64);
+    for row in rows {
+        let Some(row) = row else {
+            return false;
+        };
+        answers.add_sentinel(row);
+    }
+    is_same(answers.as_slice(), wanted)
 }
 
 #[test]
-fn a_list_of_sentinels(rt: HostRuntime) -> Result<(), Fail> {
-    let mut answers = AnswerText::with_room(rt.alloc())?;
-    answers.add_count(2);
-    answers.add_sentinel(&SentinelRow {
-        id: id_of(b'a')?,
-        addr: local(26_380),
-        down: true,
-    });
-    answers.add_sentinel(&SentinelRow {
-        id: id_of(b'b')?,
-        addr: local(26_381),
-        down: false,
-    });
-    assert!(rt; answers.as_slice() == SENTINELS.as_bytes());
-    Ok(())
+fn a_list_of_sentinels(rt: HostRuntime) {
+    let rows = [sentinel(b'a', 26_380, true), sentinel(b'b', 26_381, false)];
+    assert!(rt; are_sentinels(rt.alloc(), &rows, SENTINELS.as_bytes()));
 }
 
-#[test]
-fn each_line(rt: HostRuntime) -> Result<(), Fail> {
-    let mut answers = AnswerText::with_room(rt.alloc())?;
+/// The faults of commands, in the order of their lines.
+const FAULTS: [CommandFault; 7] = [
+    CommandFault::NotACommand,
+    CommandFault::UnknownCommand,
+    CommandFault::WrongArguments,
+    CommandFault::BadAddress,
+    CommandFault::BadEpoch,
+    CommandFault::BadRunId,
+    CommandFault::UnknownChannel,
+];
+
+/// Adds a line for each of these faults.
+fn add_faults(answers: &mut AnswerText, faults: &[CommandFault]) {
+    for fault in faults {
+        answers.add_command_fault(*fault);
+    }
+}
+
+/// Whether the lines, one after another, are these; the run id is forty times `a`.
+fn are_lines(alloc: Global, wanted: &[u8]) -> bool {
+    let Some(id) = id_of(b'a') else {
+        return false;
+    };
+    let Ok(mut answers) = AnswerText::with_room(alloc) else {
+        return false;
+    };
     answers.add_no_such_master();
     answers.add_ok();
     answers.add_quorum_reached(3);
     answers.add_no_quorum(1);
-    answers.add_id(id_of(b'a')?);
-    answers.add_command_fault(CommandFault::NotACommand);
-    answers.add_command_fault(CommandFault::UnknownCommand);
-    answers.add_command_fault(CommandFault::WrongArguments);
-    answers.add_command_fault(CommandFault::BadAddress);
-    answers.add_command_fault(CommandFault::BadEpoch);
-    answers.add_command_fault(CommandFault::BadRunId);
-    answers.add_command_fault(CommandFault::UnknownChannel);
+    answers.add_id(id);
+    add_faults(&mut answers, &FAULTS);
     answers.add_subscribed();
     answers.add_protocol_error();
-    assert!(rt; answers.as_slice() == LINES.as_bytes());
-    Ok(())
+    is_same(answers.as_slice(), wanted)
 }
 
 #[test]
-fn room_is_used_again(rt: HostRuntime) -> Result<(), Fail> {
-    let mut answers = AnswerText::with_room(rt.alloc())?;
+fn each_line(rt: HostRuntime) {
+    assert!(rt; are_lines(rt.alloc(), LINES.as_bytes()));
+}
+
+/// Whether the room of an answer is used for the next one.
+fn is_room_used_again(alloc: Global) -> bool {
+    let Ok(mut answers) = AnswerText::with_room(alloc) else {
+        return false;
+    };
     answers.add_ok();
     let bytes = answers.into_text().into_vec();
-    assert!(rt; bytes.as_slice() == b"+OK\r\n".as_slice());
-    assert!(rt; bytes.capacity() >= ANSWER_MAX);
+    if !is_same(bytes.as_slice(), b"+OK\r\n") || bytes.capacity() < ANSWER_MAX {
+        return false;
+    }
     let mut again = AnswerText::from_vec(bytes);
     again.add_no_quorum(0);
-    assert!(rt; again.as_slice() == b"-NOQUORUM 0 usable Sentinels\r\n".as_slice());
-    Ok(())
+    is_same(again.as_slice(), b"-NOQUORUM 0 usable Sentinels\r\n")
+}
+
+#[test]
+fn room_is_used_again(rt: HostRuntime) {
+    assert!(rt; is_room_used_again(rt.alloc()));
 }

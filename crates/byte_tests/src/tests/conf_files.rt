@@ -1,12 +1,14 @@
 //! Files read, refused and rewritten, with the bytes that an operator would see.
 
-ghost use Rattle.std.specs.Prelude.{◌≡◌, ◌∷◌, [], IfOk, Option};
+ghost use Rattle.std.specs.Prelude.{◌≡◌, ◌∷◌, [], IfSome, Ok, Option};
 ghost use Rattle.ballot_law.specs.declared.addresses.RunId.{RunId};
+ghost use Rattle.sentinel_conf.specs.Reading.{conf_of_bytes};
+ghost use Rattle.sentinel_conf.specs.Rewritten.{IsKeptPart};
 
+use super::common::is_same;
 use ballot_law::{Addr, Card, Kept, KeptMaster, KeptMasters, RosterFault, RunId};
 use sentinel_conf::{Conf, ConfFault, ConfKind, ConfText, Settings, read, rewrite_into};
 use std::alloc::Global;
-use std::test::Fail;
 
 /// A group of two Sentinels, with lines that this project doesn't know. There is no LF at its end.
 const GROUP_ONE: &str = "# group one\n\
@@ -112,10 +114,20 @@ const MONITOR: &str = "sentinel monitor mymaster 127.0.0.1 6379 2";
 /// This machine.
 const HERE: u32 = 2_130_706_433;
 
-/// What this text says. It stands in a box, so that a test that lets it go sees one call and not all that a conf holds.
-fn conf_of(alloc: Global, text: &[u8]) -> Result<Box<Conf>, Fail> {
-    let conf = read(alloc, text)?;
-    Ok(Box::new(alloc, conf).ok().ok_or("no memory")?)
+/// What this text says.
+fn said(alloc: Global, text: &[u8]) -> Option<Conf>
+    ensures { IfSome result (λ conf. conf_of_bytes text.now ≡ Ok conf) }
+{
+    match read(alloc, text) {
+        Ok(conf) => Some(conf),
+        Err(_) => None,
+    }
+}
+
+/// The same in a box, so that a function that lets it go sees one call and not all that a conf holds.
+fn conf_of(alloc: Global, text: &[u8]) -> Option<Box<Conf>> {
+    let conf = said(alloc, text)?;
+    Box::new(alloc, conf).ok()
 }
 
 /// The fault of this text.
@@ -123,19 +135,32 @@ fn fault_of(alloc: Global, text: &[u8]) -> Option<ConfFault> {
     read(alloc, text).err()
 }
 
-/// The first fault of group one with one line more.
-fn fault_with(alloc: Global, line: &str) -> Result<Option<ConfFault>, Fail> {
-    let text = format!(in alloc; "{GROUP_ONE}\n{line}")?;
-    Ok(fault_of(alloc, text.as_bytes()))
+/// Whether this text is refused so.
+fn is_refused(alloc: Global, text: &[u8], line: u64, kind: ConfKind) -> bool {
+    fault_of(alloc, text) == Some(ConfFault { line, kind })
 }
 
-fn at(line: u64, kind: ConfKind) -> Option<ConfFault> {
-    Some(ConfFault { line, kind })
+/// Whether this text is read.
+fn is_read(alloc: Global, text: &[u8]) -> bool {
+    fault_of(alloc, text).is_none()
+}
+
+/// Group one with lines more; None where there is no memory.
+fn group_one_with(alloc: Global, lines: &str) -> Option<String> {
+    format!(in alloc; "{GROUP_ONE}\n{lines}").ok()
+}
+
+/// Whether group one with lines more is refused so.
+fn is_refused_with(alloc: Global, lines: &str, line: u64, kind: ConfKind) -> bool {
+    match group_one_with(alloc, lines) {
+        Some(text) => is_refused(alloc, text.as_bytes(), line, kind),
+        None => false,
+    }
 }
 
 /// What is kept of group one after a failover to its second node, with this candidate of the vote.
-fn kept_with(alloc: Global, candidate: Option<RunId>) -> Result<Kept, Fail>
-    ensures { IfOk result (λ kept. kept ≡ record {
+fn kept_with(alloc: Global, candidate: Option<RunId>) -> Option<Kept>
+    ensures { IfSome result (λ kept. kept ≡ record {
       current = 3;
       masters = (record {
         card = record { epoch = 2; addr = record { ip = HERE; port = 6380 } };
@@ -153,219 +178,325 @@ fn kept_with(alloc: Global, candidate: Option<RunId>) -> Result<Kept, Fail>
         voted: 3,
         candidate,
     };
-    Ok(Kept {
+    Some(Kept {
         current: 3,
-        masters: KeptMasters::from_vec(vec![in alloc; master]?),
+        masters: KeptMasters::from_vec(vec![in alloc; master].ok()?),
     })
 }
 
-/// The candidate of the only master of this file.
-fn candidate_of(alloc: Global, text: &[u8]) -> Result<Option<RunId>, Fail> {
-    let conf = conf_of(alloc, text)?;
+/// Whether this is the candidate of the only master of this text.
+fn is_candidate(alloc: Global, text: &[u8], wanted: Option<RunId>) -> bool {
+    let Some(conf) = conf_of(alloc, text) else {
+        return false;
+    };
     match conf.kept().masters.as_slice() {
-        [master] => Ok(master.candidate),
-        _ => Err(Fail::new("there isn't one master")),
+        [master] => master.candidate == wanted,
+        _ => false,
     }
 }
 
+/// This conf as it is rewritten with this; None where there is no memory.
+fn rewritten_with(alloc: Global, conf: &Conf, kept: &Kept) -> Option<ConfText>
+    requires { IsKeptPart conf.now kept.now }
+{
+    let mut text = ConfText::room_for(alloc, conf).ok()?;
+    rewrite_into(conf, kept, &mut text);
+    Some(text)
+}
+
 /// This file as it is rewritten with what it holds itself.
-fn rewritten(alloc: Global, file: &str) -> Result<ConfText, Fail> {
+fn rewritten(alloc: Global, file: &str) -> Option<ConfText> {
     let conf = conf_of(alloc, file.as_bytes())?;
-    let mut text = ConfText::room_for(alloc, &conf)?;
-    rewrite_into(&conf, conf.kept(), &mut text);
-    Ok(text)
+    rewritten_with(alloc, &conf, conf.kept())
 }
 
-#[test]
-fn group_one_is_rewritten_after_a_failover(rt: HostRuntime) -> Result<(), Fail> {
-    let alloc = rt.alloc();
-    let conf = read(alloc, GROUP_ONE.as_bytes())?;
-    let mut text = ConfText::room_for(alloc, &conf)?;
+/// Whether this file is rewritten so with what it holds itself.
+fn is_rewritten_as(alloc: Global, file: &str, wanted: &str) -> bool {
+    match rewritten(alloc, file) {
+        Some(text) => is_same(text.as_slice(), wanted.as_bytes()),
+        None => false,
+    }
+}
+
+/// Group one as it is rewritten after a failover.
+fn after_failover(alloc: Global) -> Option<ConfText> {
+    let conf = said(alloc, GROUP_ONE.as_bytes())?;
     let kept = kept_with(alloc, None)?;
-    rewrite_into(&conf, &kept, &mut text);
-    assert_eq!(rt; text.as_slice(), GROUP_ONE_AFTER_FAILOVER.as_bytes());
-    Ok(())
+    rewritten_with(alloc, &conf, &kept)
 }
 
-#[test]
-fn group_one_is_rewritten_with_the_candidate(rt: HostRuntime) -> Result<(), Fail> {
-    let alloc = rt.alloc();
-    let conf = read(alloc, GROUP_ONE.as_bytes())?;
-    let mut text = ConfText::room_for(alloc, &conf)?;
+/// Group one as it is rewritten with the candidate.
+fn with_candidate(alloc: Global) -> Option<ConfText> {
+    let conf = said(alloc, GROUP_ONE.as_bytes())?;
     let kept = kept_with(alloc, Some(SECOND))?;
-    rewrite_into(&conf, &kept, &mut text);
-    assert_eq!(rt; text.as_slice(), GROUP_ONE_WITH_CANDIDATE.as_bytes());
-    assert_eq!(rt; candidate_of(alloc, text.as_slice())?, Some(SECOND));
-    Ok(())
+    rewritten_with(alloc, &conf, &kept)
 }
 
 #[test]
-fn a_file_with_a_candidate_is_rewritten_as_it_is(rt: HostRuntime) -> Result<(), Fail> {
-    let text = rewritten(rt.alloc(), GROUP_ONE_WITH_CANDIDATE)?;
-    assert_eq!(rt; text.as_slice(), GROUP_ONE_WITH_CANDIDATE.as_bytes());
-    Ok(())
+fn group_one_is_rewritten_after_a_failover(rt: HostRuntime) {
+    let text = after_failover(rt.alloc()).expect(&rt, "no memory");
+    assert!(rt; is_same(text.as_slice(), GROUP_ONE_AFTER_FAILOVER.as_bytes()));
 }
 
 #[test]
-fn a_file_without_a_candidate_has_none(rt: HostRuntime) -> Result<(), Fail> {
-    let alloc = rt.alloc();
+fn group_one_is_rewritten_with_the_candidate(rt: HostRuntime) {
+    let text = with_candidate(rt.alloc()).expect(&rt, "no memory");
+    assert!(rt; is_same(text.as_slice(), GROUP_ONE_WITH_CANDIDATE.as_bytes()));
+    assert!(rt; is_candidate(rt.alloc(), text.as_slice(), Some(SECOND)));
+}
+
+#[test]
+fn a_file_with_a_candidate_is_rewritten_as_it_is(rt: HostRuntime) {
+    let file = GROUP_ONE_WITH_CANDIDATE;
+    assert!(rt; is_rewritten_as(rt.alloc(), file, file));
+}
+
+#[test]
+fn a_file_without_a_candidate_has_none(rt: HostRuntime) {
     let text = GROUP_ONE_AFTER_FAILOVER.as_bytes();
-    assert_eq!(rt; candidate_of(alloc, text)?, None);
-    assert_eq!(rt; candidate_of(alloc, FROM_REDIS.as_bytes())?, None);
-    Ok(())
+    assert!(rt; is_candidate(rt.alloc(), text, None));
+    assert!(rt; is_candidate(rt.alloc(), FROM_REDIS.as_bytes(), None));
 }
 
 #[test]
-fn a_candidate_of_no_vote_is_left_out(rt: HostRuntime) -> Result<(), Fail> {
-    let alloc = rt.alloc();
-    let text = format!(in alloc; "{GROUP_ONE}\n{CANDIDATE}")?;
-    assert_eq!(rt; candidate_of(alloc, text.as_bytes())?, None);
-    let with_line = rewritten(alloc, text.as_str())?;
-    let without = rewritten(alloc, GROUP_ONE)?;
-    assert_eq!(rt; with_line.as_slice(), without.as_slice());
-    Ok(())
+fn a_candidate_of_no_vote_is_left_out(rt: HostRuntime) {
+    let text = group_one_with(rt.alloc(), CANDIDATE).expect(&rt, "no memory");
+    assert!(rt; is_candidate(rt.alloc(), text.as_bytes(), None));
+    let with_line = rewritten(rt.alloc(), text.as_str()).expect(&rt, "refused");
+    let without = rewritten(rt.alloc(), GROUP_ONE).expect(&rt, "refused");
+    assert!(rt; is_same(with_line.as_slice(), without.as_slice()));
 }
 
 #[test]
-fn a_candidate_may_stand_before_its_master(rt: HostRuntime) -> Result<(), Fail> {
-    let alloc = rt.alloc();
-    let text = format!(in alloc; "{CANDIDATE}\n{GROUP_ONE_AFTER_FAILOVER}")?;
-    assert_eq!(rt; candidate_of(alloc, text.as_bytes())?, Some(SECOND));
-    Ok(())
+fn a_candidate_may_stand_before_its_master(rt: HostRuntime) {
+    let text = format!(in rt.alloc(); "{CANDIDATE}\n{GROUP_ONE_AFTER_FAILOVER}")
+        .ok()
+        .expect(&rt, "no memory");
+    assert!(rt; is_candidate(rt.alloc(), text.as_bytes(), Some(SECOND)));
 }
+
+/// Lines behind group one that are refused: the line of the fault, and its kind.
+const BAD_CANDIDATES: [(&str, u64, ConfKind); 5] = [
+    ("sentinel leader-id mymaster", 11, ConfKind::BadDirective),
+    ("sentinel leader-id my*master xyz", 11, ConfKind::BadName),
+    ("sentinel leader-id mymaster xyz", 11, ConfKind::BadRunId),
+    (
+        "sentinel leader-id other aaaaaaaaaaaaaaaaaaaaaaaaaaaaaaaaaaaaaaaa",
+        11,
+        ConfKind::UnknownMaster,
+    ),
+    (
+        "sentinel leader-id mymaster bbbbbbbbbbbbbbbbbbbbbbbbbbbbbbbbbbbbbbbb\n\
+sentinel leader-id mymaster bbbbbbbbbbbbbbbbbbbbbbbbbbbbbbbbbbbbbbbb",
+        12,
+        ConfKind::Twice,
+    ),
+];
 
 #[test]
-fn a_bad_candidate_is_refused_at_its_line(rt: HostRuntime) -> Result<(), Fail> {
-    let alloc = rt.alloc();
-    let name = "sentinel leader-id mymaster";
-    assert_eq!(rt; fault_with(alloc, name)?, at(11, ConfKind::BadDirective));
-    let master = "sentinel leader-id my*master xyz";
-    assert_eq!(rt; fault_with(alloc, master)?, at(11, ConfKind::BadName));
-    let word = "sentinel leader-id mymaster xyz";
-    assert_eq!(rt; fault_with(alloc, word)?, at(11, ConfKind::BadRunId));
-    let other = "sentinel leader-id other aaaaaaaaaaaaaaaaaaaaaaaaaaaaaaaaaaaaaaaa";
-    assert_eq!(rt; fault_with(alloc, other)?, at(11, ConfKind::UnknownMaster));
-    let twice = format!(in alloc; "{CANDIDATE}\n{CANDIDATE}")?;
-    assert_eq!(rt; fault_with(alloc, twice.as_str())?, at(12, ConfKind::Twice));
-    assert_eq!(rt; fault_with(alloc, CANDIDATE)?, None);
-    Ok(())
+fn a_bad_candidate_is_refused_at_its_line(rt: HostRuntime) {
+    for (lines, line, kind) in BAD_CANDIDATES {
+        assert!(rt; is_refused_with(rt.alloc(), lines, line, kind), "{lines}");
+    }
+    let text = group_one_with(rt.alloc(), CANDIDATE).expect(&rt, "no memory");
+    assert!(rt; is_read(rt.alloc(), text.as_bytes()));
 }
 
-/// The place of the Sentinel of this file, its port, its current epoch, and how many masters it keeps, Sentinels and masters there are.
-fn numbers_of(alloc: Global, file: &str) -> Result<(u16, u16, u64, [usize; 3]), Fail> {
-    let conf = read(alloc, file.as_bytes())?;
+/// What a file says: the place of its Sentinel, its port and its current epoch, and how many masters it keeps, Sentinels and masters there are.
+#[derive(Clone, Copy, PartialEq)]
+struct Numbers {
+    place: u16,
+    port: u16,
+    current: u64,
+    kept: usize,
+    sentinels: usize,
+    masters: usize,
+}
+
+/// These numbers of this file.
+fn numbers_of(alloc: Global, file: &str) -> Option<Numbers> {
+    let conf = said(alloc, file.as_bytes())?;
     let (place, port) = (conf.place(), conf.port());
     let (current, kept) = (conf.kept().current, conf.kept().masters.as_slice().len());
     let sentinels = conf.roster().sentinels().len();
     let masters = conf.into_roster().masters().len();
-    Ok((place, port, current, [kept, sentinels, masters]))
+    Some(Numbers {
+        place,
+        port,
+        current,
+        kept,
+        sentinels,
+        masters,
+    })
 }
 
-/// The settings of the masters with the numbers 0 and 1 of this file.
-fn settings_of(alloc: Global, file: &str) -> Result<[Option<Settings>; 2], Fail> {
-    let conf = conf_of(alloc, file.as_bytes())?;
-    Ok([conf.settings(0), conf.settings(1)])
+/// Whether this file has these settings of its only master.
+fn has_settings(alloc: Global, file: &str, wanted: Settings) -> bool {
+    match conf_of(alloc, file.as_bytes()) {
+        Some(conf) => conf.settings(0) == Some(wanted) && conf.settings(1).is_none(),
+        None => false,
+    }
 }
 
 #[test]
-fn group_one_says_what_its_lines_say(rt: HostRuntime) -> Result<(), Fail> {
-    let numbers = numbers_of(rt.alloc(), GROUP_ONE)?;
-    assert!(rt; numbers == (0, 26_379, 0, [1, 2, 1]));
+fn group_one_says_what_its_lines_say(rt: HostRuntime) {
+    let numbers = Numbers {
+        place: 0,
+        port: 26_379,
+        current: 0,
+        kept: 1,
+        sentinels: 2,
+        masters: 1,
+    };
+    assert!(rt; numbers_of(rt.alloc(), GROUP_ONE) == Some(numbers));
     let settings = Settings {
         after_ms: 5_000,
         parallel_syncs: 1,
         timeout: 180_000,
     };
-    assert!(rt; settings_of(rt.alloc(), GROUP_ONE)? == [Some(settings), None]);
-    Ok(())
+    assert!(rt; has_settings(rt.alloc(), GROUP_ONE, settings));
 }
 
 #[test]
-fn a_file_from_redis_keeps_its_other_lines(rt: HostRuntime) -> Result<(), Fail> {
-    let text = rewritten(rt.alloc(), FROM_REDIS)?;
-    assert_eq!(rt; text.as_slice(), FROM_REDIS_REWRITTEN.as_bytes());
-    Ok(())
+fn a_file_from_redis_keeps_its_other_lines(rt: HostRuntime) {
+    assert!(rt; is_rewritten_as(rt.alloc(), FROM_REDIS, FROM_REDIS_REWRITTEN));
 }
 
 #[test]
-fn tabs_crs_quotes_and_the_last_port_count(rt: HostRuntime) -> Result<(), Fail> {
-    let numbers = numbers_of(rt.alloc(), ODDLY_WRITTEN)?;
-    assert!(rt; numbers == (0, 26_390, 0, [1, 1, 1]));
-    Ok(())
+fn tabs_crs_quotes_and_the_last_port_count(rt: HostRuntime) {
+    let numbers = Numbers {
+        place: 0,
+        port: 26_390,
+        current: 0,
+        kept: 1,
+        sentinels: 1,
+        masters: 1,
+    };
+    assert!(rt; numbers_of(rt.alloc(), ODDLY_WRITTEN) == Some(numbers));
 }
 
+/// Lines behind group one that are refused as line 11.
+const BAD_LINES: [(&str, ConfKind); 3] = [
+    (MONITOR, ConfKind::Twice),
+    ("sentinel config-epoch other 3", ConfKind::UnknownMaster),
+    (
+        "sentinel known-slave mymaster 127.0.0.1 6380",
+        ConfKind::Twice,
+    ),
+];
+
 #[test]
-fn group_one_with_one_line_more_is_refused_at_that_line(rt: HostRuntime) -> Result<(), Fail> {
-    let alloc = rt.alloc();
-    assert_eq!(rt; fault_with(alloc, MONITOR)?, at(11, ConfKind::Twice));
-    let other = "sentinel config-epoch other 3";
-    assert_eq!(rt; fault_with(alloc, other)?, at(11, ConfKind::UnknownMaster));
-    let slave = "sentinel known-slave mymaster 127.0.0.1 6380";
-    assert_eq!(rt; fault_with(alloc, slave)?, at(11, ConfKind::Twice));
-    Ok(())
+fn group_one_with_one_line_more_is_refused_at_that_line(rt: HostRuntime) {
+    for (line, kind) in BAD_LINES {
+        assert!(rt; is_refused_with(rt.alloc(), line, 11, kind), "{line}");
+    }
 }
+
+/// Files of one line that is refused.
+const FIRST_LINES: [(&[u8], ConfKind); 5] = [
+    (
+        b"sentinel monitor mymaster localhost 6379 2",
+        ConfKind::BadAddress,
+    ),
+    (
+        b"sentinel current-epoch 281474976710656",
+        ConfKind::BadNumber,
+    ),
+    (b"sentinel current-epoch", ConfKind::BadDirective),
+    (
+        b"sentinel monitor my*master 127.0.0.1 6379 2",
+        ConfKind::BadName,
+    ),
+    (
+        b"sentinel myid AAAAAAAAAAAAAAAAAAAAAAAAAAAAAAAAAAAAAAAA",
+        ConfKind::BadRunId,
+    ),
+];
 
 #[test]
 fn the_first_line_is_refused_by_name(rt: HostRuntime) {
-    let alloc = rt.alloc();
-    let name = b"sentinel monitor mymaster localhost 6379 2";
-    assert_eq!(rt; fault_of(alloc, name), at(1, ConfKind::BadAddress));
-    let epoch = b"sentinel current-epoch 281474976710656";
-    assert_eq!(rt; fault_of(alloc, epoch), at(1, ConfKind::BadNumber));
-    let words = b"sentinel current-epoch";
-    assert_eq!(rt; fault_of(alloc, words), at(1, ConfKind::BadDirective));
-    let master = b"sentinel monitor my*master 127.0.0.1 6379 2";
-    assert_eq!(rt; fault_of(alloc, master), at(1, ConfKind::BadName));
-    let id = b"sentinel myid AAAAAAAAAAAAAAAAAAAAAAAAAAAAAAAAAAAAAAAA";
-    assert_eq!(rt; fault_of(alloc, id), at(1, ConfKind::BadRunId));
+    for (text, kind) in FIRST_LINES {
+        assert!(rt; is_refused(rt.alloc(), text, 1, kind), "{text:?}");
+    }
 }
 
 #[test]
 fn a_line_of_a_wrong_form_is_found_before_an_unknown_master(rt: HostRuntime) {
     let text = b"sentinel config-epoch other 3\nport";
-    assert_eq!(rt; fault_of(rt.alloc(), text), at(2, ConfKind::BadDirective));
+    assert!(rt; is_refused(rt.alloc(), text, 2, ConfKind::BadDirective));
 }
+
+/// A comment of so many bytes; None where there is no memory.
+fn comment(alloc: Global, length: usize) -> Option<Vec<u8>> {
+    let mut comment = Vec::new(alloc);
+    comment.resize(length, b'#').ok()?;
+    Some(comment)
+}
+
+/// Whether a comment of so many bytes is refused so.
+fn is_comment_refused(alloc: Global, length: usize, kind: ConfKind) -> bool {
+    match comment(alloc, length) {
+        Some(text) => is_refused(alloc, &text, 0, kind),
+        None => false,
+    }
+}
+
+/// Files that are refused as a whole.
+const WHOLE_FILES: [(&[u8], ConfKind); 2] = [
+    (&[255], ConfKind::NotUtf8),
+    (
+        b"sentinel myid aaaaaaaaaaaaaaaaaaaaaaaaaaaaaaaaaaaaaaaa",
+        ConfKind::Roster(RosterFault::NoMaster),
+    ),
+];
 
 #[test]
-fn a_file_as_a_whole_is_refused_with_line_0(rt: HostRuntime) -> Result<(), Fail> {
-    let alloc = rt.alloc();
-    let mut long = Vec::new(alloc);
-    long.resize(67_537, b'#')?;
-    assert_eq!(rt; fault_of(alloc, &long), at(0, ConfKind::TooLong));
-    let _ = long.pop();
-    assert_eq!(rt; fault_of(alloc, &long), at(0, ConfKind::NoMyId));
-    assert_eq!(rt; fault_of(alloc, &[255]), at(0, ConfKind::NotUtf8));
-    assert_eq!(rt;
-        fault_of(alloc, MONITOR.as_bytes()),
-        at(0, ConfKind::NoMyId)
-    );
-    let alone = b"sentinel myid aaaaaaaaaaaaaaaaaaaaaaaaaaaaaaaaaaaaaaaa";
-    let no_master = at(0, ConfKind::Roster(RosterFault::NoMaster));
-    assert_eq!(rt; fault_of(alloc, alone), no_master);
-    Ok(())
+fn a_file_as_a_whole_is_refused_with_line_0(rt: HostRuntime) {
+    assert!(rt; is_comment_refused(rt.alloc(), 67_537, ConfKind::TooLong));
+    assert!(rt; is_comment_refused(rt.alloc(), 67_536, ConfKind::NoMyId));
+    assert!(rt; is_refused(rt.alloc(), MONITOR.as_bytes(), 0, ConfKind::NoMyId));
+    for (text, kind) in WHOLE_FILES {
+        assert!(rt; is_refused(rt.alloc(), text, 0, kind), "{text:?}");
+    }
 }
 
-/// The fault of this text with a comment behind it, which ends with its byte of this number.
-fn fault_padded(alloc: Global, text: &str, length: usize) -> Result<Option<ConfFault>, Fail> {
-    let mut long = Vec::from_slice(alloc, text.as_bytes())?;
-    long.push(b'#')?;
-    long.resize(length, b'#')?;
+/// This text with a comment behind it, which ends with its byte of this number; None where there is no memory.
+fn padded(alloc: Global, text: &str, length: usize) -> Option<Vec<u8>> {
+    let mut long = Vec::from_slice(alloc, text.as_bytes()).ok()?;
+    long.push(b'#').ok()?;
+    long.resize(length, b'#').ok()?;
     let _end = long.pop();
-    long.push(b'\n')?;
-    Ok(fault_of(alloc, &long))
+    long.push(b'\n').ok()?;
+    Some(long)
+}
+
+/// Whether this text, padded to this length, is read.
+fn is_read_padded(alloc: Global, text: &str, length: usize) -> bool {
+    match padded(alloc, text, length) {
+        Some(long) => is_read(alloc, &long),
+        None => false,
+    }
+}
+
+/// Whether this text, padded to this length, is too long.
+fn is_too_long_padded(alloc: Global, text: &str, length: usize) -> bool {
+    match padded(alloc, text, length) {
+        Some(long) => is_refused(alloc, &long, 0, ConfKind::TooLong),
+        None => false,
+    }
 }
 
 #[test]
-fn the_longest_file_has_room_for_each_candidate(rt: HostRuntime) -> Result<(), Fail> {
+fn the_longest_file_has_room_for_each_candidate(rt: HostRuntime) {
     let alloc = rt.alloc();
-    assert_eq!(rt; fault_padded(alloc, LAST_EPOCHS, 65_536)?, None);
-    assert_eq!(rt; fault_padded(alloc, LAST_EPOCHS, 67_467)?, None);
-    let too_long = at(0, ConfKind::TooLong);
-    assert_eq!(rt; fault_padded(alloc, LAST_EPOCHS, 67_468)?, too_long);
-    let named = format!(in alloc; "{LAST_EPOCHS}{CANDIDATE}\n")?;
-    assert_eq!(rt; fault_padded(alloc, named.as_str(), 67_536)?, None);
-    assert_eq!(rt; fault_padded(alloc, named.as_str(), 67_537)?, too_long);
-    Ok(())
+    assert!(rt; is_read_padded(alloc, LAST_EPOCHS, 65_536));
+    assert!(rt; is_read_padded(alloc, LAST_EPOCHS, 67_467));
+    assert!(rt; is_too_long_padded(alloc, LAST_EPOCHS, 67_468));
+    let named = format!(in alloc; "{LAST_EPOCHS}{CANDIDATE}\n")
+        .ok()
+        .expect(&rt, "no memory");
+    assert!(rt; is_read_padded(alloc, named.as_str(), 67_536));
+    assert!(rt; is_too_long_padded(alloc, named.as_str(), 67_537));
 }
 
 /// Whether the beginning of a file may be refused with this kind.
@@ -381,27 +512,45 @@ fn is_cut(kind: ConfKind) -> bool {
     )
 }
 
-#[test]
-fn each_beginning_of_group_one_is_refused_by_name(rt: HostRuntime) {
-    let alloc = rt.alloc();
-    let whole = GROUP_ONE.as_bytes();
-    for n in 0..whole.len() {
-        match fault_of(alloc, &whole[..n]) {
-            Some(fault) => assert!(rt; is_cut(fault.kind)),
-            None => assert!(rt; false, "{n} bytes were read"),
-        }
+/// Whether the beginning of a file is refused so.
+fn is_cut_text(alloc: Global, text: &[u8]) -> bool {
+    match fault_of(alloc, text) {
+        Some(fault) => is_cut(fault.kind),
+        None => false,
     }
-    assert_eq!(rt; fault_of(alloc, whole), None);
 }
 
 #[test]
-fn a_fault_is_shown_by_its_innermost_name(rt: HostRuntime) -> Result<(), Fail> {
+fn each_beginning_of_group_one_is_refused_by_name(rt: HostRuntime) {
+    let whole = GROUP_ONE.as_bytes();
+    for n in 0..whole.len() {
+        assert!(rt; is_cut_text(rt.alloc(), &whole[..n]), "{n} bytes");
+    }
+    assert!(rt; is_read(rt.alloc(), whole));
+}
+
+/// Whether a kind of fault is shown so.
+fn is_kind_shown_as(alloc: Global, kind: ConfKind, wanted: &[u8]) -> bool {
+    match format!(in alloc; "{kind}") {
+        Ok(text) => is_same(text.as_bytes(), wanted),
+        Err(_) => false,
+    }
+}
+
+/// Whether a fault is shown so.
+fn is_shown_as(alloc: Global, fault: ConfFault, wanted: &[u8]) -> bool {
+    match format!(in alloc; "{fault}") {
+        Ok(text) => is_same(text.as_bytes(), wanted),
+        Err(_) => false,
+    }
+}
+
+#[test]
+fn a_fault_is_shown_by_its_innermost_name(rt: HostRuntime) {
     let alloc = rt.alloc();
     let kind = ConfKind::Roster(RosterFault::SameRunId);
-    assert_eq!(rt; format!(in alloc; "{kind}")?.as_str(), "SameRunId");
+    assert!(rt; is_kind_shown_as(alloc, kind, b"SameRunId"));
     let kind = ConfKind::BadNumber;
-    let fault = ConfFault { line: 7, kind };
-    assert_eq!(rt; format!(in alloc; "{kind}")?.as_str(), "BadNumber");
-    assert_eq!(rt; format!(in alloc; "{fault}")?.as_str(), "BadNumber");
-    Ok(())
+    assert!(rt; is_kind_shown_as(alloc, kind, b"BadNumber"));
+    assert!(rt; is_shown_as(alloc, ConfFault { line: 7, kind }, b"BadNumber"));
 }

@@ -2,11 +2,11 @@
 
 ghost use Rattle.node_texts.specs.Infos.{IsInfo};
 
+use super::common::is_same;
 use ballot_law::{Addr, DataRole, Info, RunId};
 use node_texts::{TextFault, read_info, write_info};
 use resp2::OutText;
 use std::alloc::Global;
-use std::test::Fail;
 
 const A_LOW: u32 = 0xaaaa_aaaa;
 
@@ -18,14 +18,22 @@ const LOCAL: u32 = 2_130_706_433;
 const REPLICA: &[u8] =
     b"role:slave\r\nmaster_host:127.0.0.1\r\nmaster_port:6379\r\nmaster_link_status:up\r\nslave_repl_offset:200\r\n";
 
-/// The fault of these bytes.
-fn fault_of(bytes: &[u8]) -> Option<TextFault> {
-    read_info(bytes).err()
+/// What these bytes tell, or their fault.
+fn told(bytes: &[u8]) -> Result<Info, TextFault> {
+    read_info(bytes)
 }
 
-/// Whether these bytes are refused for the field with this number.
-fn is_refused(bytes: &[u8], field: u8) -> bool {
-    fault_of(bytes) == Some(TextFault::BadField(field))
+/// The fault of these bytes.
+fn fault_of(bytes: &[u8]) -> Option<TextFault> {
+    told(bytes).err()
+}
+
+/// Whether these bytes tell this.
+fn is_told(bytes: &[u8], wanted: &Info) -> bool {
+    match told(bytes) {
+        Ok(info) => info == *wanted,
+        Err(_) => false,
+    }
 }
 
 /// What `REPLICA` tells.
@@ -42,24 +50,31 @@ const TOLD: Info = Info {
     offset: 200,
 };
 
+/// Writes an INFO behind a text: the fault where it isn't written.
+fn fault_of_writing(info: &Info, text: &mut OutText) -> Option<TextFault>
+    requires { IsInfo info.now }
+{
+    write_info(info, text).err()
+}
+
 /// Whether this INFO is written as this text and read back from it.
-fn is_written_as(alloc: Global, info: &Info, wanted: &[u8]) -> Result<bool, Fail>
+fn is_written_as(alloc: Global, info: &Info, wanted: &[u8]) -> bool
     requires { IsInfo info.now }
 {
     let mut text = OutText::new(alloc);
-    write_info(info, &mut text)?;
-    Ok(text.as_slice() == wanted && read_info(text.as_slice())? == *info)
+    fault_of_writing(info, &mut text).is_none()
+        && is_same(text.as_slice(), wanted)
+        && is_told(text.as_slice(), info)
 }
 
 #[test]
-fn info_of_a_replica(rt: HostRuntime) -> Result<(), Fail> {
-    assert!(rt; read_info(REPLICA)? == TOLD);
+fn info_of_a_replica(rt: HostRuntime) {
+    assert!(rt; is_told(REPLICA, &TOLD));
     assert!(rt; fault_of(b"") == Some(TextFault::BadField(2)));
-    Ok(())
 }
 
 #[test]
-fn info_is_written_and_read_back(rt: HostRuntime) -> Result<(), Fail> {
+fn info_is_written_and_read_back(rt: HostRuntime) {
     let id = RunId {
         hi: A_HIGH,
         lo: A_LOW,
@@ -70,12 +85,11 @@ fn info_is_written_and_read_back(rt: HostRuntime) -> Result<(), Fail> {
     };
     let wanted =
         b"run_id:aaaaaaaaaaaaaaaaaaaaaaaaaaaaaaaaaaaaaaaa\r\nrole:slave\r\nmaster_host:127.0.0.1\r\nmaster_port:6379\r\nmaster_link_status:up\r\nmaster_link_down_since_seconds:0\r\nslave_priority:100\r\nslave_repl_offset:200\r\n";
-    assert!(rt; is_written_as(rt.alloc(), &info, wanted)?);
-    Ok(())
+    assert!(rt; is_written_as(rt.alloc(), &info, wanted));
 }
 
 #[test]
-fn info_of_a_master_without_an_id(rt: HostRuntime) -> Result<(), Fail> {
+fn info_of_a_master_without_an_id(rt: HostRuntime) {
     let (never, greatest) = (0, 9_223_372_036_854_775_807);
     let info = Info {
         id: None,
@@ -88,57 +102,75 @@ fn info_of_a_master_without_an_id(rt: HostRuntime) -> Result<(), Fail> {
     };
     let wanted =
         b"role:master\r\nmaster_link_status:down\r\nmaster_link_down_since_seconds:7\r\nslave_priority:0\r\nslave_repl_offset:9223372036854775807\r\n";
-    assert!(rt; is_written_as(rt.alloc(), &info, wanted)?);
-    Ok(())
+    assert!(rt; is_written_as(rt.alloc(), &info, wanted));
 }
+
+/// Answers to INFO, with their faults.
+const FAULTS: [(&[u8], TextFault); 10] = [
+    (b"role:slave\nslave_priority:x\n", TextFault::BadField(7)),
+    (
+        b"run_id:xyz\nrole:slave\nslave_priority:x\n",
+        TextFault::BadField(1),
+    ),
+    (b"role:sentinel\n", TextFault::BadField(2)),
+    (
+        b"role:slave\nmaster_host:redis.example\nmaster_port:6379\n",
+        TextFault::BadField(3),
+    ),
+    (b"role:slave\nmaster_port:65536\n", TextFault::BadField(4)),
+    (b"role:slave\nmaster_link_status:\n", TextFault::BadField(5)),
+    (
+        b"role:slave\nmaster_link_down_since_seconds:-\n",
+        TextFault::BadField(6),
+    ),
+    (b"role:slave\nslave_priority:-1\n", TextFault::BadField(7)),
+    (
+        b"role:slave\nslave_repl_offset:9223372036854775808\n",
+        TextFault::BadField(8),
+    ),
+    (b"role:slave\nanything:\xff\n", TextFault::NotUtf8),
+];
 
 #[test]
 fn info_with_bad_fields(rt: HostRuntime) {
-    assert!(rt; is_refused(b"role:slave\nslave_priority:x\n", 7));
-    assert!(rt; is_refused(b"run_id:xyz\nrole:slave\nslave_priority:x\n", 1));
-    assert!(rt; is_refused(b"role:sentinel\n", 2));
-    assert!(rt;
-        is_refused(
-            b"role:slave\nmaster_host:redis.example\nmaster_port:6379\n",
-            3
-        )
-    );
-    assert!(rt; is_refused(b"role:slave\nmaster_port:65536\n", 4));
-    assert!(rt; is_refused(b"role:slave\nmaster_link_status:\n", 5));
-    assert!(rt; is_refused(b"role:slave\nmaster_link_down_since_seconds:-\n", 6));
-    assert!(rt; is_refused(b"role:slave\nslave_priority:-1\n", 7));
-    assert!(rt; is_refused(b"role:slave\nslave_repl_offset:9223372036854775808\n", 8));
-    assert!(rt; fault_of(b"role:slave\nanything:\xff\n") == Some(TextFault::NotUtf8));
+    for (bytes, fault) in FAULTS {
+        assert!(rt; fault_of(bytes) == Some(fault), "{bytes:?}");
+    }
+}
+
+/// The role, the priority and the offset that these bytes tell.
+fn role_and_numbers(bytes: &[u8]) -> Option<(DataRole, u64, u64)> {
+    let info = told(bytes).ok()?;
+    Some((info.role, info.priority, info.offset))
 }
 
 #[test]
-fn info_where_the_last_of_a_repeated_field_counts(rt: HostRuntime) -> Result<(), Fail> {
-    let info = read_info(
-        b"role:nothing\nrole:master\nslave_priority:x\nslave_priority:007\nslave_repl_offset:5\nslave_repl_offset:-99999999999999999999",
-    )?;
-    assert!(rt; info.role == DataRole::Master);
-    assert!(rt; info.priority == 7);
-    assert!(rt; info.offset == 0);
-    Ok(())
+fn info_where_the_last_of_a_repeated_field_counts(rt: HostRuntime) {
+    let bytes =
+        b"role:nothing\nrole:master\nslave_priority:x\nslave_priority:007\nslave_repl_offset:5\nslave_repl_offset:-99999999999999999999";
+    assert!(rt; role_and_numbers(bytes) == Some((DataRole::Master, 7, 0)));
+}
+
+/// Whether these bytes are read, or refused for one of the fields from 2 to 8.
+fn is_read_or_refused_by_name(bytes: &[u8]) -> bool {
+    matches!(told(bytes), Ok(_) | Err(TextFault::BadField(2..=8)))
 }
 
 #[test]
 fn each_prefix_of_an_info_is_read_or_refused_by_name(rt: HostRuntime) {
     for n in 0..=REPLICA.len() {
-        let answer = read_info(&REPLICA[..n]);
-        assert!(rt; matches!(answer, Ok(_) | Err(TextFault::BadField(2..=8))));
+        assert!(rt; is_read_or_refused_by_name(&REPLICA[..n]));
     }
 }
 
 /// Where memory is refused the text must be as it was, and the same write must then go well.
 #[test]
-fn refused_memory_leaves_the_text_without_an_info(rt: HostRuntime) -> Result<(), Fail> {
+fn refused_memory_leaves_the_text_without_an_info(rt: HostRuntime) {
     let mut text = OutText::new(rt.alloc());
-    if let Err(fault) = write_info(&TOLD, &mut text) {
+    if let Some(fault) = fault_of_writing(&TOLD, &mut text) {
         assert!(rt; fault == TextFault::NoMemory);
         assert!(rt; text.as_slice().is_empty());
-        write_info(&TOLD, &mut text)?;
+        assert!(rt; fault_of_writing(&TOLD, &mut text).is_none());
     }
-    assert!(rt; read_info(text.as_slice())? == TOLD);
-    Ok(())
+    assert!(rt; is_told(text.as_slice(), &TOLD));
 }

@@ -4,14 +4,14 @@
 ghost use Rattle.std.specs.Prelude.{◌≡◌, IfOk, IfSome};
 ghost use Rattle.resp2_frames.specs.Frame.{view, HasLines};
 
+use super::common::is_same;
 use super::conf_files::GROUP_ONE_AFTER_FAILOVER;
 use ballot_law::{NoMemory, Step};
-use conf_store::{ConfStore, LoadFault, MemoryStore};
+use conf_store::{ConfStore, FileText, LoadFault, MemoryStore};
 use resp2::{FrameFault, Frames, OutText, Value, write_value};
 use scenarios::{ScenarioFault, ScenarioKind, read_scenario};
 use sentinel_conf::{Conf, ConfFault, ConfKind, ConfText, read, rewrite_into};
 use std::alloc::Global;
-use std::test::Fail;
 
 /// What a file says.
 fn conf_of(alloc: Global, text: &[u8]) -> Result<Conf, ConfFault> {
@@ -33,16 +33,29 @@ fn rewritten(alloc: Global, conf: &Conf) -> Result<ConfText, NoMemory> {
     Ok(text)
 }
 
-#[test]
-fn refused_memory_lets_a_file_be_read_and_written_again(rt: HostRuntime) -> Result<(), Fail> {
-    let file = GROUP_ONE_AFTER_FAILOVER.as_bytes();
-    let conf = conf_of(rt.alloc(), file)?;
-    let text = match rewritten(rt.alloc(), &conf) {
-        Err(NoMemory) => rewritten(rt.alloc(), &conf)?,
-        Ok(text) => text,
+/// The file of a conf, once more where that lacked memory.
+fn text_of(alloc: Global, conf: &Conf) -> Result<ConfText, NoMemory> {
+    match rewritten(alloc, conf) {
+        Err(NoMemory) => rewritten(alloc, conf),
+        text => text,
+    }
+}
+
+/// Whether a file is rewritten as it is.
+fn is_rewritten_as_it_is(alloc: Global, file: &[u8]) -> bool {
+    let Ok(conf) = conf_of(alloc, file) else {
+        return false;
     };
-    assert!(rt; text.as_slice() == file);
-    Ok(())
+    match text_of(alloc, &conf) {
+        Ok(text) => is_same(text.as_slice(), file),
+        Err(NoMemory) => false,
+    }
+}
+
+#[test]
+fn refused_memory_lets_a_file_be_read_and_written_again(rt: HostRuntime) {
+    let file = GROUP_ONE_AFTER_FAILOVER.as_bytes();
+    assert!(rt; is_rewritten_as_it_is(rt.alloc(), file));
 }
 
 /// A store that holds `one`.
@@ -55,20 +68,46 @@ fn store_of_one(alloc: Global) -> Result<MemoryStore, NoMemory>
     }
 }
 
-#[test]
-fn refused_memory_leaves_the_old_text_in_a_store(rt: HostRuntime) -> Result<(), Fail> {
-    let mut store = store_of_one(rt.alloc())?;
-    if store.replace(b"a longer text").is_err() {
-        assert!(rt; store.text() == b"one".as_slice());
-        assert!(rt; store.failures() == 1);
-        assert!(rt; store.replace(b"a longer text").is_ok());
+/// Puts a longer text in that store, once more where that lacked memory; whether the old text stood until then.
+fn put_longer(store: &mut MemoryStore) -> bool
+    requires { store.old.failed ≡ 0 }
+{
+    if store.replace(b"a longer text").is_ok() {
+        return true;
     }
-    let text = match store.load() {
-        Err(LoadFault::NoMemory) => store.load()?,
-        loaded => loaded?,
+    is_same(store.text(), b"one")
+        && store.failures() == 1
+        && store.replace(b"a longer text").is_ok()
+}
+
+/// The text of a store, once more where that lacked memory.
+fn loaded(store: &mut MemoryStore) -> Result<FileText, LoadFault> {
+    if store.failures() == u64::MAX {
+        return Err(LoadFault::Failed);
+    }
+    match store.load() {
+        Err(LoadFault::NoMemory) => store.load(),
+        text => text,
+    }
+}
+
+/// Whether a longer text is put in a store, and loaded.
+fn is_put_and_loaded(alloc: Global) -> bool {
+    let Ok(mut store) = store_of_one(alloc) else {
+        return false;
     };
-    assert!(rt; text.as_slice() == b"a longer text".as_slice());
-    Ok(())
+    if !put_longer(&mut store) {
+        return false;
+    }
+    match loaded(&mut store) {
+        Ok(text) => is_same(text.as_slice(), b"a longer text"),
+        Err(_) => false,
+    }
+}
+
+#[test]
+fn refused_memory_leaves_the_old_text_in_a_store(rt: HostRuntime) {
+    assert!(rt; is_put_and_loaded(rt.alloc()));
 }
 
 /// The steps of a scenario.
@@ -84,12 +123,18 @@ fn steps_of(alloc: Global, text: &[u8]) -> Result<Vec<Step>, ScenarioFault> {
     }
 }
 
+/// How many steps a scenario has; None where it is refused.
+fn step_count(alloc: Global, text: &[u8]) -> Option<usize> {
+    match steps_of(alloc, text) {
+        Ok(steps) => Some(steps.len()),
+        Err(_) => None,
+    }
+}
+
 #[test]
-fn refused_memory_lets_a_scenario_be_read_again(rt: HostRuntime) -> Result<(), Fail> {
+fn refused_memory_lets_a_scenario_be_read_again(rt: HostRuntime) {
     let text = b"tick s0 0 2000 0\ndone s0\ncommand s0 2100 SENTINEL MASTERS\ndone s0\n";
-    let steps = steps_of(rt.alloc(), text)?;
-    assert!(rt; steps.len() == 6);
-    Ok(())
+    assert!(rt; step_count(rt.alloc(), text) == Some(6));
 }
 
 /// Values of each kind, each in its one spelling.
@@ -123,64 +168,67 @@ fn next_value(frames: &mut Frames) -> Result<Option<Value>, FrameFault>
     first
 }
 
-/// Writes a value behind a text, once more where that lacked memory; whether the text was then as it had been.
-fn write_behind(value: &Value, text: &mut OutText) -> Result<bool, NoMemory>
+/// Writes a value behind a text, once more where that lacked memory; whether it is written, and the text was as it had been until then.
+fn write_behind(value: &Value, text: &mut OutText) -> bool
     requires { HasLines (view value.now) }
 {
-    let before = text.as_slice().len();
+    let before = text.len();
     if write_value(value, text).is_ok() {
-        return Ok(true);
+        return true;
     }
-    let is_as_before = VALUES.get(..before) == Some(text.as_slice());
-    write_value(value, text)?;
-    Ok(is_as_before)
+    is_same(text.as_slice(), &VALUES[..before.min(VALUES.len())])
+        && write_value(value, text).is_ok()
 }
 
-/// Gives the values that are whole, at most eight, behind a text; whether each writing that lacked memory left it as it was.
-fn give(frames: &mut Frames, text: &mut OutText) -> Result<bool, Fail> {
+/// Gives the values that are whole, at most eight, behind a text; whether each is written, and a writing that lacked memory left it as it was.
+fn give(frames: &mut Frames, text: &mut OutText) -> bool {
     for _ in 0..8 {
-        let Some(value) = next_value(frames)? else {
-            break;
-        };
-        if !write_behind(&value, text)? {
-            return Ok(false);
+        match next_value(frames) {
+            Ok(Some(value)) => {
+                if !write_behind(&value, text) {
+                    return false;
+                }
+            }
+            Ok(None) => return true,
+            Err(_) => return false,
         }
     }
-    Ok(true)
+    true
 }
 
-/// What is written of all values, where they come in pieces of so many bytes.
-fn written_in_pieces(alloc: Global, size: usize) -> Result<OutText, Fail> {
+/// Whether what is written of all values is their bytes, where they come in pieces of so many bytes.
+fn are_written_in_pieces(alloc: Global, size: usize) -> bool {
     let mut frames = Frames::new(alloc);
     let mut text = OutText::new(alloc);
     for piece in VALUES.chunks(size.max(1)) {
-        feed(&mut frames, piece)?;
-        if !give(&mut frames, &mut text)? {
-            return Err("a refused write changed the text".into());
+        if feed(&mut frames, piece).is_err() || !give(&mut frames, &mut text) {
+            return false;
         }
     }
-    Ok(text)
+    is_same(text.as_slice(), VALUES)
 }
 
 #[test]
-fn refused_memory_leaves_a_reader_and_a_text_as_they_were(rt: HostRuntime) -> Result<(), Fail> {
+fn refused_memory_leaves_a_reader_and_a_text_as_they_were(rt: HostRuntime) {
     for size in [1, 16, 256] {
-        let text = written_in_pieces(rt.alloc(), size)?;
-        assert!(rt; text.as_slice() == VALUES, "pieces of {size}");
+        assert!(rt; are_written_in_pieces(rt.alloc(), size), "pieces of {size}");
     }
-    Ok(())
+}
+
+/// Adds a byte of `VALUES` to a text, once more where that lacked memory; whether it is added, and the text was as it had been until then.
+fn add(text: &mut OutText, byte: u8) -> bool {
+    let before = text.len();
+    if text.add(&[byte]).is_ok() {
+        return true;
+    }
+    is_same(text.as_slice(), &VALUES[..before.min(VALUES.len())]) && text.add(&[byte]).is_ok()
 }
 
 #[test]
-fn refused_memory_adds_no_bytes_to_a_text(rt: HostRuntime) -> Result<(), Fail> {
+fn refused_memory_adds_no_bytes_to_a_text(rt: HostRuntime) {
     let mut text = OutText::new(rt.alloc());
     for byte in VALUES {
-        let before = text.as_slice().len();
-        if text.add(&[*byte]).is_err() {
-            assert!(rt; VALUES.get(..before) == Some(text.as_slice()));
-            text.add(&[*byte])?;
-        }
+        assert!(rt; add(&mut text, *byte));
     }
-    assert!(rt; text.as_slice() == VALUES);
-    Ok(())
+    assert!(rt; is_same(text.as_slice(), VALUES));
 }

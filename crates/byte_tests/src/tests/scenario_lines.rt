@@ -1,26 +1,38 @@
 //! Scenarios and what they tell. The steps are compared by their `Debug` texts, one a line.
 
-use scenarios::{ScenarioFault, ScenarioKind, read_scenario};
+use super::common::is_same;
+use scenarios::{ScenarioFault, ScenarioKind, Step, read_scenario};
 use std::alloc::Global;
-use std::test::Fail;
 
-/// The steps of a scenario, one a line; the fault where there is one.
-fn told(alloc: Global, text: &[u8]) -> Result<String, Fail> {
-    let mut told = String::new(alloc);
-    match read_scenario(alloc, text) {
-        Ok(steps) => {
-            for step in &steps {
-                told.push_str(format!(in alloc; "{step:?}\n")?.as_str())?;
-            }
-        }
-        Err(fault) => told.push_str(format!(in alloc; "{fault:?}")?.as_str())?,
+/// The steps of a scenario, or its first fault.
+fn steps_of(alloc: Global, text: &[u8]) -> Result<Vec<Step>, ScenarioFault> {
+    read_scenario(alloc, text)
+}
+
+/// The steps as text, one a line; None where there is no memory.
+fn shown(alloc: Global, steps: &[Step]) -> Option<String> {
+    let mut shown = String::new(alloc);
+    for step in steps {
+        let line = format!(in alloc; "{step:?}\n").ok()?;
+        shown.push_str(line.as_str()).ok()?;
     }
-    Ok(told)
+    Some(shown)
+}
+
+/// Whether the steps of a scenario are these, one a line.
+fn is_told(alloc: Global, text: &[u8], wanted: &str) -> bool {
+    let Ok(steps) = steps_of(alloc, text) else {
+        return false;
+    };
+    match shown(alloc, &steps) {
+        Some(shown) => is_same(shown.as_bytes(), wanted.as_bytes()),
+        None => false,
+    }
 }
 
 /// The first fault of the scenario.
 fn fault_of(alloc: Global, text: &[u8]) -> Option<ScenarioFault> {
-    read_scenario(alloc, text).err()
+    steps_of(alloc, text).err()
 }
 
 /// Whether each of these lines, as a scenario, is refused for this reason.
@@ -57,25 +69,31 @@ StoreAt(1) Deliver { message: 21, now: 6100 }
 StoreAt(1) Deliver { message: 19, now: 6200 }
 SentinelAt(0) Deliver { message: 23, now: 6300 }";
 
-#[test]
-fn a_failover_is_forty_steps(rt: HostRuntime) -> Result<(), Fail> {
-    let alloc = rt.alloc();
+/// The steps of that failover, one a line: each turn, and what the node then stores and releases; at last the address that is told.
+fn failover_steps(alloc: Global) -> Option<String> {
     let mut steps = String::new(alloc);
     for turn in TURNS.lines() {
-        let (node, step) = turn.split_once(' ').ok_or("no step")?;
+        let (node, step) = turn.split_once(' ')?;
         let stored = format!(in alloc;
             "{step}\nStore {{ node: {node} }}\nRelease {{ node: {node} }}\n"
-        )?;
-        steps.push_str(stored.as_str())?;
+        );
+        steps.push_str(stored.ok()?.as_str()).ok()?;
     }
-    steps.push_str("Answer { node: SentinelAt(0), master: 0 }\n")?;
-    assert_eq!(rt; steps.lines().count(), 40);
-    assert_eq!(rt; told(alloc, FAILOVER)?.as_str(), steps.as_str());
-    Ok(())
+    steps
+        .push_str("Answer { node: SentinelAt(0), master: 0 }\n")
+        .ok()?;
+    Some(steps)
 }
 
 #[test]
-fn each_word_has_its_step(rt: HostRuntime) -> Result<(), Fail> {
+fn a_failover_is_forty_steps(rt: HostRuntime) {
+    let steps = failover_steps(rt.alloc()).expect(&rt, "no memory");
+    assert!(rt; steps.lines().count() == 40);
+    assert!(rt; is_told(rt.alloc(), FAILOVER, steps.as_str()));
+}
+
+#[test]
+fn each_word_has_its_step(rt: HostRuntime) {
     let text = b"# a story\n\nset d1 100 7 0\nstore s0 ok\nstore s1 old\nstore s2 new\nrelease c0
 stop s0 old\nstop s1 new\nstart s0 5000\nanswer s0 15\n#done s0\ncommand s3 7000 PING
 command s3 7001 SENTINEL IS-MASTER-DOWN-BY-ADDR 127.0.0.1 6379 1 00000000000000000000000000000000000000ff";
@@ -92,19 +110,17 @@ Answer { node: SentinelAt(0), master: 15 }
 Take { node: SentinelAt(3), input: Input { now: 7000, event: Command { sender: PortAt(0), command: Ping } } }
 Take { node: SentinelAt(3), input: Input { now: 7001, event: Command { sender: PortAt(0), command: IsMasterDownByAddr { addr: Addr { ip: 2130706433, port: 6379 }, epoch: 1, candidate: Some(RunId { hi: 0, lo: 255 }) } } } }
 ";
-    assert_eq!(rt; told(rt.alloc(), text)?.as_str(), steps);
-    Ok(())
+    assert!(rt; is_told(rt.alloc(), text, steps));
 }
 
 #[test]
-fn nothing_is_told_by_nothing(rt: HostRuntime) -> Result<(), Fail> {
-    assert_eq!(rt; told(rt.alloc(), b"")?.as_str(), "");
-    assert_eq!(rt; told(rt.alloc(), b"\n\n# jump s0\n#")?.as_str(), "");
-    Ok(())
+fn nothing_is_told_by_nothing(rt: HostRuntime) {
+    assert!(rt; is_told(rt.alloc(), b"", ""));
+    assert!(rt; is_told(rt.alloc(), b"\n\n# jump s0\n#", ""));
 }
 
 #[test]
-fn greatest_numbers(rt: HostRuntime) -> Result<(), Fail> {
+fn greatest_numbers(rt: HostRuntime) {
     let text =
         b"tick s0 65536 18446744073709551615 007\nset d0 9223372036854775807 0 0\nrelease s65534\nrelease s65536";
     let steps =
@@ -113,7 +129,7 @@ Take { node: StoreAt(0), input: Input { now: 0, event: Become { priority: 922337
 Release { node: SentinelAt(65534) }
 Release { node: SentinelAt(65535) }
 ";
-    assert_eq!(rt; told(rt.alloc(), text)?.as_str(), steps);
+    assert!(rt; is_told(rt.alloc(), text, steps));
     let lines = "tick s0 0 18446744073709551616 0
 tick s18446744073709551616 0 0 0
 deliver 18446744073709551616 0
@@ -129,7 +145,6 @@ release s0\r
 deliver  5
 command s0 x PING";
     assert!(rt; are_refused(rt.alloc(), lines, ScenarioKind::BadNumber));
-    Ok(())
 }
 
 #[test]
@@ -166,20 +181,22 @@ command";
     assert!(rt; are_refused(rt.alloc(), lines, ScenarioKind::WrongWords));
 }
 
+/// Scenarios, and the line and the kind of their first faults.
+const FAULTS: [(&[u8], u64, ScenarioKind); 4] = [
+    (
+        b"# one\n\ndone s0\njump s0\ndone\n",
+        4,
+        ScenarioKind::UnknownStep,
+    ),
+    (b"done s0\ndone\njump s0", 2, ScenarioKind::WrongWords),
+    (b"done sx\ndone", 1, ScenarioKind::BadNumber),
+    (b"jump s0\n\xff", 0, ScenarioKind::NotUtf8),
+];
+
 #[test]
 fn the_first_faulty_line_is_told(rt: HostRuntime) {
-    let alloc = rt.alloc();
-    let faults: [(&[u8], u64, ScenarioKind); 4] = [
-        (
-            b"# one\n\ndone s0\njump s0\ndone\n",
-            4,
-            ScenarioKind::UnknownStep,
-        ),
-        (b"done s0\ndone\njump s0", 2, ScenarioKind::WrongWords),
-        (b"done sx\ndone", 1, ScenarioKind::BadNumber),
-        (b"jump s0\n\xff", 0, ScenarioKind::NotUtf8),
-    ];
-    for (text, line, kind) in faults {
-        assert_eq!(rt; fault_of(alloc, text), Some(ScenarioFault { line, kind }));
+    for (text, line, kind) in FAULTS {
+        let fault = ScenarioFault { line, kind };
+        assert!(rt; fault_of(rt.alloc(), text) == Some(fault), "line {line}");
     }
 }

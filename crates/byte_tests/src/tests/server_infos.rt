@@ -1,10 +1,9 @@
 //! Answers to INFO of Redis 7.2 servers, with all their sections, in the form that the Redis documentation shows: one of
 //! a replica, whose lines are edited for a master and for a replica that lost its master.
 
-use ballot_law::{Addr, DataRole, RunId};
+use ballot_law::{Addr, DataRole, Info, RunId};
 use node_texts::read_info;
 use std::alloc::Global;
-use std::test::Fail;
 
 /// What stands before the section on replication.
 const BEFORE: &[u8] = b"# Server\r\n\
@@ -273,53 +272,56 @@ fn edited_line<'a>(line: &'a [u8], edits: &[Edit]) -> &'a [u8] {
     line
 }
 
-/// The parts behind each other, each with its lines edited.
-fn edited(alloc: Global, parts: &[&[u8]], edits: &[Edit]) -> Result<Vec<u8>, Fail> {
+/// The parts behind each other, each with its lines edited; None where there is no memory.
+fn edited(alloc: Global, parts: &[&[u8]], edits: &[Edit]) -> Option<Vec<u8>> {
     let mut text = Vec::new(alloc);
     for part in parts {
         for line in part.split_inclusive(|byte| *byte == b'\n') {
-            text.extend_from_slice(edited_line(line, edits))?;
+            text.extend_from_slice(edited_line(line, edits)).ok()?;
         }
     }
-    Ok(text)
+    Some(text)
+}
+
+/// What these parts tell, each with its lines edited.
+fn told(alloc: Global, parts: &[&[u8]], edits: &[Edit]) -> Option<Info> {
+    let text = edited(alloc, parts, edits)?;
+    read_info(&text).ok()
 }
 
 #[test]
-fn info_of_a_master(rt: HostRuntime) -> Result<(), Fail> {
-    let text = edited(rt.alloc(), &[BEFORE, REPLICATION, BEHIND], &MASTER)?;
-    let master = read_info(&text)?;
+fn info_of_a_master(rt: HostRuntime) {
     let id = RunId {
         hi: 0x0123_4567_89ab_cdef_0123_4567_89ab_cdef,
         lo: 0x0123_4567,
     };
+    let told = told(rt.alloc(), &[BEFORE, REPLICATION, BEHIND], &MASTER);
+    let master = told.expect(&rt, "refused");
     assert!(rt; master.id == Some(id));
     assert!(rt; master.role == DataRole::Master);
     assert!(rt; master.master.is_none());
-    Ok(())
 }
 
 #[test]
-fn info_of_a_replica_whose_link_is_up(rt: HostRuntime) -> Result<(), Fail> {
-    let text = edited(rt.alloc(), &[BEFORE, REPLICATION, BEHIND], &[])?;
-    let replica = read_info(&text)?;
+fn info_of_a_replica_whose_link_is_up(rt: HostRuntime) {
     let master = Addr {
         ip: 2_130_706_433,
         port: 6_379,
     };
+    let told = told(rt.alloc(), &[BEFORE, REPLICATION, BEHIND], &[]);
+    let replica = told.expect(&rt, "refused");
     assert!(rt; replica.role == DataRole::Replica);
     assert!(rt; replica.master == Some(master));
     assert!(rt; replica.link_up);
     assert!(rt; replica.link_down_s == 0);
     assert!(rt; replica.priority == 100);
     assert!(rt; replica.offset == 312_018);
-    Ok(())
 }
 
 #[test]
-fn info_section_of_a_replica_that_lost_its_master(rt: HostRuntime) -> Result<(), Fail> {
-    let text = edited(rt.alloc(), &[REPLICATION], &LOST)?;
-    let lost = read_info(&text)?;
+fn info_section_of_a_replica_that_lost_its_master(rt: HostRuntime) {
+    let told = told(rt.alloc(), &[REPLICATION], &LOST);
+    let lost = told.expect(&rt, "refused");
     assert!(rt; !lost.link_up);
     assert!(rt; lost.link_down_s == 17);
-    Ok(())
 }
