@@ -1,8 +1,8 @@
 //! Words from outside: addresses, ports, numbers and run ids as Redis and its files write them.
 
 use super::common::is_same;
-use ballot_law::{Addr, RunId};
-use std::alloc::{AllocError, Global};
+use ballot_law::{Addr, NoMemory, RunId};
+use std::alloc::Global;
 use words::{
     add_number, address_of, are_digits, canonical_address_of, canonical_number_of, ip_of, ip_text,
     is_decimal, number_of, port_of, run_id_of, run_id_text, split_at_byte, split_line,
@@ -234,7 +234,7 @@ fn texts_without_memory(rt: HostRuntime) {
 }
 
 /// A line of words of each kind.
-fn sentinel_line(alloc: Global) -> Result<Vec<u8>, AllocError> {
+fn sentinel_line(alloc: Global) -> Result<Vec<u8>, NoMemory> {
     let mut out = Vec::from_slice(alloc, b"sentinel ")?;
     out.extend_from_slice(ip_text(2_130_706_433).as_slice())?;
     out.push(b' ')?;
@@ -250,7 +250,7 @@ fn sentinel_line(alloc: Global) -> Result<Vec<u8>, AllocError> {
 fn is_sentinel_line(alloc: Global, wanted: &[u8]) -> bool {
     match sentinel_line(alloc) {
         Ok(line) => is_same(line.as_slice(), wanted),
-        Err(AllocError) => false,
+        Err(NoMemory) => false,
     }
 }
 
