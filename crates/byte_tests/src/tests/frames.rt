@@ -81,23 +81,26 @@ fn asked_before(alloc: Global, bytes: &[u8], wanted: &Value) -> Option<usize> {
     }
 }
 
+/// A word of 50 letters, and one of 49, as they are spelled and as they are.
+const LONG_WORDS: [(&[u8], &[u8]); 2] = [
+    (
+        b"$50\r\nabcdefghijklmnopqrstuvwxyzabcdefghijklmnopqrstuvwx\r\n",
+        b"abcdefghijklmnopqrstuvwxyzabcdefghijklmnopqrstuvwx",
+    ),
+    (
+        b"$49\r\nabcdefghijklmnopqrstuvwxyzabcdefghijklmnopqrstuvw\r\n",
+        b"abcdefghijklmnopqrstuvwxyzabcdefghijklmnopqrstuvw",
+    ),
+];
+
 /// A command of 1,001 words in 57,017 bytes, and its value.
 fn large_command(alloc: Global) -> Option<(Vec<u8>, Value)> {
     let mut bytes = Vec::from_slice(alloc, b"*1001\r\n").ok()?;
     let mut words = Vec::new(alloc);
-    for _ in 0..954 {
-        bytes
-            .extend_from_slice(b"$50\r\nabcdefghijklmnopqrstuvwxyzabcdefghijklmnopqrstuvwx\r\n")
-            .ok()?;
-        let word = bulk(alloc, b"abcdefghijklmnopqrstuvwxyzabcdefghijklmnopqrstuvwx")?;
-        words.push(word).ok()?;
-    }
-    for _ in 0..47 {
-        bytes
-            .extend_from_slice(b"$49\r\nabcdefghijklmnopqrstuvwxyzabcdefghijklmnopqrstuvw\r\n")
-            .ok()?;
-        let word = bulk(alloc, b"abcdefghijklmnopqrstuvwxyzabcdefghijklmnopqrstuvw")?;
-        words.push(word).ok()?;
+    for number in 0..1_001 {
+        let (spelled, word) = LONG_WORDS[usize::from(number >= 954)];
+        bytes.extend_from_slice(spelled).ok()?;
+        words.push(bulk(alloc, word)?).ok()?;
     }
     Some((bytes, Value::Items(words)))
 }

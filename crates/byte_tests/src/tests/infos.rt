@@ -105,37 +105,31 @@ fn info_of_a_master_without_an_id(rt: HostRuntime) {
     assert!(rt; is_written_as(rt.alloc(), &info, wanted));
 }
 
-/// Answers to INFO, with their faults.
-const FAULTS: [(&[u8], TextFault); 10] = [
-    (b"role:slave\nslave_priority:x\n", TextFault::BadField(7)),
+/// Answers to INFO with a bad field, and its place before them.
+const BAD_FIELDS: [(u8, &[u8]); 9] = [
+    (7, b"role:slave\nslave_priority:x\n"),
+    (1, b"run_id:xyz\nrole:slave\nslave_priority:x\n"),
+    (2, b"role:sentinel\n"),
     (
-        b"run_id:xyz\nrole:slave\nslave_priority:x\n",
-        TextFault::BadField(1),
-    ),
-    (b"role:sentinel\n", TextFault::BadField(2)),
-    (
+        3,
         b"role:slave\nmaster_host:redis.example\nmaster_port:6379\n",
-        TextFault::BadField(3),
     ),
-    (b"role:slave\nmaster_port:65536\n", TextFault::BadField(4)),
-    (b"role:slave\nmaster_link_status:\n", TextFault::BadField(5)),
-    (
-        b"role:slave\nmaster_link_down_since_seconds:-\n",
-        TextFault::BadField(6),
-    ),
-    (b"role:slave\nslave_priority:-1\n", TextFault::BadField(7)),
-    (
-        b"role:slave\nslave_repl_offset:9223372036854775808\n",
-        TextFault::BadField(8),
-    ),
-    (b"role:slave\nanything:\xff\n", TextFault::NotUtf8),
+    (4, b"role:slave\nmaster_port:65536\n"),
+    (5, b"role:slave\nmaster_link_status:\n"),
+    (6, b"role:slave\nmaster_link_down_since_seconds:-\n"),
+    (7, b"role:slave\nslave_priority:-1\n"),
+    (8, b"role:slave\nslave_repl_offset:9223372036854775808\n"),
 ];
 
 #[test]
 fn info_with_bad_fields(rt: HostRuntime) {
-    for (bytes, fault) in FAULTS {
-        assert!(rt; fault_of(bytes) == Some(fault), "{bytes:?}");
+    for (n, bytes) in BAD_FIELDS {
+        assert!(rt;
+            fault_of(bytes) == Some(TextFault::BadField(n)),
+            "{bytes:?}"
+        );
     }
+    assert!(rt; fault_of(b"role:slave\nanything:\xff\n") == Some(TextFault::NotUtf8));
 }
 
 /// The role, the priority and the offset that these bytes tell.

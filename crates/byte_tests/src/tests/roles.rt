@@ -66,44 +66,51 @@ fn role_of_a_replica_is_read_and_written(rt: HostRuntime) {
     assert!(rt; role_of(rt.alloc(), below) == Some(wanted));
 }
 
-/// Answers to ROLE, with their faults.
-const FAULTS: [(&[u8], TextFault); 12] = [
-    (b"+master\r\n", TextFault::FieldCount),
-    (b"*-1\r\n", TextFault::FieldCount),
-    (b"*0\r\n", TextFault::FieldCount),
-    (b"*2\r\n$8\r\nsentinel\r\n*0\r\n", TextFault::FieldCount),
-    (b"*3\r\n$5\r\nslave\r\n:0\r\n*0\r\n", TextFault::FieldCount),
-    (b"*3\r\n$5\r\nother\r\n:0\r\n*0\r\n", TextFault::BadField(1)),
-    (
-        b"*3\r\n$6\r\nmaster\r\n$1\r\n0\r\n*0\r\n",
-        TextFault::BadField(2),
-    ),
-    (
-        b"*3\r\n$6\r\nmaster\r\n:0\r\n:0\r\n",
-        TextFault::BadField(3),
-    ),
+/// Answers to ROLE of which the number of fields is wrong.
+const WRONG_COUNTS: [&[u8]; 5] = [
+    b"+master\r\n",
+    b"*-1\r\n",
+    b"*0\r\n",
+    b"*2\r\n$8\r\nsentinel\r\n*0\r\n",
+    b"*3\r\n$5\r\nslave\r\n:0\r\n*0\r\n",
+];
+
+/// Answers to ROLE with a bad field, and its place behind them.
+const BAD_FIELDS: [(&[u8], u8); 7] = [
+    (b"*3\r\n$5\r\nother\r\n:0\r\n*0\r\n", 1),
+    (b"*3\r\n$6\r\nmaster\r\n$1\r\n0\r\n*0\r\n", 2),
+    (b"*3\r\n$6\r\nmaster\r\n:0\r\n:0\r\n", 3),
     (
         b"*5\r\n$5\r\nslave\r\n$9\r\nlocalhost\r\n:6379\r\n$2\r\nup\r\n:0\r\n",
-        TextFault::BadField(2),
+        2,
     ),
     (
         b"*5\r\n$5\r\nslave\r\n$9\r\n127.0.0.1\r\n:65536\r\n$2\r\nup\r\n:0\r\n",
-        TextFault::BadField(3),
+        3,
     ),
     (
         b"*5\r\n$5\r\nslave\r\n$9\r\n127.0.0.1\r\n:6379\r\n$-1\r\n:0\r\n",
-        TextFault::BadField(4),
+        4,
     ),
     (
         b"*5\r\n$5\r\nslave\r\n$9\r\n127.0.0.1\r\n:6379\r\n$2\r\nup\r\n$1\r\n0\r\n",
-        TextFault::BadField(5),
+        5,
     ),
 ];
 
 #[test]
 fn role_with_faults(rt: HostRuntime) {
-    for (bytes, fault) in FAULTS {
-        assert!(rt; fault_of(rt.alloc(), bytes) == Some(fault), "{bytes:?}");
+    for bytes in WRONG_COUNTS {
+        assert!(rt;
+            fault_of(rt.alloc(), bytes) == Some(TextFault::FieldCount),
+            "{bytes:?}"
+        );
+    }
+    for (bytes, n) in BAD_FIELDS {
+        assert!(rt;
+            fault_of(rt.alloc(), bytes) == Some(TextFault::BadField(n)),
+            "{bytes:?}"
+        );
     }
 }
 
