@@ -11,6 +11,7 @@ use Rattle.atomic_table.specs.Table.{State, Me, step, stepped, opening, keeps, t
 use Rattle.atomic_table.proofs.Lists.{at_set, set_else, set_again, at_longer}
 use Rattle.ballot_law.specs.declared.addresses.Addr.{Addr}
 use Rattle.sentinel_cell.specs.declared.entry.Entry.{Entry}
+use Rattle.sentinel_cell.specs.declared.shared.TheConstants.{MOST_SEATS}
 use Rattle.sentinel_cell.specs.declared.view.View.{View}
 use Rattle.sentinel_cell.specs.declared.view.Stage.{Stage}
 use Rattle.sentinel_cell.specs.declared.view.Stage.TheVariants.{Opening, Filling, Idle, Looked, Waiting, Serving}
@@ -514,7 +515,7 @@ module _ {C : Type 0} (Legal : List Entry → Type 0) (stored : List Entry → �
         (n, refl, refl, k.numbers.upto, (λ has. let m = k.mine n has in let low : n < n = m.0 in omega arith), quiet),
       )
 
-  settles : (slots id : ℕ) (me : M) → seats ≤ 1024 → Allows Rule slots id me 0 (λ n. n) (Settles (step slots 0 0 0 none) me)
+  settles : (slots id : ℕ) (me : M) → seats ≤ MOST_SEATS → Allows Rule slots id me 0 (λ n. n) (Settles (step slots 0 0 0 none) me)
   settles slots id me few s r _ at _ =
       let k = r.each id me.0 at in
       let part = total_at share_of s.views id me.0 at in
@@ -826,7 +827,7 @@ module _ {C : Type 0} (Legal : List Entry → Type 0) (stored : List Entry → �
   pub names_all : (empty : C) (slots id : ℕ) (me : M) → me.0.stage ≡ Idle → Allows (All empty) slots id me 0 (λ n. n) (Names (step slots 0 0 0 none) me)
   names_all empty slots id me is = begun empty slots id me 0 (λ n. n) (Names (step slots 0 0 0 none) me) (idle_begun me.0.stage is) (names slots id me is)
 
-  pub settles_all : (empty : C) (slots id : ℕ) (me : M) → me.0.stage ≡ Idle → seats ≤ 1024 → Allows (All empty) slots id me 0 (λ n. n) (Settles (step slots 0 0 0 none) me)
+  pub settles_all : (empty : C) (slots id : ℕ) (me : M) → me.0.stage ≡ Idle → seats ≤ MOST_SEATS → Allows (All empty) slots id me 0 (λ n. n) (Settles (step slots 0 0 0 none) me)
   settles_all empty slots id me is few = begun empty slots id me 0 (λ n. n) (Settles (step slots 0 0 0 none) me) (idle_begun me.0.stage is) (settles slots id me few)
 
   pub splits_all : (empty : C) (id : ℕ) (v : View) (n : ℕ) (ns : List ℕ) → v.stage ≡ Idle → v.numbers ≡ n ∷ ns → ¬ Has n ns → Splits (All empty) id v (left_half v) (right_half v)

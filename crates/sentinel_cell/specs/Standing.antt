@@ -10,6 +10,7 @@ use Rattle.sentinel_outbox.specs.Outboxes.{room_of_sentinel}
 use Rattle.sentinel_cell.specs.declared.entry.Entry.{Entry}
 use Rattle.sentinel_cell.specs.declared.entry.Outcome.{Outcome}
 use Rattle.sentinel_cell.specs.declared.keeper.Keeper.{Keeper}
+use Rattle.sentinel_cell.specs.declared.shared.TheConstants.{MOST_SEATS}
 use Rattle.sentinel_cell.specs.declared.view.View.{View}
 use Rattle.sentinel_cell.specs.declared.view.Stage.TheVariants.{Idle}
 use Rattle.sentinel_cell.specs.declared.fault.Reply.{Reply}
@@ -32,7 +33,7 @@ pub record IsMade (table : TableId) (plan : Plan) (told_seats seats : ℕ) (rost
   pub words : table.words ≡ master_count plan + 2
   pub slots : table.slots ≡ 1
   pub counted : seats ≡ told_seats
-  pub few : seats ≤ 1024
+  pub few : seats ≤ MOST_SEATS
   pub rostered : roster ≡ roster_of plan
   pub roomed : room ≡ room_of_sentinel
 
@@ -54,7 +55,7 @@ first_number (n ∷ ns) = n
 
 -- a seat between two calls
 abbrev pub AtRest : View → Type 0
-AtRest v = (v.stage ≡ Idle) × (0 < v.share) × Has (first_number v.numbers) v.numbers × (v.share ≤ 1024)
+AtRest v = (v.stage ≡ Idle) × (0 < v.share) × Has (first_number v.numbers) v.numbers × (v.share ≤ MOST_SEATS)
 
 -- The call is the last entry of a legal history, which begins with all that the seat had seen. Between the two the seat's numbers have no call.
 -- Each answer that the seat got is the configuration of some beginning of that history, and each call in it is of a number that was given out

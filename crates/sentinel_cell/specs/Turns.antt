@@ -9,6 +9,7 @@ use Rattle.atomic_table.specs.Table.{State, Me, Step}
 use Rattle.ballot_law.specs.declared.cards.Card.{Card}
 use Rattle.ballot_law.specs.declared.addresses.Addr.{Addr}
 use Rattle.sentinel_cell.specs.declared.entry.Entry.{Entry}
+use Rattle.sentinel_cell.specs.declared.shared.TheConstants.{MOST_SEATS}
 use Rattle.sentinel_cell.specs.declared.view.View.{View}
 use Rattle.sentinel_cell.specs.declared.view.Stage.{Stage}
 use Rattle.sentinel_cell.specs.declared.view.Stage.TheVariants.{Opening, Filling, Idle, Looked, Waiting, Serving}
@@ -214,4 +215,4 @@ module _ {C : Type 0} where
   Names st m r m' = (n : ℕ) × (m'.0 ≡ numbered m.0 n) × (m'.1 ≡ m.1) × (m.0.given ≤ n) × (¬ Has n m.0.numbers) × (calls_by n m.0.front ≡ [])
 
   abbrev pub Settles : Step C → Me C View → ℕ → Me C View → Type 0
-  Settles st m r m' = (m' ≡ m) × (m.0.share ≤ 1024) × Begins m.0.told m.0.front × ((n : ℕ) → Has n m.0.told_numbers → calls_by n m.0.front ≡ calls_by n m.0.told)
+  Settles st m r m' = (m' ≡ m) × (m.0.share ≤ MOST_SEATS) × Begins m.0.told m.0.front × ((n : ℕ) → Has n m.0.told_numbers → calls_by n m.0.front ≡ calls_by n m.0.told)

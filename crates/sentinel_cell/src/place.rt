@@ -1,6 +1,7 @@
 //! The steps of one turn, on a seat of the table.
 
 ghost use Rattle.std.specs.Prelude.{◌≡◌, ℕ, ◌+◌, ◌∷◌, [], ◌++◌, ◌<◌, ◌≤◌, Some, None, IfOk, OnErr, drop, length};
+ghost use Rattle.sentinel_cell.specs.declared.shared.TheConstants.{MOST_SEATS};
 ghost use Rattle.sentinel_cell.specs.declared.view.Stage.TheVariants.{Opening, Idle, Looked, Waiting, Serving};
 ghost use Rattle.sentinel_cell.specs.Histories.{IsLegal, Fits, Announces, stored_at, opened, entry_of};
 ghost use Rattle.sentinel_cell.specs.Turns.{serving, raised, passed, answered, unpacked, IsFresh, numbered, left_half, right_half, merged, first_view, first_view_at, AreGiven, Follows};
@@ -215,11 +216,11 @@ pub(crate) fn split_at<S: ConfStore>(hall: &Hall<S>, place: &mut Place<S>) -> Pl
 /// Puts two seats together, and compares their fronts.
 pub(crate) fn join_at<S: ConfStore>(hall: &Hall<S>, place: &mut Place<S>, other: Place<S>)
     requires own { (place.old.table_id ≡ hall.now.table_id) × (other.table_id ≡ hall.now.table_id) × (hall.now.table_id.words ≡ master_count hall.now.key.keeper.sentinel.plan + 2) }
-    requires few { hall.now.key.seats ≤ 1024 }
+    requires few { hall.now.key.seats ≤ MOST_SEATS }
     requires rest { AtRest place.old.me.0 × (place.old.me.1 ≡ []) × AtRest other.me.0 × (other.me.1 ≡ []) }
     ensures same { (place.new.table_id ≡ place.old.table_id) × (place.new.id ≡ place.old.id) }
     ensures both { place.new.me ≡ (merged place.old.me.0 other.me.0, []) }
-    ensures few { place.new.me.0.share ≤ 1024 }
+    ensures few { place.new.me.0.share ≤ MOST_SEATS }
     ensures front { Begins place.new.me.0.told place.new.me.0.front }
     ensures calls { (n : ℕ) → Has n place.new.me.0.told_numbers → calls_by n place.new.me.0.front ≡ calls_by n place.new.me.0.told }
 {

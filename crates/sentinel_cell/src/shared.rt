@@ -6,6 +6,7 @@ ghost use Rattle.sentinel_rules.specs.Facts.{IsWithinEvent};
 ghost use Rattle.sentinel_rules.specs.Plans.{addr_at, master_count, roster_of};
 ghost use Rattle.sentinel_outbox.specs.declared.phase.Phase.TheVariants.{Ready};
 ghost use Rattle.sentinel_outbox.specs.Outboxes.{room_of_sentinel};
+ghost use Rattle.sentinel_cell.specs.declared.shared.TheConstants.{MOST_SEATS};
 ghost use Rattle.sentinel_cell.specs.declared.fault.CellFault.TheVariants.{NoMemory, NoSeatLeft, SeatsOut, SeatCount};
 ghost use Rattle.sentinel_cell.specs.Calls.{Begins, Has, calls_by, AreOf};
 ghost use Rattle.sentinel_cell.specs.Histories.{IsLegal, IsLeft, opened, replay, stored_at};
@@ -124,10 +125,10 @@ impl<S: ConfStore> SharedSentinel<S> {
         requires ready { sentinel.phase ≡ Ready }
         requires room { S.failure_count store < 2 ^ 64 - 1 }
         ensures start { IfOk result (λ r. r.0.start ≡ opened S.held S.failure_count (record { sentinel = sentinel; store = store })) }
-        ensures seats { IfOk result (λ r. (r.0.seats ≡ seats) × (0 < seats) × (seats ≤ 1024)) }
+        ensures seats { IfOk result (λ r. (r.0.seats ≡ seats) × (0 < seats) × (seats ≤ MOST_SEATS)) }
         ensures seat { IfOk result (λ r. r.1 ≡ standing r.0.id (first_view seats)) }
         ensures back { IfErr result (λ r. (r.0.sentinel ≡ sentinel) × (r.0.store ≡ store)) }
-        ensures fault { IfErr result (λ r. ((r.1 ≡ SeatCount) × ((seats ≡ 0) ⊎ (1024 < seats))) ⊎ ((r.1 ≡ NoMemory) × (0 < seats) × (seats ≤ 1024))) }
+        ensures fault { IfErr result (λ r. ((r.1 ≡ SeatCount) × ((seats ≡ 0) ⊎ (MOST_SEATS < seats))) ⊎ ((r.1 ≡ NoMemory) × (0 < seats) × (seats ≤ MOST_SEATS))) }
     {
         sentinel.is_whole();
         let keeper = Keeper { sentinel, store };
