@@ -1,0 +1,162 @@
+"""What the checks share: the program, what a check needs, commands as RESP2, conf files, free ports, counts.
+
+A check begins with comments that `checks/all` and `common.need()` read:
+
+    #!/usr/bin/env python3
+    # needs: program strace
+    # quick: --stories 40
+
+`needs` names commands that have to be installed, or `program` (the built program), `plain` (the program without an address sanitizer) or
+`rt` (the toolchain). `quick` has the words that `checks/all --quick` adds, or `no` where it leaves the check out; it leaves out what needs `rt` too,
+unless there are such words.
+"""
+import functools
+import os
+import random
+import re
+import shutil
+import socket
+import sys
+
+TOP = os.path.dirname(os.path.dirname(os.path.realpath(__file__)))
+sys.path.insert(0, os.path.join(TOP, "tools"))
+sys.dont_write_bytecode = True
+import kit
+
+# The proved program where there is one of the sources as they are, else the unproved one; where there is neither, the place of the proved one.
+PROGRAM = os.environ.get("SENTINEL_GROUP") or kit.kept("proved") or kit.kept("unproved") or os.path.join(kit.OUT, "proved", kit.PROGRAM)
+PACKAGES = {
+    "cc": "apt-get install gcc",
+    "redis-cli": "apt-get install redis-tools",
+    "redis-sentinel": "apt-get install redis-sentinel",
+    "rt": "the toolchain of Rattle, whose folder of commands stands in PATH",
+    "strace": "apt-get install strace",
+}
+FIRST_PORT, LAST_PORT = 10_000, 32_000  # below the ports that a system gives to connections
+
+
+# --- needs ---
+
+
+def head_of(path, word):
+    """The words after `# needs:` or `# quick:` in the first lines of a script; none where there is no such line."""
+    with open(path, encoding="utf-8", errors="replace") as text:
+        for line in text.readlines(1000)[:5]:
+            if found := re.fullmatch(rf"# {word}:(.*)\n", line):
+                return found[1].split()
+    return None
+
+
+@functools.cache
+def has_sanitizer():
+    """Whether the program was built with an address sanitizer, as an unproved one is."""
+    with open(PROGRAM, "rb") as program:
+        return b"__asan_init" in program.read()
+
+
+def lacking(needs):
+    """Why these needs aren't met, each with what to do about it."""
+    for name in needs:
+        is_built = os.access(PROGRAM, os.X_OK)
+        if name in ("program", "plain") and not is_built:
+            yield f"the program at {PROGRAM}: ./sentinel_group prove makes it, or SENTINEL_GROUP names another one"
+        elif name == "plain" and has_sanitizer():
+            yield f"a program without an address sanitizer, and {PROGRAM} has one"
+        elif name not in ("program", "plain") and not shutil.which(name):
+            yield f"{name}: {PACKAGES.get(name, 'it is not installed')}"
+
+
+def need():
+    """Ends the check with status 2 where something that it needs isn't there."""
+    path = os.path.realpath(sys.argv[0])
+    missing = list(lacking(head_of(path, "needs") or []))
+    for line in missing:
+        print(f"{os.path.relpath(path, TOP)} needs {line}", file=sys.stderr)
+    if missing:
+        sys.exit(2)
+
+
+# --- commands, files and ports ---
+
+
+def command(*words):
+    """A command as a client spells it in RESP2; words are bytes, or what has a text."""
+    spelled = [word if isinstance(word, bytes) else str(word).encode() for word in words]
+    return b"*%d\r\n" % len(spelled) + b"".join(b"$%d\r\n%b\r\n" % (len(word), word) for word in spelled)
+
+
+ASK_ADDRESS = command("SENTINEL", "GET-MASTER-ADDR-BY-NAME", "mymaster")
+
+
+def ask_vote(port, epoch, candidate):
+    """The request for the vote of an epoch for a candidate, of the master at this port of 127.0.0.1."""
+    return command("SENTINEL", "IS-MASTER-DOWN-BY-ADDR", "127.0.0.1", port, epoch, candidate)
+
+
+def run_id(place):
+    """The run id of the Sentinel at this place of a group: forty times a, b, c .."""
+    return chr(ord("a") + place) * 40
+
+
+def conf(place, ports, nodes, quorum=None, settings=None):
+    """The conf of one of the Sentinels at these ports. They watch mymaster at the first of these nodes, whose replicas are the others; a
+    majority is the quorum where none is named."""
+    lines = [f"port {ports[place]}", f"sentinel myid {run_id(place)}", f"sentinel monitor mymaster 127.0.0.1 {nodes[0]} {quorum or len(ports) // 2 + 1}"]
+    lines += [f"sentinel {name} mymaster {value}" for name, value in (settings or {}).items()]
+    lines += [f"sentinel known-replica mymaster 127.0.0.1 {port}" for port in nodes[1:]]
+    lines += [f"sentinel known-sentinel mymaster 127.0.0.1 {port} {run_id(other)}" for other, port in enumerate(ports) if other != place]
+    return "\n".join(lines) + "\n"
+
+
+def write_files(folder, texts):
+    """Writes the conf files of a group, s0.conf, s1.conf .., and gives their paths."""
+    paths = [os.path.join(folder, f"s{place}.conf") for place in range(len(texts))]
+    for path, text in zip(paths, texts):
+        with open(path, "w", encoding="utf-8") as out:
+            out.write(text)
+    return paths
+
+
+def is_free(port):
+    """Whether nobody listens at this port of 127.0.0.1."""
+    with socket.socket() as tried:
+        tried.setsockopt(socket.SOL_SOCKET, socket.SO_REUSEADDR, 1)
+        try:
+            tried.bind(("127.0.0.1", port))
+        except OSError:
+            return False
+        return True
+
+
+def free_ports(count):
+    """This many ports in a row at which nobody listens."""
+    for _ in range(1000):
+        first = random.randrange(FIRST_PORT, LAST_PORT - count)
+        ports = list(range(first, first + count))
+        if all(map(is_free, ports)):
+            return ports
+    raise RuntimeError(f"no {count} ports in a row are free")
+
+
+# --- counts ---
+
+
+class Counts:
+    """How many of the things that a check looked at held, and how many didn't; each of these is printed at once."""
+
+    def __init__(self):
+        self.passed = self.failed = 0
+
+    def check(self, name, holds, why=""):
+        """Counts what was looked at, and gives whether it holds."""
+        if holds:
+            self.passed += 1
+        else:
+            self.failed += 1
+            print(f"failed: {name} {why}".rstrip(), flush=True)
+        return bool(holds)
+
+    def end(self):
+        """Prints the last line and ends the check: with status 1 where something failed, or nothing was looked at."""
+        print(f"{self.passed} passed, {self.failed} failed", flush=True)
+        sys.exit(1 if self.failed or not self.passed else 0)
