@@ -1,6 +1,6 @@
 -- A run of three Sentinels: one asks for votes, another votes for it, it wins, chooses and enacts; a data node passes
 -- its hello on, and the third Sentinel takes the card, is stopped within the store, starts again and shows it.
-use Rattle.std.proofs.Common.{◌≡◌, ℕ, zero, suc, ◌+◌, ◌<◌, ◌≤◌, true, Some, None, List, [], ◌∷◌, get_or, length, refl, sym, ap, subst, ◌∙◌, inl, inr, arith, lit<, lit≤}
+use Rattle.std.proofs.Common.{◌≡◌, ℕ, zero, suc, ◌+◌, ◌<◌, ◌≤◌, true, Some, None, List, [], ◌∷◌, length, refl, sym, ap, subst, ◌∙◌, inl, inr, arith, lit<, lit≤}
 use Rattle.std.specs.Prelude.{All, IfSome}
 use Rattle.std.proofs.lemmas.List.Elements.{All-nil, All-cons}
 use Rattle.ballot_law.specs.declared.addresses.Addr.{Addr}
@@ -9,7 +9,7 @@ use Rattle.ballot_law.specs.declared.cards.Card.{Card}
 use Rattle.ballot_law.specs.declared.cards.Kept.{Kept}
 use Rattle.ballot_law.specs.declared.events.Event.TheVariants.{Tick}
 use Rattle.ballot_law.specs.declared.events.Input.{Input}
-use Rattle.ballot_law.specs.declared.messages.Body.TheVariants.{Ask, Answer, Publish, HelloText, Done}
+use Rattle.ballot_law.specs.declared.messages.Body.TheVariants.{Ask, Answer, Publish, HelloText}
 use Rattle.ballot_law.specs.declared.messages.Message.{Message}
 use Rattle.ballot_law.specs.declared.messages.NodeName.TheVariants.{SentinelAt, StoreAt}
 use Rattle.ballot_law.specs.declared.messages.Output.TheVariants.{Send}
@@ -65,10 +65,6 @@ card = record { epoch = 1; addr = addr 6380 }
 
 abbrev hello : Hello
 hello = record { addr = addr 26379; id = id 0; current = 1; master = 109 ∷ []; card = card }
-
--- the message of this number
-abbrev message_at : World → ℕ → Message
-message_at w k = get_or w.messages k (record { sender = StoreAt 0; target = StoreAt 0; body = Done })
 
 abbrev tick : Input
 tick = record { now = 0; event = Tick 0 0 }
@@ -305,7 +301,7 @@ starts =
       count = refl;
       fresh = λ i l. inl (node_is i l);
       files = λ i l. subst (λ (s : Sentinel). IsWellFormed roster s.file) (sym (node_same i l)) formed;
-      same_cards = λ i j m k l. ap (λ (s : Sentinel). card_of s.file m) (node_same i k) ∙ sym (ap (λ (s : Sentinel). card_of s.file m) (node_same j l));
+      same_cards = λ i j k l m. ap (λ (s : Sentinel). card_of s.file m) (node_same i k) ∙ sym (ap (λ (s : Sentinel). card_of s.file m) (node_same j l));
       stores = All-cons IsFreshOther (record { state = Ready; held = [] }) [] (inl refl, refl) (All-nil IsFreshOther);
       clients = All-nil (λ client. IfSome client IsFreshOther);
       messages = refl;

@@ -1,16 +1,10 @@
 -- The first test that fits, one test at a time.
-use Rattle.std.proofs.Common.{◌≡◌, Bool, true, false, List, [], ◌∷◌, ◌++◌, ap, refl, ◌∙◌, Option, Some, None}
+use Rattle.std.proofs.Common.{◌≡◌, Bool, true, false, List, [], ◌∷◌, ◌++◌, refl, ◌∙◌, Option, Some, None}
 use Rattle.std.specs.List.{AllByRecursion}
 use Rattle.ballot_law.specs.declared.rosters.RosterFault.{RosterFault}
 use Rattle.ballot_law.specs.Rosters.{Roster}
 use Rattle.ballot_law.specs.RosterFaults.{first_tests, last_tests, fault_of}
 use Rattle.ballot_law.specs.RosterFaults.{first_that_fits}
-
-pub fits_now : {F : Type 0} (b : Bool) (fault : F) (rest : List (Bool × F)) → b ≡ true → first_that_fits ((b, fault) ∷ rest) ≡ Some fault
-fits_now b fault rest e = ap (λ t. elim t as (λ _. Option _) [ true ↦ Some fault | false ↦ first_that_fits rest ]) e
-
-pub fits_later : {F : Type 0} (b : Bool) (fault : F) (rest : List (Bool × F)) → b ≡ false → first_that_fits ((b, fault) ∷ rest) ≡ first_that_fits rest
-fits_later b fault rest e = ap (λ t. elim t as (λ _. Option _) [ true ↦ Some fault | false ↦ first_that_fits rest ]) e
 
 none_by : {F : Type 0} (b : Bool) (fault : F) (xs ys : List (Bool × F)) → first_that_fits ((b, fault) ∷ xs) ≡ None → (first_that_fits xs ≡ None → first_that_fits (xs ++ ys) ≡ first_that_fits ys)
     → first_that_fits ((b, fault) ∷ (xs ++ ys)) ≡ first_that_fits ys

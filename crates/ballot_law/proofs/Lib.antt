@@ -9,8 +9,10 @@ pub mod HexSteps
 pub mod History
 pub mod Invariant
 pub mod Joining
+pub mod Listing
 pub mod MadeRosters
 pub mod Masters
+pub mod NodeCounts
 pub mod Nodes
 pub mod Placing
 pub mod Rising
@@ -18,6 +20,7 @@ pub mod RefusalsRun
 pub mod RosterLemmas
 pub mod Runs
 pub mod Scripts
+pub mod Same
 pub mod States
 pub mod Takes
 pub mod WordLemmas

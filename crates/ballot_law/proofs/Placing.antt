@@ -1,10 +1,10 @@
 -- Where `add` puts an element, and steps of the loops that put lists in order.
-use Rattle.std.proofs.Common.{◌≡◌, ℕ, zero, suc, ◌+◌, ◌<◌, ◌≤◌, Bool, true, false, ◌||◌, List, [], ◌∷◌, ◌++◌, length, get_or, take, drop, refl, ap, sym, ◌∙◌, arith, append_assoc, add-one, subst}
+use Rattle.std.proofs.Common.{◌≡◌, ℕ, zero, suc, ◌+◌, ◌<◌, ◌≤◌, Bool, true, false, ◌||◌, List, [], ◌∷◌, ◌++◌, length, get_or, take, drop, refl, ap, sym, ◌∙◌, arith, add-one, subst}
 use Rattle.std.specs.List.{list_any, All}
 use Rattle.std.proofs.lemmas.List.Elements.{All-nil, All-cons, All-head, All-tail}
 use Rattle.std.proofs.lemmas.Bool.{or_left}
 use Rattle.std.proofs.Math.Seq.{drop-cons}
-use Rattle.std.proofs.lemmas.List.{take_more, take-append-drop}
+use Rattle.std.proofs.lemmas.List.{take-append-drop}
 use Rattle.ballot_law.specs.Ordered.{add, in_order, repeats}
 
 module _ {X : Type 0} (before : X → X → Bool) where
@@ -21,30 +21,6 @@ module _ {X : Type 0} (before : X → X → Bool) where
       ap (λ t. elim t as (λ _. List X) [ true ↦ y ∷ add before x ys | false ↦ elim (before x y) as (λ _. List X) [ true ↦ x ∷ y ∷ ys | false ↦ y ∷ ys ] ]) e
       ∙ ap (λ t. elim t as (λ _. List X) [ true ↦ x ∷ y ∷ ys | false ↦ y ∷ ys ]) f
 
-  -- one more element stands before x
-  pub place_more : (x d : X) (list : List X) (i : ℕ) → i < length list → before (get_or list i d) x ≡ true
-      → add before x list ≡ take i list ++ add before x (drop i list) → add before x list ≡ take (i + 1) list ++ add before x (drop (i + 1) list)
-  place_more x d list i l e h =
-      let y : X = get_or list i d in
-      let ys : List X = drop (suc i) list in
-      h
-      ∙ ap (λ t. take i list ++ add before x t) (drop-cons list i d l)
-      ∙ ap (λ t. take i list ++ t) (add_at x y ys e)
-      ∙ sym (append_assoc (take i list) (y ∷ []) (add before x ys))
-      ∙ ap (λ t. t ++ add before x ys) (sym (take_more list i d l))
-      ∙ ap (λ n. take (i + 1) list ++ add before x (drop n list)) (sym (add-one i))
-
-  -- an insertion at that place
-  pub placed : (x d : X) (list : List X) (i : ℕ) → i < length list → before (get_or list i d) x ≡ false → before x (get_or list i d) ≡ true
-      → add before x list ≡ take i list ++ add before x (drop i list) → add before x list ≡ take i list ++ x ∷ drop i list
-  placed x d list i l e f h =
-      let y : X = get_or list i d in
-      let ys : List X = drop (suc i) list in
-      h
-      ∙ ap (λ t. take i list ++ add before x t) (drop-cons list i d l)
-      ∙ ap (λ t. take i list ++ t) (add_before x y ys e f)
-      ∙ ap (λ t. take i list ++ x ∷ t) (sym (drop-cons list i d l))
-
   pub placed_tied : (x d : X) (list : List X) (i : ℕ) → i < length list → before (get_or list i d) x ≡ false → before x (get_or list i d) ≡ false
       → add before x list ≡ take i list ++ add before x (drop i list) → add before x list ≡ list
   placed_tied x d list i l e f h =
@@ -55,17 +31,6 @@ module _ {X : Type 0} (before : X → X → Bool) where
       ∙ ap (λ t. take i list ++ t) (add_tied x y ys e f)
       ∙ ap (λ t. take i list ++ t) (sym (drop-cons list i d l))
       ∙ take-append-drop i list
-
-  drop_past : (list : List X) (i : ℕ) → length list ≤ i → drop i list ≡ []
-  drop_past [] zero l = refl
-  drop_past [] (suc i) l = refl
-  drop_past (y ∷ ys) zero l = absurd (omega arith)
-  drop_past (y ∷ ys) (suc i) l = drop_past ys i (omega arith)
-
-  pub placed_last : (x : X) (list : List X) (i : ℕ) → length list ≤ i
-      → add before x list ≡ take i list ++ add before x (drop i list) → add before x list ≡ take i list ++ x ∷ drop i list
-  placed_last x list i l h =
-      h ∙ ap (λ t. take i list ++ add before x t) (drop_past list i l) ∙ ap (λ t. take i list ++ x ∷ t) (sym (drop_past list i l))
 
   -- the elements of the first list, from its end on, put into the second
   abbrev pub onto : List X → List X → List X

@@ -468,7 +468,7 @@ starts =
       count = refl;
       fresh = only_first (λ i. IsFresh roster (sentinel_at begin i)) (inr refl);
       files = only_first (λ i. IsWellFormed roster (sentinel_at begin i).file) formed;
-      same_cards = same_card;
+      same_cards = λ i j k l m. same_card i j m k l;
       stores = All-cons IsFreshOther (record { state = Stopped; held = [] }) ((record { state = Ready; held = [] }) ∷ []) (inr refl, refl)
           (All-cons IsFreshOther (record { state = Ready; held = [] }) [] (inl refl, refl) (All-nil IsFreshOther));
       clients = none_before 5 (Some (record { state = Ready; held = [] }) ∷ [])

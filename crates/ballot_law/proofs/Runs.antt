@@ -55,7 +55,7 @@ file_at_start roster w i begins place =
             vote_bound = λ e c x. let s : voted_of file m ≡ e = (begins.votes (vote i m e c) x).voted in omega arith;
             one_pick = λ e a b x y. absurd (no_member [] (record { sentinel = i; master = m; epoch = e; choice = a }) refl x);
             pick_bound = λ e a x. absurd (no_member [] (record { sentinel = i; master = m; epoch = e; choice = a }) refl x);
-            card = inl (begins.same_cards i 0 m place (omega arith));
+            card = inl (begins.same_cards i 0 place (omega arith) m);
             card_bound = bound_at roster file m (begins.files i place) (cases_lt m (length roster.masters));
             heard = All-nil (Contains w.votes);
             candidate = λ c e. begins.all_votes (vote i m (voted_of file m) c) (record { place = subst (λ (n : ℕ). i < n) (sym begins.count) place; voted = refl; candidate = e });

@@ -47,6 +47,10 @@ kept_of kept m = slice_index_or kept.masters m no_kept
 abbrev pub card_of : Kept → ℕ → Card
 card_of kept m = (kept_of kept m).card
 
+-- two files begin with the same configuration of each master
+abbrev pub StartAlike : Kept → Kept → Type 0
+StartAlike one other = (m : ℕ) → card_of one m ≡ card_of other m
+
 abbrev pub voted_of : Kept → ℕ → ℕ
 voted_of kept m = (kept_of kept m).voted
 

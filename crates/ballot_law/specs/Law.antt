@@ -8,7 +8,7 @@ use Rattle.ballot_law.specs.declared.steps.Step.{Step}
 use Rattle.ballot_law.specs.Rosters.{Roster, HasNode, size, HasDistinctIds}
 use Rattle.ballot_law.specs.RosterFaults.{IsRoster}
 use Rattle.ballot_law.specs.Messages.{Vote}
-use Rattle.ballot_law.specs.Ballots.{kept_of, card_of, voted_of}
+use Rattle.ballot_law.specs.Ballots.{kept_of, card_of, voted_of, StartAlike}
 use Rattle.ballot_law.specs.Worlds.{World, Sentinel, Other, Ready, Stopped, sentinel_at, started, Move, Moves, Joined, JoinedBy, Run}
 
 -- no epoch of a card or a vote is above the current one, and each card's address is in its master's list
@@ -38,7 +38,7 @@ pub record IsStart (roster : Roster) (w : World) : Type 0 where
   pub count : length w.sentinels ≡ size roster
   pub fresh : (i : ℕ) → i < size roster → IsFresh roster (sentinel_at w i)
   pub files : (i : ℕ) → i < size roster → IsWellFormed roster (sentinel_at w i).file
-  pub same_cards : (i j m : ℕ) → i < size roster → j < size roster → card_of (sentinel_at w i).file m ≡ card_of (sentinel_at w j).file m
+  pub same_cards : (i j : ℕ) → i < size roster → j < size roster → StartAlike (sentinel_at w i).file (sentinel_at w j).file
   pub stores : All IsFreshOther w.stores
   pub clients : All (λ client. IfSome client IsFreshOther) w.clients
   pub messages : w.messages ≡ []

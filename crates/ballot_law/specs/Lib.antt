@@ -8,6 +8,7 @@ pub mod Messages
 pub mod NameWords
 pub mod Names
 pub mod NamesAgain
+pub mod NodePlaces
 pub mod Ordered
 pub mod Orders
 pub mod OwnVotes

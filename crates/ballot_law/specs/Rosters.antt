@@ -1,5 +1,5 @@
 -- A roster as contracts see it: its order, and what is asked of it.
-use Rattle.std.specs.Prelude.{◌≡◌, ℕ, zero, suc, true, false, ◌+◌, ◌/◌, ◌<◌, ◌⊎◌, max, Option, Some, None, List, [], ◌∷◌, length, map, slice_index_or}
+use Rattle.std.specs.Prelude.{◌≡◌, ℕ, zero, suc, true, false, ◌+◌, ◌/◌, ◌<◌, ◌⊎◌, max, Option, Some, None, List, [], ◌∷◌, length, map, position, slice_index_or}
 use Rattle.std.specs.List.{list_any}
 use Rattle.ballot_law.specs.declared.addresses.Addr.{Addr}
 use Rattle.ballot_law.specs.declared.addresses.RunId.{RunId}
@@ -55,6 +55,10 @@ need roster m = max (size roster / 2 + 1) (master_at roster m).quorum
 -- the list of this master has the address
 abbrev pub HasNode : Roster → ℕ → Addr → Type 0
 HasNode roster m addr = list_any (same_addr addr) (master_at roster m).nodes ≡ true
+
+-- the number of the first of these masters whose list has the address
+abbrev pub master_listing : List MasterPlan → Addr → Option ℕ
+master_listing masters addr = position (λ (master : MasterPlan). list_any (same_addr addr) master.nodes) masters
 
 -- the number of the first of these masters that has the name, where they are numbered from `first` on
 abbrev pub number_named : (first : ℕ) → List ℕ → List MasterPlan → Option ℕ

@@ -5,7 +5,7 @@ ghost use Rattle.std.specs.Prelude.{◌≡◌};
 use crate::ordering::{Keyed, Placed};
 
 /// An IPv4 address and a TCP port. Addresses are ordered by `ip`, then by `port`, as numbers.
-#[derive(Clone, Copy, Debug, PartialEq, Eq, PartialOrd, Ord, Hash)]
+#[derive(Clone, Copy, PartialEq, Eq, PartialOrd, Ord, Hash)]
 pub struct Addr {
     /// The four parts of the address, the first in the highest byte: 127.0.0.1 is 2,130,706,433.
     pub ip: u32,
@@ -52,7 +52,7 @@ impl Keyed for Addr {
 }
 
 /// The run id of a server: 40 lower case hex digits, as numbers, so that their order is the order of the texts.
-#[derive(Clone, Copy, Debug, PartialEq, Eq, PartialOrd, Ord, Hash)]
+#[derive(Clone, Copy, PartialEq, Eq, PartialOrd, Ord, Hash)]
 pub struct RunId {
     /// The first 32 digits.
     pub hi: u128,

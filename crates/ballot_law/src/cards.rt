@@ -1,6 +1,6 @@
 //! A master's configuration, and what a Sentinel's file holds of it.
 
-ghost use Rattle.std.specs.Prelude.{◌≡◌};
+ghost use Rattle.std.specs.Prelude.{◌≡◌, slice_set};
 
 use crate::addresses::{Addr, RunId};
 use std::marker::Model;
@@ -9,7 +9,7 @@ use std::marker::Model;
 pub const MAX_EPOCH: u64 = 281_474_976_710_655;
 
 /// The configuration of a master: where it is, and the epoch of the failover that put it there.
-#[derive(Clone, Copy, Debug, PartialEq, Eq)]
+#[derive(Clone, Copy, PartialEq, Eq)]
 pub struct Card {
     /// The configuration epoch, at most `MAX_EPOCH`.
     pub epoch: u64,
@@ -17,14 +17,14 @@ pub struct Card {
 }
 
 /// A configuration with the number of its master in the roster.
-#[derive(Clone, Copy, Debug, PartialEq, Eq)]
+#[derive(Clone, Copy, PartialEq, Eq)]
 pub struct Shown {
     pub master: u16,
     pub card: Card,
 }
 
 /// The configurations that an answer shows, in the order of the answer.
-#[derive(Debug, Drop)]
+#[derive(Clone, Drop)]
 pub struct ShownList {
     shown: Vec<Shown>,
 }
@@ -62,7 +62,7 @@ impl ShownList {
 }
 
 /// What a Sentinel's file holds of one master.
-#[derive(Clone, Copy, Debug, PartialEq, Eq)]
+#[derive(Clone, Copy, PartialEq, Eq)]
 pub struct KeptMaster {
     /// The lines `monitor` (the address) and `config-epoch`.
     pub card: Card,
@@ -74,7 +74,7 @@ pub struct KeptMaster {
 }
 
 /// What a Sentinel's file holds of each master, by the master's number.
-#[derive(Debug, Drop)]
+#[derive(Drop)]
 pub struct KeptMasters {
     masters: Vec<KeptMaster>,
 }
@@ -109,10 +109,19 @@ impl KeptMasters {
     {
         self.masters.as_slice()
     }
+
+    /// Keeps this of the master with this number; nothing where there is no such master.
+    pub fn set(&mut self, m: u16, entry: KeptMaster)
+        ensures { self.new ≡ slice_set self.old m entry }
+    {
+        if let Some(kept) = self.masters.get_mut(m as usize) {
+            *kept = entry;
+        }
+    }
 }
 
 /// What a Sentinel's file holds besides the roster and the settings, and what a restart therefore knows.
-#[derive(Debug, Drop)]
+#[derive(Drop)]
 pub struct Kept {
     /// The line `current-epoch`, at most `MAX_EPOCH`.
     pub current: u64,

@@ -5,7 +5,7 @@ use crate::names::Name;
 
 /// A command that a Sentinel answers. Where a master is named, None stands for a word that can't be a name, and so
 /// names no master.
-#[derive(Clone, Copy, Debug, PartialEq, Eq)]
+#[derive(Clone, Copy, PartialEq, Eq)]
 pub enum Command {
     /// `PING`.
     Ping,

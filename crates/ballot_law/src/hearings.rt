@@ -3,7 +3,7 @@
 use crate::addresses::RunId;
 
 /// A vote of another Sentinel, as its answer told it.
-#[derive(Clone, Copy, Debug, PartialEq, Eq)]
+#[derive(Clone, Copy, PartialEq, Eq)]
 pub struct HeardVote {
     pub candidate: RunId,
     /// At most `MAX_EPOCH`.
@@ -11,7 +11,7 @@ pub struct HeardVote {
 }
 
 /// Whether another Sentinel finds the master down, and when it said so, in milliseconds.
-#[derive(Clone, Copy, Debug, PartialEq, Eq)]
+#[derive(Clone, Copy, PartialEq, Eq)]
 pub struct DownReport {
     pub down: bool,
     pub at: u64,

@@ -16,12 +16,14 @@ mod laws;
 mod memory;
 mod messages;
 mod names;
+mod node_places;
 mod ordering;
 mod padding;
 mod periods;
 mod records;
 mod replies;
 mod rosters;
+mod same_rosters;
 mod steps;
 mod texts;
 
@@ -39,6 +41,7 @@ pub use laws::{
 pub use memory::NoMemory;
 pub use messages::{ANSWER_MAX, Body, Message, NodeName, Note, OUTPUTS_MAX, Output, SHOWN_MAX};
 pub use names::{NAME_MAX, Name};
+pub use node_places::NodePlace;
 pub use ordering::{Placed, ordered};
 pub use periods::{REPLICA_MS, REPORT_MS, STEP_MS, TILT_MS};
 pub use records::{Advertisement, Election, Win};

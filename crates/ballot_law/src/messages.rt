@@ -9,7 +9,7 @@ use crate::texts::{ShortText, Text};
 
 /// A node, by its place among those of its kind: Sentinels by run id; data nodes master by master in the roster's
 /// order, each master's by address; clients and ports by their numbers.
-#[derive(Clone, Copy, Debug, PartialEq, Eq)]
+#[derive(Clone, Copy, PartialEq, Eq)]
 pub enum NodeName {
     SentinelAt(u16),
     StoreAt(u16),
@@ -18,7 +18,7 @@ pub enum NodeName {
 }
 
 /// What a message says.
-#[derive(Debug, Drop)]
+#[derive(Clone, Drop)]
 pub enum Body {
     /// Whether the master is down, which isn't named on the wire but by its address, and with a candidate a request for
     /// a vote.
@@ -67,7 +67,7 @@ pub enum Body {
 }
 
 /// A message with its sender and its target.
-#[derive(Debug, Drop)]
+#[derive(Clone, Drop)]
 pub struct Message {
     pub sender: NodeName,
     pub target: NodeName,
@@ -75,7 +75,7 @@ pub struct Message {
 }
 
 /// The address of a master changed, as `+switch-master` tells: from the old one to that of the configuration.
-#[derive(Clone, Copy, Debug, PartialEq, Eq)]
+#[derive(Clone, Copy, PartialEq, Eq)]
 pub struct Note {
     pub master: u16,
     pub old: Addr,
@@ -93,7 +93,7 @@ pub const ANSWER_MAX: usize = 65_536;
 pub const SHOWN_MAX: usize = MASTERS_MAX;
 
 /// What one input of a node gives: messages, and notes, which are sent to no node.
-#[derive(Debug, Drop)]
+#[derive(Drop)]
 pub enum Output {
     Send(Message),
     Tell(Note),

@@ -14,7 +14,7 @@ pub const NAME_MAX: usize = 64;
 
 /// The name of a master: 1 to 64 bytes from letters, digits, `.`, `-` and `_`, as the comments of sentinel.conf allow.
 /// Names are ordered as their bytes are.
-#[derive(Clone, Copy, Debug, PartialEq, Eq, PartialOrd, Ord, Hash)]
+#[derive(Clone, Copy, PartialEq, Eq, PartialOrd, Ord, Hash)]
 pub struct Name {
     bytes: [u8; NAME_MAX],
     len: u8,

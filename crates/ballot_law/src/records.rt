@@ -3,7 +3,7 @@
 use crate::cards::Card;
 
 /// The election of a Sentinel for a master in an epoch.
-#[derive(Clone, Copy, Debug, PartialEq, Eq)]
+#[derive(Clone, Copy, PartialEq, Eq)]
 pub struct Election {
     /// The Sentinel's place in the roster.
     pub sentinel: u16,
@@ -13,7 +13,7 @@ pub struct Election {
 }
 
 /// A configuration that a Sentinel showed to a client or to other Sentinels.
-#[derive(Clone, Copy, Debug, PartialEq, Eq)]
+#[derive(Clone, Copy, PartialEq, Eq)]
 pub struct Advertisement {
     /// The Sentinel's place in the roster.
     pub sentinel: u16,
@@ -22,7 +22,7 @@ pub struct Advertisement {
 }
 
 /// A win that a Sentinel hasn't stored yet.
-#[derive(Clone, Copy, Debug, PartialEq, Eq)]
+#[derive(Clone, Copy, PartialEq, Eq)]
 pub struct Win {
     pub master: u16,
     /// The epoch of the Sentinel's campaign, at most `MAX_EPOCH`.

@@ -7,7 +7,7 @@ use crate::cards::Card;
 use crate::names::Name;
 
 /// What a Sentinel publishes of itself and of one master, on the channel `__sentinel__:hello`.
-#[derive(Clone, Copy, Debug, PartialEq, Eq)]
+#[derive(Clone, Copy, PartialEq, Eq)]
 pub struct Hello {
     /// The address at which the sender is reached.
     pub addr: Addr,
@@ -22,14 +22,14 @@ pub struct Hello {
 }
 
 /// The role that a data node has.
-#[derive(Clone, Copy, Debug, PartialEq, Eq)]
+#[derive(Clone, Copy, PartialEq, Eq)]
 pub enum DataRole {
     Master,
     Replica,
 }
 
 /// What a data node's INFO says.
-#[derive(Clone, Copy, Debug, PartialEq, Eq)]
+#[derive(Clone, Copy, PartialEq, Eq)]
 pub struct Info {
     /// The field `run_id`; none where it is missing.
     pub id: Option<RunId>,
@@ -48,7 +48,7 @@ pub struct Info {
 }
 
 /// What a data node's answer to ROLE says.
-#[derive(Clone, Copy, Debug, PartialEq, Eq)]
+#[derive(Clone, Copy, PartialEq, Eq)]
 pub enum Role {
     /// A master with its replication offset, at most 2^63 - 1.
     Master { offset: u64 },
@@ -58,7 +58,7 @@ pub enum Role {
 
 /// What a node's answer to PING counts as. The first three are the valid answers of the Redis Sentinel documentation:
 /// `+PONG`, an error `-LOADING ..`, an error `-MASTERDOWN ..`.
-#[derive(Clone, Copy, Debug, PartialEq, Eq)]
+#[derive(Clone, Copy, PartialEq, Eq)]
 pub enum PingReply {
     Pong,
     Loading,

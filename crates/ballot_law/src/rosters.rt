@@ -2,7 +2,7 @@
 
 ghost use Rattle.std.specs.Prelude.{◌≡◌, ◌==◌, ◌<◌, ◌≤◌, ◌++◌, ◌≢◌, ℕ, nat_lt, map, length, slice_index_or, IfOk, OnOk, IfErr, IfSome, IfNone, ◌⊎◌, Some, None};
 ghost use Rattle.std.specs.List.{flat_map, list_any};
-ghost use Rattle.ballot_law.specs.Rosters.{need, HasNode, nodes_in_order, master_at, no_addr, HasDistinctIds, HasDistinctNames};
+ghost use Rattle.ballot_law.specs.Rosters.{need, HasNode, nodes_in_order, master_at, master_listing, no_addr, HasDistinctIds, HasDistinctNames};
 ghost use Rattle.ballot_law.specs.Orders.{same_addr, same_bytes, bytes_before};
 ghost use Rattle.ballot_law.specs.declared.rosters.TheConstants.{SENTINELS_MAX, MASTERS_MAX, NODES_MAX};
 ghost use Rattle.ballot_law.specs.declared.rosters.RosterFault.TheVariants.{NoMemory};
@@ -27,7 +27,7 @@ pub const MASTERS_MAX: usize = 16;
 pub const NODES_MAX: usize = 256;
 
 /// A Sentinel of the roster.
-#[derive(Clone, Copy, Debug, PartialEq, Eq)]
+#[derive(Clone, Copy, PartialEq, Eq)]
 pub struct Member {
     pub id: RunId,
     pub addr: Addr,
@@ -378,6 +378,7 @@ impl Roster {
 
     /// The number of the first master whose list has the address; no other has it, since no address is shared.
     pub fn master_at(&self, addr: Addr) -> Option<u16>
+        ensures first { result ≡ master_listing self.now.masters addr }
         ensures some { IfSome result (λ m. (m < length self.now.masters) × HasNode self.now m addr) }
         ensures none { IfNone result ((m : ℕ) → m < length self.now.masters → ¬ (HasNode self.now m addr)) }
     {
@@ -387,6 +388,24 @@ impl Roster {
             }
         }
         None
+    }
+
+    /// The data nodes of the master with this number, by address; none where there is no such master.
+    pub fn nodes(&self, m: u16) -> &[Addr]
+        ensures value { result.now ≡ (master_at self.now m).nodes }
+        ensures few { length result.now ≤ NODES_MAX }
+    {
+        match self.masters.get(m as usize) {
+            Some(master) => master.nodes(),
+            None => &[],
+        }
+    }
+
+    /// Whether the master with this number has a data node with this address.
+    pub fn has_node(&self, m: u16, addr: Addr) -> bool
+        ensures { result ≡ list_any (same_addr addr) (master_at self.now m).nodes }
+    {
+        has_node(self.nodes(m), addr)
     }
 
     /// The number of the first master with this name; no other has it, since no two masters share a name.

@@ -5,7 +5,7 @@ use crate::messages::NodeName;
 
 /// Which text a refused store leaves in the file, or a stop within a take: the old one, or the one that was to be
 /// stored.
-#[derive(Clone, Copy, Debug, PartialEq, Eq)]
+#[derive(Clone, Copy, PartialEq, Eq)]
 pub enum KeptText {
     Old,
     New,
@@ -13,7 +13,7 @@ pub enum KeptText {
 
 /// A step of the whole group. One that doesn't apply, as the release of a node that has stored nothing, changes
 /// nothing.
-#[derive(Debug, Drop)]
+#[derive(Clone, Drop)]
 pub enum Step {
     /// The node takes an input that no message brings.
     Take { node: NodeName, input: Input },

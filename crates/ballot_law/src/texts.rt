@@ -12,7 +12,7 @@ use std::marker::Model;
 
 /// A text of any length, as a bulk string of RESP2, the text of a message or the text of a file. Contracts see the list of
 /// its bytes.
-#[derive(Debug, Drop)]
+#[derive(Clone, Drop)]
 pub struct Text {
     bytes: Vec<u8>,
 }
@@ -75,7 +75,7 @@ impl Eq for Text {
 pub const SHORT_TEXT_MAX: usize = 128;
 
 /// A text of at most `SHORT_TEXT_MAX` bytes that takes no memory of its own, as the answer to a PING.
-#[derive(Clone, Copy, Debug, PartialEq, Eq)]
+#[derive(Clone, Copy, PartialEq, Eq)]
 pub struct ShortText {
     bytes: [u8; SHORT_TEXT_MAX],
     len: u8,

@@ -33,10 +33,6 @@ module _ {X : Type 0} where
   unfolding bounded
   bounded_all limit xs h = take_all limit xs h
 
-  -- nothing is added
-  pub bounded_none : (limit : ℕ) (xs : List X) → bounded limit xs ≡ xs → bounded limit (xs ++ []) ≡ xs
-  bounded_none limit xs h = ap (bounded limit) (append-nil xs) ∙ h
-
   -- where there is no room, nothing is added
   pub bounded_full : (limit : ℕ) (xs ys : List X) → length xs ≡ limit → bounded limit (xs ++ ys) ≡ xs
   unfolding bounded

@@ -8,7 +8,7 @@ use Rattle.ballot_law.specs.declared.events.Event.TheVariants.{Tick, Command as 
 use Rattle.ballot_law.specs.declared.messages.Output.{Output}
 use Rattle.ballot_law.specs.declared.messages.Output.TheVariants.{Send, Tell}
 use Rattle.boxed_nodes.specs.Sendable.{IsSendableOutput, IsTakeable}
-use Rattle.message_texts.specs.MessageTexts.{IsWritableOutput}
+use Rattle.messages.specs.MessageTexts.{IsWritableOutput}
 use Rattle.sentinel_rules.specs.Facts.{IsWithinEvent}
 use Rattle.sentinel_rules.specs.Limits.{IsWithinOutput}
 

@@ -49,13 +49,6 @@ abbrev pub held_of : Image → List Output
 held_of (OfSentinel s) = s.held
 held_of (OfOther o) = o.held
 
-abbrev pub is_ready : State → Bool
-is_ready Ready = true
-is_ready Pending = false
-is_ready Stored = false
-is_ready Halted = false
-is_ready Stopped = false
-
 abbrev pub is_pending : State → Bool
 is_pending Ready = false
 is_pending Pending = true

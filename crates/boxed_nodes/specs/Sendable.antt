@@ -14,7 +14,7 @@ use Rattle.ballot_law.specs.declared.messages.Output.{Output}
 use Rattle.ballot_law.specs.declared.messages.Output.TheVariants.{Send, Tell}
 use Rattle.ballot_law.specs.Messages.{advertised}
 use Rattle.ballot_law.specs.Rosters.{Roster}
-use Rattle.message_texts.specs.MessageTexts.{IsWritable}
+use Rattle.messages.specs.MessageTexts.{IsWritable}
 use Rattle.sentinel_outbox.specs.Outboxes.{IsOfOther}
 use Rattle.sentinel_rules.specs.Facts.{IsWithinEvent}
 use Rattle.sentinel_rules.specs.Limits.{IsWithinBody}

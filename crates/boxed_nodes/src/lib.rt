@@ -15,7 +15,4 @@ mod turn;
 
 pub use calls::HowStored;
 pub use node::Node;
-pub use sentinel_outbox::{
-    NoMemory, OpenFault, Outbox, ReleaseFault, Room, StoreFault, TakeFault, Took,
-};
 pub use turn::Turn;

@@ -64,6 +64,8 @@ pub trait Node: Drop {
     ///
     /// The fault is that of the node's state; `NoRoom` is told by a ready node alone, exactly where the outbox doesn't fit `room`. Then
     /// nothing has changed.
+    ///
+    /// Many clauses: what a take moves, what it puts out and what each refusal leaves are asked for one by one by the world.
     fn take(&mut self, input: &Input, outbox: &mut Outbox) -> Result<Took, TakeFault>
         requires { IsTakeable input.now.event }
         ensures takes { OnOk result

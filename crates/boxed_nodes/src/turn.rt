@@ -12,7 +12,7 @@ use ballot_law::KeptText;
 use sentinel_outbox::{Outbox, ReleaseFault, Room, StoreFault, TakeFault};
 
 /// How far the last input has come.
-#[derive(Clone, Copy, Debug, PartialEq, Eq)]
+#[derive(Clone, Copy, PartialEq, Eq)]
 pub enum Turn {
     /// The next input can be taken.
     Ready,

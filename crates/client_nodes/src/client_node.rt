@@ -13,11 +13,10 @@ ghost use Rattle.client_nodes.specs.Clients.{fresh_client, room_of_client, IsSam
 use crate::group::Group;
 use crate::search::Search;
 use ballot_law::{Addr, Body, Card, Event, Input, KeptText, Message, NoMemory, NodeName, Roster};
-use boxed_nodes::{
-    HowStored, Node, OpenFault, Outbox, ReleaseFault, Room, StoreFault, TakeFault, Took, Turn,
-};
+use boxed_nodes::{HowStored, Node, Turn};
 use client_queries::Move;
 use sentinel_conf::Conf;
+use sentinel_outbox::{OpenFault, Outbox, ReleaseFault, Room, StoreFault, TakeFault, Took};
 use std::alloc::Global;
 use std::marker::Model;
 
@@ -149,6 +148,7 @@ impl Node for ClientNode {
         None
     }
 
+    // Many clauses: nine are the trait's, said again for this node, and the last three say what it does.
     #[tactic(auto, using(crate::proofs::Saying::all_of_client, crate::proofs::Saying::all_sendable))]
     fn take(&mut self, input: &Input, outbox: &mut Outbox) -> Result<Took, TakeFault>
         requires { IsTakeable input.now.event }

@@ -9,6 +9,5 @@
 mod moves;
 mod quests;
 
-pub use ballot_law::SENTINELS_MAX;
 pub use moves::Move;
 pub use quests::{Quest, QuestFault};

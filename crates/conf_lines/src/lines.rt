@@ -7,7 +7,7 @@ use crate::faults::ConfKind;
 use ballot_law::{Addr, Name, RunId, is_same_bytes};
 
 /// A line that holds part of what a Sentinel keeps. A rewrite replaces these lines.
-#[derive(Clone, Copy, Debug, PartialEq, Eq)]
+#[derive(Clone, Copy, PartialEq, Eq)]
 pub enum StateLine {
     /// `sentinel myid <id>`: the own run id.
     MyId(RunId),
@@ -83,7 +83,7 @@ impl StateLine {
 }
 
 /// A line that sets something. The last one of its kind counts.
-#[derive(Clone, Copy, Debug, PartialEq, Eq)]
+#[derive(Clone, Copy, PartialEq, Eq)]
 pub enum Setting {
     /// `port <port>`.
     Port(u16),
@@ -114,7 +114,7 @@ impl Setting {
 }
 
 /// What a line is.
-#[derive(Clone, Copy, Debug, PartialEq, Eq)]
+#[derive(Clone, Copy, PartialEq, Eq)]
 pub enum Line {
     /// No directive of this project, or none at all: it stays as it is and has no effect.
     Kept,

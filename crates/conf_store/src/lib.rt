@@ -5,6 +5,6 @@
 mod file_store;
 mod stores;
 
-pub use ballot_law::{NoMemory, Text as FileText};
+pub use ballot_law::Text as FileText;
 pub use file_store::FileStore;
 pub use stores::{ConfStore, LoadFault, MemoryStore, StoreRefused};

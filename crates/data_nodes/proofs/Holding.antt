@@ -27,9 +27,6 @@ pub held_one : (before after : Outputs) (x : Output) (told : Bool) →
 held_one before after x told held room a b = held (room.1 (a, b))
 
 module _ (first : Outputs) (count : ℕ) (fits : Fits first (record { outputs = count; text = 0; shown = 0 })) (name : NodeName) (hello : Hello) where
-  pub none_passed : first ≡ record first { held = to_each name hello 0 }
-  none_passed = ap (λ held. record first { held = held }) fits.none_held
-
   pub one_passed : (before after : Outputs) (i : ℕ) (told : Bool) →
       before ≡ record first { held = to_each name hello i } → i < count →
       (told ≡ true → after ≡ record before { held = before.held ++ send name (SentinelAt i) (HelloText hello) ∷ [] }) →

@@ -9,7 +9,8 @@ use Rattle.boxed_nodes.specs.declared.turn.Turn.{Turn}
 use Rattle.boxed_nodes.specs.declared.turn.Turn.TheVariants.{Ready}
 use Rattle.sentinel_conf.specs.Meaning.{ConfPlan}
 use Rattle.sentinel_outbox.specs.declared.room.Room.{Room}
-use Rattle.sentinel_rules.specs.Plans.{NodePlace, node_numbered}
+use Rattle.ballot_law.specs.declared.node_places.NodePlace.{NodePlace}
+use Rattle.ballot_law.specs.NodePlaces.{addr_in, node_numbered}
 use Rattle.data_nodes.specs.Servers.{Server, first_server}
 
 -- its number among all data nodes, its address, how many Sentinels there are, what it keeps, and how far its last input has come
@@ -19,9 +20,6 @@ pub record DataPlan : Type 0 where
   pub sentinels : ℕ
   pub server : Server
   pub turn : Turn
-
-abbrev pub addr_in : Roster → NodePlace → Addr
-addr_in roster at = slice_index_or (master_at roster at.master).nodes at.place no_addr
 
 -- the address of the data node with this number, where there is one
 abbrev pub addr_numbered : Roster → ℕ → Option Addr

@@ -7,17 +7,15 @@ ghost use Rattle.sentinel_outbox.specs.Outboxes.{Fits};
 ghost use Rattle.boxed_nodes.specs.Moves.{Stays, Takes, Refuses, Stores, Releases, Stops, Starts, IsNamed, IsFresh};
 ghost use Rattle.boxed_nodes.specs.Sendable.{IsTakeable, IsSendableOutput, IsHeldBy};
 ghost use Rattle.boxed_nodes.specs.Turns.{shown_at};
-ghost use Rattle.data_nodes.specs.Nodes.{node_of, IsIn, room_of, IsSameNode};
+ghost use Rattle.data_nodes.specs.Nodes.{addr_numbered, node_of, IsIn, room_of, IsSameNode};
 ghost use Rattle.data_nodes.specs.Servers.{changed_by, said};
 
-use crate::places::{addr_numbered, place_numbered};
 use crate::saying::say;
 use crate::server::Server;
 use ballot_law::{Addr, Card, Input, KeptText, NodeName, Roster};
-use boxed_nodes::{
-    HowStored, Node, OpenFault, Outbox, ReleaseFault, Room, StoreFault, TakeFault, Took, Turn,
-};
+use boxed_nodes::{HowStored, Node, Turn};
 use sentinel_conf::Conf;
+use sentinel_outbox::{OpenFault, Outbox, ReleaseFault, Room, StoreFault, TakeFault, Took};
 use std::marker::Model;
 
 /// A data node: a master or a replica of one.
@@ -51,6 +49,14 @@ impl Model for DataNode {
     ghost invariant = { λ node. 1 ≤ node.sentinels };
 }
 
+/// The address of the data node with this number.
+fn addr_numbered(roster: &Roster, number: u16) -> Option<Addr>
+    ensures { result ≡ addr_numbered roster.now number }
+{
+    let at = roster.node_numbered(number)?;
+    Some(roster.addr_at(at))
+}
+
 impl DataNode {
     /// The data node with this number, counted over the masters in the roster's order, each master's nodes by address; none where
     /// there is no such node. The node of a master's configuration begins as that master, the others follow it. No memory is taken.
@@ -59,10 +65,10 @@ impl DataNode {
         ensures known { IfSome result (λ node. IsIn node conf.now.roster) }
         ensures fresh { IfSome result (λ node. IsFresh (IsIn node) (shown_at node.turn)) }
     {
-        let masters = conf.roster().masters();
-        let at = place_numbered(masters, number)?;
-        let addr = masters[at.master].nodes()[at.place];
-        let card = conf.kept().masters.as_slice()[at.master].card;
+        let roster = conf.roster();
+        let at = roster.node_numbered(number)?;
+        let addr = roster.addr_at(at);
+        let card = conf.kept().masters.as_slice()[at.master as usize].card;
         let follows = if addr.is_same(&card.addr) {
             None
         } else {
@@ -71,7 +77,7 @@ impl DataNode {
         Some(DataNode {
             number,
             addr,
-            sentinels: conf.roster().sentinels().len() as u16,
+            sentinels: roster.sentinels().len() as u16,
             server: Server::new(number, follows),
             turn: Turn::Ready,
         })
@@ -112,6 +118,7 @@ impl Node for DataNode {
         None
     }
 
+    // Many clauses: nine are the trait's, said again for this node, and the last three say what it does.
     #[tactic(auto, using(crate::proofs::SaidMessages::all_of_store, crate::proofs::SaidMessages::all_sendable))]
     fn take(&mut self, input: &Input, outbox: &mut Outbox) -> Result<Took, TakeFault>
         requires { IsTakeable input.now.event }

@@ -5,7 +5,6 @@
 #![tactic(auto)]
 
 mod data_node;
-mod places;
 mod saying;
 mod server;
 

@@ -7,7 +7,7 @@ ghost use Rattle.data_nodes.specs.Servers.{to_each, answered, reply, said_to, sa
 
 use crate::server::Server;
 use ballot_law::{Body, Event, Hello, Message, NodeName};
-use boxed_nodes::Outbox;
+use sentinel_outbox::Outbox;
 
 /// The hello that a message publishes.
 fn published(body: &Body) -> Option<Hello>

@@ -16,7 +16,7 @@
 //! than `now` is no time ago. Nothing wraps, whatever the readings and settings. Only [`DownReports::new`] takes memory.
 #![tactic(auto)]
 
-pub use ballot_law::{DataRole, DownReport, NoMemory, PingReply};
+pub use ballot_law::PingReply;
 pub use laws::{
     law_reports_keep_the_last, law_tilt_keeps_the_last_jump, law_watch_keeps_its_calls,
 };

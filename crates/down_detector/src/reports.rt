@@ -9,7 +9,7 @@ use std::alloc::Global;
 use std::marker::Model;
 
 /// The last report of each Sentinel about one master, by the Sentinel's place in the roster.
-#[derive(Debug, Drop)]
+#[derive(Drop)]
 pub struct DownReports {
     reports: Vec<Option<DownReport>>,
 }

@@ -8,7 +8,7 @@ use ballot_law::{STEP_MS, TILT_MS, clock_of};
 use std::marker::Model;
 
 /// A Sentinel's watch of its own clock: the last reading, and that of the last jump while TILT holds.
-#[derive(Clone, Copy, Debug, PartialEq, Eq)]
+#[derive(Clone, Copy, PartialEq, Eq)]
 pub struct Tilt {
     last: u64,
     entered: Option<u64>,

@@ -9,7 +9,7 @@ use std::marker::Model;
 
 /// What a Sentinel keeps of one node: since when it has been silent, and since when it has reported itself a replica
 /// without a break.
-#[derive(Clone, Copy, Debug, PartialEq, Eq)]
+#[derive(Clone, Copy, PartialEq, Eq)]
 pub struct Watch {
     silent_from: u64,
     replica_since: Option<u64>,

@@ -18,7 +18,7 @@ use std::marker::Model;
 
 /// The failover of one master: how far it has come and since when, the moment of the last start, and what was sent to
 /// each of the master's nodes.
-#[derive(Debug, Drop)]
+#[derive(Drop)]
 pub struct Failover {
     state: FailoverState,
     entered: u64,

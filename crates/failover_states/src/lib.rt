@@ -12,7 +12,6 @@
 //! than `now` is no time ago. Nothing wraps, whatever the settings. Only [`Failover::new`] takes memory.
 #![tactic(auto)]
 
-pub use ballot_law::NoMemory;
 pub use failovers::Failover;
 pub use periods::{ELECTION_MS, ORDER_MS, SPREAD_MS};
 pub use replicas::{Progress, Replica};

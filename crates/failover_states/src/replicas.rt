@@ -13,7 +13,7 @@ use crate::turns::Facts;
 use ballot_law::clock_of;
 
 /// How far a replica has come.
-#[derive(Clone, Copy, Debug, PartialEq, Eq)]
+#[derive(Clone, Copy, PartialEq, Eq)]
 pub enum Progress {
     /// REPLICAOF wasn't sent to it.
     Unsent,
@@ -24,7 +24,7 @@ pub enum Progress {
 }
 
 /// A node of the master, and whether the last turn tells it to follow the new master.
-#[derive(Clone, Copy, Debug, PartialEq, Eq)]
+#[derive(Clone, Copy, PartialEq, Eq)]
 pub struct Replica {
     pub progress: Progress,
     pub ordered: bool,

@@ -3,7 +3,7 @@
 use ballot_law::Addr;
 
 /// The replica that is to be the new master: its place among the master's nodes, and its address.
-#[derive(Clone, Copy, Debug, PartialEq, Eq)]
+#[derive(Clone, Copy, PartialEq, Eq)]
 pub struct Choice {
     pub place: u16,
     pub addr: Addr,
@@ -11,7 +11,7 @@ pub struct Choice {
 
 /// How far a failover has come. `epoch` is that of its campaign, at most `MAX_EPOCH`; `former` is the place of the
 /// master that is replaced.
-#[derive(Clone, Copy, Debug, PartialEq, Eq)]
+#[derive(Clone, Copy, PartialEq, Eq)]
 pub enum FailoverState {
     /// No failover runs.
     Idle,
@@ -50,7 +50,7 @@ pub enum FailoverState {
 /// A row of the failover table that a turn can take, in the table's order. The other four are taken by news
 /// ([`crate::Failover::promoted`], [`crate::Failover::reconf`], [`crate::Failover::end`]), or always and first
 /// (replicas that were sent to long ago count as done).
-#[derive(Clone, Copy, Debug, PartialEq, Eq)]
+#[derive(Clone, Copy, PartialEq, Eq)]
 pub enum Row {
     /// The master is objectively down: a campaign is opened, in the epoch after the current one.
     StartFailover,

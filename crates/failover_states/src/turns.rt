@@ -45,7 +45,7 @@ pub struct Facts<'a> {
 }
 
 /// What a turn of a failover did.
-#[derive(Clone, Copy, Debug, PartialEq, Eq)]
+#[derive(Clone, Copy, PartialEq, Eq)]
 pub struct Act {
     /// The last row that was taken; none where none fits.
     pub row: Option<Row>,

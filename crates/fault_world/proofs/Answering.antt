@@ -14,9 +14,9 @@ use Rattle.ballot_law.specs.Ballots.{card_of}
 use Rattle.ballot_law.specs.Worlds.{World, Sentinel, State, Ready, Pending, Stored, Halted, Stopped, sentinel_at, stores_of, card_after, Steps, Answers}
 use Rattle.boxed_nodes.specs.Images.{Image, OfSentinel, HasStored, image_at, is_stopped, last_stored, card_shown}
 use Rattle.boxed_nodes.specs.Moves.{Shows, ShowsCard}
-use Rattle.world_members.specs.Standing.{IsShown}
-use Rattle.world_reports.specs.declared.entry.Entry.{Entry}
-use Rattle.world_reports.specs.Told.{entry_of_said}
+use Rattle.fault_world.specs.Standing.{IsShown}
+use Rattle.fault_world.specs.declared.entry.Entry.{Entry}
+use Rattle.fault_world.specs.Told.{entry_of_said}
 use Rattle.fault_world.specs.News.{news_of}
 use Rattle.fault_world.specs.Runs.{RunsTo, Tells}
 use Rattle.fault_world.proofs.Lists.{slice_get_at, held_at, none_at_all}

@@ -22,10 +22,10 @@ use Rattle.boxed_nodes.specs.declared.calls.HowStored.TheVariants as how
 use Rattle.boxed_nodes.specs.Images.{Image, image_at, how_left, held_of, state_of}
 use Rattle.boxed_nodes.specs.Moves.{Stops, Stays, wins_told, Shows, IsWonIn}
 use Rattle.boxed_nodes.specs.Sendable.{IsSendable, IsSendableOutput, IsHeldBy, AreListed}
-use Rattle.world_members.specs.Standing.{IsShown, IsReached, Stands}
-use Rattle.world_members.specs.Seats.{IsSeat, SeatTakes, SeatStores, SeatReleases, SeatStarts}
-use Rattle.world_reports.specs.declared.entry.Entry.{Entry}
-use Rattle.world_reports.specs.Told.{entry_of_election, entry_of_said}
+use Rattle.fault_world.specs.Standing.{IsShown, IsReached, Stands}
+use Rattle.fault_world.specs.Seats.{IsSeat, SeatTakes, SeatStores, SeatReleases, SeatStarts}
+use Rattle.fault_world.specs.declared.entry.Entry.{Entry}
+use Rattle.fault_world.specs.Told.{entry_of_election, entry_of_said}
 use Rattle.fault_world.specs.News.{news_of, elected_told, said_told, IsInGroup}
 use Rattle.fault_world.specs.Runs.{Ran, RunsTo, RunsOn, Keeps, Leads, Tells, stored_by}
 use Rattle.fault_world.proofs.Lists.{slice_get_at, held_at, none_at_all, all_get}
@@ -192,10 +192,6 @@ pub on_err_then : {T E : Type 0} {P Q : Type 0} (r : Result T E) → (P → Q) �
 on_err_then (Ok x) f p = tt
 on_err_then (Err x) f p = f p
 
-pub on_err_any : {T E : Type 0} {P : Type 0} (r : Result T E) → P → OnErr r P
-on_err_any (Ok x) p = tt
-on_err_any (Err x) p = p
-
 -- the calls of a step
 
 pub same_step : {E : Type 0} (s s2 : Step) (r : Result (Unit {0}) E) (roster : Roster) (before after : List Entry) (old new : World → Type 0) → s2 ≡ s → OnOk r (Tells roster (s ∷ []) before after old new) → OnOk r (Tells roster (s2 ∷ []) before after old new)
@@ -203,9 +199,6 @@ same_step s s2 r roster before after old new e h = subst (λ x. OnOk r (Tells ro
 
 pub left_step : {E : Type 0} (s2 : Step) (r : Result (Unit {0}) E) (roster : Roster) (before after : List Entry) (old new : World → Type 0) {node : NodeName} {left : KeptText} (h : HowStored) → h ≡ how_left left → s2 ≡ step.StoreRefused node left → OnOk r (Tells roster (stored_by node h ∷ []) before after old new) → OnOk r (Tells roster (s2 ∷ []) before after old new)
 left_step s2 r roster before after old new {node} {left} h e is told = same_step (stored_by node h) s2 r roster before after old new (is ∙ sym (ap (stored_by node) e ∙ store_left node left)) told
-
-pub quiet_step : {E : Type 0} (s s2 : Step) (r : Result (Unit {0}) E) (roster : Roster) (before after : List Entry) (old new : World → Type 0) → s2 ≡ s → after ≡ before → OnOk r (Leads roster (s ∷ []) old new) → OnOk r (Tells roster (s2 ∷ []) before after old new)
-quiet_step s s2 r roster before after old new e same h = same_step s s2 r roster before after old new e (on_ok_then r (λ (f : Leads roster (s ∷ []) old new) w g. quietly same (f w g)) h)
 
 -- Runs one after the other
 

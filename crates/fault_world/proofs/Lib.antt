@@ -1,3 +1,10 @@
+mod Searching
+mod Loops
+mod NamedMembers
+mod FiledVotes
+mod Beginning
+mod Holding
+mod MadeMembers
 mod Answering
 mod Found
 mod Lists

@@ -21,9 +21,9 @@ use Rattle.boxed_nodes.specs.declared.calls.HowStored.TheVariants as how
 use Rattle.boxed_nodes.specs.Images.{Image, OfSentinel, OfOther, IsOfKind, image_at, state_of, held_of, how_left, after_store, store_answer, stored_image, refused_image, released_image, stopped_image, started_image, wins_of, has_text, refusal}
 use Rattle.boxed_nodes.specs.Moves.{Stops, wins_told}
 use Rattle.boxed_nodes.specs.Sendable.{IsSendable, IsSendableOutput}
-use Rattle.world_members.specs.Standing.{IsShown}
-use Rattle.world_members.specs.Seats.{SeatTakes, SeatStores, SeatReleases, SeatStarts, wins_stored}
-use Rattle.world_reports.specs.declared.entry.Entry.{Entry}
+use Rattle.fault_world.specs.Standing.{IsShown}
+use Rattle.fault_world.specs.Seats.{SeatTakes, SeatStores, SeatReleases, SeatStarts, wins_stored}
+use Rattle.fault_world.specs.declared.entry.Entry.{Entry}
 use Rattle.fault_world.specs.News.{news_of, elected_told, said_told}
 use Rattle.fault_world.specs.Runs.{mover_of, Stepped, RunsTo}
 use Rattle.fault_world.proofs.NodeKinds.{kind_at, kind_stored, kind_refused, kind_stopped, kind_started, kind_released, kind_taken}

@@ -4,8 +4,8 @@ use Rattle.ballot_law.specs.declared.steps.Step.{Step}
 use Rattle.ballot_law.specs.Rosters.{Roster, HasDistinctIds}
 use Rattle.ballot_law.specs.Worlds.{World, StepOf, JoinedBy, Run}
 use Rattle.ballot_law.specs.Law.{OneLeader, OneAddress, NeverFalls, IsSafeStep, IsStart}
-use Rattle.world_members.specs.Standing.{IsReached}
-use Rattle.world_reports.specs.Listed.{Listed}
+use Rattle.fault_world.specs.Standing.{IsReached}
+use Rattle.fault_world.specs.Listed.{Listed}
 use Rattle.fault_world.specs.declared.faults.RunFault.{RunFault}
 use Rattle.fault_world.specs.Runs.{RunsTo}
 use Rattle.fault_world.specs.Laws.{RunsSafely}

@@ -10,7 +10,7 @@ use Rattle.ballot_law.specs.Rosters.{Roster}
 use Rattle.ballot_law.specs.Worlds.{World, IsNode}
 use Rattle.boxed_nodes.specs.Images.{Image, IsOfKind, image_at}
 use Rattle.boxed_nodes.specs.Sendable.{IsSendable}
-use Rattle.world_members.specs.Standing.{IsShown}
+use Rattle.fault_world.specs.Standing.{IsShown}
 use Rattle.fault_world.proofs.Lists.{set_get, get_set, get_other, nat_cases, all_append}
 use Rattle.fault_world.proofs.Seen.{Changed, image_here, image_there, nodes_same, sentinels_many}
 

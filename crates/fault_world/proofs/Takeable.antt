@@ -10,7 +10,7 @@ use Rattle.ballot_law.specs.declared.messages.Message.{Message}
 use Rattle.ballot_law.specs.declared.messages.NodeName.{NodeName}
 use Rattle.ballot_law.specs.declared.messages.NodeName.TheVariants.{SentinelAt, StoreAt, ClientAt, PortAt}
 use Rattle.boxed_nodes.specs.Sendable.{IsSendable, IsTakeable}
-use Rattle.deliveries.specs.Deliveries.{heard, event_at, event_of}
+use Rattle.messages.specs.Deliveries.{heard, event_at, event_of}
 use Rattle.sentinel_rules.specs.Facts.{IsWithinEvent}
 
 -- no change of a data node, and no message handed over

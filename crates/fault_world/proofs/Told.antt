@@ -10,8 +10,8 @@ use Rattle.ballot_law.specs.declared.records.Advertisement.{Advertisement}
 use Rattle.ballot_law.specs.Messages.{advertised, advertised_by}
 use Rattle.ballot_law.specs.Rosters.{Roster}
 use Rattle.ballot_law.specs.Worlds.{said_by}
-use Rattle.world_reports.specs.declared.entry.Entry.{Entry}
-use Rattle.world_reports.specs.Told.{entry_of_said}
+use Rattle.fault_world.specs.declared.entry.Entry.{Entry}
+use Rattle.fault_world.specs.Told.{entry_of_said}
 
 abbrev pub entry_of_shown : Roster → ℕ → Shown → Entry
 entry_of_shown roster i shown = entry_of_said roster (record { sentinel = i; master = shown.master; card = shown.card })

@@ -4,8 +4,8 @@ use Rattle.ballot_law.specs.declared.steps.Step.{Step}
 use Rattle.ballot_law.specs.Rosters.{Roster}
 use Rattle.ballot_law.specs.Worlds.{World, StepOf, JoinedBy}
 use Rattle.ballot_law.specs.Law.{HasOneLeader, HasOneAddress, IsSafeStep}
-use Rattle.world_members.specs.Standing.{IsReached}
-use Rattle.world_reports.specs.declared.entry.Entry.{Entry}
+use Rattle.fault_world.specs.Standing.{IsReached}
+use Rattle.fault_world.specs.declared.entry.Entry.{Entry}
 use Rattle.fault_world.specs.Runs.{Ran}
 
 -- the steps lead to a world for which the group then stands. Of all elections since the start, which all reports together tell of, at most

@@ -1,4 +1,12 @@
+pub mod Listed
+pub mod Told
+pub mod Seats
+pub mod Standing
+pub mod Groups
+pub mod NewMembers
+pub mod Refusals
 pub mod News
 pub mod Runs
 pub mod Laws
 pub mod Faults
+pub mod Shown

@@ -9,8 +9,8 @@ use Rattle.ballot_law.specs.declared.records.Win.{Win}
 use Rattle.ballot_law.specs.Messages.{advertised_by}
 use Rattle.ballot_law.specs.Rosters.{Roster, size}
 use Rattle.ballot_law.specs.Worlds.{elected_by, said_by}
-use Rattle.world_reports.specs.declared.entry.Entry.{Entry}
-use Rattle.world_reports.specs.Told.{entry_of_election, entry_of_said}
+use Rattle.fault_world.specs.declared.entry.Entry.{Entry}
+use Rattle.fault_world.specs.Told.{entry_of_election, entry_of_said}
 
 -- elections and advertisements, an entry for each, in their order
 abbrev pub news_of : Roster → List Election → List Advertisement → List Entry

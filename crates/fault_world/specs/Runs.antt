@@ -12,7 +12,7 @@ use Rattle.ballot_law.specs.Worlds.{World, Steps}
 use Rattle.boxed_nodes.specs.declared.calls.HowStored.{HowStored}
 use Rattle.boxed_nodes.specs.declared.calls.HowStored.TheVariants as how
 use Rattle.boxed_nodes.specs.Images.{image_at}
-use Rattle.world_reports.specs.declared.entry.Entry.{Entry}
+use Rattle.fault_world.specs.declared.entry.Entry.{Entry}
 use Rattle.fault_world.specs.News.{news_of}
 
 -- the one node that a step may move: the one that it names, or the target of its message

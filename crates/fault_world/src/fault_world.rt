@@ -6,29 +6,31 @@ ghost use Rattle.boxed_nodes.specs.Images.{how_left};
 ghost use Rattle.boxed_nodes.specs.Sendable.{IsTakeable};
 ghost use Rattle.scenarios.specs.Within.{IsWithinStep};
 ghost use Rattle.boxed_nodes.specs.Moves.{IsFresh};
-ghost use Rattle.world_members.specs.Standing.{IsShown, IsReached, Begins, Stands};
-ghost use Rattle.world_members.specs.Groups.{IsGroupOf, BeginAlike};
-ghost use Rattle.world_members.specs.Refusals.{IsRefusal};
+ghost use Rattle.fault_world.specs.Standing.{IsReached, Begins, Stands};
+ghost use Rattle.fault_world.specs.Groups.{IsGroupOf, BeginAlike};
+ghost use Rattle.fault_world.specs.Refusals.{IsRefusal};
 ghost use Rattle.fault_world.specs.Laws.{RunsSafely};
-ghost use Rattle.world_members.specs.Seats.{IsSeat};
-ghost use Rattle.world_reports.specs.declared.entry.Entry.{Entry};
+ghost use Rattle.fault_world.specs.declared.entry.Entry.{Entry};
 ghost use Rattle.fault_world.specs.Faults.{steps_done};
+ghost use Rattle.fault_world.specs.Shown.{Shown};
 ghost use Rattle.fault_world.specs.Runs.{Keeps, Leads, Tells, RunsTo, stored_by};
 
-use crate::faults::RunFault;
+use crate::faults::{RunFault, WorldFault};
+use crate::report::Report;
+use crate::seated::Seated;
 use crate::sending::send_all;
+use crate::starts::members_of;
 use crate::telling::{tell_released, tell_said, tell_won};
 use ballot_law::{
     Advertisement, Input, KeptText, Message, NoMemory, NodeName, Output, Roster, SHOWN_MAX, Step,
     law_never_falls, law_one_address, law_one_leader,
 };
-use deliveries::event_of;
+use boxed_nodes::{HowStored, Node};
+use messages::event_of;
 use std::alloc::Global;
-use world_members::{HowStored, Member, Node, WorldFault, members_of};
-use world_reports::Report;
 
 /// The place of the member with this name.
-fn place_of(members: &Vec<Member>, node: NodeName) -> Option<usize>
+fn place_of(members: &Vec<Seated>, node: NodeName) -> Option<usize>
     ensures within { IfSome result (λ k. k < length members.now.items) }
     ensures some { IfSome result (λ k. IfSome (slice_get members.now.items k) (λ m. m.name ≡ node)) }
     ensures none { IfNone result ((k : ℕ) → k < length members.now.items → IfSome (slice_get members.now.items k) (λ m. m.name ≢ node)) }
@@ -55,7 +57,7 @@ fn how_left(left: KeptText) -> HowStored
 #[derive(Drop)]
 pub struct FaultWorld {
     roster: Roster,
-    members: Vec<Member>,
+    members: Vec<Seated>,
     messages: Vec<Message>,
     released: Vec<Output>,
     alloc: Global,
@@ -75,9 +77,9 @@ impl FaultWorld {
     ) -> Result<FaultWorld, (WorldFault, Vec<Box<dyn Node>>)>
         requires { All (λ b. IsFresh (is_known b) (shows b)) nodes.items }
         ensures begins { IfOk result (λ world. Begins roster
-            (IsShown (λ m. m.name) (λ m. IsSeat m.name (name m.node) (shows m.node) m.outbox.held m.stopped) roster world.members.items world.messages.items)) }
+            (Shown (λ m. m.node) (λ b. name b) (λ b. shows b) roster world.members.items world.messages.items)) }
         ensures stands { IfOk result (λ world. Stands roster
-            (IsShown (λ m. m.name) (λ m. IsSeat m.name (name m.node) (shows m.node) m.outbox.held m.stopped) roster world.members.items world.messages.items)) }
+            (Shown (λ m. m.node) (λ b. name b) (λ b. shows b) roster world.members.items world.messages.items)) }
         ensures roster { IfOk result (λ world. world.roster ≡ roster) }
         ensures messages { IfOk result (λ world. world.messages.items ≡ []) }
         ensures group { IfOk result (λ _. IsGroupOf (λ b. name b) (λ b. is_known b roster) roster nodes.items) }
@@ -101,15 +103,15 @@ impl FaultWorld {
 
     /// The node takes an input that no message brings, if it is ready.
     fn take(&mut self, node: NodeName, input: &Input) -> Result<(), NoMemory>
-        requires shown { (w : World) × IsShown (λ m. m.name) (λ m. IsSeat m.name (name (m.node.vtable, m.node.value)) (shows (m.node.vtable, m.node.value)) m.outbox.held m.stopped) self.old.roster self.old.members.items self.old.messages.items w }
+        requires shown { (w : World) × Shown (λ m. m.node) (λ b. name b) (λ b. shows b) self.old.roster self.old.members.items self.old.messages.items w }
         requires within { IsTakeable input.now.event }
         requires free { IsFree input.now.event }
         ensures ok { OnOk result (Leads self.old.roster (Step.Take node input.entry.now ∷ [])
-            (IsShown (λ m. m.name) (λ m. IsSeat m.name (name (m.node.vtable, m.node.value)) (shows (m.node.vtable, m.node.value)) m.outbox.held m.stopped) self.old.roster self.old.members.items self.old.messages.items)
-            (IsShown (λ m. m.name) (λ m. IsSeat m.name (name (m.node.vtable, m.node.value)) (shows (m.node.vtable, m.node.value)) m.outbox.held m.stopped) self.old.roster self.new.members.items self.new.messages.items)) }
+            (Shown (λ m. m.node) (λ b. name b) (λ b. shows b) self.old.roster self.old.members.items self.old.messages.items)
+            (Shown (λ m. m.node) (λ b. name b) (λ b. shows b) self.old.roster self.new.members.items self.new.messages.items)) }
         ensures err { OnErr result (Keeps
-            (IsShown (λ m. m.name) (λ m. IsSeat m.name (name (m.node.vtable, m.node.value)) (shows (m.node.vtable, m.node.value)) m.outbox.held m.stopped) self.old.roster self.old.members.items self.old.messages.items)
-            (IsShown (λ m. m.name) (λ m. IsSeat m.name (name (m.node.vtable, m.node.value)) (shows (m.node.vtable, m.node.value)) m.outbox.held m.stopped) self.old.roster self.new.members.items self.new.messages.items)) }
+            (Shown (λ m. m.node) (λ b. name b) (λ b. shows b) self.old.roster self.old.members.items self.old.messages.items)
+            (Shown (λ m. m.node) (λ b. name b) (λ b. shows b) self.old.roster self.new.members.items self.new.messages.items)) }
         ensures roster { self.new.roster ≡ self.old.roster }
     {
         let Some(k) = place_of(&self.members, node) else {
@@ -121,13 +123,13 @@ impl FaultWorld {
 
     /// The message with this number reaches its target, if it is there, for such a node, and the node is ready.
     fn deliver(&mut self, number: u64, now: u64) -> Result<(), NoMemory>
-        requires { (w : World) × IsShown (λ m. m.name) (λ m. IsSeat m.name (name (m.node.vtable, m.node.value)) (shows (m.node.vtable, m.node.value)) m.outbox.held m.stopped) self.old.roster self.old.members.items self.old.messages.items w }
+        requires { (w : World) × Shown (λ m. m.node) (λ b. name b) (λ b. shows b) self.old.roster self.old.members.items self.old.messages.items w }
         ensures ok { OnOk result (Leads self.old.roster (Step.Deliver number now ∷ [])
-            (IsShown (λ m. m.name) (λ m. IsSeat m.name (name (m.node.vtable, m.node.value)) (shows (m.node.vtable, m.node.value)) m.outbox.held m.stopped) self.old.roster self.old.members.items self.old.messages.items)
-            (IsShown (λ m. m.name) (λ m. IsSeat m.name (name (m.node.vtable, m.node.value)) (shows (m.node.vtable, m.node.value)) m.outbox.held m.stopped) self.old.roster self.new.members.items self.new.messages.items)) }
+            (Shown (λ m. m.node) (λ b. name b) (λ b. shows b) self.old.roster self.old.members.items self.old.messages.items)
+            (Shown (λ m. m.node) (λ b. name b) (λ b. shows b) self.old.roster self.new.members.items self.new.messages.items)) }
         ensures err { OnErr result (Keeps
-            (IsShown (λ m. m.name) (λ m. IsSeat m.name (name (m.node.vtable, m.node.value)) (shows (m.node.vtable, m.node.value)) m.outbox.held m.stopped) self.old.roster self.old.members.items self.old.messages.items)
-            (IsShown (λ m. m.name) (λ m. IsSeat m.name (name (m.node.vtable, m.node.value)) (shows (m.node.vtable, m.node.value)) m.outbox.held m.stopped) self.old.roster self.new.members.items self.new.messages.items)) }
+            (Shown (λ m. m.node) (λ b. name b) (λ b. shows b) self.old.roster self.old.members.items self.old.messages.items)
+            (Shown (λ m. m.node) (λ b. name b) (λ b. shows b) self.old.roster self.new.members.items self.new.messages.items)) }
         ensures roster { self.new.roster ≡ self.old.roster }
     {
         let place = number as usize;
@@ -149,13 +151,13 @@ impl FaultWorld {
 
     /// The node stores what it took, if it is pending, or finds that store refused, if there is something to store.
     fn store(&mut self, node: NodeName, how: HowStored, report: &mut Report) -> Result<(), NoMemory>
-        requires { (w : World) × IsShown (λ m. m.name) (λ m. IsSeat m.name (name (m.node.vtable, m.node.value)) (shows (m.node.vtable, m.node.value)) m.outbox.held m.stopped) self.old.roster self.old.members.items self.old.messages.items w }
+        requires { (w : World) × Shown (λ m. m.node) (λ b. name b) (λ b. shows b) self.old.roster self.old.members.items self.old.messages.items w }
         ensures ok { OnOk result (Tells self.old.roster (stored_by node how ∷ []) report.old.entries report.new.entries
-            (IsShown (λ m. m.name) (λ m. IsSeat m.name (name (m.node.vtable, m.node.value)) (shows (m.node.vtable, m.node.value)) m.outbox.held m.stopped) self.old.roster self.old.members.items self.old.messages.items)
-            (IsShown (λ m. m.name) (λ m. IsSeat m.name (name (m.node.vtable, m.node.value)) (shows (m.node.vtable, m.node.value)) m.outbox.held m.stopped) self.old.roster self.new.members.items self.new.messages.items)) }
+            (Shown (λ m. m.node) (λ b. name b) (λ b. shows b) self.old.roster self.old.members.items self.old.messages.items)
+            (Shown (λ m. m.node) (λ b. name b) (λ b. shows b) self.old.roster self.new.members.items self.new.messages.items)) }
         ensures err { OnErr result (Keeps
-            (IsShown (λ m. m.name) (λ m. IsSeat m.name (name (m.node.vtable, m.node.value)) (shows (m.node.vtable, m.node.value)) m.outbox.held m.stopped) self.old.roster self.old.members.items self.old.messages.items)
-            (IsShown (λ m. m.name) (λ m. IsSeat m.name (name (m.node.vtable, m.node.value)) (shows (m.node.vtable, m.node.value)) m.outbox.held m.stopped) self.old.roster self.new.members.items self.new.messages.items)) }
+            (Shown (λ m. m.node) (λ b. name b) (λ b. shows b) self.old.roster self.old.members.items self.old.messages.items)
+            (Shown (λ m. m.node) (λ b. name b) (λ b. shows b) self.old.roster self.new.members.items self.new.messages.items)) }
         ensures entries { OnErr result (report.new.entries ≡ report.old.entries) }
         ensures roster { self.new.roster ≡ self.old.roster }
     {
@@ -171,13 +173,13 @@ impl FaultWorld {
 
     /// The node releases what it holds, if it has stored.
     fn release(&mut self, node: NodeName, report: &mut Report) -> Result<(), NoMemory>
-        requires { (w : World) × IsShown (λ m. m.name) (λ m. IsSeat m.name (name (m.node.vtable, m.node.value)) (shows (m.node.vtable, m.node.value)) m.outbox.held m.stopped) self.old.roster self.old.members.items self.old.messages.items w }
+        requires { (w : World) × Shown (λ m. m.node) (λ b. name b) (λ b. shows b) self.old.roster self.old.members.items self.old.messages.items w }
         ensures ok { OnOk result (Tells self.old.roster (Step.Release node ∷ []) report.old.entries report.new.entries
-            (IsShown (λ m. m.name) (λ m. IsSeat m.name (name (m.node.vtable, m.node.value)) (shows (m.node.vtable, m.node.value)) m.outbox.held m.stopped) self.old.roster self.old.members.items self.old.messages.items)
-            (IsShown (λ m. m.name) (λ m. IsSeat m.name (name (m.node.vtable, m.node.value)) (shows (m.node.vtable, m.node.value)) m.outbox.held m.stopped) self.old.roster self.new.members.items self.new.messages.items)) }
+            (Shown (λ m. m.node) (λ b. name b) (λ b. shows b) self.old.roster self.old.members.items self.old.messages.items)
+            (Shown (λ m. m.node) (λ b. name b) (λ b. shows b) self.old.roster self.new.members.items self.new.messages.items)) }
         ensures err { OnErr result (Keeps
-            (IsShown (λ m. m.name) (λ m. IsSeat m.name (name (m.node.vtable, m.node.value)) (shows (m.node.vtable, m.node.value)) m.outbox.held m.stopped) self.old.roster self.old.members.items self.old.messages.items)
-            (IsShown (λ m. m.name) (λ m. IsSeat m.name (name (m.node.vtable, m.node.value)) (shows (m.node.vtable, m.node.value)) m.outbox.held m.stopped) self.old.roster self.new.members.items self.new.messages.items)) }
+            (Shown (λ m. m.node) (λ b. name b) (λ b. shows b) self.old.roster self.old.members.items self.old.messages.items)
+            (Shown (λ m. m.node) (λ b. name b) (λ b. shows b) self.old.roster self.new.members.items self.new.messages.items)) }
         ensures entries { OnErr result (report.new.entries ≡ report.old.entries) }
         ensures roster { self.new.roster ≡ self.old.roster }
     {
@@ -200,10 +202,10 @@ impl FaultWorld {
 
     /// The node stops.
     fn stop(&mut self, node: NodeName, left: KeptText)
-        requires { (w : World) × IsShown (λ m. m.name) (λ m. IsSeat m.name (name (m.node.vtable, m.node.value)) (shows (m.node.vtable, m.node.value)) m.outbox.held m.stopped) self.old.roster self.old.members.items self.old.messages.items w }
+        requires { (w : World) × Shown (λ m. m.node) (λ b. name b) (λ b. shows b) self.old.roster self.old.members.items self.old.messages.items w }
         ensures ok { Leads self.old.roster (Step.Stop node left ∷ [])
-            (IsShown (λ m. m.name) (λ m. IsSeat m.name (name (m.node.vtable, m.node.value)) (shows (m.node.vtable, m.node.value)) m.outbox.held m.stopped) self.old.roster self.old.members.items self.old.messages.items)
-            (IsShown (λ m. m.name) (λ m. IsSeat m.name (name (m.node.vtable, m.node.value)) (shows (m.node.vtable, m.node.value)) m.outbox.held m.stopped) self.old.roster self.new.members.items self.new.messages.items) }
+            (Shown (λ m. m.node) (λ b. name b) (λ b. shows b) self.old.roster self.old.members.items self.old.messages.items)
+            (Shown (λ m. m.node) (λ b. name b) (λ b. shows b) self.old.roster self.new.members.items self.new.messages.items) }
         ensures roster { self.new.roster ≡ self.old.roster }
     {
         let Some(k) = place_of(&self.members, node) else {
@@ -215,13 +217,13 @@ impl FaultWorld {
 
     /// The node starts, if it is stopped.
     fn start(&mut self, node: NodeName, now: u64) -> Result<(), NoMemory>
-        requires { (w : World) × IsShown (λ m. m.name) (λ m. IsSeat m.name (name (m.node.vtable, m.node.value)) (shows (m.node.vtable, m.node.value)) m.outbox.held m.stopped) self.old.roster self.old.members.items self.old.messages.items w }
+        requires { (w : World) × Shown (λ m. m.node) (λ b. name b) (λ b. shows b) self.old.roster self.old.members.items self.old.messages.items w }
         ensures ok { OnOk result (Leads self.old.roster (Step.Start node now ∷ [])
-            (IsShown (λ m. m.name) (λ m. IsSeat m.name (name (m.node.vtable, m.node.value)) (shows (m.node.vtable, m.node.value)) m.outbox.held m.stopped) self.old.roster self.old.members.items self.old.messages.items)
-            (IsShown (λ m. m.name) (λ m. IsSeat m.name (name (m.node.vtable, m.node.value)) (shows (m.node.vtable, m.node.value)) m.outbox.held m.stopped) self.old.roster self.new.members.items self.new.messages.items)) }
+            (Shown (λ m. m.node) (λ b. name b) (λ b. shows b) self.old.roster self.old.members.items self.old.messages.items)
+            (Shown (λ m. m.node) (λ b. name b) (λ b. shows b) self.old.roster self.new.members.items self.new.messages.items)) }
         ensures err { OnErr result (Keeps
-            (IsShown (λ m. m.name) (λ m. IsSeat m.name (name (m.node.vtable, m.node.value)) (shows (m.node.vtable, m.node.value)) m.outbox.held m.stopped) self.old.roster self.old.members.items self.old.messages.items)
-            (IsShown (λ m. m.name) (λ m. IsSeat m.name (name (m.node.vtable, m.node.value)) (shows (m.node.vtable, m.node.value)) m.outbox.held m.stopped) self.old.roster self.new.members.items self.new.messages.items)) }
+            (Shown (λ m. m.node) (λ b. name b) (λ b. shows b) self.old.roster self.old.members.items self.old.messages.items)
+            (Shown (λ m. m.node) (λ b. name b) (λ b. shows b) self.old.roster self.new.members.items self.new.messages.items)) }
         ensures roster { self.new.roster ≡ self.old.roster }
     {
         let Some(k) = place_of(&self.members, node) else {
@@ -233,13 +235,13 @@ impl FaultWorld {
 
     /// A client gets the configuration of a master that a Sentinel stored last, if it runs.
     fn answer(&mut self, node: NodeName, master: u16, report: &mut Report) -> Result<(), NoMemory>
-        requires { (w : World) × IsShown (λ m. m.name) (λ m. IsSeat m.name (name (m.node.vtable, m.node.value)) (shows (m.node.vtable, m.node.value)) m.outbox.held m.stopped) self.old.roster self.old.members.items self.old.messages.items w }
+        requires { (w : World) × Shown (λ m. m.node) (λ b. name b) (λ b. shows b) self.old.roster self.old.members.items self.old.messages.items w }
         ensures ok { OnOk result (Tells self.old.roster (Step.Answer node master ∷ []) report.old.entries report.new.entries
-            (IsShown (λ m. m.name) (λ m. IsSeat m.name (name (m.node.vtable, m.node.value)) (shows (m.node.vtable, m.node.value)) m.outbox.held m.stopped) self.old.roster self.old.members.items self.old.messages.items)
-            (IsShown (λ m. m.name) (λ m. IsSeat m.name (name (m.node.vtable, m.node.value)) (shows (m.node.vtable, m.node.value)) m.outbox.held m.stopped) self.old.roster self.new.members.items self.new.messages.items)) }
+            (Shown (λ m. m.node) (λ b. name b) (λ b. shows b) self.old.roster self.old.members.items self.old.messages.items)
+            (Shown (λ m. m.node) (λ b. name b) (λ b. shows b) self.old.roster self.new.members.items self.new.messages.items)) }
         ensures err { OnErr result (Keeps
-            (IsShown (λ m. m.name) (λ m. IsSeat m.name (name (m.node.vtable, m.node.value)) (shows (m.node.vtable, m.node.value)) m.outbox.held m.stopped) self.old.roster self.old.members.items self.old.messages.items)
-            (IsShown (λ m. m.name) (λ m. IsSeat m.name (name (m.node.vtable, m.node.value)) (shows (m.node.vtable, m.node.value)) m.outbox.held m.stopped) self.old.roster self.new.members.items self.new.messages.items)) }
+            (Shown (λ m. m.node) (λ b. name b) (λ b. shows b) self.old.roster self.old.members.items self.old.messages.items)
+            (Shown (λ m. m.node) (λ b. name b) (λ b. shows b) self.old.roster self.new.members.items self.new.messages.items)) }
         ensures entries { OnErr result (report.new.entries ≡ report.old.entries) }
         ensures roster { self.new.roster ≡ self.old.roster }
     {
@@ -267,13 +269,13 @@ impl FaultWorld {
     /// Makes a step, whole or not at all, and tells of what it adds.
     fn step(&mut self, step: &Step, report: &mut Report) -> Result<(), NoMemory>
         requires within { IsWithinStep step.now }
-        requires shown { (w : World) × IsShown (λ m. m.name) (λ m. IsSeat m.name (name (m.node.vtable, m.node.value)) (shows (m.node.vtable, m.node.value)) m.outbox.held m.stopped) self.old.roster self.old.members.items self.old.messages.items w }
+        requires shown { (w : World) × Shown (λ m. m.node) (λ b. name b) (λ b. shows b) self.old.roster self.old.members.items self.old.messages.items w }
         ensures ok { OnOk result (Tells self.old.roster (step.now ∷ []) report.old.entries report.new.entries
-            (IsShown (λ m. m.name) (λ m. IsSeat m.name (name (m.node.vtable, m.node.value)) (shows (m.node.vtable, m.node.value)) m.outbox.held m.stopped) self.old.roster self.old.members.items self.old.messages.items)
-            (IsShown (λ m. m.name) (λ m. IsSeat m.name (name (m.node.vtable, m.node.value)) (shows (m.node.vtable, m.node.value)) m.outbox.held m.stopped) self.old.roster self.new.members.items self.new.messages.items)) }
+            (Shown (λ m. m.node) (λ b. name b) (λ b. shows b) self.old.roster self.old.members.items self.old.messages.items)
+            (Shown (λ m. m.node) (λ b. name b) (λ b. shows b) self.old.roster self.new.members.items self.new.messages.items)) }
         ensures err { OnErr result (Keeps
-            (IsShown (λ m. m.name) (λ m. IsSeat m.name (name (m.node.vtable, m.node.value)) (shows (m.node.vtable, m.node.value)) m.outbox.held m.stopped) self.old.roster self.old.members.items self.old.messages.items)
-            (IsShown (λ m. m.name) (λ m. IsSeat m.name (name (m.node.vtable, m.node.value)) (shows (m.node.vtable, m.node.value)) m.outbox.held m.stopped) self.old.roster self.new.members.items self.new.messages.items)) }
+            (Shown (λ m. m.node) (λ b. name b) (λ b. shows b) self.old.roster self.old.members.items self.old.messages.items)
+            (Shown (λ m. m.node) (λ b. name b) (λ b. shows b) self.old.roster self.new.members.items self.new.messages.items)) }
         ensures entries { OnErr result (report.new.entries ≡ report.old.entries) }
         ensures roster { self.new.roster ≡ self.old.roster }
     {
@@ -296,17 +298,17 @@ impl FaultWorld {
     fn make(&mut self, steps: &[Step]) -> Result<Report, RunFault>
         requires within { All IsWithinStep steps.now }
         requires stands { Stands self.old.roster
-            (IsShown (λ m. m.name) (λ m. IsSeat m.name (name (m.node.vtable, m.node.value)) (shows (m.node.vtable, m.node.value)) m.outbox.held m.stopped) self.old.roster self.old.members.items self.old.messages.items) }
+            (Shown (λ m. m.node) (λ b. name b) (λ b. shows b) self.old.roster self.old.members.items self.old.messages.items) }
         ensures run { IfOk result (λ report. (w : World)
-            → IsShown (λ m. m.name) (λ m. IsSeat m.name (name (m.node.vtable, m.node.value)) (shows (m.node.vtable, m.node.value)) m.outbox.held m.stopped) self.old.roster self.old.members.items self.old.messages.items w
+            → Shown (λ m. m.node) (λ b. name b) (λ b. shows b) self.old.roster self.old.members.items self.old.messages.items w
             → RunsTo self.old.roster steps.now w report.entries
-            (IsShown (λ m. m.name) (λ m. IsSeat m.name (name (m.node.vtable, m.node.value)) (shows (m.node.vtable, m.node.value)) m.outbox.held m.stopped) self.old.roster self.new.members.items self.new.messages.items)) }
+            (Shown (λ m. m.node) (λ b. name b) (λ b. shows b) self.old.roster self.new.members.items self.new.messages.items)) }
         ensures memory { IfErr result (λ fault. (w : World)
-            → IsShown (λ m. m.name) (λ m. IsSeat m.name (name (m.node.vtable, m.node.value)) (shows (m.node.vtable, m.node.value)) m.outbox.held m.stopped) self.old.roster self.old.members.items self.old.messages.items w
+            → Shown (λ m. m.node) (λ b. name b) (λ b. shows b) self.old.roster self.old.members.items self.old.messages.items w
             → (news : List Entry) × RunsTo self.old.roster (take (steps_done fault) steps.now) w news
-            (IsShown (λ m. m.name) (λ m. IsSeat m.name (name (m.node.vtable, m.node.value)) (shows (m.node.vtable, m.node.value)) m.outbox.held m.stopped) self.old.roster self.new.members.items self.new.messages.items)) }
+            (Shown (λ m. m.node) (λ b. name b) (λ b. shows b) self.old.roster self.new.members.items self.new.messages.items)) }
         ensures stands { Stands self.old.roster
-            (IsShown (λ m. m.name) (λ m. IsSeat m.name (name (m.node.vtable, m.node.value)) (shows (m.node.vtable, m.node.value)) m.outbox.held m.stopped) self.old.roster self.new.members.items self.new.messages.items) }
+            (Shown (λ m. m.node) (λ b. name b) (λ b. shows b) self.old.roster self.new.members.items self.new.messages.items) }
         ensures roster { self.new.roster ≡ self.old.roster }
     {
         let mut report = Report::new(self.alloc);
@@ -329,21 +331,21 @@ impl FaultWorld {
     pub fn run(&mut self, steps: &[Step]) -> Result<Report, RunFault>
         requires within { All IsWithinStep steps.now }
         requires stands { Stands self.old.roster
-            (IsShown (λ m. m.name) (λ m. IsSeat m.name (name (m.node.vtable, m.node.value)) (shows (m.node.vtable, m.node.value)) m.outbox.held m.stopped) self.old.roster self.old.members.items self.old.messages.items) }
+            (Shown (λ m. m.node) (λ b. name b) (λ b. shows b) self.old.roster self.old.members.items self.old.messages.items) }
         ensures run { IfOk result (λ report. (w : World)
-            → IsShown (λ m. m.name) (λ m. IsSeat m.name (name (m.node.vtable, m.node.value)) (shows (m.node.vtable, m.node.value)) m.outbox.held m.stopped) self.old.roster self.old.members.items self.old.messages.items w
+            → Shown (λ m. m.node) (λ b. name b) (λ b. shows b) self.old.roster self.old.members.items self.old.messages.items w
             → RunsTo self.old.roster steps.now w report.entries
-            (IsShown (λ m. m.name) (λ m. IsSeat m.name (name (m.node.vtable, m.node.value)) (shows (m.node.vtable, m.node.value)) m.outbox.held m.stopped) self.old.roster self.new.members.items self.new.messages.items)) }
+            (Shown (λ m. m.node) (λ b. name b) (λ b. shows b) self.old.roster self.new.members.items self.new.messages.items)) }
         ensures safe { IfOk result (λ report. (w : World) → IsReached self.old.roster w
-            → IsShown (λ m. m.name) (λ m. IsSeat m.name (name (m.node.vtable, m.node.value)) (shows (m.node.vtable, m.node.value)) m.outbox.held m.stopped) self.old.roster self.old.members.items self.old.messages.items w
+            → Shown (λ m. m.node) (λ b. name b) (λ b. shows b) self.old.roster self.old.members.items self.old.messages.items w
             → RunsSafely self.old.roster steps.now w report.entries
-            (IsShown (λ m. m.name) (λ m. IsSeat m.name (name (m.node.vtable, m.node.value)) (shows (m.node.vtable, m.node.value)) m.outbox.held m.stopped) self.old.roster self.new.members.items self.new.messages.items)) }
+            (Shown (λ m. m.node) (λ b. name b) (λ b. shows b) self.old.roster self.new.members.items self.new.messages.items)) }
         ensures memory { IfErr result (λ fault. (w : World)
-            → IsShown (λ m. m.name) (λ m. IsSeat m.name (name (m.node.vtable, m.node.value)) (shows (m.node.vtable, m.node.value)) m.outbox.held m.stopped) self.old.roster self.old.members.items self.old.messages.items w
+            → Shown (λ m. m.node) (λ b. name b) (λ b. shows b) self.old.roster self.old.members.items self.old.messages.items w
             → (news : List Entry) × RunsTo self.old.roster (take (steps_done fault) steps.now) w news
-            (IsShown (λ m. m.name) (λ m. IsSeat m.name (name (m.node.vtable, m.node.value)) (shows (m.node.vtable, m.node.value)) m.outbox.held m.stopped) self.old.roster self.new.members.items self.new.messages.items)) }
+            (Shown (λ m. m.node) (λ b. name b) (λ b. shows b) self.old.roster self.new.members.items self.new.messages.items)) }
         ensures stands { Stands self.old.roster
-            (IsShown (λ m. m.name) (λ m. IsSeat m.name (name (m.node.vtable, m.node.value)) (shows (m.node.vtable, m.node.value)) m.outbox.held m.stopped) self.old.roster self.new.members.items self.new.messages.items) }
+            (Shown (λ m. m.node) (λ b. name b) (λ b. shows b) self.old.roster self.new.members.items self.new.messages.items) }
         ensures roster { self.new.roster ≡ self.old.roster }
     {
         law_one_leader();

@@ -5,7 +5,7 @@ ghost use Rattle.ballot_law.specs.declared.messages.NodeName.TheVariants.{Sentin
 ghost use Rattle.scenarios.specs.Within.{IsWithinStep};
 
 use ballot_law::{Event, Input, KeptText, NoMemory, NodeName, Step, Text};
-use deliveries::copy_of;
+use messages::copy_of;
 use std::alloc::Global;
 
 /// A copy of what happens at a node.

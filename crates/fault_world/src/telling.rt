@@ -8,12 +8,13 @@ ghost use Rattle.ballot_law.specs.Rosters.{HasDistinctNames, size};
 ghost use Rattle.ballot_law.specs.Worlds.{said_by};
 ghost use Rattle.boxed_nodes.specs.Moves.{wins_told, IsWonIn};
 ghost use Rattle.boxed_nodes.specs.Sendable.{IsFewShown, IsFewIn, IsHeldBy, IsOfMaster, IsListedIn, IsListed, AreListed};
-ghost use Rattle.world_reports.specs.Told.{entry_of_election, entry_of_said};
+ghost use Rattle.fault_world.specs.Told.{entry_of_election, entry_of_said};
 ghost use Rattle.fault_world.specs.News.{elected_told, said_told, IsInGroup};
 
+use crate::entry::Entry;
 use crate::names::master_named;
+use crate::report::Report;
 use ballot_law::{Advertisement, Body, Card, Election, NodeName, Output, Roster, Shown};
-use world_reports::{Entry, Report};
 
 /// Tells of a configuration that a Sentinel showed; both the Sentinel and the master are in the roster.
 pub(crate) fn tell_said(report: &mut Report, roster: &Roster, said: &Advertisement)

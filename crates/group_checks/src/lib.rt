@@ -2,7 +2,9 @@
 #![tactic(auto)]
 
 mod differences;
+mod one_group;
 mod report;
 
 pub use differences::{Difference, difference_of};
+pub use one_group::{HoldsConf, is_one_group};
 pub use report::{NamedConf, Report};

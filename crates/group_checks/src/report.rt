@@ -1,6 +1,7 @@
 //! What is told of a group.
 
 use crate::differences::{Difference, difference_of};
+use crate::one_group::{HoldsConf, is_one_group};
 use ballot_law::{Addr, Name, NoMemory, Roster, RunId};
 use sentinel_conf::Conf;
 use std::alloc::Global;
@@ -11,6 +12,14 @@ use words::{add_number, ip_text, run_id_text};
 pub struct NamedConf {
     pub name: String,
     pub conf: Conf,
+}
+
+impl HoldsConf for NamedConf {
+    ghost conf_of = { λ file. file.conf };
+
+    fn conf(&self) -> &Conf {
+        &self.conf
+    }
 }
 
 /// Lines that tell of a group, and whether it would be refused.
@@ -26,7 +35,7 @@ impl Report {
     pub fn of(alloc: Global, files: &[NamedConf]) -> Result<Report, NoMemory> {
         let mut report = Report {
             text: Vec::new(alloc),
-            refused: false,
+            refused: !files.is_empty() && !is_one_group(files),
         };
         let Some(first) = files.first() else {
             return Ok(report);
@@ -106,7 +115,6 @@ impl Report {
         if count == 1 {
             return self.add("\n");
         }
-        self.refused = true;
         if count == 0 {
             self.add(": no file is its own\n")
         } else {
@@ -179,7 +187,6 @@ impl Report {
     fn add_differences(&mut self, first: &NamedConf, files: &[NamedConf]) -> Result<(), NoMemory> {
         for file in files {
             if let Some(difference) = difference_of(&first.conf, &file.conf) {
-                self.refused = true;
                 self.add(first.name.as_str())?;
                 self.add(" and ")?;
                 self.add(file.name.as_str())?;

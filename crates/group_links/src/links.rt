@@ -7,7 +7,7 @@ use crate::errand::Errand;
 use crate::letter::Letter;
 use ballot_law::{Message, NodeName, Output};
 use crossbeam_channel::{Receiver, Sender, unbounded};
-use deliveries::{copy_of, event_of};
+use messages::{copy_of, event_of};
 use std::alloc::{AllocError, Global};
 use std::sync::Wait;
 

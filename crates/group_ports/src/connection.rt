@@ -2,9 +2,12 @@
 
 ghost use Rattle.std.specs.Prelude.{◌≤◌, IfOk};
 
-use group_sentinels::{GroupState, Member, ServeFault, Session, Switch, ThreadSeat, Which};
+use conf_store::ConfStore;
+use group_links::GroupState;
+use group_sentinels::{RunningSentinel, Switch, ThreadSeat, Which};
 use mio::net::TcpStream;
-use sentinel_conf::ConfStore;
+use port_serving::ServeFault;
+use port_sessions::Session;
 use std::alloc::Global;
 use std::io::{ErrorKind, Read, Write};
 use std::rt::Clock;
@@ -89,7 +92,7 @@ impl Connection {
         &mut self,
         rt: &R,
         group: &GroupState,
-        member: &Member<J, S>,
+        member: &RunningSentinel<J, S>,
         seat: &mut ThreadSeat<J>,
         piece: &[u8],
     ) -> Heard {
@@ -158,7 +161,7 @@ impl Connection {
     /// Tells its client of a master's new address where it has subscribed: whether the connection is whole, and had memory for it.
     pub(crate) fn tell<J: Which, S: ConfStore>(
         &mut self,
-        member: &Member<J, S>,
+        member: &RunningSentinel<J, S>,
         switch: &Switch,
     ) -> bool {
         match member.notify(&mut self.session, switch) {
@@ -173,7 +176,7 @@ impl Connection {
         &mut self,
         rt: &R,
         group: &GroupState,
-        member: &Member<J, S>,
+        member: &RunningSentinel<J, S>,
         seat: &mut ThreadSeat<J>,
         room: &mut [u8; PIECE],
     ) -> Fate {

@@ -1,10 +1,11 @@
 //! A port with its connections.
 
 use crate::connection::{Connection, Fate, PIECE};
-use group_sentinels::{GroupState, Member, Switch, ThreadSeat, Which};
+use conf_store::ConfStore;
+use group_links::GroupState;
+use group_sentinels::{RunningSentinel, Switch, ThreadSeat, Which};
 use mio::net::{TcpListener, TcpStream};
 use mio::{Events, Interest, Poll, Token};
-use sentinel_conf::ConfStore;
 use slab::Slab;
 use std::alloc::Global;
 use std::io::{self, ErrorKind};
@@ -86,7 +87,7 @@ impl Port {
         &mut self,
         rt: &R,
         group: &GroupState,
-        member: &Member<J, S>,
+        member: &RunningSentinel<J, S>,
         seat: &mut ThreadSeat<J>,
         key: usize,
     ) {
@@ -120,7 +121,7 @@ impl Port {
         &mut self,
         rt: &R,
         group: &GroupState,
-        member: &Member<J, S>,
+        member: &RunningSentinel<J, S>,
         seat: &mut ThreadSeat<J>,
     ) {
         if !self.busy {
@@ -137,7 +138,7 @@ impl Port {
     /// Tells one connection of a master's new address, and closes it where it has no memory for that.
     fn tell_one<J: Which, S: ConfStore>(
         &mut self,
-        member: &Member<J, S>,
+        member: &RunningSentinel<J, S>,
         switch: &Switch,
         key: usize,
     ) {
@@ -150,14 +151,22 @@ impl Port {
     }
 
     /// Tells the subscribers of a master's new address.
-    fn tell_all<J: Which, S: ConfStore>(&mut self, member: &Member<J, S>, switch: &Switch) {
+    fn tell_all<J: Which, S: ConfStore>(
+        &mut self,
+        member: &RunningSentinel<J, S>,
+        switch: &Switch,
+    ) {
         for key in 0..CONNECTIONS_MAX {
             self.tell_one(member, switch, key);
         }
     }
 
     /// Tells the subscribers of each new address that a thread of the Sentinel showed since the last turn.
-    fn tell_switches<J: Which, S: ConfStore, R: Wait>(&mut self, rt: &R, member: &Member<J, S>) {
+    fn tell_switches<J: Which, S: ConfStore, R: Wait>(
+        &mut self,
+        rt: &R,
+        member: &RunningSentinel<J, S>,
+    ) {
         for switch in &member.take_switches(rt) {
             self.tell_all(member, switch);
         }
@@ -183,7 +192,7 @@ impl Port {
         &mut self,
         rt: &R,
         group: &GroupState,
-        member: &Member<J, S>,
+        member: &RunningSentinel<J, S>,
         seat: &mut ThreadSeat<J>,
         events: &Events<Global>,
     ) {
@@ -208,7 +217,7 @@ impl Port {
         &mut self,
         rt: &R,
         group: &GroupState,
-        member: &Member<J, S>,
+        member: &RunningSentinel<J, S>,
         seat: &mut ThreadSeat<J>,
         ending: &AtomicU64,
     ) -> io::Result<()> {

@@ -3,21 +3,14 @@
 //! The threads share the Sentinel, each by a seat of its own. What an input gives goes to the links at once.
 #![tactic(auto)]
 
-mod clock;
-mod group_state;
 mod lookout;
-mod member;
 mod named;
 mod notes;
 mod rows;
+mod running_sentinel;
 mod switches;
 mod workers;
 
-pub use clock::GroupClock;
-pub use group_links::{Deed, Ends, Errand, Letter, Links};
-pub use group_state::GroupState;
-pub use member::{Member, ThreadSeat, Which};
-pub use port_sessions::{ServeFault, Session};
-pub use sentinel_cell::{ActFault, Seat, Sentinel, SharedSentinel};
+pub use running_sentinel::{RunningSentinel, ThreadSeat, Which};
 pub use switches::Switch;
 pub use workers::{run_link, run_timer};

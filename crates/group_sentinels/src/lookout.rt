@@ -3,15 +3,15 @@
 ghost use Rattle.std.specs.Prelude.{◌≡◌, ◌<◌, length, Some, IfSome};
 ghost use Rattle.sentinel_rules.specs.Facts.{IsWithinEvent};
 
-use crate::member::{Member, ThreadSeat, Which};
-use crate::named::{NamedId, NamedMaster, NamedNode, node_numbered};
+use crate::named::{NamedId, NamedMaster, NamedNode};
 use crate::rows::{Row, RowReader};
+use crate::running_sentinel::{RunningSentinel, ThreadSeat, Which};
 use ballot_law::{
     Addr, Body, Card, Command, Event, Message, Name, NodeName, Output, Roster, RunId, Text,
 };
+use conf_store::ConfStore;
 use down_detector::Tilt;
 use log::{Log, info};
-use sentinel_conf::ConfStore;
 use std::alloc::Global;
 use std::str::from_utf8;
 use std::sync::Wait;
@@ -347,7 +347,7 @@ impl Lookout {
     pub(crate) fn look<J: Which, S: ConfStore, R: Wait + Log>(
         &mut self,
         rt: &R,
-        member: &Member<J, S>,
+        member: &RunningSentinel<J, S>,
         seat: &mut ThreadSeat<J>,
         now: u64,
         master: u16,
@@ -424,7 +424,7 @@ impl Lookout {
     fn look_around<J: Which, S: ConfStore, R: Wait + Log>(
         &mut self,
         rt: &R,
-        member: &Member<J, S>,
+        member: &RunningSentinel<J, S>,
         seat: &mut ThreadSeat<J>,
         now: u64,
         subject: Subject<'_>,
@@ -454,6 +454,6 @@ impl Lookout {
 
 /// The data node with this number, as notes name it.
 fn node_of(roster: &Roster, number: Option<u16>) -> Option<NamedNode> {
-    let (_, addr) = node_numbered(roster, number?)?;
-    Some(NamedNode::at(addr))
+    let at = roster.node_numbered(number?)?;
+    Some(NamedNode::at(roster.addr_at(at)))
 }

@@ -74,17 +74,3 @@ impl fmt::Display for NamedId {
         write!(f, "{:032x}{:08x}", self.0.hi, self.0.lo)
     }
 }
-
-/// The data node with this number, and the number of its master.
-pub(crate) fn node_numbered(roster: &Roster, number: u16) -> Option<(u16, Addr)> {
-    let mut left = number as usize;
-    let masters = roster.masters();
-    for master in 0..masters.len() {
-        let nodes = masters[master].nodes();
-        if let Some(addr) = nodes.get(left) {
-            return Some((u16::try_from(master).ok()?, *addr));
-        }
-        left = left.saturating_sub(nodes.len());
-    }
-    None
-}

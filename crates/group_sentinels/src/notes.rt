@@ -1,6 +1,6 @@
 //! What a Sentinel notes of its outputs, in Redis's words.
 
-use crate::named::{NamedMaster, NamedNode, node_numbered};
+use crate::named::{NamedMaster, NamedNode};
 use ballot_law::{Addr, Body, Event, NodeName, Note, Output, Roster, Text};
 use log::{Log, info};
 use std::str::from_utf8;
@@ -30,13 +30,13 @@ fn note_switch<R: Log>(rt: &R, roster: &Roster, cause: &Event, note: &Note) {
 
 /// Notes that a data node was told to follow the master at an address: in a failover by a tick, else since its INFO was wrong.
 fn note_order<R: Log>(rt: &R, roster: &Roster, cause: &Event, number: u16, to: Addr) {
-    let Some((master, addr)) = node_numbered(roster, number) else {
+    let Some(at) = roster.node_numbered(number) else {
         return;
     };
-    let Some(master) = NamedMaster::of(roster, master, to) else {
+    let Some(master) = NamedMaster::of(roster, at.master, to) else {
         return;
     };
-    let node = NamedNode::at(addr);
+    let node = NamedNode::at(roster.addr_at(at));
     match cause {
         Event::Tick { .. } => info!(rt; "+slave-reconf-sent slave {node} @ {master}"),
         Event::InfoRead { text, .. } if is_of_master(text) =>

@@ -1,15 +1,13 @@
 //! What the threads of a Sentinel do until the group ends.
 
-use crate::clock::millis_of;
-use crate::group_state::GroupState;
 use crate::lookout::Lookout;
-use crate::member::{Member, ThreadSeat, Which};
+use crate::running_sentinel::{RunningSentinel, ThreadSeat, Which};
 use ballot_law::Event;
+use conf_store::ConfStore;
 use crossbeam_channel::{Receiver, RecvTimeoutError};
-use group_links::Letter;
+use group_links::{GroupState, Letter, millis_of};
 use log::{Level, Log, log_enabled, warn};
 use sentinel_cell::ActFault;
-use sentinel_conf::ConfStore;
 use std::alloc::Global;
 use std::rt::Clock;
 use std::sync::Wait;
@@ -44,7 +42,7 @@ fn goes_on<R: Log>(rt: &R, group: &GroupState, acted: Result<(), ActFault>) -> b
 fn tick_all<J: Which, S: ConfStore, R: Wait + Clock + Log>(
     rt: &R,
     group: &GroupState,
-    member: &Member<J, S>,
+    member: &RunningSentinel<J, S>,
     seat: &mut ThreadSeat<J>,
     lookout: &mut Lookout,
 ) -> bool {
@@ -76,7 +74,7 @@ pub fn run_timer<J: Which, S: ConfStore, R: Wait + Clock + Log>(
     rt: &R,
     alloc: Global,
     group: &GroupState,
-    member: &Member<J, S>,
+    member: &RunningSentinel<J, S>,
     seat: &mut ThreadSeat<J>,
     ending: &AtomicU64,
 ) {
@@ -98,7 +96,7 @@ pub fn run_timer<J: Which, S: ConfStore, R: Wait + Clock + Log>(
 pub fn run_link<J: Which, S: ConfStore, R: Wait + Clock + Log>(
     rt: &R,
     group: &GroupState,
-    member: &Member<J, S>,
+    member: &RunningSentinel<J, S>,
     seat: &mut ThreadSeat<J>,
     letters: &Receiver<Letter>,
     ending: &AtomicU64,

@@ -18,7 +18,3 @@ return_dropped (f ∷ front) b e = without_more f front b ∙ ap (λ t. f ∷ t)
 pub other_kept : (front : List ℕ) (b : ℕ) → b ≢ 13 → without_return (front ++ b ∷ []) ≡ front ++ b ∷ []
 other_kept [] b e = last_return_by b false (let t : eqb b 13 ≡ false = grind (arith, nat_tests) in t)
 other_kept (f ∷ front) b e = without_more f front b ∙ ap (λ t. f ∷ t) (other_kept front b e)
-
-pub none_kept : (line : List ℕ) → length line ≡ 0 → line ≡ without_return line
-none_kept [] h = refl
-none_kept (b ∷ bs) h = absurd (omega arith)

@@ -14,7 +14,7 @@ mod infos;
 mod lines;
 mod roles;
 
-pub use ballot_law::{DataRole, Hello, Info, Role};
+pub use ballot_law::{Hello, Info, Role};
 pub use faults::TextFault;
 pub use hellos::{read_hello, write_hello};
 pub use infos::{read_info, write_info};

@@ -11,8 +11,7 @@ ghost use Rattle.node_texts.specs.Roles.{kind_of, offset_of, host_of, port_of, l
 use crate::faults::TextFault;
 use crate::info_fields::role_of_name;
 use ballot_law::{Addr, DataRole, NoMemory, Role};
-use resp2::{OutText, Value};
-use resp2_frames::{push_bulk, push_int, push_size};
+use resp2_frames::{OutText, Value, push_bulk, push_int, push_size};
 use words::{PORT_MAX, ip_of, ip_text};
 
 /// The role that the first element names.

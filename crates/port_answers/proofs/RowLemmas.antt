@@ -21,23 +21,3 @@ pub rows_text : {X : Type 0} (frame_of : X → Frame) (rows : List X)
 rows_text frame_of rows =
     ap (λ n. 42 ∷ ((decimal n ++ line_end) ++ spellings (frames_of (map frame_of rows)))) (count_rows frame_of rows)
     ∙ ap (λ t. header (length rows) ++ t) (spelled_rows frame_of rows)
-
--- one row more, of those that are still to be added
-pub row_added : {X : Type 0} (frame_of : X → Frame) (row : X) (rest : List X) (old new : List ℕ) → new ≡ bounded (old ++ spelling (frame_of row))
-    → bounded (new ++ flat_map (λ row. spelling (frame_of row)) rest) ≡ bounded (old ++ flat_map (λ row. spelling (frame_of row)) (row ∷ rest))
-row_added frame_of row rest old new e =
-    let others = flat_map (λ row. spelling (frame_of row)) rest in
-    ap (λ t. bounded (t ++ others)) e ∙ added_both ANSWER_MAX old (spelling (frame_of row)) others
-
--- the beginning of an array, before its rows
-pub count_added : {X : Type 0} (frame_of : X → Frame) (rows : List X) (old new : List ℕ) → new ≡ bounded (old ++ header (length rows))
-    → bounded (new ++ flat_map (λ row. spelling (frame_of row)) rows) ≡ bounded (old ++ spelling (items (frames_of (map frame_of rows))))
-count_added frame_of rows old new e =
-    let all = flat_map (λ row. spelling (frame_of row)) rows in
-    ap (λ t. bounded (t ++ all)) e ∙ added_both ANSWER_MAX old (header (length rows)) all ∙ ap (λ t. bounded (old ++ t)) (sym (rows_text frame_of rows))
-
--- no row is left
-pub rows_done : {X : Type 0} (frame_of : X → Frame) (rows : List X) (start out : List ℕ) → bounded out ≡ out
-    → bounded (out ++ flat_map (λ row. spelling (frame_of row)) []) ≡ bounded (start ++ spelling (items (frames_of (map frame_of rows))))
-    → out ≡ bounded (start ++ spelling (items (frames_of (map frame_of rows))))
-rows_done frame_of rows start out w e = sym w ∙ ap bounded (sym (append-nil out)) ∙ e

@@ -13,6 +13,5 @@ mod row_answers;
 mod rows;
 
 pub use answer_text::AnswerText;
-pub use ballot_law::ANSWER_MAX;
 pub use laws::law_answers_fit;
 pub use rows::{MasterRow, ReplicaRow, SentinelRow};

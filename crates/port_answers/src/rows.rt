@@ -3,7 +3,7 @@
 use ballot_law::{Addr, Name, RunId};
 
 /// A master, as the answers to MASTER and MASTERS show it.
-#[derive(Clone, Copy, Debug, PartialEq, Eq)]
+#[derive(Clone, Copy, PartialEq, Eq)]
 pub struct MasterRow {
     /// The name by which clients ask for the master.
     pub name: Name,
@@ -32,7 +32,7 @@ pub struct MasterRow {
 }
 
 /// A replica of a master, as the answer to REPLICAS shows it.
-#[derive(Clone, Copy, Debug, PartialEq, Eq)]
+#[derive(Clone, Copy, PartialEq, Eq)]
 pub struct ReplicaRow {
     /// Where the replica can be reached.
     pub addr: Addr,
@@ -45,7 +45,7 @@ pub struct ReplicaRow {
 }
 
 /// Another Sentinel, as the answer to SENTINELS shows it.
-#[derive(Clone, Copy, Debug, PartialEq, Eq)]
+#[derive(Clone, Copy, PartialEq, Eq)]
 pub struct SentinelRow {
     /// The Sentinel's run id, which is also its name in the answer.
     pub id: RunId,

@@ -32,7 +32,7 @@ use Rattle.sentinel_rules.specs.Answers.{commanded, asked_of, master_with_card, 
 use Rattle.sentinel_rules.specs.Plans.{Plan}
 use Rattle.sentinel_rules.specs.States.{Core}
 use Rattle.sentinel_rules.specs.Takes.{next, cleared}
-use Rattle.message_texts.specs.MessageTexts.{IsWritable}
+use Rattle.messages.specs.MessageTexts.{IsWritable}
 
 -- ---- lines
 

@@ -6,7 +6,7 @@ use Rattle.std.proofs.lemmas.List.Elements.{All-head, All-tail}
 use Rattle.ballot_law.specs.declared.events.Event.{Event}
 use Rattle.ballot_law.specs.declared.events.Event.TheVariants.{Tick, Command as Commanded, Answered as AnswerCame, Pinged, InfoRead, HelloRead, Become, Handed}
 use Rattle.ballot_law.specs.Clocks.{clock}
-use Rattle.message_texts.specs.MessageTexts.{IsWritableOutput}
+use Rattle.messages.specs.MessageTexts.{IsWritableOutput}
 use Rattle.port_serving.proofs.Answering.{command_writable}
 use Rattle.sentinel_conf.specs.Rewritten.{IsKeptPart}
 use Rattle.sentinel_rules.specs.declared.frames.Frame.{Frame}

@@ -27,7 +27,7 @@ use Rattle.port_serving.specs.declared.fault.ServeFault.TheVariants.{Frame as Fa
 use Rattle.sentinel_outbox.specs.declared.phase.Phase.{Phase}
 use Rattle.sentinel_outbox.specs.declared.phase.Phase.TheVariants.{Ready, Halted}
 use Rattle.port_serving.specs.declared.serving.Served.{Served}
-use Rattle.message_texts.specs.MessageTexts.{message_bytes}
+use Rattle.messages.specs.MessageTexts.{message_bytes}
 
 -- ---- answers
 

@@ -1,6 +1,6 @@
 //! Why the serving of a stream ends before the stream does.
 
-use resp2::FrameFault;
+use resp2_frames::FrameFault;
 use thiserror::Error;
 
 /// Why the serving of a stream ends before the stream does. What was answered before stays written.

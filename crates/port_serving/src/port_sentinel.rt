@@ -13,7 +13,7 @@ ghost use Rattle.sentinel_rules.specs.Takes.{next};
 
 use crate::fault::ServeFault;
 use ballot_law::Input;
-use sentinel_conf::ConfStore;
+use conf_store::ConfStore;
 use sentinel_outbox::{Outbox, Phase};
 
 /// A Sentinel as its port sees it: what it does with an input, from taking it to letting out what it has to say.
@@ -28,6 +28,8 @@ pub trait PortSentinel {
 
     /// Takes an input, stores what it changed, and releases its outputs. The only fault is `Halted`, where the store was refused: then
     /// nothing is released, and the store holds what was kept before or what is kept now.
+    ///
+    /// Many clauses: a call of the port does three things in one, and each outcome says what it leaves of the Sentinel and of the store.
     fn carry_out<S: ConfStore>(
         &mut self,
         input: &Input,

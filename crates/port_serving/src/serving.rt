@@ -16,10 +16,11 @@ use crate::fault::ServeFault;
 use crate::port_sentinel::PortSentinel;
 use crate::streams::write_whole;
 use ballot_law::{Command, Event, Input, NodeName, Output};
-use message_texts::message_text;
+use conf_store::ConfStore;
+use messages::message_text;
 use port_answers::AnswerText;
-use resp2::{CommandFault, FrameFault, Frames, OutText, next_command};
-use sentinel_conf::ConfStore;
+use resp2::{CommandFault, next_command};
+use resp2_frames::{FrameFault, Frames, OutText};
 use sentinel_outbox::{Outbox, Phase, Room};
 use std::alloc::Global;
 use std::io::{ErrorKind, Read, Write};
@@ -34,7 +35,7 @@ const PIECE: usize = 16_384;
 const PROTOCOL_ERROR: &[u8] = b"-ERR Protocol error\r\n";
 
 /// A stream was served to its end.
-#[derive(Clone, Copy, Debug, PartialEq, Eq)]
+#[derive(Clone, Copy, PartialEq, Eq)]
 pub struct Served {
     /// How many answers were written, error lines among them.
     pub answers: u64,
@@ -116,6 +117,8 @@ impl Connection {
 
     /// Answers one value, by the command that it spells or the reason why it is none, at the end of the text, once what the answer rests
     /// on is stored.
+    ///
+    /// Many clauses: those of `carry_out`, which it may call, and what becomes of the port's own text, frames and counts.
     fn answer<N: PortSentinel, S: ConfStore>(
         &mut self,
         sentinel: &mut N,
@@ -177,6 +180,8 @@ impl Connection {
     }
 
     /// Answers each value that is whole.
+    ///
+    /// Many clauses: those of the loop's turn that its callers need of the whole.
     fn answer_whole<N: PortSentinel, S: ConfStore>(
         &mut self,
         sentinel: &mut N,

@@ -9,7 +9,7 @@ use Rattle.ballot_law.specs.declared.messages.Body.{Body}
 use Rattle.ballot_law.specs.declared.messages.Body.TheVariants.{AddressAnswer}
 use Rattle.ballot_law.specs.declared.messages.Message.{Message}
 use Rattle.ballot_law.specs.declared.messages.Output.{Output}
-use Rattle.message_texts.specs.MessageTexts.{message_bytes}
+use Rattle.messages.specs.MessageTexts.{message_bytes}
 use Rattle.port_serving.specs.Serving.{output_bytes}
 use Rattle.std.specs.List.{flat_map}
 use Rattle.port_answers.specs.Answers.{command_fault}
@@ -81,18 +81,3 @@ module _ (start : World) (now : ℕ) where
   turn_failed v listens after command Read w silent still t h = h
   turn_failed v listens after command Write w silent still t h = h
   turn_failed v listens after command (FaultyFrame f) w silent still t h = h
-
-  -- the line of a value that is no command
-  pub line_written : {X : Type 0} (v : View) (listens after : Option ℕ) (fault : CommandFault) (answer : Result X ServeFault) (text : List ℕ) → listens ≡ None → after ≡ listens
-      → OnOk answer (text ≡ spelling (command_fault fault)) → IfErr answer (λ fault. fault ≡ OutOfMemory) → Ends start now (party v listens) (Err fault) answer text (party v after)
-  line_written v listens after fault answer text silent same ok err =
-      wrote (party v listens) (Err fault) answer text (spelling (command_fault fault)) (party v after) ok err
-      (silent_one v listens after (Err fault) (spelling (command_fault fault)) v silent (same ∙ silent) (refl, refl))
-
-  -- any value of a session that listens
-  pub listener_written : {X : Type 0} (v : View) (listens after : Option ℕ) (command : Result Command CommandFault) (answer : Result X ServeFault) (text : List ℕ) → is_some listens ≡ true
-      → after ≡ listens → OnOk answer (text ≡ spelling (answer_while_listening command)) → IfErr answer (λ fault. fault ≡ OutOfMemory)
-      → Ends start now (party v listens) command answer text (party v after)
-  listener_written v None after command answer text there same ok err = absurd (true≢false (sym there))
-  listener_written v (Some since) after command answer text there same ok err =
-      wrote (party v (Some since)) command answer text (spelling (answer_while_listening command)) (party v after) ok err (refl, (λ i. party v (same i)))

@@ -11,7 +11,7 @@ use Rattle.ballot_law.specs.declared.events.Input.{Input}
 use Rattle.ballot_law.specs.declared.events.Event.TheVariants.{Command as Commanded}
 use Rattle.ballot_law.specs.declared.messages.Body.TheVariants.{AddressAnswer}
 use Rattle.ballot_law.specs.declared.messages.NodeName.TheVariants.{PortAt}
-use Rattle.message_texts.specs.MessageTexts.{message_bytes}
+use Rattle.messages.specs.MessageTexts.{message_bytes}
 use Rattle.port_serving.specs.Serving.{output_bytes, replied_to}
 use Rattle.resp2.specs.declared.command.CommandFault.{CommandFault}
 use Rattle.resp2.specs.Commands.{command_of}

@@ -10,7 +10,7 @@ use Rattle.resp2_frames.specs.declared.fault.FrameFault.{FrameFault}
 use Rattle.resp2_frames.specs.declared.fault.FrameFault.TheVariants.{NoMemory}
 use Rattle.resp2_frames.specs.Frame.{Frame}
 use Rattle.resp2_frames.specs.Stream.{Held, reading, ended, bytes_in, Feeds, Splits}
-use Rattle.resp2.proofs.Streams.{fault_asked, value_asked, end_asked}
+use Rattle.resp2.proofs.Streams.{fault_asked, value_asked}
 use Rattle.resp2.specs.Asked.{Asks}
 use Rattle.resp2.specs.declared.command.CommandFault.{CommandFault}
 use Rattle.ballot_law.specs.declared.commands.Command.{Command}
@@ -39,13 +39,6 @@ module _ (start : World) (now : ℕ) where
         parts = next.2;
         answers = answers-push p a.values bytes m given.0 more q a.answers (subst (λ (k : Result Command CommandFault). Responds start now m k more q) given.2 r);
       }
-
-  -- no whole value is left
-  pub none_left : (stream : List ℕ) (p : Party) (held : Held) (bytes : List ℕ) (m : Party) (after : Held)
-      → IsOnTheWay start now stream p held bytes m → Asks held (Ok None) after → IsDone start now stream p after bytes m
-  none_left stream p held bytes m after a given =
-      let next = end_asked stream a.values held after (a.rest, a.held_is, a.parts) given in
-      (next.0, next.1, record { values = a.values; splits = (next.0, next.2, (refl, next.3)); answers = a.answers })
 
   -- a growth was refused before the next value was carried out
   pub cut_here : (stream : List ℕ) (p : Party) (held : Held) (bytes : List ℕ) (m : Party) → IsOnTheWay start now stream p held bytes m → IsCut start now stream p bytes m

@@ -4,7 +4,7 @@ use Rattle.ballot_law.specs.declared.commands.Command.{Command}
 use Rattle.ballot_law.specs.declared.messages.Message.{Message}
 use Rattle.ballot_law.specs.declared.messages.Output.{Output}
 use Rattle.ballot_law.specs.declared.messages.Output.TheVariants.{Send}
-use Rattle.message_texts.specs.MessageTexts.{IsWritable}
+use Rattle.messages.specs.MessageTexts.{IsWritable}
 use Rattle.port_serving.specs.declared.fault.ServeFault.{ServeFault}
 use Rattle.port_serving.specs.declared.fault.ServeFault.TheVariants.{Frame as FaultyFrame, Read, Write, Halted as ServeHalted, NoMemory as OutOfMemory}
 use Rattle.port_serving.specs.Serving.{last_line}

@@ -10,7 +10,7 @@ use Rattle.ballot_law.specs.declared.events.Input.{Input}
 use Rattle.ballot_law.specs.declared.messages.Body.TheVariants.{AddressAnswer}
 use Rattle.ballot_law.specs.declared.messages.NodeName.TheVariants.{PortAt}
 use Rattle.ballot_law.specs.declared.messages.Output.{Output}
-use Rattle.message_texts.specs.MessageTexts.{message_bytes}
+use Rattle.messages.specs.MessageTexts.{message_bytes}
 use Rattle.port_answers.specs.Answers.{command_fault}
 use Rattle.port_serving.specs.declared.fault.ServeFault.{ServeFault}
 use Rattle.port_serving.specs.declared.fault.ServeFault.TheVariants.{Frame as FaultyFrame, Read, Write, Halted as ServeHalted, NoMemory as OutOfMemory}

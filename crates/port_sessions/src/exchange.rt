@@ -10,10 +10,11 @@ ghost use Rattle.port_sessions.specs.OnTheWay.{IsOnTheWay, Steps, Drains, Refuse
 use crate::responder::Responder;
 use ballot_law::{NoMemory, Note, Roster};
 use bytes::BytesMut;
+use conf_store::ConfStore;
 use port_serving::ServeFault;
-use resp2::{FrameFault, Frames, next_command};
+use resp2::next_command;
+use resp2_frames::{FrameFault, Frames};
 use sentinel_cell::{Seat, SharedSentinel};
-use sentinel_conf::ConfStore;
 use std::alloc::Global;
 use std::sync::Wait;
 

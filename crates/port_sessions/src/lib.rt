@@ -26,5 +26,4 @@ mod responder;
 mod session;
 
 pub use laws::{law_answers_are_served, law_notes_rise, law_pieces_join};
-pub use port_serving::ServeFault;
 pub use session::Session;

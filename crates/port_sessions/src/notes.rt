@@ -6,7 +6,7 @@ ghost use Rattle.port_sessions.specs.Listening.{addr_words, note_text, message_f
 
 use ballot_law::{Addr, Command, Name, NoMemory, Note};
 use itoa::Buffer;
-use resp2::{OutText, push_bulk};
+use resp2_frames::{OutText, push_bulk};
 use std::alloc::Global;
 use words::ip_text;
 

@@ -5,7 +5,7 @@ ghost use Rattle.std.specs.Bool.{then_some};
 ghost use Rattle.ballot_law.specs.declared.messages.Body.TheVariants.{AddressAnswer};
 ghost use Rattle.ballot_law.specs.declared.messages.Message.{Message};
 ghost use Rattle.ballot_law.specs.declared.messages.Output.TheVariants.{Send};
-ghost use Rattle.message_texts.specs.MessageTexts.{message_bytes, IsWritable};
+ghost use Rattle.messages.specs.MessageTexts.{message_bytes, IsWritable};
 ghost use Rattle.port_answers.specs.Answers.{command_fault};
 ghost use Rattle.port_serving.specs.Serving.{last_line};
 ghost use Rattle.resp2.specs.Commands.{IsWithin};
@@ -22,12 +22,13 @@ use ballot_law::{
     Body, Card, Command, Event, Input, Message, Name, NoMemory, NodeName, Note, Output, Roster,
     Shown,
 };
-use message_texts::message_text;
+use conf_store::ConfStore;
+use messages::message_text;
 use port_answers::AnswerText;
 use port_serving::ServeFault;
-use resp2::{CommandFault, OutText};
+use resp2::CommandFault;
+use resp2_frames::OutText;
 use sentinel_cell::{ActFault, Seat, SharedSentinel};
-use sentinel_conf::ConfStore;
 use sentinel_outbox::Outbox;
 use std::alloc::Global;
 use std::sync::Wait;

@@ -7,9 +7,9 @@ ghost use Rattle.port_sessions.specs.Talks.{Receives, party};
 
 use crate::exchange::Exchange;
 use ballot_law::{MASTERS_MAX, NoMemory, Note, Roster};
+use conf_store::ConfStore;
 use port_serving::ServeFault;
 use sentinel_cell::{Seat, SharedSentinel};
-use sentinel_conf::ConfStore;
 use std::alloc::Global;
 use std::marker::Model;
 use std::sync::Wait;

@@ -10,7 +10,7 @@ pub const FRESH_MS: u64 = 5_000;
 
 /// What is known of a replica. Moments are readings of the Sentinel's clock in milliseconds; a reading above 2^62 counts
 /// as 2^62.
-#[derive(Clone, Copy, Debug, PartialEq, Eq)]
+#[derive(Clone, Copy, PartialEq, Eq)]
 pub struct Candidate {
     /// Whether the Sentinel finds it down (SDOWN).
     pub sdown: bool,
@@ -29,7 +29,7 @@ pub struct Candidate {
 }
 
 /// What bounds the time for which a replica's link to its master may be down.
-#[derive(Clone, Copy, Debug, PartialEq, Eq)]
+#[derive(Clone, Copy, PartialEq, Eq)]
 pub struct Limits {
     /// `down-after-milliseconds` of the master.
     pub after_ms: u64,

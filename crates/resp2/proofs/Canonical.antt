@@ -24,21 +24,3 @@ pub canonical_decimal : (low high n : ℕ) → n < 2 ^ 64 → low ≤ n → n �
 canonical_decimal low high n small above below =
     ap (λ (o : Option ℕ). then_some o (λ m. some_if (same_bytes (decimal n) (decimal m)) m)) (number_within-decimal low high n small above below)
     ∙ ap (λ (b : Bool). some_if b n) (same_bytes-refl (decimal n))
-
-module _ (low high : ℕ) (word : List ℕ) where
-  pub canonical_within_bounds : (n : ℕ) → high < 2 ^ 64 - 1 → number_of word ≡ Some n → low ≤ n → n ≤ high → canonical_within low high word ≡ Some n
-  canonical_within_bounds n small read above below =
-      let spelled : word ≡ decimal n = number_takes word n (omega arith) read in
-      ap (canonical_within low high) spelled ∙ canonical_decimal low high n (omega arith) above below
-
-  -- no number is spelled where none is read that lies within the bounds
-  pub canonical_none : high < 2 ^ 64 - 1 → ((n : ℕ) → number_of word ≡ Some n → low ≤ n → n ≤ high → ⊥) → canonical_within low high word ≡ None
-  canonical_none small never = at (canonical_within low high word) refl
-    where
-      at : (o : Option ℕ) → canonical_within low high word ≡ o → o ≡ None
-      at None e = refl
-      at (Some n) e =
-          let c = canonical_is low high word n e in
-          let le : n ≤ high = c.below in
-          let read : number_of word ≡ Some n = ap number_of c.spelled ∙ number_again n (omega arith) in
-          absurd (never n read c.above le)

@@ -167,14 +167,6 @@ found_count bytes rest asked count h is =
     let behind : drop count bytes ≡ rest = ap (drop count) text ∙ drop_at (spelling h.0) rest count (sym size) in
     (h.0, h.1 ∙ ap (λ t. Ok (h.0, t)) (sym behind), h.2)
 
-asks_value_at : (bytes : List ℕ) (v : Value) (asked : Result Command CommandFault) (after : Held) → Answers view (reading bytes) (Ok (Some v)) after → asked ≡ command_of (view v)
-    → Asks (reading bytes) (Ok (Some asked)) after
-asks_value_at bytes v asked after h e = (view v, h, e)
-
-pub asks_value : (before after : Held) (v : Value) (asked : Result Command CommandFault) → Answers view before (Ok (Some v)) after → asked ≡ command_of (view v) → Asks before (Ok (Some asked)) after
-asks_value (reading bytes) after v asked h e = asks_value_at bytes v asked after h e
-asks_value (ended k) after v asked h e = absurd (let d = h.0 in cc)
-
 pub asks_none : (before after : Held) → Answers view before (Ok None) after → Asks before (Ok None) after
 asks_none (reading bytes) after h = (null_bulk, h, tt)
 asks_none (ended k) after h = absurd (let d = h.0 in cc)

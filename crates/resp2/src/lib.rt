@@ -10,13 +10,7 @@ mod command;
 mod command_stream;
 mod laws;
 
-pub use ballot_law::{Command, NoMemory, Text};
 pub use command::{CommandFault, command_of};
 pub use command_stream::next_command;
 pub use laws::law_ask_is_read_again;
-pub use resp2_frames::{
-    ByteSink, FrameFault, Frames, OutText, Unread, Value, law_fault_and_value_stay, law_faults,
-    law_no_value_behind_a_fault, law_one_spelling, law_one_split, law_reading_is_spelling,
-    law_waits_within_a_frame, push_bulk, push_int, push_kind, push_line, push_size,
-    values_of_pieces, write_value,
-};
+pub use resp2_frames::{FrameFault, Frames, OutText, Value, write_value};

@@ -27,9 +27,6 @@ end_takes bytes rest e =
     let second = expect_takes 10 a.0 rest a.2 in
     cc
 
-pub end_again : (rest : List ℕ) → end_at (line_end ++ rest) ≡ Ok rest
-end_again rest = refl
-
 -- the end of a line or of a bulk stays where it is
 pub end_stays : {A : Type 0} (p : List ℕ) (x : A) (bytes : List ℕ) → Stays p (end_at bytes >>= λ rest. Ok (x, rest)) (end_at (bytes ++ p) >>= λ rest. Ok (x, rest))
 end_stays p x [] = tt

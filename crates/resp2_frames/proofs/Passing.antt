@@ -155,10 +155,6 @@ stands_start bytes outer none = rw none (omega arith, passed_start)
 pub stands_left : (bytes outer outside : List ℕ) (left n at : ℕ) → outer ≡ outside ++ n ∷ [] → left ≡ 0 → Stands bytes outer left at → Stands bytes outside n at
 stands_left bytes outer outside left n at is none stands = (stands.0, passed_end (take at bytes) outside n (rw (is, none) at stands.1))
 
--- more bytes change nothing
-pub stands_longer : (bytes piece outer : List ℕ) (left at : ℕ) → Stands bytes outer left at → Stands (bytes ++ piece) outer left at
-stands_longer bytes piece outer left at stands = (omega (arith, length-append bytes piece, stands.0), rw (take-append-le at bytes piece stands.0) stands.1)
-
 pub stands_inside : (bytes head after outer : List ℕ) (left n at count : ℕ) → left ≡ suc n → drop at bytes ≡ head ++ after → length outer < 8 → Opens head count → Stands bytes outer left at
     → Stands bytes (outer ++ n ∷ []) count (length bytes - length after)
 stands_inside bytes head after outer left n at count is parts room opens stands =
@@ -200,11 +196,6 @@ open_line_waits more depth (kind ∷ line) pos h =
 pub stands_in_line : (bytes outer : List ℕ) (left n at more : ℕ) → left ≡ suc n → length outer < 8 → IsOpenLine (drop at bytes) → Stands bytes outer left at → value_at 1024 more 8 bytes ≡ Err NeedsMore
 stands_in_line bytes outer left n at more is room line stands =
     stands_waits bytes outer left n at more NeedsMore is (open_line_waits more (8 - length outer) (drop at bytes) (omega arith) line) stands
-
-pub searched_longer : (bytes piece : List ℕ) (at line : ℕ) → at ≤ length bytes → Searched bytes at line → Searched (bytes ++ piece) at line
-searched_longer bytes piece at line le searched =
-    let rest : drop at (bytes ++ piece) ≡ drop at bytes ++ piece = drop-append-le at bytes piece le in
-    rw (rest, take-append-le line (drop at bytes) piece searched.0) (omega (arith, length-append (drop at bytes) piece, searched.0), searched.1)
 
 -- ---- what a reader holds
 

@@ -58,7 +58,7 @@ impl<T: Drop> From<AllocFailed<T>> for FrameFault {
 }
 
 /// Why the bytes held begin with no whole value.
-#[derive(Clone, Copy, Debug, PartialEq, Eq)]
+#[derive(Clone, Copy, PartialEq, Eq)]
 pub enum Unread {
     /// No fault shows so far: the next bytes may make a value.
     NeedsMore,
@@ -67,7 +67,7 @@ pub enum Unread {
 }
 
 /// Why the reading of a value ended without one.
-#[derive(Clone, Copy, Debug, PartialEq, Eq)]
+#[derive(Clone, Copy, PartialEq, Eq)]
 pub enum Stopped {
     /// The bytes gave none.
     At(Unread),

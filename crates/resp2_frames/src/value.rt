@@ -5,7 +5,7 @@ use ballot_law::Text;
 ///
 /// In a stream a value has at most 65,536 bytes, nests at most 8 deep (a value that isn't an array
 /// is 1 deep) and has at most 1,024 items in each array. A value in memory has no such limits.
-#[derive(Debug, Drop, PartialEq)]
+#[derive(Drop, PartialEq)]
 pub enum Value {
     /// A simple string, `+` and a line without CR and LF: the answer to a command that went well.
     Simple(Text),

@@ -5,9 +5,9 @@ use Rattle.ballot_law.specs.Rosters.{Roster}
 use Rattle.ballot_law.specs.Worlds.{World, StepOf, JoinedBy}
 use Rattle.ballot_law.specs.Law.{HasOneLeader, HasOneAddress, IsSafeStep}
 use Rattle.scenarios.specs.Scenarios.{scenario}
-use Rattle.world_members.specs.Standing.{IsReached}
-use Rattle.world_reports.specs.declared.entry.Entry.{Entry}
-use Rattle.world_reports.specs.Told.{report_text}
+use Rattle.fault_world.specs.Standing.{IsReached}
+use Rattle.fault_world.specs.declared.entry.Entry.{Entry}
+use Rattle.fault_world.specs.Told.{report_text}
 use Rattle.fault_world.specs.Runs.{Ran}
 
 -- the story's steps are a run of the model of the roster's group, and the text has a line for each election and advertisement of the

@@ -10,7 +10,5 @@ mod seats;
 mod story;
 mod traces;
 
-pub use fault_world::{KeptText, Step};
 pub use faults::ReplayFault;
-pub use scenarios::read_scenario;
 pub use story::{Printed, Stop, Story};

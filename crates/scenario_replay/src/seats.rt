@@ -3,11 +3,11 @@
 ghost use Rattle.std.specs.Prelude.{◌≡◌, ◌<◌, IfSome, length};
 ghost use Rattle.scenario_replay.specs.Seating.{IsSeat};
 
-use ballot_law::{Roster, Watched};
+use ballot_law::Roster;
 
 /// A node of a group: a Sentinel by the place of its file, a data node and a client by their numbers. A client searches for the master of
 /// its number.
-#[derive(Clone, Copy, Debug, PartialEq, Eq)]
+#[derive(Clone, Copy, PartialEq, Eq)]
 pub(crate) enum Seat {
     Sentinel(usize),
     Store(u16),
@@ -15,20 +15,11 @@ pub(crate) enum Seat {
 }
 
 /// How many nodes of each kind a group has.
-#[derive(Clone, Copy, Debug, PartialEq, Eq)]
+#[derive(Clone, Copy, PartialEq, Eq)]
 pub(crate) struct Seats {
     pub(crate) sentinels: usize,
     pub(crate) stores: usize,
     pub(crate) clients: usize,
-}
-
-/// How many data nodes these masters have.
-fn stores_of(masters: &[Watched]) -> usize {
-    let mut count: usize = 0;
-    for master in masters {
-        count = count.saturating_add(master.nodes().len());
-    }
-    count
 }
 
 /// The number of a node of its kind, which a name can have.
@@ -49,7 +40,7 @@ impl Seats {
     {
         Seats {
             sentinels: files,
-            stores: stores_of(roster.masters()),
+            stores: roster.node_count(),
             clients: roster.masters().len(),
         }
     }

@@ -4,27 +4,28 @@ ghost use Rattle.std.specs.Prelude.{◌≡◌, ◌++◌, ◌∷◌, [], All, OnO
 ghost use Rattle.conf_lines.specs.Faults.{no_memory};
 ghost use Rattle.sentinel_conf.specs.Reading.{conf_of_bytes};
 ghost use Rattle.boxed_nodes.specs.Moves.{IsFresh};
-ghost use Rattle.world_members.specs.Standing.{IsShown, Stands};
-ghost use Rattle.world_members.specs.Seats.{IsSeat};
+ghost use Rattle.fault_world.specs.Shown.{Shown};
+ghost use Rattle.fault_world.specs.Standing.{Stands};
 ghost use Rattle.scenario_replay.specs.Playing.{IsTold};
 ghost use Rattle.scenario_replay.specs.Refusals.{IsScenarioFault, IsConfFault};
 
 use crate::faults::ReplayFault;
 use crate::seats::{Seat, Seats};
 use crate::traces::trace;
-use ballot_law::NoMemory;
+use ballot_law::{KeptText, NoMemory};
 use boxed_nodes::Node;
 use client_nodes::ClientNode;
+use conf_lines::{ConfFault, ConfKind};
 use data_nodes::DataNode;
-use fault_world::{FaultWorld, KeptText, with_stop};
+use fault_world::{FaultWorld, with_stop};
 use resp2_frames::OutText;
 use scenarios::{ScenarioFault, read_scenario};
-use sentinel_conf::{Conf, ConfFault, ConfKind, read};
+use sentinel_conf::{Conf, read};
 use sentinel_nodes::SentinelNode;
 use std::alloc::Global;
 
 /// What a story prints.
-#[derive(Clone, Copy, Debug, PartialEq, Eq)]
+#[derive(Clone, Copy, PartialEq, Eq)]
 pub enum Printed {
     /// The lines of the elections and advertisements.
     Report,
@@ -35,7 +36,7 @@ pub enum Printed {
 }
 
 /// A stop and a start that a story doesn't have.
-#[derive(Clone, Copy, Debug, PartialEq, Eq)]
+#[derive(Clone, Copy, PartialEq, Eq)]
 pub struct Stop {
     /// Behind how many of the story's steps it comes; behind the last one where there are fewer.
     pub behind: usize,
@@ -78,7 +79,7 @@ fn add(nodes: &mut Vec<Box<dyn Node>>, node: Box<dyn Node>) -> Result<(), NoMemo
 /// Plays the scenario in the world, and gives the lines of the elections and advertisements that it brings.
 fn tell(alloc: Global, world: &mut FaultWorld, scenario: &[u8]) -> Result<OutText, ReplayFault>
     requires { Stands world.old.roster
-        (IsShown (λ m. m.name) (λ m. IsSeat m.name (name (m.node.vtable, m.node.value)) (shows (m.node.vtable, m.node.value)) m.outbox.held m.stopped) world.old.roster world.old.members.items world.old.messages.items) }
+        (Shown (λ m. (m.node.vtable, m.node.value)) (λ b. name b) (λ b. shows b) world.old.roster world.old.members.items world.old.messages.items) }
     ensures { IfOk result (IsTold world.old.roster scenario.now) }
 {
     let steps = read_scenario(alloc, scenario)?;
@@ -96,7 +97,7 @@ fn tell_stopped(
     stop: Stop,
 ) -> Result<OutText, ReplayFault>
     requires { Stands world.old.roster
-        (IsShown (λ m. m.name) (λ m. IsSeat m.name (name (m.node.vtable, m.node.value)) (shows (m.node.vtable, m.node.value)) m.outbox.held m.stopped) world.old.roster world.old.members.items world.old.messages.items) }
+        (Shown (λ m. (m.node.vtable, m.node.value)) (λ b. name b) (λ b. shows b) world.old.roster world.old.members.items world.old.messages.items) }
 {
     let told = read_scenario(alloc, scenario)?;
     let behind = stop.behind.min(told.len());

@@ -1,14 +1,13 @@
 //! Traces: a scenario with what each of its lines caused.
 
-ghost use Rattle.world_members.specs.Standing.{IsShown, Stands};
-ghost use Rattle.world_members.specs.Seats.{IsSeat};
+ghost use Rattle.fault_world.specs.Shown.{Shown};
+ghost use Rattle.fault_world.specs.Standing.{Stands};
 
 use crate::faults::ReplayFault;
 use ballot_law::NoMemory;
 use fault_world::{FaultWorld, Report};
-use message_words::{add_comment, add_message};
 use resp2_frames::OutText;
-use scenarios::read_scenario;
+use scenarios::{add_comment, add_message, read_scenario};
 use std::alloc::Global;
 use words::split_line;
 
@@ -20,7 +19,7 @@ fn add_messages(
     first: usize,
 ) -> Result<usize, NoMemory>
     requires { Stands world.now.roster
-        (IsShown (λ m. m.name) (λ m. IsSeat m.name (name (m.node.vtable, m.node.value)) (shows (m.node.vtable, m.node.value)) m.outbox.held m.stopped) world.now.roster world.now.members.items world.now.messages.items) }
+        (Shown (λ m. (m.node.vtable, m.node.value)) (λ b. name b) (λ b. shows b) world.now.roster world.now.members.items world.now.messages.items) }
 {
     for number in first..usize::MAX {
         let Some(message) = world.message(number) else {
@@ -51,7 +50,7 @@ pub(crate) fn trace(
     scenario: &[u8],
 ) -> Result<OutText, ReplayFault>
     requires { Stands world.old.roster
-        (IsShown (λ m. m.name) (λ m. IsSeat m.name (name (m.node.vtable, m.node.value)) (shows (m.node.vtable, m.node.value)) m.outbox.held m.stopped) world.old.roster world.old.members.items world.old.messages.items) }
+        (Shown (λ m. (m.node.vtable, m.node.value)) (λ b. name b) (λ b. shows b) world.old.roster world.old.members.items world.old.messages.items) }
 {
     let mut text = OutText::new(alloc);
     let mut sent = 0;

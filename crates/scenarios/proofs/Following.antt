@@ -9,10 +9,6 @@ use Rattle.scenarios.specs.Scenarios.{fault_at, at_line, behind, line_of, steps_
 abbrev Told : Type 0
 Told = Result (List Step) ScenarioFault
 
-pub behind_nothing : (r : Told) → r ≡ behind [] r
-behind_nothing (Ok steps) = refl
-behind_nothing (Err fault) = refl
-
 behind_both : (xs ys : List Step) (r : Told) → behind xs (behind ys r) ≡ behind (xs ++ ys) r
 behind_both xs ys (Ok steps) = ap (λ t. let r : Told = Ok t in r) (sym (append_assoc xs ys steps))
 behind_both xs ys (Err fault) = refl
@@ -23,9 +19,3 @@ from_line n lines xs told = behind xs (at_line n told >>= λ steps. behind steps
 
 pub one_more : (n : ℕ) (line : List ℕ) (lines : List (List ℕ)) (xs ys : List Step) → line_of line ≡ Ok ys → behind xs (steps_from n (line ∷ lines)) ≡ behind (xs ++ ys) (steps_from (n + 1) lines)
 one_more n line lines xs ys told = ap (from_line n lines xs) told ∙ behind_both xs ys (steps_from (n + 1) lines)
-
-pub faulty : (n : ℕ) (line : List ℕ) (lines : List (List ℕ)) (xs : List Step) (kind : ScenarioKind) → line_of line ≡ Err kind → behind xs (steps_from n (line ∷ lines)) ≡ Err (fault_at n kind)
-faulty n line lines xs kind told = ap (from_line n lines xs) told
-
-pub no_more : (n : ℕ) (xs : List Step) → behind xs (steps_from n []) ≡ Ok xs
-no_more n xs = ap (λ t. let r : Told = Ok t in r) (append-nil xs)

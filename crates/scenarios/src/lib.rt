@@ -18,15 +18,24 @@
 //!
 //! A node is `s`, `d` or `c` and a number: a Sentinel, a data node or a client, counted from 0 in the roster's order, data nodes master
 //! by master. Times are in milliseconds. Masters and messages are counted from 0 too, messages in the order of release.
+//!
+//! `add_message` and `add_comment` write a message for people: what it is on the wire, without the marks of the protocol. The words of a
+//! command are its own; those of a reply are its texts and numbers in order, with `(nil)` for null. A comment of a scenario is one line of
+//! printable ASCII, whatever its words are.
 #![tactic(auto)]
 
 mod arguments;
+mod comments;
 mod faults;
 mod line_words;
 mod lines;
+mod message_lines;
 mod reading;
 mod told;
+mod wording;
 
-pub use ballot_law::Step;
+pub use comments::add_comment;
 pub use faults::{ScenarioFault, ScenarioKind};
+pub use message_lines::add_message;
 pub use reading::read_scenario;
+pub use wording::words_of;

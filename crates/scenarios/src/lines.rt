@@ -13,7 +13,8 @@ use crate::faults::ScenarioKind;
 use crate::line_words::{four_words, next_word, one_word, two_words};
 use crate::told::Told;
 use ballot_law::{Command, Event, Input, KeptText, NodeName, Step, Text};
-use resp2::{Value, command_of};
+use resp2::command_of;
+use resp2_frames::Value;
 use std::alloc::Global;
 
 /// The greatest amount that `set` gives: what a data node's INFO shows is no greater.

@@ -69,14 +69,8 @@ adds start v w input outcome outputs r t history given e is more legal follows n
       subst (λ (x : View). AreGiven x.given x.front) is calls,
     )
 
-pub rests_after : (v w : View) (r t : ℕ) (history : List Entry) (given : ℕ) (e : Entry) → w ≡ passed (raised (turned v r t history given) e) → AtRest v → AtRest w
-rests_after v w r t history given e is rest = subst AtRest (sym is) (refl, rest.1, rest.2, rest.3)
-
 pub looks_low : (v : View) (r : ℕ) → r < 9223372036854775808 → (looked v r).stage ≡ Looked
 looks_low v r h = ap (λ (b : Bool). cond b Looked Idle) (lt-ltb r 9223372036854775808 h)
-
-pub rests_high : (v w : View) (r : ℕ) → 9223372036854775808 ≤ r → w ≡ looked v r → AtRest v → AtRest w
-rests_high v w r h is rest = subst AtRest (sym is) (ap (λ (b : Bool). cond b Looked Idle) (le-ltb r 9223372036854775808 h), rest.1, rest.2, rest.3)
 
 module _ {C : Type 0} where
   pub in_turn : (m0 m1 m2 m3 : Me C View) (r t : ℕ) (history : List Entry) (given : ℕ) (c : C) → m1.0 ≡ looked m0.0 r → m2.0 ≡ drawn m1.0 t → m3 ≡ (serving m2.0 t history given, (0, c) ∷ m2.1) → m3.0 ≡ turned m0.0 r t history given

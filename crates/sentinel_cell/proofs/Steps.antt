@@ -24,9 +24,6 @@ use Rattle.sentinel_cell.proofs.Totals.{total_at, total_set, total-append, total
 pub same_ticket : (a b : ℕ) → Waiting a ≡ Waiting b → a ≡ b
 same_ticket a b e = cc
 
-not_serving : (t : ℕ) (st st' : Stage) → st' ≡ Serving t → st ≡ st' → looks st ≡ 0
-not_serving t st st' a b = ap looks (b ∙ a)
-
 module _ (stored : List Entry → ℕ → Card) where
   of_longer : (h h' : List Entry) (m : ℕ) (c : Card) → Begins h h' → IsOfBeginning stored h m c → IsOfBeginning stored h' m c
   of_longer h h' m c b a = (a.0, begins_through a.0 h h' a.1 b, a.2)
@@ -194,9 +191,6 @@ module _ {C : Type 0} (Legal : List Entry → Type 0) (stored : List Entry → �
 
   waiting_serves : (st : Stage) (u : ℕ) → st ≡ Waiting u → (t : ℕ) → st ≡ Serving t → ⊥
   waiting_serves st u a t b = let e : Waiting u ≡ Serving t = sym a ∙ b in cc
-
-  same_turn : (a b : ℕ) → Serving a ≡ Serving b → a ≡ b
-  same_turn a b e = cc
 
   draws : (slots id : ℕ) (me : M) → seats ≤ 4294967296 → me.0.stage ≡ Looked → Allows Rule slots id me 1 (λ n. (n + 1) % 18446744073709551616) (Draws (step slots 1 1 0 none) me)
   draws slots id me small_seats is s r _ at _ =
@@ -527,11 +521,6 @@ module _ {C : Type 0} (Legal : List Entry → Type 0) (stored : List Entry → �
   at_end [] a b (suc j) e = absurd (some-ne-none b (sym e))
   at_end (x ∷ xs) a b zero e = inl e
   at_end (x ∷ xs) a b (suc j) e = ⊎_elim (λ (h : get_elem? xs j ≡ some b). inl h) (λ (h : (j ≡ length xs) × (a ≡ b)). inr (ap suc h.0, h.1)) (at_end xs a b j e)
-
-  in_reach : {A : Type 0} (l : List A) (i : ℕ) (a : A) → get_elem? l i ≡ some a → i < length l
-  in_reach [] i a e = absurd (some-ne-none a (sym e))
-  in_reach (x ∷ xs) zero a e = omega arith
-  in_reach (x ∷ xs) (suc i) a e = let h = in_reach xs i a e in omega arith
 
   -- other seats with the same history, words and slot, who have other numbers
   reseated : (s : St) (r : Rule s) (views : List View) (owner : ℕ → ℕ) → next s + total looks_of views ≤ 9223372036854775808 + seats → total share_of views ≡ seats

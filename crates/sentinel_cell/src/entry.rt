@@ -4,7 +4,7 @@ use ballot_law::{Input, Output};
 use std::collections::LinkedList;
 
 /// How a call ended.
-#[derive(Clone, Copy, Debug, PartialEq, Eq)]
+#[derive(Clone, Copy, PartialEq, Eq)]
 pub enum Outcome {
     /// The input was taken and stored, and its outputs were shown.
     Stored,

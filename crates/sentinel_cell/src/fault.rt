@@ -37,7 +37,7 @@ pub enum ActFault {
 }
 
 /// Where the outputs of a call stand among those that the outbox shows, and its entry in the history.
-#[derive(Clone, Copy, Debug, PartialEq, Eq)]
+#[derive(Clone, Copy, PartialEq, Eq)]
 pub struct Reply {
     pub first: usize,
     pub count: usize,

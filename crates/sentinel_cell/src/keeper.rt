@@ -43,7 +43,9 @@ impl<S: ConfStore> Keeper<S> {
         requires left { (w : World) × IsLeft S.held S.failure_count w self.old }
         requires room { Fits outbox.old room_of_sentinel }
         requires within { IsWithinEvent input.now.event }
-        ensures step { (w : World) (number : ℕ) → IsLeft S.held S.failure_count w self.old → let e = entry_of number input.entry.now result (length outbox.old.shown) outbox.new.shown (S.failure_count self.new.store) in IsStep w e × IsLeft S.held S.failure_count (after w e) self.new }
+        ensures step { (w : World) (number : ℕ) → IsLeft S.held S.failure_count w self.old
+            → let e = entry_of number input.entry.now result (length outbox.old.shown) outbox.new.shown (S.failure_count self.new.store)
+            in IsStep w e × IsLeft S.held S.failure_count (after w e) self.new }
         ensures newer { (m : ℕ) → IsSameOrNewer (card_of self.old.sentinel.stored m) (card_of self.new.sentinel.stored m) }
         ensures others { (m : ℕ) → self.new.sentinel.change ≢ Some m → card_of self.new.sentinel.stored m ≡ card_of self.old.sentinel.stored m }
         ensures shown { outbox.new.shown ≡ outbox.old.shown ++ drop (length outbox.old.shown) outbox.new.shown }

@@ -41,7 +41,8 @@ pub(crate) fn wait_for_turn<J: Origin, S: ConfStore, R: Wait>(
     requires waits { place.old.me.0.stage ≡ Waiting ticket }
     requires start { J.start ≡ opened S.held S.failure_count hall.now.key.keeper }
     ensures same { (place.new.table_id ≡ place.old.table_id) × (place.new.id ≡ place.old.id) }
-    ensures turn { (history : _) × (c : _) × ((given : _) × (place.new.me ≡ (serving place.old.me.0 ticket history given, (0, c) ∷ place.old.me.1)) × (place.old.me.0.given ≤ given)) × IsLegal J.start history × Fits S.held S.failure_count J.start history c × Follows place.old.me.0 history }
+    ensures turn { (history : _) × (c : _) × ((given : _) × (place.new.me ≡ (serving place.old.me.0 ticket history given, (0, c) ∷ place.old.me.1))
+        × (place.old.me.0.given ≤ given)) × IsLegal J.start history × Fits S.held S.failure_count J.start history c × Follows place.old.me.0 history }
     ensures counted { ticket ≡ length place.new.me.0.front }
 {
     for _ in rt.forever() {
@@ -54,6 +55,8 @@ pub(crate) fn wait_for_turn<J: Origin, S: ConfStore, R: Wait>(
 }
 
 /// Announces the entry of this turn by the word of a master, the one whose configuration it may have changed.
+///
+/// Many parameters: five of them only name in clauses what this turn did.
 pub(crate) fn raise_word<F: Flight, S: ConfStore>(
     hall: &Hall<S>,
     place: &mut Place<S>,
@@ -65,7 +68,8 @@ pub(crate) fn raise_word<F: Flight, S: ConfStore>(
     master: usize,
     word: u64,
 )
-    requires own { (place.old.table_id ≡ hall.now.table_id) × (hall.now.table_id.words ≡ master_count hall.now.key.keeper.sentinel.plan + 2) × (master < master_count hall.now.key.keeper.sentinel.plan) }
+    requires own { (place.old.table_id ≡ hall.now.table_id) × (hall.now.table_id.words ≡ master_count hall.now.key.keeper.sentinel.plan + 2)
+        × (master < master_count hall.now.key.keeper.sentinel.plan) }
     requires small { master < 65536 }
     requires entry { F.entry ≡ entry_of (first_number place.old.me.0.numbers) input.now outcome first outbox.now.shown failures }
     requires turn { (t : ℕ) × (place.old.me.0.stage ≡ Serving t) }
@@ -89,7 +93,8 @@ pub(crate) fn pass_turn<J: Origin, S: ConfStore>(hall: &Hall<S>, place: &mut Pla
     requires start { J.start ≡ opened S.held S.failure_count hall.now.key.keeper }
     requires few { hall.now.key.seats ≤ 4294967296 }
     requires turn { (t : ℕ) × (place.old.me.0.stage ≡ Serving t) }
-    requires slot { (e : _) × (c : _) × (place.old.me.0.flight ≡ e ∷ []) × Has e.number place.old.me.0.numbers × (place.old.me.1 ≡ (0, c) ∷ []) × Fits S.held S.failure_count (opened S.held S.failure_count hall.now.key.keeper) (place.old.me.0.front ++ e ∷ []) c }
+    requires slot { (e : _) × (c : _) × (place.old.me.0.flight ≡ e ∷ []) × Has e.number place.old.me.0.numbers × (place.old.me.1 ≡ (0, c) ∷ [])
+        × Fits S.held S.failure_count (opened S.held S.failure_count hall.now.key.keeper) (place.old.me.0.front ++ e ∷ []) c }
     ensures same { (place.new.table_id ≡ place.old.table_id) × (place.new.id ≡ place.old.id) }
     ensures passed { place.new.me ≡ (passed place.old.me.0, []) }
     ensures answers { AreOf (stored_at J.start) place.old.me.0.answers place.new.me.0.front }
@@ -104,7 +109,8 @@ pub(crate) fn read_word<J: Origin, S: ConfStore>(
     place: &mut Place<S>,
     master: usize,
 ) -> u64
-    requires own { (place.old.table_id ≡ hall.now.table_id) × (hall.now.table_id.words ≡ master_count hall.now.key.keeper.sentinel.plan + 2) × (master < master_count hall.now.key.keeper.sentinel.plan) }
+    requires own { (place.old.table_id ≡ hall.now.table_id) × (hall.now.table_id.words ≡ master_count hall.now.key.keeper.sentinel.plan + 2)
+        × (master < master_count hall.now.key.keeper.sentinel.plan) }
     requires start { J.start ≡ opened S.held S.failure_count hall.now.key.keeper }
     requires small { master < 65536 }
     requires rest { place.old.me.0.stage ≡ Idle }
@@ -156,6 +162,8 @@ pub(crate) struct TicketsSpent;
 
 /// One turn: the seat looks at the tickets, draws one, waits, and serves the input. Beside the outcome stands the ticket's number, which is
 /// how many entries stand before this one.
+///
+/// Many clauses: what the seat holds of the table before and after a turn is said part by part, for the shared tokens have no one value.
 pub(crate) fn act_at<S: ConfStore, R: Wait>(
     rt: &R,
     hall: &Hall<S>,
@@ -170,7 +178,8 @@ pub(crate) fn act_at<S: ConfStore, R: Wait>(
     requires within { IsWithinEvent input.now.event }
     ensures same { (place.new.table_id ≡ place.old.table_id) × (place.new.id ≡ place.old.id) }
     ensures rest { AtRest place.new.me.0 × (place.new.me.1 ≡ []) }
-    ensures added { IfOk result (λ turn. Adds (opened S.held S.failure_count hall.now.key.keeper) place.old.me.0 input.entry.now turn.0 (drop (length outbox.old.shown) outbox.new.shown) place.new.me.0) }
+    ensures added { IfOk result (λ turn. Adds (opened S.held S.failure_count hall.now.key.keeper) place.old.me.0 input.entry.now turn.0
+        (drop (length outbox.old.shown) outbox.new.shown) place.new.me.0) }
     ensures entry { IfOk result (λ turn. turn.1 + 1 ≡ length place.new.me.0.front) }
     ensures spent { OnErr result ((9223372036854775808 ≤ place.new.me.0.tickets) × IsSame place.old.me.0 place.new.me.0 × (outbox.new ≡ outbox.old)) }
     ensures shown { outbox.new.shown ≡ outbox.old.shown ++ drop (length outbox.old.shown) outbox.new.shown }
@@ -207,7 +216,9 @@ pub(crate) fn split_at<S: ConfStore>(hall: &Hall<S>, place: &mut Place<S>) -> Pl
     requires own { (place.old.table_id ≡ hall.now.table_id) × (hall.now.table_id.words ≡ master_count hall.now.key.keeper.sentinel.plan + 2) }
     requires rest { AtRest place.old.me.0 × (place.old.me.1 ≡ []) }
     ensures same { (place.new.table_id ≡ place.old.table_id) × (place.new.id ≡ place.old.id) × (result.table_id ≡ place.old.table_id) }
-    ensures halves { (n : ℕ) × (place.new.me ≡ (left_half (numbered place.old.me.0 n), [])) × (result.me ≡ (right_half (numbered place.old.me.0 n), [])) × (place.old.me.0.given ≤ n) × (¬ Has n place.old.me.0.numbers) × (calls_by n place.old.me.0.front ≡ []) }
+    ensures halves { (n : ℕ) × (place.new.me ≡ (left_half (numbered place.old.me.0 n), []))
+        × (result.me ≡ (right_half (numbered place.old.me.0 n), [])) × (place.old.me.0.given ≤ n) × (¬ Has n place.old.me.0.numbers)
+        × (calls_by n place.old.me.0.front ≡ []) }
 {
     hall.load::<Name>(place, 0);
     hall.split_seat::<Halve>(place)

@@ -172,9 +172,11 @@ impl<S: ConfStore> SharedSentinel<S> {
     pub fn split(&self, seat: Seat) -> Result<(Seat, Seat), (Seat, CellFault)>
         requires own { seat.cell ≡ self.now.id }
         ensures cells { IfOk result (λ r. (r.0.cell ≡ seat.cell) × (r.1.cell ≡ seat.cell)) }
-        ensures first { IfOk result (λ r. (r.0.view.front ≡ seat.view.front) × (r.0.view.numbers ≡ seat.view.numbers) × (r.0.view.answers ≡ seat.view.answers) × (r.0.view.share ≡ seat.view.share - seat.view.share / 2)) }
+        ensures first { IfOk result (λ r. (r.0.view.front ≡ seat.view.front) × (r.0.view.numbers ≡ seat.view.numbers)
+            × (r.0.view.answers ≡ seat.view.answers) × (r.0.view.share ≡ seat.view.share - seat.view.share / 2)) }
         ensures second { IfOk result (λ r. (r.1.view.front ≡ seat.view.front) × (r.1.view.answers ≡ seat.view.answers) × (r.1.view.share ≡ seat.view.share / 2)) }
-        ensures number { IfOk result (λ r. (n : ℕ) × (r.1.view.numbers ≡ n ∷ []) × (¬ Has n seat.view.numbers) × (calls_by n seat.view.front ≡ []) × (seat.view.given ≤ n) × (r.0.view.given ≡ n + 1) × (r.1.view.given ≡ n + 1)) }
+        ensures number { IfOk result (λ r. (n : ℕ) × (r.1.view.numbers ≡ n ∷ []) × (¬ Has n seat.view.numbers) × (calls_by n seat.view.front ≡ [])
+            × (seat.view.given ≤ n) × (r.0.view.given ≡ n + 1) × (r.1.view.given ≡ n + 1)) }
         ensures left { OnOk result (2 ≤ seat.view.share) }
         ensures err { IfErr result (λ r. (r.0 ≡ seat) × (r.1 ≡ NoSeatLeft) × (seat.view.share ≡ 1)) }
     {
@@ -204,7 +206,8 @@ impl<S: ConfStore> SharedSentinel<S> {
         ensures cell { result.cell ≡ one.cell }
         ensures fronts { Begins one.view.front result.view.front × Begins two.view.front result.view.front }
         ensures either { (result.view.front ≡ one.view.front) ⊎ (result.view.front ≡ two.view.front) }
-        ensures calls { (n : ℕ) → (Has n one.view.numbers → calls_by n result.view.front ≡ calls_by n one.view.front) × (Has n two.view.numbers → calls_by n result.view.front ≡ calls_by n two.view.front) }
+        ensures calls { (n : ℕ) → (Has n one.view.numbers → calls_by n result.view.front ≡ calls_by n one.view.front)
+            × (Has n two.view.numbers → calls_by n result.view.front ≡ calls_by n two.view.front) }
         ensures numbers { result.view.numbers ≡ one.view.numbers ++ two.view.numbers }
         ensures answers { result.view.answers ≡ one.view.answers ++ two.view.answers }
         ensures given { (one.view.given ≤ result.view.given) × (two.view.given ≤ result.view.given) }
@@ -228,6 +231,8 @@ impl<S: ConfStore> SharedSentinel<S> {
     ///
     /// The call is then the last entry of a legal history, which begins with all that the seat had seen; `entry` tells how many stand before
     /// it. `NoMemory` and `Spent` come before the turn and add no entry; `Halted` and `StoreRefused` add one, and show nothing.
+    ///
+    /// Many clauses: what the caller sees of the turn, each in terms of its own seat and outbox.
     pub fn act<R: Wait>(
         &self,
         rt: &R,
@@ -266,7 +271,8 @@ impl<S: ConfStore> SharedSentinel<S> {
         requires own { seat.old.cell ≡ self.now.id }
         ensures own { seat.new.cell ≡ seat.old.cell }
         ensures none { IfNone result ((master_count self.now.start.plan ≤ m) × (seat.new ≡ seat.old)) }
-        ensures some { let start = self.now.start in IfSome result (λ r. let card = card_with r.0 r.1 in (m < master_count start.plan) × (seat.new.view ≡ answered seat.old.view m card) × IsFresh (IsLegal start) (stored_at start) seat.old.view m card) }
+        ensures some { let start = self.now.start in IfSome result (λ r. let card = card_with r.0 r.1 in (m < master_count start.plan)
+            × (seat.new.view ≡ answered seat.old.view m card) × IsFresh (IsLegal start) (stored_at start) seat.old.view m card) }
     {
         if m as usize >= self.roster.masters().len() {
             return None;
@@ -292,7 +298,9 @@ impl<S: ConfStore> SharedSentinel<S> {
     /// memory is taken.
     pub fn close(self, seat: Seat) -> Result<Keeper<S>, (SharedSentinel<S>, Seat, CellFault)>
         requires own { seat.cell ≡ self.id }
-        ensures ok { let start = self.start in IfOk result (λ k. (more : _) × IsLegal start (seat.view.front ++ more) × IsLeft S.held S.failure_count (replay start (seat.view.front ++ more)) k × AreOf (stored_at start) seat.view.answers (seat.view.front ++ more)) }
+        ensures ok { let start = self.start in IfOk result (λ k. (more : _) × IsLegal start (seat.view.front ++ more)
+            × IsLeft S.held S.failure_count (replay start (seat.view.front ++ more)) k
+            × AreOf (stored_at start) seat.view.answers (seat.view.front ++ more)) }
         ensures all { OnOk result (seat.view.share ≡ self.seats) }
         ensures err { IfErr result (λ r. (r.0 ≡ self) × (r.1 ≡ seat) × (r.2 ≡ SeatsOut) × (seat.view.share < self.seats)) }
     {

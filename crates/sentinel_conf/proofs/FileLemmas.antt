@@ -171,10 +171,6 @@ none_any p [] h x i = absurd i
 none_any p (y ∷ xs) h x (inl e) = ap p e ∙ (or_parts (p y) (list_any p xs) h).0
 none_any p (y ∷ xs) h x (inr i) = none_any p xs (or_parts (p y) (list_any p xs) h).1 x i
 
-pub any_none : {X : Type 0} (p : X → Bool) (xs : List X) → ((x : X) → In x xs → p x ≡ false) → list_any p xs ≡ false
-any_none p [] h = refl
-any_none p (x ∷ xs) h = or_from (p x) (list_any p xs) (h x (inl refl)) (any_none p xs (λ y i. h y (inr i)))
-
 pub any_some : {X : Type 0} (p : X → Bool) (xs : List X) (x : X) → In x xs → p x ≡ true → list_any p xs ≡ true
 any_some p xs x i e = elim (cases_Bool (list_any p xs)) as (λ _. list_any p xs ≡ true) [ inl t ↦ t | inr f ↦ absurd (true≢false (sym e ∙ none_any p xs f x i)) ]
 

@@ -46,18 +46,3 @@ unknown_more names number text all texts h e =
     ap (λ t. first_fault (λ _. unknown_fault names) number [] (map line_of t)) h
     ∙ fault_more (λ _. unknown_fault names) number [] (line_of text) (map line_of texts) e
     ∙ any_earlier (unknown_fault names) (number + 1) (states (line_of text ∷ [])) [] (map line_of texts)
-
-pub filter_map_more : {X Y : Type 0} (f : X → Option Y) (x : X) (xs : List X) → filter_map f (x ∷ xs) ≡ filter_map f (x ∷ []) ++ filter_map f xs
-filter_map_more f x xs = filter_map-append f (x ∷ []) xs
-
-pub kept_more : (text : List ℕ) (texts : List (List ℕ))
-    → flat_map ended (kept_lines_of (text ∷ texts)) ≡ (if is_kept (line_of text) then ended text else []) ++ flat_map ended (kept_lines_of texts)
-kept_more text texts = by_test (is_kept (line_of text)) refl where
-  by_test : (t : Bool) → is_kept (line_of text) ≡ t
-      → flat_map ended (kept_lines_of (text ∷ texts)) ≡ (if is_kept (line_of text) then ended text else []) ++ flat_map ended (kept_lines_of texts)
-  by_test true e =
-      ap (flat_map ended) (filter_yes (λ t. is_kept (line_of t)) text texts e)
-      ∙ ap (λ t. (if t then ended text else []) ++ flat_map ended (kept_lines_of texts)) (sym e)
-  by_test false e =
-      ap (flat_map ended) (filter_no (λ t. is_kept (line_of t)) text texts e)
-      ∙ ap (λ t. (if t then ended text else []) ++ flat_map ended (kept_lines_of texts)) (sym e)

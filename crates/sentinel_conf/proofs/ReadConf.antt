@@ -339,9 +339,6 @@ module _ (bytes : List ℕ) (u : IsUtf8 bytes) (id : RunId) where
     masters = zip_map (IsKeptMaster (greatest (filter_map epoch_of ss))) (master_of ss) (kept_master_of ss) (names_of ss) kept_master_valid;
   }
 
-  abbrev own_line : StateLine → Type 0
-  own_line s = (my_id_of s ≡ Some id) → IsId id
-
   own_id_by : (s : StateLine) → IsState s → my_id_of s ≡ Some id → IsId id
   own_id_by (MyId i) v e = let f : i ≡ id = cc in subst IsId f v
   own_id_by (LeaderEpoch m d) v e = cc

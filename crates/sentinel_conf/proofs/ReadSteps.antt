@@ -62,9 +62,6 @@ module _ (texts : List (List ℕ)) where
   abbrev with_names : List (List ℕ) → Result ConfPlan ConfFault
   with_names names = unless (first_fault (λ _. unknown_fault names) 1 [] ls) >>= λ _. with_id
 
-  pub line_faulty : (fault : ConfFault) → first_fault line_fault 1 [] ls ≡ Some fault → conf_of_lines texts ≡ Err fault
-  line_faulty fault e = ap (λ t. unless t >>= λ _. with_names named) e
-
   lines_clean : (names : List (List ℕ)) → names ≡ named → first_fault line_fault 1 [] ls ≡ None → conf_of_lines texts ≡ with_names names
   lines_clean names n a = ap (λ t. unless t >>= λ _. with_names named) a ∙ ap with_names (sym n)
 
@@ -124,12 +121,6 @@ over text whole e h = let n : length text ≡ min ROOM (length whole) = ap lengt
 pub under : (text whole : List ℕ) → text ≡ bounded whole → length text ≤ FILE_MAX → length whole ≤ FILE_MAX
 unfolding bounded_to
 under text whole e h = let n : length text ≡ min ROOM (length whole) = ap length e ∙ length-take ROOM whole in omega arith
-
--- the file as a whole
-pub too_long : (bytes : List ℕ) → FILE_MAX < length bytes → conf_of_bytes bytes ≡ Err (fault_at 0 TooLong)
-too_long bytes h =
-    let e : ltb FILE_MAX (length bytes) ≡ true = grind (arith, nat_tests) in
-    ap (λ t. guard t TooLong >>= λ _. guard (not (is_utf8 bytes)) NotUtf8 >>= λ _. conf_of_lines (lines bytes)) e
 
 fits_in : (bytes : List ℕ) → length bytes ≤ FILE_MAX → conf_of_bytes bytes ≡ (guard (not (is_utf8 bytes)) NotUtf8 >>= λ _. conf_of_lines (lines bytes))
 fits_in bytes h =

@@ -22,10 +22,9 @@ mod reading;
 mod settings;
 mod writing;
 
-pub use ballot_law::NoMemory;
 pub use conf::{Conf, read, rewrite_into};
 pub use conf_lines::{ConfFault, ConfKind};
-pub use conf_store::{ConfStore, FileStore, FileText, LoadFault, MemoryStore, StoreRefused};
+pub use conf_store::{ConfStore, FileText, LoadFault, MemoryStore, StoreRefused};
 pub use conf_text::{ConfText, FILE_MAX};
 pub use laws::{law_read_again, law_run_ids};
 pub use settings::{DEFAULT_SETTINGS, Settings};

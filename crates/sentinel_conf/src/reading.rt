@@ -74,6 +74,8 @@ impl Model for Parts {
 
 impl Parts {
     /// These parts. The lines are each ended by LF, and the fixed ones are those of the run id and the roster.
+    ///
+    /// Many parameters: each part of a file is read by itself, and only here are all of them known.
     pub fn new(
         kept_lines: Vec<u8>,
         roster: Roster,

@@ -1,7 +1,7 @@
 //! The settings of a master.
 
 /// The settings of a master.
-#[derive(Clone, Copy, Debug, PartialEq, Eq)]
+#[derive(Clone, Copy, PartialEq, Eq)]
 pub struct Settings {
     /// `sentinel down-after-milliseconds`: after how many milliseconds without a valid reply a node counts as down; 1 to
     /// 4,294,967,295.

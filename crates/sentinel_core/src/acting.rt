@@ -20,14 +20,15 @@ ghost use Rattle.sentinel_state.specs.Parts.{with_part};
 use crate::former::Former;
 use ballot_law::{Body, Command, Event, Hello, Input, Message, NodeName, Note, Output};
 use node_texts::{TextFault, read_hello, read_info};
-use sentinel_answers::{answer_by_text, answer_plainly};
-use sentinel_news::{hear_answer, hear_pong, take_hello, take_info};
+use sentinel_inputs::{
+    answer_by_text, answer_plainly, hear_answer, hear_pong, take_hello, take_info, tick,
+};
 use sentinel_outbox::Outbox;
 use sentinel_rules::{
     Frame, law_hellos_name_masters, law_inputs_change_one_card, law_inputs_keep_sound,
 };
-use sentinel_state::{Core, Plan, State};
-use sentinel_ticks::tick;
+use sentinel_state::{Core, State};
+use watched_nodes::Plan;
 
 /// A message of this Sentinel.
 fn send(plan: &Plan, target: NodeName, body: Body) -> Output
@@ -173,6 +174,7 @@ fn hear(state: &mut State, now: u64, event: &Event, former: &mut Former)
             former.begin(kept, None);
             hear_pong(state, *node, now, *reply);
         }
+        // Not reached: `act_on` answers commands itself.
         Event::Command { command, .. } => {
             former.begin(kept, asked_about(command, &state.core));
         }
@@ -265,6 +267,8 @@ fn act_on(state: &mut State, input: &Input, outbox: &mut Outbox, former: &mut Fo
 }
 
 /// What an input does: the state after it, and its outputs, held in the outbox. What the input overwrote of what is kept is taken down.
+///
+/// Many clauses: one for each part of the state, since each caller needs another.
 pub(crate) fn act(state: &mut State, input: &Input, outbox: &mut Outbox, former: &mut Former)
     requires plan { IsSoundPlan state.old.plan }
     requires sound { IsSound state.old.plan state.old.core }

@@ -21,10 +21,7 @@ mod former;
 mod sentinel;
 mod serving;
 
-pub use message_texts::message_text;
-pub use port_serving::{PortSentinel, READS_MAX, ServeFault, Served};
-pub use resp2::NoMemory;
+pub use messages::message_text;
+pub use port_serving::{ServeFault, Served};
 pub use sentinel::Sentinel;
-pub use sentinel_outbox::{
-    OpenFault, Outbox, Phase, ReleaseFault, Room, StoreFault, TakeFault, Took,
-};
+pub use sentinel_outbox::{OpenFault, Outbox, ReleaseFault, Room, StoreFault, TakeFault, Took};

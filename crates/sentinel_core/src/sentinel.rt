@@ -16,16 +16,17 @@ ghost use Rattle.sentinel_core.specs.Sentinels.{IsWhole, is_busy, is_pending, is
 use crate::acting::act;
 use crate::former::Former;
 use ballot_law::{Card, Command, Event, Input, Roster};
-use sentinel_conf::{Conf, ConfStore, ConfText, law_run_ids, rewrite_into};
+use conf_store::ConfStore;
+use sentinel_conf::{Conf, ConfText, law_run_ids, rewrite_into};
 use sentinel_outbox::{OpenFault, Outbox, Phase, ReleaseFault, Room, StoreFault, TakeFault, Took};
 use sentinel_rules::{
     law_ignored_inputs_change_nothing, law_inputs_are_steps, law_inputs_change_one_card,
     law_opening_is_sound,
 };
-use sentinel_state::{Core, Plan, State};
+use sentinel_state::{Core, State};
 use std::alloc::Global;
 use std::marker::Model;
-use watched_nodes::FrameList;
+use watched_nodes::{FrameList, Plan};
 
 /// One Sentinel of a group, as Redis Sentinel 7.2 works.
 ///
@@ -222,6 +223,8 @@ impl Sentinel {
     ///
     /// The faults are those of [`TakeFault`], in its order; then nothing has changed. The epoch of a command is at most `MAX_EPOCH`, as
     /// `command_of` gives it. No memory is taken.
+    ///
+    /// Many clauses: each fault has one that says when it comes, each part of the Sentinel and of the outbox one that says what it is after.
     pub fn take(&mut self, input: &Input, outbox: &mut Outbox) -> Result<Took, TakeFault>
         requires { IsWithinEvent input.now.event }
         ensures busy { IsErrOf result TakeFault.Busy ↔ (is_busy self.old.phase ≡ true) }
@@ -272,6 +275,8 @@ impl Sentinel {
     /// `Nothing` where no input waits to be stored: nothing has changed. `Refused` where the store refused the file, which counts as one
     /// failure of it: the Sentinel is halted, what it held is never released, and the file holds the old text or the new one. No memory is
     /// taken but what the store itself takes.
+    ///
+    /// Many clauses: each fault has one that says when it comes and one that says what it leaves.
     pub fn store<S: ConfStore>(&mut self, store: &mut S) -> Result<(), StoreFault>
         requires { S.failure_count store.old < 2 ^ 64 - 1 }
         ensures nothing { IsErrOf result StoreFault.Nothing ↔ (is_pending self.old.phase ≡ false) }

@@ -6,8 +6,8 @@ ghost use Rattle.port_serving.specs.Serving.{EndsWith, phase_after};
 
 use crate::sentinel::Sentinel;
 use ballot_law::Input;
+use conf_store::ConfStore;
 use port_serving::{PortSentinel, ServeFault, Served, serve_stream};
-use sentinel_conf::ConfStore;
 use sentinel_outbox::{Outbox, Phase};
 use std::io::{Read, Write};
 

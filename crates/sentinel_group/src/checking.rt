@@ -4,7 +4,7 @@ use crate::failures::{fail, fail_group};
 use crate::group_files::file_of;
 use clap::ArgMatches;
 use group_checks::{NamedConf, Report};
-use sentinel_core::ServeFault;
+use port_serving::ServeFault;
 use sentinel_runner::GroupFault;
 use std::io::Write;
 use std::process::ExitCode;

@@ -3,7 +3,7 @@
 use crate::failures::fail;
 use clap::error::ErrorKind;
 use clap::{Arg, ArgAction, Command, Error};
-use sentinel_core::ServeFault;
+use port_serving::ServeFault;
 use std::alloc::{AllocError, Global};
 use std::env::{self, Env};
 use std::io;

@@ -1,9 +1,9 @@
 //! Why the program ends early: a line on standard error, and the exit status.
 
+use conf_lines::{ConfFault, ConfKind};
+use port_serving::ServeFault;
 use scenario_replay::ReplayFault;
 use scenarios::{ScenarioFault, ScenarioKind};
-use sentinel_conf::{ConfFault, ConfKind};
-use sentinel_core::ServeFault;
 use sentinel_runner::GroupFault;
 use std::fmt::Display;
 use std::process::ExitCode;

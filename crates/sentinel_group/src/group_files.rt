@@ -3,8 +3,9 @@
 ghost use Rattle.std.specs.Prelude.{◌≡◌, ◌<◌, ◌-◌, ◌^◌, All, IfOk};
 
 use crate::failures::{fail, refuse_conf, refuse_file};
-use sentinel_conf::{Conf, ConfStore, FileStore, LoadFault, read};
-use sentinel_core::ServeFault;
+use conf_store::{ConfStore, FileStore, LoadFault};
+use port_serving::ServeFault;
+use sentinel_conf::{Conf, read};
 use std::process::ExitCode;
 
 /// What each file of a group says, and each file as the store of its Sentinel, in the order of the words.

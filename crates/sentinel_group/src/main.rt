@@ -18,10 +18,12 @@ use crate::group_files::file_of;
 use crate::replaying::replay;
 use crate::serving::{level_of, serve as serve_group};
 use clap::ArgMatches;
+use conf_store::{ConfStore, MemoryStore};
 use log::Logged;
 use log::sink::Console;
-use sentinel_conf::{Conf, ConfStore, MemoryStore, read};
-use sentinel_core::{Sentinel, ServeFault};
+use port_serving::ServeFault;
+use sentinel_conf::{Conf, read};
+use sentinel_core::Sentinel;
 use std::process::ExitCode;
 
 /// The configuration of a Sentinel that is given no file: it watches one master with three other Sentinels.

@@ -4,7 +4,9 @@ ghost use Rattle.std.specs.Prelude.{◌≡◌, ◌≤◌, ◌<◌, ◌+◌, ◌^
 ghost use Rattle.sentinel_conf.specs.Reading.{FILE_MAX};
 ghost use Rattle.sentinel_nodes.specs.Files.{File as FileModel, outcome_of};
 
-use sentinel_conf::{ConfStore, FILE_MAX, FileText, LoadFault, NoMemory, StoreRefused};
+use ballot_law::NoMemory;
+use conf_store::{ConfStore, LoadFault, StoreRefused};
+use sentinel_conf::{FILE_MAX, FileText};
 use std::alloc::Global;
 use std::marker::Model;
 

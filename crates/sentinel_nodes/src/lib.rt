@@ -5,8 +5,6 @@
 #![tactic(auto)]
 
 mod file;
-mod rosters;
 mod sentinel_node;
 
-pub use rosters::is_same_roster;
 pub use sentinel_node::SentinelNode;

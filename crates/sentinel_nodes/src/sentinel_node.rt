@@ -8,11 +8,12 @@ ghost use Rattle.sentinel_nodes.specs.Files.{refusal_of};
 ghost use Rattle.sentinel_nodes.specs.Kinds.{is_running, IsImageOf};
 
 use crate::file::File;
-use crate::rosters::is_same_roster;
 use ballot_law::{Card, Input, KeptText, NodeName, Roster};
 use boxed_nodes::{HowStored, Node};
-use sentinel_conf::{ConfFault, ConfKind, law_read_again, read};
-use sentinel_core::{OpenFault, Outbox, ReleaseFault, Room, Sentinel, StoreFault, TakeFault, Took};
+use conf_lines::{ConfFault, ConfKind};
+use sentinel_conf::{law_read_again, read};
+use sentinel_core::Sentinel;
+use sentinel_outbox::{OpenFault, Outbox, ReleaseFault, Room, StoreFault, TakeFault, Took};
 use sentinel_rules::{law_opening_is_sound, law_outputs_are_within};
 use std::alloc::Global;
 
@@ -122,7 +123,7 @@ impl Node for SentinelNode {
     }
 
     fn knows(&self, roster: &Roster) -> bool {
-        is_same_roster(self.sentinel.roster(), roster)
+        self.sentinel.roster().is_same(roster)
     }
 
     fn card(&self, m: u16) -> Option<Card> {

@@ -12,7 +12,6 @@ mod room;
 mod spare;
 mod took;
 
-pub use ballot_law::NoMemory;
 pub use faults::{OpenFault, ReleaseFault, StoreFault, TakeFault};
 pub use outbox::Outbox;
 pub use phase::Phase;

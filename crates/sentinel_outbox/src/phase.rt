@@ -1,7 +1,7 @@
 //! How far a node has come with its last input.
 
 /// How far a node has come with its last input.
-#[derive(Clone, Copy, Debug, PartialEq, Eq)]
+#[derive(Clone, Copy, PartialEq, Eq)]
 pub enum Phase {
     /// The input before was released; the next one can be taken.
     Ready,

@@ -6,7 +6,7 @@ ghost use Rattle.sentinel_outbox.specs.Outboxes.{room_of_sentinel};
 use ballot_law::{ANSWER_MAX, OUTPUTS_MAX, SHOWN_MAX};
 
 /// How much room an `Outbox` needs for the outputs of one input.
-#[derive(Clone, Copy, Debug, PartialEq, Eq)]
+#[derive(Clone, Copy, PartialEq, Eq)]
 pub struct Room {
     /// How many outputs.
     pub(crate) outputs: u32,

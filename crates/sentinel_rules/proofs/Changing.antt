@@ -30,7 +30,8 @@ use Rattle.failover_states.specs.Table.{Turn}
 use Rattle.node_texts.specs.declared.faults.TextFault.{TextFault}
 use Rattle.node_texts.specs.Hellos.{hello_of}
 use Rattle.node_texts.specs.Infos.{info_of}
-use Rattle.sentinel_rules.specs.Plans.{Plan, NodePlace, roster_of, me, group_size, master_count, node_named}
+use Rattle.ballot_law.specs.declared.node_places.NodePlace.{NodePlace}
+use Rattle.sentinel_rules.specs.Plans.{Plan, roster_of, me, group_size, master_count, node_named}
 use Rattle.sentinel_rules.specs.States.{Core, master_of, node_of, failover_of, card_place, is_failing_over, is_tilted, is_master_down, with_master, with_failover, with_current, with_card}
 use Rattle.sentinel_rules.specs.Parts.{Part, quiet, part_if}
 use Rattle.sentinel_rules.specs.Votes.{book_of, with_book, marked, mark_for, requested}

@@ -14,7 +14,8 @@ use Rattle.ballot_law.specs.Rosters.{master_named}
 use Rattle.node_texts.specs.declared.faults.TextFault.{TextFault}
 use Rattle.node_texts.specs.Hellos.{hello_of}
 use Rattle.node_texts.specs.Infos.{info_of}
-use Rattle.sentinel_rules.specs.Plans.{Plan, NodePlace, roster_of, group_size, master_count, node_named}
+use Rattle.ballot_law.specs.declared.node_places.NodePlace.{NodePlace}
+use Rattle.sentinel_rules.specs.Plans.{Plan, roster_of, group_size, master_count, node_named}
 use Rattle.sentinel_rules.specs.States.{Core}
 use Rattle.sentinel_rules.specs.Parts.{quiet, part_if}
 use Rattle.sentinel_rules.specs.News.{is_heeded, hello_heeded, hello_read, answered, pinged, pinged_at, info_of_node, info_read}

@@ -22,7 +22,8 @@ use Rattle.node_texts.specs.declared.faults.TextFault.{TextFault}
 use Rattle.node_texts.specs.Hellos.{hello_of}
 use Rattle.node_texts.specs.Infos.{info_of}
 use Rattle.sentinel_rules.specs.declared.frames.Frame.TheVariants.{PingTo, InfoTo, HelloTo, AskTo, FollowTo, NoteOf}
-use Rattle.sentinel_rules.specs.Plans.{Plan, NodePlace, roster_of, master_count, settings_at, node_name, node_named}
+use Rattle.ballot_law.specs.declared.node_places.NodePlace.{NodePlace}
+use Rattle.sentinel_rules.specs.Plans.{Plan, roster_of, master_count, settings_at, node_name, node_named}
 use Rattle.sentinel_rules.specs.States.{Core, master_of, node_of, failover_of, card_place, is_failing_over, is_tilted, is_master_down, with_master, with_failover, with_card}
 use Rattle.sentinel_rules.specs.Parts.{Part, quiet, puts, then_part, part_if, frame_if, frames_from}
 use Rattle.sentinel_rules.specs.Ticks.{is_peer_due, peer_frames, peers_part, Sending, sending_of, is_ping_due, is_info_due, is_hello_due, node_frames, nodes_part, turn_of, promote_frames, order_frames, row_part, after_start, start_turn, starts_now, start_part, is_ask_due, ask_candidate, ask_frames, ask_part, odown_part, failover_part, judging_part, master_part, with_reading, tick}

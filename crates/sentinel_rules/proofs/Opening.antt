@@ -17,9 +17,6 @@ replicate_all zero d i = refl
 replicate_all (suc n) d zero = refl
 replicate_all (suc n) d (suc i) = replicate_all n d i
 
-first_master : (plan : Plan) (now : ℕ) → MasterPlan → MasterState
-first_master plan now master = new_master (group_size plan) (length master.nodes) (clock now)
-
 new_sound : (plan : Plan) (kept : Kept) (m at : ℕ) → IsSoundPlan plan → IsSoundMaster plan kept m (new_master (group_size plan) (length (nodes_of plan m)) at)
 new_sound plan kept m at p =
     record {

@@ -104,9 +104,6 @@ hello_right plan core parts target m p s is lt =
       no_hello_text = refl;
     }
   where
-    P : Shown → Type 0
-    P shown = shown.card ≡ card_of parts.kept shown.master
-
     shown : (named : Option ℕ) → master_named (roster_of plan) (master_at (roster_of plan) m).name ≡ named
         → All (λ (shown : Shown). shown.card ≡ card_of parts.kept shown.master) (elim named as (λ _. List Shown) [ None ↦ [] | Some j ↦ (record { master = j; card = card_of core.kept m }) ∷ [] ])
     shown None e = All-nil (λ (shown : Shown). shown.card ≡ card_of parts.kept shown.master)

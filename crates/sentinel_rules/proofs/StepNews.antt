@@ -31,7 +31,9 @@ use Rattle.node_texts.specs.declared.faults.TextFault.{TextFault}
 use Rattle.node_texts.specs.Hellos.{hello_of}
 use Rattle.node_texts.proofs.HelloBack.{hello_is}
 use Rattle.ballot_law.proofs.CountedVotes.{both}
-use Rattle.sentinel_rules.specs.Plans.{Plan, NodePlace, roster_of, me, group_size, master_count, settings_at, nodes_of, node_named, node_numbered}
+use Rattle.ballot_law.specs.declared.node_places.NodePlace.{NodePlace}
+use Rattle.ballot_law.specs.NodePlaces.{node_numbered}
+use Rattle.sentinel_rules.specs.Plans.{Plan, roster_of, me, group_size, master_count, settings_at, nodes_of, node_named}
 use Rattle.sentinel_rules.specs.States.{Core, MasterState, NodeState, master_of, node_of, peer_of, failover_of, card_place, is_failing_over, is_tilted, with_master, with_node, with_failover, with_current, with_card}
 use Rattle.sentinel_rules.specs.Parts.{Part, quiet, puts, part_if}
 use Rattle.sentinel_rules.specs.Votes.{book_of, with_book, marked, mark_for, requested}

@@ -12,7 +12,7 @@ use Rattle.ballot_law.specs.declared.messages.Body.TheVariants.{Answer, PingText
 use Rattle.ballot_law.specs.Ballots.{card_of}
 use Rattle.ballot_law.specs.Counts.{count_below}
 use Rattle.ballot_law.specs.Orders.{same_addr}
-use Rattle.ballot_law.specs.Rosters.{MasterPlan, master_at, master_named, need, id_of, no_member}
+use Rattle.ballot_law.specs.Rosters.{master_at, master_listing, master_named, need, id_of, no_member}
 use Rattle.resp2_frames.specs.Frame.{Frame, spelling}
 use Rattle.port_answers.specs.declared.rows.MasterRow.{MasterRow}
 use Rattle.port_answers.specs.declared.rows.ReplicaRow.{ReplicaRow}
@@ -37,10 +37,6 @@ unchanged core body = record { core = core; body = body }
 -- the first master whose configuration has the address
 abbrev pub master_with_card : List KeptMaster → Addr → Option ℕ
 master_with_card masters addr = position (λ (master : KeptMaster). same_addr addr master.card.addr) masters
-
--- the first master whose list has the address
-abbrev pub master_listing : List MasterPlan → Addr → Option ℕ
-master_listing masters addr = position (λ (master : MasterPlan). list_any (same_addr addr) master.nodes) masters
 
 -- the vote that is kept
 abbrev pub vote_answer : (m : ℕ) → Addr → (down : Bool) → Core → Answered

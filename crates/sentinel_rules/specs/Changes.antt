@@ -12,7 +12,8 @@ use Rattle.ballot_law.specs.Rosters.{master_named}
 use Rattle.node_texts.specs.declared.faults.TextFault.{TextFault}
 use Rattle.node_texts.specs.Hellos.{hello_of}
 use Rattle.sentinel_rules.specs.Answers.{master_with_card}
-use Rattle.sentinel_rules.specs.Plans.{Plan, NodePlace, roster_of, node_named}
+use Rattle.ballot_law.specs.declared.node_places.NodePlace.{NodePlace}
+use Rattle.sentinel_rules.specs.Plans.{Plan, roster_of, node_named}
 use Rattle.sentinel_rules.specs.States.{Core, failover_of, opened}
 use Rattle.sentinel_rules.specs.Steps.{campaign_in}
 use Rattle.sentinel_rules.specs.Takes.{next}

@@ -26,7 +26,8 @@ use Rattle.failover_states.specs.Calls.{promoted, reconfigured}
 use Rattle.node_texts.specs.declared.faults.TextFault.{TextFault}
 use Rattle.sentinel_rules.specs.declared.periods.TheConstants.{WRONG_ROLE_MS}
 use Rattle.sentinel_rules.specs.declared.frames.Frame.TheVariants.{FollowTo, NoteOf}
-use Rattle.sentinel_rules.specs.Plans.{Plan, NodePlace, roster_of, me, group_size, master_count, settings_at, nodes_of, node_name, node_named}
+use Rattle.ballot_law.specs.declared.node_places.NodePlace.{NodePlace}
+use Rattle.sentinel_rules.specs.Plans.{Plan, roster_of, me, group_size, master_count, settings_at, nodes_of, node_name, node_named}
 use Rattle.sentinel_rules.specs.States.{Core, MasterState, NodeState, PeerState, master_of, node_of, peer_of, failover_of, card_place, is_failing_over, is_tilted, is_master_down, with_master, with_node, with_failover, with_current, with_card}
 use Rattle.sentinel_rules.specs.Parts.{Part, quiet, puts, part_if, frame_if}
 

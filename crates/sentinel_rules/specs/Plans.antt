@@ -4,8 +4,10 @@ use Rattle.ballot_law.specs.declared.addresses.Addr.{Addr}
 use Rattle.ballot_law.specs.declared.addresses.RunId.{RunId}
 use Rattle.ballot_law.specs.declared.messages.NodeName.{NodeName}
 use Rattle.ballot_law.specs.declared.messages.NodeName.TheVariants.{StoreAt}
+use Rattle.ballot_law.specs.declared.node_places.NodePlace.{NodePlace}
+use Rattle.ballot_law.specs.NodePlaces.{first_number, node_numbered}
 use Rattle.ballot_law.specs.Orders.{same_addr}
-use Rattle.ballot_law.specs.Rosters.{Roster, MasterPlan, master_at, id_of, size, no_addr}
+use Rattle.ballot_law.specs.Rosters.{Roster, master_at, id_of, size, no_addr}
 use Rattle.sentinel_conf.specs.declared.settings.Settings.{Settings}
 use Rattle.sentinel_conf.specs.declared.settings.TheConstants.{DEFAULT_SETTINGS}
 use Rattle.sentinel_conf.specs.Meaning.{ConfPlan}
@@ -42,26 +44,8 @@ addr_at plan m k = slice_index_or (nodes_of plan m) k no_addr
 abbrev pub node_place : Plan → (m : ℕ) → Addr → ℕ
 node_place plan m addr = unwrap_or (position (same_addr addr) (nodes_of plan m)) (length (nodes_of plan m))
 
--- the number of a master's first data node among all data nodes
-abbrev pub first_number : List MasterPlan → (m : ℕ) → ℕ
-first_number [] m = 0
-first_number (master ∷ masters) zero = 0
-first_number (master ∷ masters) (suc m) = length master.nodes + first_number masters m
-
 abbrev pub node_name : Plan → (m k : ℕ) → NodeName
 node_name plan m k = StoreAt (first_number (roster_of plan).masters m + k)
-
--- the number of a master, and the place of a node in its list
-pub record NodePlace : Type 0 where
-  pub master : ℕ
-  pub place : ℕ
-
--- the data node with a number, where the masters are counted from `first` on
-abbrev pub node_numbered : List MasterPlan → (first number : ℕ) → Option NodePlace
-node_numbered [] first number = None
-node_numbered (master ∷ masters) first number =
-    if nat_lt number (length master.nodes) then Some (record { master = first; place = number })
-    else node_numbered masters (first + 1) (number - length master.nodes)
 
 -- the data node with this name
 abbrev pub node_named : Plan → NodeName → Option NodePlace

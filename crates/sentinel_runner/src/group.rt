@@ -3,14 +3,14 @@
 ghost use Rattle.std.specs.Prelude.{◌<◌, ◌-◌, ◌^◌, All};
 
 use crate::group_fault::GroupFault;
-use crate::one_roster::is_one_roster;
 use crate::orders::Orders;
 use crate::started::Started;
+use conf_store::ConfStore;
 use crossbeam_channel::Receiver;
-use group_nodes::DataNodes;
-use group_sentinels::{Ends, Errand, GroupClock, GroupState, Links};
+use group_checks::is_one_group;
+use group_links::{DataNodes, Ends, Errand, GroupClock, GroupState, Links};
 use log::Log;
-use sentinel_conf::{Conf, ConfStore};
+use sentinel_conf::Conf;
 use std::alloc::Global;
 use std::io::Read;
 use std::net::Net;
@@ -62,7 +62,7 @@ impl<S: ConfStore + Drop> Group<S> {
     ) -> Result<Group<S>, GroupFault>
         requires { All (λ s. S.failure_count s < 2 ^ 64 - 1) stores.items }
     {
-        if !is_one_roster(confs.as_slice()) || stores.len() != confs.len() {
+        if !is_one_group(confs.as_slice()) || stores.len() != confs.len() {
             return Err(GroupFault::NotOneRoster);
         }
         let (Some(first), Ok(count)) = (confs.first(), u16::try_from(confs.len())) else {
@@ -134,7 +134,7 @@ where
     thread::scope(thread::scope_env(), rt, |scope| {
         let begun = scope.spawn(move || run_threads(rt, threads, state, ending));
         if begun.is_err() {
-            state.note_short();
+            state.note_lacking_thread();
             return;
         }
         orders.follow(rt, input, ending);
@@ -143,10 +143,10 @@ where
 
 /// How a group ended.
 fn outcome(state: &GroupState) -> Result<(), GroupFault> {
-    if state.was_short() {
+    if state.lacked_a_thread() {
         return Err(GroupFault::NoMemory);
     }
-    if state.was_deaf() {
+    if state.lost_a_port() {
         return Err(GroupFault::PortRefused);
     }
     if state.was_halted() {
@@ -178,7 +178,7 @@ fn run_threads<'a, S: ConfStore + Drop + Send, R: Threads + Wait + Clock + Log +
                 .is_err();
         }
         if refused {
-            state.note_short();
+            state.note_lacking_thread();
             ending.store(1, Ordering::SeqCst);
         }
     })

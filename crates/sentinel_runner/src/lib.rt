@@ -4,7 +4,6 @@
 
 mod group;
 mod group_fault;
-mod one_roster;
 mod orders;
 mod started;
 

@@ -2,7 +2,7 @@
 
 use ballot_law::is_same_bytes;
 use crossbeam_channel::Sender;
-use group_sentinels::Errand;
+use group_links::Errand;
 use log::{Log, warn};
 use std::alloc::Global;
 use std::io::{ErrorKind, Read};

@@ -3,14 +3,15 @@
 ghost use Rattle.std.specs.Prelude.{◌≡◌, ◌<◌, ◌-◌, ◌^◌};
 
 use crate::group_fault::GroupFault;
+use conf_store::ConfStore;
 use crossbeam_channel::Receiver;
+use group_links::{Ends, GroupState, Letter};
 use group_ports::Port;
-use group_sentinels::{
-    Ends, GroupState, Letter, Member, Seat, Sentinel, SharedSentinel, ThreadSeat, Which, run_link,
-    run_timer,
-};
+use group_sentinels::{RunningSentinel, ThreadSeat, Which, run_link, run_timer};
 use log::{Log, warn};
-use sentinel_conf::{Conf, ConfStore};
+use sentinel_cell::{Seat, SharedSentinel};
+use sentinel_conf::Conf;
+use sentinel_core::Sentinel;
 use std::alloc::{AllocError, Global};
 use std::io::{self, ErrorKind};
 use std::marker::Brand;
@@ -102,6 +103,8 @@ impl<S: ConfStore + Drop> Started<S> {
 }
 
 /// Runs the threads of a Sentinel that has a name for proofs.
+///
+/// Many parameters: a thread takes its own parts by value, and they have several lifetimes, so no one struct holds them.
 fn run_named<J: Which + Send + Sync, S: ConfStore + Drop + Send, R>(
     rt: &R,
     alloc: Global,
@@ -117,7 +120,7 @@ where
     R: Threads + Wait + Clock + Log + Sync,
     requires { (cell.id ≡ J.cell) × (seat.cell ≡ J.cell) }
 {
-    let (member, seat) = Member::<J, S>::with_seat(alloc, cell, seat, number);
+    let (member, seat) = RunningSentinel::<J, S>::with_seat(alloc, cell, seat, number);
     let Some((first, timer)) = member.split(alloc, seat) else {
         return;
     };
@@ -130,11 +133,13 @@ where
 }
 
 /// Starts the timer and the link, and serves the port.
+///
+/// Many parameters: as above.
 fn run_threads<'a, J: Which + Send + Sync, S: ConfStore + Drop + Send, R>(
     rt: &'a R,
     alloc: Global,
     group: &'a GroupState,
-    member: &'a Member<J, S>,
+    member: &'a RunningSentinel<J, S>,
     mut own: ThreadSeat<J>,
     mut timer: ThreadSeat<J>,
     mut link: ThreadSeat<J>,
@@ -153,12 +158,12 @@ where
             .spawn(move || run_link(rt, group, member, &mut link, &letters, ending))
             .is_err();
         if refused {
-            group.note_short();
+            group.note_lacking_thread();
             ending.store(1, Ordering::SeqCst);
             return;
         }
         if port.serve(rt, group, member, &mut own, ending).is_err() {
-            group.note_deaf();
+            group.note_lost_port();
         }
     })
 }

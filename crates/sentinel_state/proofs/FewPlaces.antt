@@ -24,24 +24,6 @@ mapped change xs h = omega (arith, h, length-map xs change)
 pub few_ended : (f : Failover) → HasFewPlaces f → HasFewPlaces (ended f)
 few_ended f h = (mapped forgotten f.replicas h.0, omega arith)
 
-pub few_promoted : (state : FailoverState) (f : Failover) → unwrap_or (choice_of state) 0 ≤ NODES_MAX → HasFewPlaces f → HasFewPlaces (promoted state f)
-few_promoted Idle f c h = h
-few_promoted (WaitStart epoch) f c h = h
-few_promoted (SelectReplica epoch) f c h = h
-few_promoted (SendPromotion epoch choice) f c h = h
-few_promoted (WaitPromotion epoch choice former) f c h = (mapped forgotten f.replicas h.0, c)
-few_promoted (ReconfReplicas epoch choice former) f c h = h
-few_promoted (UpdateConfig epoch choice) f c h = h
-
-pub few_reconfigured : (state : FailoverState) (f : Failover) (place : ℕ) → HasFewPlaces f → HasFewPlaces (reconfigured state f place)
-few_reconfigured Idle f place h = h
-few_reconfigured (WaitStart epoch) f place h = h
-few_reconfigured (SelectReplica epoch) f place h = h
-few_reconfigured (SendPromotion epoch choice) f place h = h
-few_reconfigured (WaitPromotion epoch choice former) f place h = h
-few_reconfigured (ReconfReplicas epoch choice former) f place h = (omega (arith, h.0, length-set f.replicas place (followed (replica_at f.replicas place))), h.1)
-few_reconfigured (UpdateConfig epoch choice) f place h = h
-
 -- each row leaves few places
 abbrev LeaveFew : List TableRow → Type 0
 LeaveFew [] = Unit {0}

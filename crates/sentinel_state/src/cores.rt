@@ -15,7 +15,6 @@ use down_detector::{Tilt, is_odown};
 use failover_states::FailoverState;
 use std::alloc::{AllocError, Global};
 use std::marker::Model;
-use std::mem;
 use watched_nodes::{Node, Peer, Plan};
 
 /// What is kept of a master that there is none of.
@@ -271,17 +270,21 @@ impl Core {
     {
         let mut entry = self.entry(m);
         entry.card = card;
-        self.set_entry(m, entry);
+        self.kept.masters.set(m, entry);
     }
 
     /// The epoch and the candidate of the last vote for a master.
     pub(crate) fn set_vote(&mut self, m: u16, voted: u64, candidate: Option<RunId>)
-        ensures { self.new ≡ record self.old { kept = record self.old.kept { masters = slice_set self.old.kept.masters m (record (kept_of self.old.kept m) { voted = voted; candidate = candidate }) } } }
+        ensures { self.new ≡ record self.old {
+          kept = record self.old.kept {
+            masters = slice_set self.old.kept.masters m (record (kept_of self.old.kept m) { voted = voted; candidate = candidate });
+          };
+        } }
     {
         let mut entry = self.entry(m);
         entry.voted = voted;
         entry.candidate = candidate;
-        self.set_entry(m, entry);
+        self.kept.masters.set(m, entry);
     }
 
     /// What is kept of a data node; none where there is no such node.
@@ -390,17 +393,5 @@ impl Core {
             Some(master) => *master,
             None => NO_ENTRY,
         }
-    }
-
-    /// Keeps this of a master; nothing where there is no such master.
-    fn set_entry(&mut self, m: u16, entry: KeptMaster)
-        ensures { self.new ≡ record self.old { kept = record self.old.kept { masters = slice_set self.old.kept.masters m entry } } }
-    {
-        let none = KeptMasters::from_vec(Vec::new(*self.masters.allocator()));
-        let mut masters = mem::replace(&mut self.kept.masters, none).into_vec();
-        if let Some(master) = masters.get_mut(m as usize) {
-            *master = entry;
-        }
-        self.kept.masters = KeptMasters::from_vec(masters);
     }
 }

@@ -20,10 +20,9 @@ impl Core {
         ensures { self.new ≡ requested plan.now m (clock now) epoch candidate self.old }
     {
         let mut book = self.book(m);
-        let grants = book.grants(epoch);
-        book.ask(epoch, candidate);
+        let is_granted = book.vote_for(epoch, candidate);
         self.keep_book(m, &book);
-        if grants {
+        if is_granted {
             self.mark_for(plan, m, now, candidate);
         }
     }

@@ -3,7 +3,7 @@
 use std::alloc::{AllocError, Global};
 
 /// What a line of a report tells.
-#[derive(Clone, Copy, Debug, PartialEq, Eq)]
+#[derive(Clone, Copy, PartialEq, Eq)]
 enum Entry<'a> {
     /// A Sentinel was elected.
     Elected {
@@ -48,7 +48,7 @@ fn entry_of(line: &str) -> Option<Entry<'_>> {
 }
 
 /// How often reports show what no run may bring.
-#[derive(Clone, Copy, Debug, Default, PartialEq, Eq)]
+#[derive(Clone, Copy, Default, PartialEq, Eq)]
 pub(crate) struct Breaches {
     /// Elections of a master in an epoch that had one.
     pub(crate) elections: u64,

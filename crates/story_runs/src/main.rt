@@ -11,7 +11,8 @@ mod stops;
 
 use crate::stops::{Stopped, stop_behind_each};
 use resp2_frames::OutText;
-use scenario_replay::{Printed, Story, read_scenario};
+use scenario_replay::{Printed, Story};
+use scenarios::read_scenario;
 use std::{env, fs, io};
 
 /// The names that the conf files of a folder have, as many as there are.

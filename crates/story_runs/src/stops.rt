@@ -3,13 +3,14 @@
 ghost use Rattle.std.specs.Prelude.{◌≤◌, length};
 
 use crate::laws::Breaches;
+use ballot_law::{KeptText, Step};
 use resp2_frames::OutText;
-use scenario_replay::{KeptText, Printed, Step, Stop, Story};
+use scenario_replay::{Printed, Stop, Story};
 use std::alloc::Global;
 use std::str;
 
 /// What the runs of a story with a stop in it came to.
-#[derive(Clone, Copy, Debug, Default, PartialEq, Eq)]
+#[derive(Clone, Copy, Default, PartialEq, Eq)]
 pub(crate) struct Stopped {
     /// How many steps the story has.
     pub(crate) steps: u64,

@@ -8,7 +8,6 @@ mod laws;
 mod own_vote;
 mod votes_heard;
 
-pub use ballot_law::{MAX_EPOCH, NoMemory};
 pub use laws::{
     law_elected_has_votes, law_heard_keeps_the_latest, law_latest_is_greatest, law_pick_has_most,
 };

@@ -9,7 +9,7 @@ use ballot_law::{MAX_EPOCH, RunId};
 use std::marker::Model;
 
 /// A vote as an answer to a request shows it.
-#[derive(Clone, Copy, Debug, PartialEq, Eq)]
+#[derive(Clone, Copy, PartialEq, Eq)]
 pub struct VoteAnswer {
     /// Whom the vote of this epoch went to: none where no vote was given since the start and none is in the file.
     pub leader: Option<RunId>,
@@ -102,15 +102,25 @@ impl VoteBook {
         ensures never_falls { self.old.voted ≤ self.new.voted }
         ensures one_leader { self.new.voted ≡ self.old.voted → self.new.leader ≡ self.old.leader }
     {
-        if self.grants(epoch) {
-            self.leader = Some(candidate);
-            self.voted = epoch;
-        }
-        self.raise(epoch);
+        self.vote_for(epoch, candidate);
         VoteAnswer {
             leader: self.leader,
             epoch: self.voted,
         }
+    }
+
+    /// The same request, answered by whether the candidate got the vote by it.
+    pub fn vote_for(&mut self, epoch: u64, candidate: RunId) -> bool
+        ensures book { self.new ≡ asked self.old epoch candidate }
+        ensures granted { result ≡ grants self.old epoch }
+    {
+        let is_granted = self.grants(epoch);
+        if is_granted {
+            self.leader = Some(candidate);
+            self.voted = epoch;
+        }
+        self.raise(epoch);
+        is_granted
     }
 
     /// Makes the current epoch at least this one; the vote stays.

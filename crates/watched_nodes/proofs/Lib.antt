@@ -1,2 +1,4 @@
+pub mod MasterNames
+mod NodeNumbers
 pub mod PlaceLoops
 pub mod RoomLemmas

@@ -10,8 +10,8 @@ ghost use Rattle.watched_nodes.specs.Room.{added};
 use crate::frame_list::FrameList;
 use crate::nodes::Node;
 use crate::peers::Peer;
+use crate::plans::Plan;
 use ballot_law::{Info, NodeName};
-use sentinel_plan::Plan;
 use sentinel_rules::{BUSY_INFO_MS, Frame, HELLO_MS, INFO_MS, PING_MS};
 use std::marker::Model;
 

@@ -9,14 +9,6 @@ use Rattle.ballot_law.proofs.WordLemmas.{some_if-some, some_if-is, some_if-none,
 abbrev pub hex_tail : ℕ → List ℕ → Option ℕ
 hex_tail n bs = some_if (list_all is_hex bs) (hex_on n bs)
 
-pub hex_more : (n c d : ℕ) (bs : List ℕ) → Some d ≡ some_if (is_hex c) (hex_value c) → hex_tail n (c ∷ bs) ≡ hex_tail (n * 16 + d) bs
-hex_more n c d bs e =
-    ap (λ t. some_if (t && list_all is_hex bs) (hex_on (n * 16 + hex_value c) bs)) (some_if-some (is_hex c) (hex_value c) d (sym e))
-    ∙ ap (λ v. hex_tail (n * 16 + v) bs) (some_if-is (is_hex c) (hex_value c) d (sym e)).1
-
-pub hex_stops : (n c : ℕ) (bs : List ℕ) → None ≡ some_if (is_hex c) (hex_value c) → hex_tail n (c ∷ bs) ≡ None
-hex_stops n c bs e = ap (λ t. some_if (t && list_all is_hex bs) (hex_on (n * 16 + hex_value c) bs)) (some_if-none (is_hex c) (hex_value c) (sym e))
-
 -- below 16 digits there is room for one more in 64 bits
 pub hex_room : (i : ℕ) → i < 16 → 16 ^ i ≤ 16 ^ 15
 hex_room i h = pow-le-pow_right {n = 16} (omega arith) {i = i} {j = 15} (omega arith)

@@ -35,16 +35,6 @@ tail_digit low high n c bs e = ap (λ t. then_some (some_if (t && list_all is_di
 tail_other : (low high n c : ℕ) (bs : List ℕ) → is_digit c ≡ false → tail_within low high n (c ∷ bs) ≡ None
 tail_other low high n c bs e = ap (λ t. then_some (some_if (t && list_all is_digit bs) (number_on (n * 10 + (c - 48)) bs)) (λ n. some_if (leb low n && leb n high) n)) e
 
-pub tail_init : (low high : ℕ) (bs : List ℕ) → 0 < length bs → number_within low high bs ≡ tail_within low high 0 bs
-tail_init low high bs h = ap (λ t. then_some (some_if (t && list_all is_digit bs) (number_on 0 bs)) (λ n. some_if (leb low n && leb n high) n)) (lt-ltb 0 (length bs) h)
-
--- one digit more
-pub digit_more : (low high n c m : ℕ) (bs : List ℕ) → Some m ≡ some_if (is_digit c && ltb (n * 10 + (c - 48)) (2 ^ 64)) (n * 10 + (c - 48)) → tail_within low high n (c ∷ bs) ≡ tail_within low high m bs
-digit_more low high n c m bs e =
-    let test = is_digit c && ltb (n * 10 + (c - 48)) (2 ^ 64) in
-    let both = and_parts (is_digit c) (ltb (n * 10 + (c - 48)) (2 ^ 64)) (some_if-some test (n * 10 + (c - 48)) m (sym e)) in
-    tail_digit low high n c bs both.0 ∙ ap (λ k. tail_within low high k bs) (some_if-is test (n * 10 + (c - 48)) m (sym e)).1
-
 stops_by : (low high n c : ℕ) (bs : List ℕ) (t : Bool) → is_digit c ≡ t → high < 2 ^ 64 → (t && ltb (n * 10 + (c - 48)) (2 ^ 64)) ≡ false → tail_within low high n (c ∷ bs) ≡ None
 stops_by low high n c bs true e h f =
     let over : 2 ^ 64 ≤ n * 10 + (c - 48) = grind (arith, nat_tests, f) in

@@ -1,6 +1,6 @@
 use Rattle.std.proofs.Common.{◌∙◌, ◌++◌, ap, subst, sym, Ok, ◌≡◌}
 use Rattle.scenarios.specs.Scenarios.{scenario}
-use Rattle.world_reports.specs.Told.{report_text}
+use Rattle.fault_world.specs.Told.{report_text}
 use Rattle.scenario_replay.proofs.story.tell.Goals as goal
 
 pub returns : goal.returns

@@ -1,6 +1,6 @@
 use Rattle.std.proofs.Common.{length}
-use Rattle.world_members.specs.Standing.{IsShown, Stands}
-use Rattle.world_members.specs.Seats.{IsSeat}
+use Rattle.fault_world.specs.Standing.{IsShown, Stands}
+use Rattle.fault_world.specs.Seats.{IsSeat}
 use Rattle.scenario_replay.proofs.traces.trace.Given as goal
 
 abbrev pub invariant-loop-rest : goal.invariant-loop-rest

@@ -1,20 +1,20 @@
 use Rattle.std.proofs.Common.{◌≡◌, ◌<◌, ℕ, Bool, [], length, slice_index_or, Option, Some, None, refl, ap, sym, subst, ◌∙◌, arith}
 use Rattle.std.specs.Prelude.{IfSome, if◌then◌else◌}
 use Rattle.std.specs.Option.{option_map}
-use Rattle.std.proofs.lemmas.List.{get_or_default}
 use Rattle.ballot_law.specs.declared.addresses.Addr.{Addr}
 use Rattle.ballot_law.specs.declared.cards.Kept.{Kept}
 use Rattle.ballot_law.specs.Ballots.{card_of, no_kept}
 use Rattle.ballot_law.specs.Hellos.{IsAddr}
 use Rattle.ballot_law.specs.Orders.{same_addr}
-use Rattle.ballot_law.specs.Rosters.{MasterPlan, Roster, no_master}
+use Rattle.ballot_law.specs.Rosters.{Roster}
 use Rattle.ballot_law.specs.Worlds.{Ready}
 use Rattle.boxed_nodes.specs.Images.{OfOther}
 use Rattle.boxed_nodes.specs.declared.turn.Turn.TheVariants as turn
 use Rattle.sentinel_conf.specs.Meaning.{ConfPlan}
-use Rattle.sentinel_rules.specs.Plans.{NodePlace, node_numbered}
+use Rattle.ballot_law.specs.declared.node_places.NodePlace.{NodePlace}
+use Rattle.ballot_law.specs.NodePlaces.{node_numbered, addr_in}
 use Rattle.sentinel_rules.proofs.KeptParts.{kept_long}
-use Rattle.data_nodes.specs.Nodes.{DataPlan, addr_in, first_followed, fresh_node, node_of}
+use Rattle.data_nodes.specs.Nodes.{DataPlan, first_followed, fresh_node, node_of}
 use Rattle.data_nodes.specs.Servers.{Server, first_server}
 use Rattle.data_nodes.proofs.MasterAddrs.{card_addr}
 use Rattle.data_nodes.proofs.data_node.DataNode.new.Goals as goal
@@ -44,20 +44,20 @@ pub bounds-as_slice-at : goal.bounds-as_slice-at
 bounds-as_slice-at c =
     let conf = c.args.conf.now in
     let long = kept_long conf conf.kept c.kept.ensures.part in
-    let masters : length c.masters-masters.result.now ≡ length conf.roster.masters = ap length (c.masters-masters.ensures ∙ ap (λ (r : Roster). r.masters) c.roster.ensures.value) in
     let kept : length c.as_slice.result.now ≡ length conf.kept.masters = ap length (c.as_slice.ensures ∙ ap (λ (k : Kept). k.masters) c.kept.ensures.value) in
-    let known : c.in_ok-at.at.master < length c.masters-masters.result.now = c.in_ok-at.ensures.known in
+    let masters : length c.roster-roster.result.now.masters ≡ length conf.roster.masters = ap (λ (r : Roster). length r.masters) c.roster-roster.ensures.value in
+    let known : c.in_ok-at.at.master < length c.roster-roster.result.now.masters = c.in_ok-at.ensures.known in
     omega arith
 
 pub new-requires : goal.new-requires
 new-requires c =
     let conf = c.args.conf.now in
-    let masters : length c.masters-masters.result.now ≡ length conf.roster.masters = ap length (c.masters-masters.ensures ∙ ap (λ (r : Roster). r.masters) c.roster.ensures.value) in
+    let masters : length c.roster-roster.result.now.masters ≡ length conf.roster.masters = ap (λ (r : Roster). length r.masters) c.roster-roster.ensures.value in
     let kept = c.as_slice.ensures ∙ ap (λ (k : Kept). k.masters) c.kept.ensures.value in
-    let known : c.in_ok-at.at.master < length c.masters-masters.result.now = c.in_ok-at.ensures.known in
+    let known : c.in_ok-at.at.master < length c.roster-roster.result.now.masters = c.in_ok-at.ensures.known in
     elim c.if-is_same.branch [
       | then-is_same w ↦ subst (λ f. IfSome f IsAddr) (sym w.follows-is) tt
-      | else-is_same w ↦ subst (λ f. IfSome f IsAddr) (sym w.follows-is) (card_addr conf c.as_slice.result.now c.in_ok-at.at.master _ c.roster.ensures.sound kept (omega arith))
+      | else-is_same w ↦ subst (λ f. IfSome f IsAddr) (sym w.follows-is) (card_addr conf c.as_slice.result.now c.in_ok-at.at.master _ c.roster-roster.ensures.sound kept (omega arith))
     ]
 
 pub returns-clause-fresh : goal.returns-clause-fresh
@@ -67,17 +67,11 @@ pub returns-clause-node : goal.returns-clause-node
 returns-clause-node c =
     let conf = c.args.conf.now in
     let number = c.args.number in
-    let at : NodePlace = record { master = c.in_ok-at.at.master; place = c.in_ok-at.at.place } in
-    let masters = c.masters-masters.ensures ∙ ap (λ (r : Roster). r.masters) c.roster.ensures.value in
+    let at = c.in_ok-at.at in
     let kept = c.as_slice.ensures ∙ ap (λ (k : Kept). k.masters) c.kept.ensures.value in
-    let none : Addr = record { ip = 0; port = 0 } in
-    let addr = slice_index_or c.nodes.result.now at.place none in
+    let addr = c.addr_at-addr.result in
     let master = (slice_index_or c.as_slice.result.now at.master no_kept).card.addr in
-    let nodes
-    = c.index-masters-at.is
-    ∙ get_or_default c.masters-masters.result.now at.master c.index-masters-at.result no_master c.in_ok-at.ensures.known
-    ∙ ap (λ ms. slice_index_or ms at.master no_master) masters in
-    let own : addr ≡ addr_in conf.roster at = ap (λ ns. slice_index_or ns at.place none) (c.nodes.ensures ∙ ap (λ (m : MasterPlan). m.nodes) nodes) in
+    let own : addr ≡ addr_in conf.roster at = c.addr_at-addr.ensures ∙ ap (λ (r : Roster). addr_in r at) c.roster-roster.ensures.value in
     let card : master ≡ (card_of conf.kept at.master).addr = ap (λ ks. (slice_index_or ks at.master no_kept).card.addr) kept in
     let is_same = followed c.is_same.result addr master c.is_same.ensures in
     let follows : c.if-is_same.follows ≡ first_followed addr master
@@ -86,7 +80,7 @@ returns-clause-node c =
       | else-is_same w ↦ w.follows-is ∙ ap (λ t. followed_if t master) (sym w.if-is_same.false) ∙ is_same
     ] in
     begun conf number at addr (length c.sentinels.result.now) c.new.result
-    (ap (λ ms. node_numbered ms 0 number) (sym masters) ∙ c.in_ok-at.ensures.some)
+    (ap (λ (r : Roster). node_numbered r.masters 0 number) (sym c.roster-roster.ensures.value) ∙ sym c.in_ok-at.ensures.value)
     own
-    (ap length (c.sentinels.ensures ∙ ap (λ (r : Roster). r.sentinels) c.roster-2.ensures.value))
+    (ap length (c.sentinels.ensures ∙ ap (λ (r : Roster). r.sentinels) c.roster-roster.ensures.value))
     (c.new.ensures ∙ ap (first_server number) (follows ∙ ap (λ a. first_followed a master) own ∙ ap (first_followed (addr_in conf.roster at)) card))

@@ -1,7 +1,7 @@
 use Rattle.std.proofs.Common.{rules}
 use Rattle.fault_world.proofs.Found.{deliver_found, deliver_none, deliver_nothing, deliver_unfit, on_err_then, on_ok_then, seat_at, sendable_at, stays_shown}
 use Rattle.fault_world.proofs.Lists.{slice_get_past}
-use Rattle.world_members.proofs.Searching.{read_at}
+use Rattle.fault_world.proofs.Searching.{read_at}
 use Rattle.fault_world.proofs.Takeable.{none_said, takeable_of}
 use Rattle.fault_world.proofs.fault_world.FaultWorld.deliver.Goals as goal
 

@@ -1,7 +1,7 @@
 use Rattle.std.proofs.Common.{◌≡◌, take}
 use Rattle.ballot_law.specs.Worlds.{World}
-use Rattle.world_members.specs.Standing.{IsShown}
-use Rattle.world_members.specs.Seats.{IsSeat}
+use Rattle.fault_world.specs.Standing.{IsShown}
+use Rattle.fault_world.specs.Seats.{IsSeat}
 use Rattle.fault_world.specs.Runs.{RunsTo}
 use Rattle.fault_world.proofs.fault_world.FaultWorld.make.Given as goal
 

@@ -1,5 +1,0 @@
-use Rattle.cell_tests.proofs.tests.refused_memory.is_answered.Given as goal
-
--- which cell it is
-abbrev pub ghosts-is_answered_again : goal.ghosts-is_answered_again
-ghosts-is_answered_again g a = record { cell = a.cell.value.id }

@@ -1,0 +1,127 @@
+//! All data nodes of a group.
+
+ghost use Rattle.std.specs.Prelude.{◌≡◌, []};
+ghost use Rattle.std.specs.List.{AllByRecursion};
+ghost use Rattle.boxed_nodes.specs.Sendable.{IsSendableOutput, IsTakeable};
+
+use crate::errand::{Deed, Errand};
+use crate::group_state::GroupState;
+use ballot_law::{Event, Input, KeptText};
+use boxed_nodes::{HowStored, Node};
+use crossbeam_channel::{Receiver, RecvTimeoutError};
+use data_nodes::DataNode;
+use sentinel_conf::Conf;
+use sentinel_outbox::Outbox;
+use std::alloc::{AllocError, Global};
+use std::rt::Clock;
+use std::sync::Wait;
+use std::sync::atomic::{AtomicU64, Ordering};
+use std::time::Duration;
+
+/// How long the nodes wait for an errand before they look whether the group ends, in milliseconds.
+const ERRAND_MS: u64 = 50;
+
+/// The data nodes of a group, by their numbers, with the room for what one of them says.
+#[derive(Drop)]
+pub struct DataNodes {
+    nodes: Vec<DataNode>,
+    outbox: Outbox,
+    ghost held: { outbox.held ≡ [] },
+}
+
+/// Has a node take an input. The outbox shows what it says, which is nothing where it is stopped or where there is no memory.
+fn carry_out(node: &mut DataNode, input: &Input, outbox: &mut Outbox)
+    requires takeable { IsTakeable input.now.event }
+    requires held { outbox.old.held ≡ [] }
+    ensures held { outbox.new.held ≡ [] }
+    ensures sendable { AllByRecursion IsSendableOutput outbox.new.shown }
+{
+    outbox.clear();
+    let room = node.room();
+    if outbox.reserve(&room).is_err() {
+        return;
+    }
+    if node.take(input, outbox).is_ok() {
+        let _stored = node.store(HowStored::Done);
+        let _released = node.release(outbox);
+    }
+    outbox.drop_held();
+}
+
+impl DataNodes {
+    /// The data nodes of the roster of this conf, as they begin.
+    pub fn of(alloc: Global, conf: &Conf) -> Result<DataNodes, AllocError> {
+        let mut nodes = Vec::new(alloc);
+        for number in 0..u16::MAX {
+            let Some(node) = DataNode::new(conf, number) else {
+                break;
+            };
+            nodes.push(node)?;
+        }
+        Ok(DataNodes {
+            nodes,
+            outbox: Outbox::new(alloc),
+        })
+    }
+
+    /// How many there are.
+    pub fn count(&self) -> u16 {
+        self.nodes.len().min(u16::MAX as usize) as u16
+    }
+
+    /// Has the node with this number take an event, and sends what it says.
+    fn take<R: Wait>(&mut self, rt: &R, group: &GroupState, number: u16, now: u64, event: Event)
+        requires { IsTakeable event }
+    {
+        if let Some(node) = self.nodes.get_mut(number as usize) {
+            let input = Input { now, event };
+            carry_out(node, &input, &mut self.outbox);
+            group.links.send_all(rt, self.outbox.outputs());
+        }
+    }
+
+    /// Stops the node with this number.
+    fn stop(&mut self, number: u16) {
+        if let Some(node) = self.nodes.get_mut(number as usize) {
+            node.stop(KeptText::Old);
+        }
+    }
+
+    /// Starts the node with this number.
+    fn start(&mut self, number: u16, now: u64) {
+        if let Some(node) = self.nodes.get_mut(number as usize) {
+            drop(node.start(now));
+        }
+    }
+
+    /// Runs an errand; nothing where no node has its number.
+    pub fn run_errand<R: Wait + Clock>(&mut self, rt: &R, group: &GroupState, errand: Errand) {
+        let now = group.clock.now(rt);
+        let Errand { number, deed } = errand;
+        match deed {
+            Deed::Take(takeable) => self.take(rt, group, number, now, takeable.into_event()),
+            Deed::Stop => self.stop(number),
+            Deed::Start => self.start(number, now),
+        }
+    }
+
+    /// Runs each errand that comes, until `ending` isn't 0 or nobody is left who could send one.
+    pub fn run<R: Wait + Clock>(
+        &mut self,
+        rt: &R,
+        group: &GroupState,
+        errands: &Receiver<Errand>,
+        ending: &AtomicU64,
+    ) {
+        for _ in rt.forever() {
+            if ending.load(Ordering::SeqCst) != 0 {
+                return;
+            }
+            match errands.recv_timeout(rt, Duration::from_millis(ERRAND_MS)) {
+                Ok(errand) => self.run_errand(rt, group, errand),
+                Err(RecvTimeoutError::Timeout) => {}
+                Err(RecvTimeoutError::Disconnected) => return,
+            }
+        }
+    }
+}

@@ -1,0 +1,35 @@
+//! The clock of a group.
+
+use std::io;
+use std::rt::Clock;
+use std::time::{Duration, Instant};
+
+/// The clock that all threads of a group read.
+#[derive(Clone, Copy)]
+pub struct GroupClock {
+    start: Instant,
+}
+
+impl GroupClock {
+    /// A clock that stands at 0 now; the error is the system's, where it gives no time.
+    pub fn start<R: Clock>(rt: &R) -> io::Result<GroupClock> {
+        Ok(GroupClock {
+            start: Instant::now(rt)?,
+        })
+    }
+
+    /// How long the group runs. 0 where the system gives no time: a clock that falls puts a Sentinel in TILT.
+    pub fn elapsed<R: Clock>(&self, rt: &R) -> Duration {
+        self.start.elapsed(rt).unwrap_or(Duration::from_millis(0))
+    }
+
+    /// The milliseconds that the group runs.
+    pub fn now<R: Clock>(&self, rt: &R) -> u64 {
+        millis_of(self.elapsed(rt))
+    }
+}
+
+/// A duration in milliseconds, at most 2^64 - 1.
+pub fn millis_of(duration: Duration) -> u64 {
+    u64::try_from(duration.as_millis()).unwrap_or(u64::MAX)
+}

@@ -1,0 +1,58 @@
+//! What all threads of a group share.
+
+use crate::clock::GroupClock;
+use crate::links::Links;
+use std::sync::atomic::{AtomicU64, Ordering};
+
+/// What all threads of a group share: its links, its clock, and what went wrong so far.
+#[derive(Drop)]
+pub struct GroupState {
+    pub links: Links,
+    pub clock: GroupClock,
+    halted: AtomicU64,
+    lacked_thread: AtomicU64,
+    lost_port: AtomicU64,
+}
+
+impl GroupState {
+    /// A group in which nothing went wrong.
+    pub fn new(links: Links, clock: GroupClock) -> GroupState {
+        GroupState {
+            links,
+            clock,
+            halted: AtomicU64::new(0),
+            lacked_thread: AtomicU64::new(0),
+            lost_port: AtomicU64::new(0),
+        }
+    }
+
+    /// Notes that a Sentinel was halted.
+    pub fn note_halted(&self) {
+        self.halted.store(1, Ordering::SeqCst);
+    }
+
+    /// Notes that a thread or its room couldn't be made.
+    pub fn note_lacking_thread(&self) {
+        self.lacked_thread.store(1, Ordering::SeqCst);
+    }
+
+    /// Notes that a port can't serve its clients any more.
+    pub fn note_lost_port(&self) {
+        self.lost_port.store(1, Ordering::SeqCst);
+    }
+
+    /// Whether a Sentinel was halted.
+    pub fn was_halted(&self) -> bool {
+        self.halted.load(Ordering::SeqCst) != 0
+    }
+
+    /// Whether a thread or its room couldn't be made.
+    pub fn lacked_a_thread(&self) -> bool {
+        self.lacked_thread.load(Ordering::SeqCst) != 0
+    }
+
+    /// Whether a port couldn't serve its clients any more.
+    pub fn lost_a_port(&self) -> bool {
+        self.lost_port.load(Ordering::SeqCst) != 0
+    }
+}

@@ -1,0 +1,271 @@
+//! A Sentinel that threads share, with the seats that are known to be of it.
+
+ghost use Rattle.std.specs.Prelude.{◌≡◌, [], OnOk};
+ghost use Rattle.std.specs.List.{AllByRecursion};
+ghost use Rattle.boxed_nodes.specs.Sendable.{IsSendableOutput};
+ghost use Rattle.sentinel_rules.specs.Facts.{IsWithinEvent};
+
+use crate::notes::note_all;
+use crate::switches::{Switch, Switches};
+use ballot_law::{
+    Addr, Body, Card, Command, Event, Input, Name, NoMemory, NodeName, Output, Roster,
+};
+use conf_store::ConfStore;
+use group_links::GroupState;
+use log::kv::With;
+use log::{Level, Log, Span, log_enabled};
+use port_serving::ServeFault;
+use port_sessions::Session;
+use sentinel_cell::{ActFault, Seat, SharedSentinel};
+use sentinel_outbox::Outbox;
+use sentinel_rules::law_outputs_are_within;
+use std::alloc::Global;
+use std::marker::{Brand, PhantomData};
+use std::sync::Wait;
+
+/// Which Sentinel it is. Only proofs read it.
+pub trait Which {
+    ghost use Rattle.atomic_table.specs.Seated.{TableId};
+
+    ghost cell: { TableId };
+}
+
+impl Which for Brand {
+    ghost use Rattle.std.specs.Prelude.{[]};
+
+    ghost cell = { record { words = 0; slots = 0; views_name = 0; atom = 0; block = 0; offset = 0; slot_names = [] } };
+}
+
+/// A Sentinel of the group, which its threads share.
+#[derive(Drop)]
+pub struct RunningSentinel<J: Which, S: ConfStore> {
+    cell: SharedSentinel<S>,
+    masters: u16,
+    port: u16,
+    switches: Switches,
+    of: PhantomData<J>,
+    ghost is: { cell.id ≡ J.cell },
+}
+
+/// A thread's seat of that Sentinel, with the thread's own room for outputs.
+#[derive(Drop)]
+pub struct ThreadSeat<J: Which> {
+    seat: Seat,
+    outbox: Outbox,
+    of: PhantomData<J>,
+    ghost is: { seat.cell ≡ J.cell },
+    ghost held: { outbox.held ≡ [] },
+}
+
+/// A seat with room for outputs that is made as it is needed.
+fn with_outbox<J: Which>(alloc: Global, seat: Seat) -> ThreadSeat<J>
+    requires { seat.cell ≡ J.cell }
+{
+    ThreadSeat {
+        seat,
+        outbox: Outbox::new(alloc),
+        of: PhantomData,
+    }
+}
+
+impl<J: Which> ThreadSeat<J> {
+    /// What the last input gave.
+    pub(crate) fn outputs(&self) -> &[Output] {
+        self.outbox.outputs()
+    }
+
+    /// The answer among them, where the input was a command.
+    fn answer(&self) -> Option<&Body> {
+        match self.outbox.outputs().first() {
+            Some(Output::Send(message)) => Some(&message.body),
+            _ => None,
+        }
+    }
+}
+
+impl<J: Which, S: ConfStore> RunningSentinel<J, S> {
+    /// The Sentinel whose clients come to this port, with its first seat.
+    pub fn with_seat(
+        alloc: Global,
+        cell: SharedSentinel<S>,
+        seat: Seat,
+        port: u16,
+    ) -> (RunningSentinel<J, S>, ThreadSeat<J>)
+        requires { (cell.id ≡ J.cell) × (seat.cell ≡ J.cell) }
+    {
+        let masters = cell.roster().masters().len().min(u16::MAX as usize) as u16;
+        let member = RunningSentinel {
+            cell,
+            masters,
+            port,
+            switches: Switches::new(alloc),
+            of: PhantomData,
+        };
+        (member, with_outbox(alloc, seat))
+    }
+
+    /// How many masters it watches.
+    pub fn masters(&self) -> u16 {
+        self.masters
+    }
+
+    /// A second seat beside this one; None where no share is left, and then the seat is gone.
+    pub fn split(
+        &self,
+        alloc: Global,
+        seat: ThreadSeat<J>,
+    ) -> Option<(ThreadSeat<J>, ThreadSeat<J>)> {
+        let (one, two) = self.cell.split(seat.seat).ok()?;
+        Some((with_outbox(alloc, one), with_outbox(alloc, two)))
+    }
+
+    /// One input, and how many calls stand before it. The outbox shows what the Sentinel says, once it is stored; at a fault it says
+    /// nothing.
+    fn turn<R: Wait>(
+        &self,
+        rt: &R,
+        seat: &mut ThreadSeat<J>,
+        input: &Input,
+    ) -> Result<u64, ActFault>
+        requires { IsWithinEvent input.now.event }
+        ensures { OnOk result (AllByRecursion IsSendableOutput seat.new.outbox.shown) }
+    {
+        law_outputs_are_within();
+        seat.outbox.clear();
+        match self.cell.act(rt, &mut seat.seat, input, &mut seat.outbox) {
+            Ok(reply) => Ok(reply.entry),
+            Err(fault) => Err(fault),
+        }
+    }
+
+    /// One input at a reading of the clock in milliseconds. What the Sentinel says, once it is stored, goes to its links, and what it notes to
+    /// the log and to the subscribers of its port. At a fault it says nothing.
+    pub fn carry_out<R: Wait + Log>(
+        &self,
+        rt: &R,
+        seat: &mut ThreadSeat<J>,
+        group: &GroupState,
+        now: u64,
+        event: Event,
+    ) -> Result<(), ActFault>
+        requires { IsWithinEvent event }
+    {
+        let input = Input { now, event };
+        let entry = self.turn(rt, seat, &input)?;
+        let outputs = seat.outbox.outputs();
+        group.links.send_all(rt, outputs);
+        self.switches.add_all(rt, outputs, entry);
+        if log_enabled!(rt; Level::Info) {
+            note_all(&self.noting(rt), self.roster(), &input.event, outputs);
+        }
+        Ok(())
+    }
+
+    /// Where its notes go: each names the Sentinel's port.
+    pub(crate) fn noting<'a, R: Log>(&self, rt: &'a R) -> Span<'a, &'a R, With<'a, (), u16>> {
+        rt.span("sentinel").with("port", self.port)
+    }
+
+    /// The Sentinels and the masters of the group.
+    pub(crate) fn roster(&self) -> &Roster {
+        self.cell.roster()
+    }
+
+    /// How far its ticks stand behind those of the first Sentinel, where two ticks are so far apart: each Sentinel has its share of the time
+    /// between. So the first one that begins a failover is heard by the others before their own ticks, and has their votes; Redis's Sentinel
+    /// varies its timer for that.
+    pub(crate) fn phase(&self, period: u64) -> u64 {
+        let sentinels = self.cell.roster().sentinels();
+        for place in 0..sentinels.len() {
+            if sentinels[place].addr.port == self.port {
+                return period.saturating_mul(place as u64) / sentinels.len() as u64;
+            }
+        }
+        0
+    }
+
+    /// The name of the master with this number.
+    pub(crate) fn name_of(&self, master: u16) -> Option<Name> {
+        Some(self.cell.roster().masters().get(master as usize)?.name)
+    }
+
+    /// The stored configuration of the master with this number: its epoch and its address.
+    pub(crate) fn address(&self, seat: &mut ThreadSeat<J>, master: u16) -> Option<(u64, Addr)> {
+        self.cell.address(&mut seat.seat, master)
+    }
+
+    /// Has the Sentinel take a command, whose answer the seat then has.
+    fn give<R: Wait>(
+        &self,
+        rt: &R,
+        seat: &mut ThreadSeat<J>,
+        now: u64,
+        command: Command,
+    ) -> Result<u64, ActFault>
+        requires { IsWithinEvent (Event.Command (NodeName.PortAt 0) command) }
+    {
+        let sender = NodeName::PortAt(0);
+        let event = Event::Command { sender, command };
+        self.turn(rt, seat, &Input { now, event })
+    }
+
+    /// What the Sentinel answers to a command; none at a fault.
+    pub(crate) fn ask<'a, R: Wait>(
+        &self,
+        rt: &R,
+        seat: &'a mut ThreadSeat<J>,
+        now: u64,
+        command: Command,
+    ) -> Option<&'a Body>
+        requires { IsWithinEvent (Event.Command (NodeName.PortAt 0) command) }
+    {
+        self.give(rt, seat, now, command).ok()?;
+        seat.answer()
+    }
+
+    /// The notes for the subscribers of the port that nobody took yet, in the order in which they came.
+    pub fn take_switches<R: Wait>(&self, rt: &R) -> Vec<Switch> {
+        self.switches.take(rt)
+    }
+
+    /// Tells a session of a note: whether it is told, which joins what it sends. `NoMemory` changes nothing.
+    pub fn notify(&self, session: &mut Session, switch: &Switch) -> Result<bool, NoMemory> {
+        let roster = self.cell.roster();
+        if switch.note.master as usize >= roster.masters().len() {
+            return Ok(false);
+        }
+        session.notify(roster, &switch.note, switch.entry)
+    }
+
+    /// What the Sentinel answers to a command about the master with this number, where this is still its configuration after the answer: then
+    /// the answer is of that configuration, since epochs only rise. None else, and at a fault.
+    pub(crate) fn ask_about<'a, R: Wait>(
+        &self,
+        rt: &R,
+        seat: &'a mut ThreadSeat<J>,
+        now: u64,
+        command: Command,
+        master: u16,
+        card: Card,
+    ) -> Option<&'a Body>
+        requires { IsWithinEvent (Event.Command (NodeName.PortAt 0) command) }
+    {
+        self.give(rt, seat, now, command).ok()?;
+        if self.address(seat, master)? != (card.epoch, card.addr) {
+            return None;
+        }
+        seat.answer()
+    }
+
+    /// Hands a session the next piece of its stream, at a reading of the clock in milliseconds.
+    pub fn receive<R: Wait>(
+        &self,
+        rt: &R,
+        seat: &mut ThreadSeat<J>,
+        session: &mut Session,
+        now: u64,
+        piece: &[u8],
+    ) -> Result<(), ServeFault> {
+        session.received(rt, &self.cell, &mut seat.seat, now, piece)
+    }
+}

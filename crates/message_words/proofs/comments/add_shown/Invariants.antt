@@ -1,6 +1,0 @@
-use Rattle.std.proofs.Common.{◌≡◌, ◌++◌, map, take}
-use Rattle.message_words.specs.Lines.{shown}
-use Rattle.message_words.proofs.comments.add_shown.Given as goal
-
-abbrev pub invariant-loop-byte : goal.invariant-loop-byte
-invariant-loop-byte l = l.text ≡ l.fn.text ++ map shown (take l.byte-index l.fn.bytes)

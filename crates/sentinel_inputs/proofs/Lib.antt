@@ -1,0 +1,7 @@
+mod AtPlaces
+mod FewBest
+mod Looking
+mod Openings
+mod PartSteps
+mod Sights
+mod AnswerRows

@@ -1,0 +1,77 @@
+//! Answers of other Sentinels, and replies to PING.
+
+ghost use Rattle.std.specs.Prelude.{◌≡◌};
+ghost use Rattle.ballot_law.specs.Clocks.{clock};
+ghost use Rattle.sentinel_rules.specs.News.{answered, pinged_at, pinged};
+ghost use Rattle.sentinel_rules.specs.Plans.{node_named};
+
+use ballot_law::{Addr, NodeName, PingReply, RunId};
+use sentinel_state::State;
+
+/// Takes the answer of a node to the question whether a master is down: whether it finds it down, and its vote. One that isn't
+/// another Sentinel of the roster changes nothing.
+///
+/// Many parameters: those of the event, which is a reference to its parts.
+pub fn hear_answer(
+    state: &mut State,
+    voter: NodeName,
+    m: u16,
+    now: u64,
+    addr: Addr,
+    down: bool,
+    leader: Option<RunId>,
+    epoch: u64,
+)
+    ensures { state.new ≡ record state.old {
+      core
+          = answered state.old.plan voter m (clock now) addr down leader epoch state.old.core;
+    } }
+{
+    let NodeName::SentinelAt(voter) = voter else {
+        return;
+    };
+    if state.plan.is_other(voter) && m < state.plan.master_count() {
+        state.core.hear_report(voter, m, now, addr, down);
+        state.core.hear_vote(voter, m, epoch, leader);
+    }
+}
+
+/// Takes the reply of a data node to a PING; one that isn't of the roster changes nothing.
+fn hear_node(state: &mut State, node: NodeName, now: u64, reply: PingReply)
+    ensures { state.new ≡ record state.old {
+      core
+          = pinged_at (clock now) reply (node_named state.old.plan node) state.old.core;
+    } }
+{
+    if let Some(at) = state.plan.node_named(node) {
+        let place = at.place as usize;
+        let mut node = state.core.node(at.master, place);
+        node.hear_pong(now, reply);
+        state.core.set_node(at.master, place, node);
+    }
+}
+
+/// Takes the reply of the Sentinel at a place to a PING.
+fn hear_peer(state: &mut State, place: u16, now: u64, reply: PingReply)
+    ensures { state.new ≡ record state.old {
+      core
+          = pinged state.old.plan (NodeName.SentinelAt place) (clock now) reply state.old.core;
+    } }
+{
+    if state.plan.is_other(place) {
+        let mut peer = state.core.peer(place as usize);
+        peer.hear_pong(now, reply);
+        state.core.set_peer(place as usize, peer);
+    }
+}
+
+/// Takes the reply of a node to a PING. One that is neither a data node nor another Sentinel of the roster changes nothing.
+pub fn hear_pong(state: &mut State, node: NodeName, now: u64, reply: PingReply)
+    ensures { state.new ≡ record state.old { core = pinged state.old.plan node (clock now) reply state.old.core } }
+{
+    match node {
+        NodeName::SentinelAt(place) => hear_peer(state, place, now, reply),
+        NodeName::StoreAt(_) => hear_node(state, node, now, reply),
+        NodeName::ClientAt(_) | NodeName::PortAt(_) => {}
+    }
+}

@@ -1,2 +1,0 @@
-pub mod MasterNames
-pub mod NodeNumbers

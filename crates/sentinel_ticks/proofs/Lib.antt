@@ -1,6 +1,0 @@
-pub mod AtPlaces
-pub mod FewBest
-pub mod Looking
-pub mod Openings
-pub mod PartSteps
-pub mod Sights

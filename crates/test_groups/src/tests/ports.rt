@@ -1,0 +1,79 @@
+//! What a client of a port is answered.
+
+ghost use Rattle.std.specs.Prelude.{◌≡◌, All, IfSome};
+
+use crate::tests::clients::{ADDRESS, ADDRESS_AND_FAULT, connected};
+use crate::tests::confs::{free_port, text_of_one};
+use conf_store::MemoryStore;
+use log::Log;
+use sentinel_conf::{Conf, read};
+use sentinel_runner::{Group, GroupFault};
+use std::alloc::Global;
+use std::io::{self, Read, Write};
+use std::rt::Clock;
+use std::sync::Wait;
+use std::sync::atomic::{AtomicU64, Ordering};
+use std::test::Fail;
+use std::thread::{self, Threads};
+
+/// Asks for the address, in two pieces, and once that has come sends an array that is too long; all that is answered, to the end of the connection.
+fn talk<T: Read + Write>(alloc: Global, stream: &mut T) -> io::Result<Vec<u8>> {
+    let mut got = Vec::new(alloc);
+    stream.write_all(&ADDRESS[..20])?;
+    stream.flush()?;
+    stream.write_all(&ADDRESS[20..])?;
+    let mut address = [0u8; 29];
+    stream.read_exact(&mut address)?;
+    got.extend_from_slice(&address)?;
+    stream.write_all(b"*1025\r\n")?;
+    stream.read_to_end(&mut got)?;
+    Ok(got)
+}
+
+/// Runs a group beside a client: what the client got, and how the group ended.
+fn beside<R: Threads + Wait + Clock + Log + Sync, T: Read + Write + Drop + Send>(
+    rt: &R,
+    alloc: Global,
+    group: Group<MemoryStore>,
+    mut stream: T,
+) -> (io::Result<Vec<u8>>, Result<(), GroupFault>) {
+    let ending = AtomicU64::new(0);
+    thread::join(
+        rt,
+        || {
+            let got = talk(alloc, &mut stream);
+            ending.store(1, Ordering::SeqCst);
+            got
+        },
+        || group.run(rt, &ending),
+    )
+}
+
+/// The conf of one Sentinel, and its store.
+fn one(alloc: Global, text: &str) -> Option<(Vec<Conf>, Vec<MemoryStore>)>
+    ensures { IfSome result (λ r. All (λ store. store.failed ≡ 0) r.1.items) }
+{
+    let conf = read(alloc, text.as_bytes()).ok()?;
+    let confs = vec![in alloc; conf].ok()?;
+    let store = MemoryStore::holding(alloc, text.as_bytes()).ok()?;
+    let mut stores = Vec::new(alloc);
+    stores.push(store).ok()?;
+    Some((confs, stores))
+}
+
+#[test]
+fn an_address_and_a_protocol_error(rt: HostRuntime) -> Result<(), Fail> {
+    let alloc = rt.alloc();
+    let port = free_port(&rt)?;
+    let text = text_of_one(alloc, port)?;
+    let (confs, stores) = one(alloc, text.as_str()).ok_or("no conf")?;
+    let Ok(group) = Group::open(&rt, alloc, confs, stores) else {
+        return Err(Fail::from("no group"));
+    };
+    let stream = connected(&rt, port)?;
+    let (got, ended) = beside(&rt, alloc, group, stream);
+    let got = got?;
+    assert_eq!(rt; got.as_slice(), ADDRESS_AND_FAULT.as_slice());
+    assert_eq!(rt; ended, Ok(()));
+    Ok(())
+}

@@ -1,6 +1,0 @@
-use Rattle.world_members.proofs.Searching.{AlikeBefore}
-use Rattle.world_members.proofs.alike.is_alike.Given as goal
-
-abbrev pub invariant-loop-k : goal.invariant-loop-k
-invariant-loop-k g l =
-    AlikeBefore l.roster l.nodes.items l.place l.k (λ b. (goal.Node-dyn g (b.vtable, b.value)).name b.value) (λ b. (goal.Node-dyn g (b.vtable, b.value)).shows b.value)

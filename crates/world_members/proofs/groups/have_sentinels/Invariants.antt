@@ -1,6 +1,0 @@
-use Rattle.ballot_law.specs.declared.messages.NodeName.TheVariants.{SentinelAt}
-use Rattle.world_members.proofs.Searching.{NamedBelow}
-use Rattle.world_members.proofs.groups.have_sentinels.Given as goal
-
-abbrev pub invariant-loop-place : goal.invariant-loop-place
-invariant-loop-place g l = NamedBelow l.nodes.items SentinelAt l.place (λ b. (goal.Node-dyn g (b.vtable, b.value)).name b.value)

@@ -1,5 +1,0 @@
-pub mod Seats
-pub mod Standing
-pub mod Groups
-pub mod NewMembers
-pub mod Refusals
