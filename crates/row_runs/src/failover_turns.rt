@@ -168,10 +168,12 @@ impl Turns {
         self.down.clear();
         for place in places {
             let place = usize::from(number_16(place)?);
-            while self.down.len() <= place {
+            for _ in self.down.len()..=place {
                 self.down.push(false)?;
             }
-            self.down[place] = true;
+            if let Some(down) = self.down.get_mut(place) {
+                *down = true;
+            }
         }
         Ok(())
     }

@@ -63,7 +63,10 @@ fn split(words: &[Vec<u8>]) -> (&[Vec<u8>], &[Vec<u8>]) {
 fn masters(alloc: Global, words: &[Vec<u8>]) -> Result<Vec<Watched>, Unplayed> {
     let mut masters = Vec::new(alloc);
     let mut rest = words;
-    while let [_, more @ ..] = rest {
+    for _ in 0..words.len() {
+        let [_, more @ ..] = rest else {
+            return Ok(masters);
+        };
         let (words, behind) = split(more);
         masters.push(watched(alloc, words)?)?;
         rest = behind;
