@@ -1,7 +1,7 @@
 """What the scripts of this folder share: rt's own code, the repository's crates, and the programs that are kept in out/.
 
 No command of rt builds a crate's libraries side by side, or keeps a program that isn't proved, so that is done by rt's own code. What is called
-of it is of kit 13f.
+of it is of kits 13b and 13f; the first keeps nothing of what its gate passed.
 """
 import contextlib
 import copy
@@ -38,8 +38,22 @@ def load():
     loader.exec_module(rt)
     # (its first call sets a signal's handler, which only the main thread may)
     rt.rtlib.guarded()
+    sum_once(rt.rtlib.Crate)
     os.chdir(TOP)
     return rt
+
+
+def sum_once(crate):
+    """Has crates remember their sums, which kit 13b takes anew for each way that leads down to one. A file that changes meanwhile is not seen."""
+    plain, sums = crate.stamp, {}
+
+    def stamp(self):
+        key = self.folder, repr((self.said, self.has_c))
+        if key not in sums:
+            sums[key] = plain(self)
+        return sums[key]
+
+    crate.stamp = stamp
 
 
 def crates_of(rt):
@@ -126,9 +140,11 @@ class Libraries:
     def __init__(self, rt, crates):
         self.rt = rt
         rt.Crate.allowed = rt.handles_of(TOP)
-        # (as `rt lib`, over what other copies of the repository have built)
-        rt.share_work(True)
-        self.gate = rt.Kept(crates)
+        self.gate = None
+        if hasattr(rt, "Kept"):
+            # (as `rt lib`, over what other copies of the repository have built)
+            rt.share_work(True)
+            self.gate = rt.Kept(crates)
 
     def make(self, crate, jobs):
         """Has the crate's library stand, if it can be proved, and tells how it came there."""
@@ -146,7 +162,7 @@ class Libraries:
     def is_given(self, crate):
         """Takes the library that the gate made of the same files over the same libraries, if it kept it, and tells whether it did. The stamp, by which
         rt knows a library that is up to date, is this function's: one that is made of the same files is."""
-        if not glob.glob(f"{self.gate.at}/proof-{crate.name}-*"):
+        if not self.gate or not glob.glob(f"{self.gate.at}/proof-{crate.name}-*"):
             return False
         for it in crate.below():
             if it.name not in self.gate.rlibs:
@@ -164,6 +180,8 @@ class Libraries:
     def kept_program(self, program):
         """The program that the gate made of the same sources, if it kept it, or None. Its libraries needn't stand for that: the list of a kept library's
         files gives the sum by which those above it were kept."""
+        if not self.gate:
+            return None
         standing, self.gate.rlibs = self.gate.rlibs, {}
         try:
             for crate in [*program.below(), program]:
