@@ -14,6 +14,7 @@ pub mod MadeRosters
 pub mod Masters
 pub mod NodeCounts
 pub mod Nodes
+pub mod OrderedMembers
 pub mod Placing
 pub mod Rising
 pub mod RefusalsRun

@@ -61,7 +61,7 @@ module _ {X : Type 0} (before : X → X → Bool) (o : IsStrict before) where
 
 -- by a key
 module _ {X K : Type 0} (key : X → K) (before : K → K → Bool) (o : IsStrict before) where
-  strict_by : IsStrict (λ (a b : X). before (key a) (key b))
+  pub strict_by : IsStrict (λ (a b : X). before (key a) (key b))
   strict_by = record {
     irreflexive = λ x. o.irreflexive (key x);
     transitive = λ x y z e f. o.transitive (key x) (key y) (key z) e f;
@@ -84,10 +84,10 @@ module _ {X K : Type 0} (key : X → K) (before : K → K → Bool) (o : IsStric
       apart (in_order (λ (a b : X). before (key a) (key b)) xs) d i j (in_order_rises (λ (a b : X). before (key a) (key b)) strict_by xs) k l e (cases_order i j)
 
 -- the order of run ids, and that of texts
-less_not : (x : ℕ) → ltb x x ≡ false
+pub less_not : (x : ℕ) → ltb x x ≡ false
 less_not x = grind (arith, nat_tests)
 
-less_on : (x y z : ℕ) → ltb x y ≡ true → ltb y z ≡ true → ltb x z ≡ true
+pub less_on : (x y z : ℕ) → ltb x y ≡ true → ltb y z ≡ true → ltb x z ≡ true
 less_on x y z h k = grind (arith, nat_tests)
 
 -- by a number, and where it is the same by more

@@ -18,6 +18,7 @@ pub mod Refusals
 pub mod Reports
 pub mod Results
 pub mod RosterFaults
+pub mod RosterOrder
 pub mod Rosters
 pub mod ShortTexts
 pub mod ShortTextsAgain

@@ -1,5 +1,11 @@
 //! The laws over every run of a group.
 
+ghost use Rattle.std.specs.Prelude.{◌≡◌, ◌-◌, ◌^◌};
+ghost use Rattle.ballot_law.specs.declared.cards.TheConstants.{MAX_EPOCH};
+ghost use Rattle.ballot_law.specs.declared.messages.TheConstants.{ANSWER_MAX, OUTPUTS_MAX};
+ghost use Rattle.ballot_law.specs.declared.names.TheConstants.{NAME_MAX};
+ghost use Rattle.ballot_law.specs.declared.periods.TheConstants.{REPLICA_MS, REPORT_MS, STEP_MS, TILT_MS};
+ghost use Rattle.ballot_law.specs.declared.rosters.TheConstants.{MASTERS_MAX, NODES_MAX, SENTINELS_MAX};
 ghost use Rattle.ballot_law.specs.Wins.{ElectedMayWin};
 ghost use Rattle.ballot_law.specs.Law.{OneLeader, OneAddress, NeverFalls, NeverFallsAlong, RunsJoin, StepsJoin, FailoverHappens};
 ghost use Rattle.ballot_law.specs.Refusals.{RefusalsHappen};
@@ -47,4 +53,24 @@ pub fn law_refusals_happen()
 /// A Sentinel that counts itself elected, by the votes that it heard and its own, meets the model's condition of a win.
 pub fn law_elected_may_win()
     ensures { ElectedMayWin }
+{}
+
+/// The limits of a group as numbers. Definitions and code cite them by name: a group of 64 Sentinels, 16 masters, 256 data nodes
+/// of each, names of 64 bytes, epochs up to 2^48 - 1; an input puts out at most 1,536 outputs and an answer of 65,536 bytes.
+pub fn law_limits()
+    ensures sentinels { SENTINELS_MAX ≡ 64 }
+    ensures masters { MASTERS_MAX ≡ 16 }
+    ensures nodes { NODES_MAX ≡ 256 }
+    ensures names { NAME_MAX ≡ 64 }
+    ensures epochs { MAX_EPOCH ≡ 2 ^ 48 - 1 }
+    ensures outputs { OUTPUTS_MAX ≡ 1536 }
+    ensures answers { ANSWER_MAX ≡ 65536 }
+{}
+
+/// The periods of the down states and of TILT as numbers, in milliseconds. Definitions and code cite them by name.
+pub fn law_periods()
+    ensures report { REPORT_MS ≡ 5000 }
+    ensures replica { REPLICA_MS ≡ 20000 }
+    ensures step { STEP_MS ≡ 2000 }
+    ensures tilt { TILT_MS ≡ 30000 }
 {}

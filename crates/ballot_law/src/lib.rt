@@ -35,8 +35,8 @@ pub use comparisons::is_same_bytes;
 pub use events::{Event, Input};
 pub use hearings::{DownReport, HeardVote};
 pub use laws::{
-    law_elected_may_win, law_failover_happens, law_never_falls, law_one_address, law_one_leader,
-    law_refusals_happen, law_runs_join,
+    law_elected_may_win, law_failover_happens, law_limits, law_never_falls, law_one_address,
+    law_one_leader, law_periods, law_refusals_happen, law_runs_join,
 };
 pub use memory::NoMemory;
 pub use messages::{ANSWER_MAX, Body, Message, NodeName, Note, OUTPUTS_MAX, Output, SHOWN_MAX};

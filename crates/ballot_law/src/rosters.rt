@@ -7,6 +7,7 @@ ghost use Rattle.ballot_law.specs.Orders.{same_addr, same_bytes, bytes_before};
 ghost use Rattle.ballot_law.specs.declared.rosters.TheConstants.{SENTINELS_MAX, MASTERS_MAX, NODES_MAX};
 ghost use Rattle.ballot_law.specs.declared.rosters.RosterFault.TheVariants.{NoMemory};
 ghost use Rattle.ballot_law.specs.RosterFaults.{IsRoster, Makes, fault_of, first_that_fits, first_tests, last_tests, addresses};
+ghost use Rattle.ballot_law.specs.RosterOrder.{IsInOrder, HasSameMembers};
 
 use crate::addresses::{Addr, RunId};
 use crate::comparisons::is_same_bytes;
@@ -326,15 +327,18 @@ fn judge(alloc: Global, sentinels: &[Member], masters: &[Watched]) -> Result<(),
 }
 
 impl Roster {
-    /// The roster of these members in order, or the first fault that fits, with the members dropped. A refused allocation may
-    /// stand in place of any other answer.
+    /// The roster of these members in order, each of them once: the Sentinels by run id, the masters by the bytes of their names,
+    /// the data nodes of each by address. Or the first fault that fits, with the members dropped. A refused allocation may stand
+    /// in place of any other answer.
     #[tactic(auto, using(crate::proofs::Placing::in_order_len))]
     pub fn new(
         alloc: Global,
         sentinels: Vec<Member>,
         masters: Vec<Watched>,
     ) -> Result<Roster, RosterFault>
-        ensures { Makes (record { sentinels = sentinels.items; masters = masters.items }) result }
+        ensures made { Makes (record { sentinels = sentinels.items; masters = masters.items }) result }
+        ensures in_order { IfOk result IsInOrder }
+        ensures members { IfOk result (HasSameMembers (record { sentinels = sentinels.items; masters = masters.items })) }
     {
         judge(alloc, &sentinels, &masters)?;
         let sentinels = ordered(alloc, sentinels)?;

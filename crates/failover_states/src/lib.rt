@@ -13,7 +13,7 @@
 #![tactic(auto)]
 
 pub use failovers::Failover;
-pub use periods::{ELECTION_MS, ORDER_MS, SPREAD_MS};
+pub use periods::{ELECTION_MS, ORDER_MS, SPREAD_MS, law_periods};
 pub use replicas::{Progress, Replica};
 pub use states::{Choice, FailoverState, Row};
 pub use turns::{Act, Facts};

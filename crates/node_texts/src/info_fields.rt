@@ -1,6 +1,7 @@
 //! The fields of an answer to INFO.
 
-ghost use Rattle.std.specs.Prelude.{◌≡◌, ◌++◌, ◌∷◌, [], MatchOption, None};
+ghost use Rattle.std.specs.Prelude.{◌≡◌, ◌++◌, ◌∷◌, ◌-◌, ◌^◌, [], MatchOption, None};
+ghost use Rattle.node_texts.specs.declared.info_fields.TheConstants.{COUNT_MAX};
 ghost use Rattle.node_texts.specs.Infos.{after_label, role_name, is_up, count, count_or_minus};
 
 use crate::lines::without_return;
@@ -9,6 +10,11 @@ use words::{are_digits, ip_of, number_of, port_of, run_id_of, split_line};
 
 /// The greatest number of an answer to INFO: 2^63 - 1.
 const COUNT_MAX: u64 = 9_223_372_036_854_775_807;
+
+/// That greatest number. The grammar and its readers cite it by name.
+pub fn law_counts()
+    ensures { COUNT_MAX ≡ 2 ^ 63 - 1 }
+{}
 
 /// What a field's last line says: none where there is no such line, and none within it where its value is bad.
 pub(crate) type Given<T> = Option<Option<T>>;

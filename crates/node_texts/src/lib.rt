@@ -17,5 +17,6 @@ mod roles;
 pub use ballot_law::{Hello, Info, Role};
 pub use faults::TextFault;
 pub use hellos::{read_hello, write_hello};
+pub use info_fields::law_counts;
 pub use infos::{read_info, write_info};
 pub use roles::{read_role, write_role};

@@ -11,4 +11,4 @@ mod streams;
 
 pub use fault::ServeFault;
 pub use port_sentinel::PortSentinel;
-pub use serving::{READS_MAX, Served, serve_stream};
+pub use serving::{READS_MAX, Served, law_reads, serve_stream};

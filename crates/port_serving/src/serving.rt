@@ -10,6 +10,7 @@ ghost use Rattle.resp2_frames.specs.Stream.{held_size, reading};
 ghost use Rattle.sentinel_outbox.specs.Outboxes.{Fits, room_of_sentinel};
 ghost use Rattle.sentinel_rules.specs.Plans.{Plan};
 ghost use Rattle.sentinel_rules.specs.States.{Core};
+ghost use Rattle.port_serving.specs.declared.serving.TheConstants.{READS_MAX};
 ghost use Rattle.port_serving.specs.Serving.{Holds, EndsWith, IsAnswered, IsIdle, IsFaulted, Breaks, IsRefusal, Drains, Takes, of_frame, phase_of, phase_after, replied_to};
 
 use crate::fault::ServeFault;
@@ -27,6 +28,11 @@ use std::io::{ErrorKind, Read, Write};
 
 /// How many reads the serving of one stream makes at most; the next one is a `Read` fault.
 pub const READS_MAX: u32 = 16_777_216;
+
+/// That number of reads. The loop over a stream's pieces has one turn for each.
+pub fn law_reads()
+    ensures { READS_MAX ≡ 16777216 }
+{}
 
 /// How many bytes one read asks for.
 const PIECE: usize = 16_384;

@@ -1,12 +1,18 @@
 //! What a choice looks at.
 
 ghost use Rattle.std.specs.Prelude.{◌≡◌, nat_le, ◌*◌, ◌+◌};
+ghost use Rattle.replica_choice.specs.declared.candidates.TheConstants.{FRESH_MS};
 ghost use Rattle.replica_choice.specs.Choices.{is_fresh, is_linked, is_eligible, has_smaller_id, is_better};
 
 use ballot_law::{RunId, clock_of};
 
 /// How long ago a candidate may have been heard of, in milliseconds.
 pub const FRESH_MS: u64 = 5_000;
+
+/// That period as a number. The definition of a choice and its code cite it by name.
+pub fn law_fresh()
+    ensures { FRESH_MS ≡ 5000 }
+{}
 
 /// What is known of a replica. Moments are readings of the Sentinel's clock in milliseconds; a reading above 2^62 counts
 /// as 2^62.

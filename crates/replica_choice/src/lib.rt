@@ -8,5 +8,5 @@
 mod candidates;
 mod choices;
 
-pub use candidates::{Candidate, Limits};
+pub use candidates::{Candidate, Limits, law_fresh};
 pub use choices::choose;

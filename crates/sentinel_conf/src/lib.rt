@@ -27,4 +27,4 @@ pub use conf_lines::{ConfFault, ConfKind};
 pub use conf_store::{ConfStore, FileText, LoadFault, MemoryStore, StoreRefused};
 pub use conf_text::{ConfText, FILE_MAX};
 pub use laws::{law_read_again, law_run_ids};
-pub use settings::{DEFAULT_SETTINGS, Settings};
+pub use settings::{DEFAULT_SETTINGS, Settings, law_defaults};

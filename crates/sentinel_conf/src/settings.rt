@@ -1,5 +1,9 @@
 //! The settings of a master.
 
+ghost use Rattle.std.specs.Prelude.{◌≡◌, ◌*◌, ◌+◌, ◌^◌};
+ghost use Rattle.sentinel_conf.specs.declared.meaning.TheConstants.{DEFAULT_IP, DEFAULT_PORT};
+ghost use Rattle.sentinel_conf.specs.declared.settings.TheConstants.{DEFAULT_SETTINGS};
+
 /// The settings of a master.
 #[derive(Clone, Copy, PartialEq, Eq)]
 pub struct Settings {
@@ -19,3 +23,13 @@ pub const DEFAULT_SETTINGS: Settings = Settings {
     parallel_syncs: 1,
     timeout: 180_000,
 };
+
+/// What holds where the file doesn't say otherwise, as numbers: the settings of a master, and this Sentinel's address,
+/// 127.0.0.1:26379. Definitions and code cite them by name.
+pub fn law_defaults()
+    ensures after { DEFAULT_SETTINGS.after_ms ≡ 30000 }
+    ensures parallel_syncs { DEFAULT_SETTINGS.parallel_syncs ≡ 1 }
+    ensures timeout { DEFAULT_SETTINGS.timeout ≡ 180000 }
+    ensures port { DEFAULT_PORT ≡ 26379 }
+    ensures ip { DEFAULT_IP ≡ 127 * 2 ^ 24 + 1 }
+{}

@@ -23,12 +23,26 @@ use node_texts::{TextFault, read_hello, read_info};
 use sentinel_inputs::{
     answer_by_text, answer_plainly, hear_answer, hear_pong, take_hello, take_info, tick,
 };
-use sentinel_outbox::Outbox;
+use sentinel_outbox::{Outbox, Phase, Stores};
 use sentinel_rules::{
     Frame, law_hellos_name_masters, law_inputs_change_one_card, law_inputs_keep_sound,
 };
 use sentinel_state::{Core, State};
 use watched_nodes::Plan;
+
+/// The part of a Sentinel that takes an input: it adds to what is held, and is never in the phase in which that is shown.
+#[derive(Clone, Copy)]
+struct Taking;
+
+impl Stores for Taking {
+    ghost use Rattle.sentinel_outbox.specs.declared.phase.Phase.TheVariants.{Ready};
+
+    ghost phase = { λ _. Ready };
+
+    fn phase(&self) -> Phase {
+        Phase::Ready
+    }
+}
 
 /// A message of this Sentinel.
 fn send(plan: &Plan, target: NodeName, body: Body) -> Output
@@ -204,7 +218,7 @@ fn hold_answer(
 {
     former.begin(state.core.kept(), asked_about(command, &state.core));
     let body = answer(state, now, command, outbox);
-    outbox.hold_output(send(&state.plan, sender, body));
+    outbox.hold_output(&Taking, send(&state.plan, sender, body));
 }
 
 /// Holds what each frame shows now.
@@ -218,7 +232,7 @@ fn hold_frames(state: &State, outbox: &mut Outbox)
 {
     let mut left = state.frames.as_slice();
     while let [frame, more @ ..] = left {
-        outbox.hold_output(output_of(&state.plan, &state.core, *frame));
+        outbox.hold_output(&Taking, output_of(&state.plan, &state.core, *frame));
         left = more;
     }
 }

@@ -18,7 +18,9 @@ use crate::former::Former;
 use ballot_law::{Card, Command, Event, Input, Roster};
 use conf_store::ConfStore;
 use sentinel_conf::{Conf, ConfText, law_run_ids, rewrite_into};
-use sentinel_outbox::{OpenFault, Outbox, Phase, ReleaseFault, Room, StoreFault, TakeFault, Took};
+use sentinel_outbox::{
+    OpenFault, Outbox, Phase, ReleaseFault, Room, StoreFault, Stores, TakeFault, Took,
+};
 use sentinel_rules::{
     law_ignored_inputs_change_nothing, law_inputs_are_steps, law_inputs_change_one_card,
     law_opening_is_sound,
@@ -64,6 +66,14 @@ impl Model for Sentinel {
       phase = sentinel.phase;
       change = sentinel.change;
     }) };
+}
+
+impl Stores for Sentinel {
+    ghost phase = { λ sentinel. sentinel.phase };
+
+    fn phase(&self) -> Phase {
+        self.phase
+    }
 }
 
 /// Whether the event is FLUSHCONFIG, which has the file written though nothing changed.
@@ -332,7 +342,7 @@ impl Sentinel {
     {
         match self.phase {
             Phase::Stored => {
-                outbox.show_stored();
+                outbox.show_stored(&*self);
                 self.phase = Phase::Ready;
                 Ok(())
             }

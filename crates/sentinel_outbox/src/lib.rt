@@ -10,10 +10,12 @@ mod outbox;
 mod phase;
 mod room;
 mod spare;
+mod stores;
 mod took;
 
 pub use faults::{OpenFault, ReleaseFault, StoreFault, TakeFault};
 pub use outbox::Outbox;
 pub use phase::Phase;
 pub use room::Room;
+pub use stores::Stores;
 pub use took::Took;

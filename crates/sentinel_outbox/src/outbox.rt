@@ -3,10 +3,12 @@
 ghost use Rattle.std.specs.Prelude.{◌≡◌, ◌↔◌, ◌≤◌, ◌<◌, ◌+◌, ◌-◌, ◌∷◌, ◌++◌, [], length, OnOk, OnErr, IsOk, IsTrue, IsFalse, IfSome, IfNone, vec_len, vec_capacity};
 ghost use Rattle.std.specs.List.{AllByRecursion};
 ghost use Rattle.ballot_law.specs.declared.messages.Output.TheVariants.{Send};
+ghost use Rattle.sentinel_outbox.specs.declared.phase.Phase.{Phase};
 ghost use Rattle.sentinel_outbox.specs.Outboxes.{Outputs, HasRoom, Fits, KeepsRoom, IsOfOther, IsOtherNode};
 
 use crate::room::Room;
 use crate::spare::{Spare, larger_than};
+use crate::stores::Stores;
 use ballot_law::{Message, NoMemory, Output, Shown};
 use std::alloc::Global;
 use std::marker::Model;
@@ -217,7 +219,7 @@ impl Outbox {
           shown_room = self.old.shown_room - length self.old.held;
         } }
     {
-        self.show_stored();
+        self.show_all();
     }
 
     /// Moves what is shown to the end of a list that has room for it, in order; the texts of the messages aren't copied. No memory is
@@ -234,8 +236,9 @@ impl Outbox {
         move_all(&mut self.shown, to);
     }
 
-    /// Adds an output of a Sentinel to the end of those that are held, within the room for them. No memory is taken.
-    pub fn hold_output(&mut self, output: Output)
+    /// Adds an output of a Sentinel, or of a part of one, to the end of those that are held, within the room for them. No memory is
+    /// taken.
+    pub fn hold_output<T: Stores>(&mut self, by: &T, output: Output)
         requires held_room { length self.old.held < self.old.held_room }
         requires shown_room { length self.old.held < self.old.shown_room }
         ensures { self.new ≡ record self.old { held = self.old.held ++ output ∷ [] } }
@@ -243,10 +246,21 @@ impl Outbox {
         self.held.push_reserved(output);
     }
 
-    /// Moves what is held to the end of what is shown, in order, for a Sentinel that has stored what it rests on: a Sentinel's `release`
-    /// is the only caller, besides `show_held`. Where nothing is shown yet and both lists have as much room, as those of a port do, they
-    /// change places, and no output is moved. No memory is taken.
-    pub fn show_stored(&mut self)
+    /// Moves what is held to the end of what is shown, in order, for a Sentinel that has stored what it rests on. No memory is taken.
+    pub fn show_stored<T: Stores>(&mut self, by: &T)
+        requires { T.phase by.now ≡ Phase.Stored }
+        ensures { self.new ≡ record self.old {
+          shown = self.old.shown ++ self.old.held;
+          held = [];
+          shown_room = self.old.shown_room - length self.old.held;
+        } }
+    {
+        self.show_all();
+    }
+
+    /// Moves what is held to the end of what is shown, in order. Where nothing is shown yet and both lists have as much room, as those of
+    /// a port do, they change places, and no output is moved. No memory is taken.
+    fn show_all(&mut self)
         ensures { self.new ≡ record self.old {
           shown = self.old.shown ++ self.old.held;
           held = [];

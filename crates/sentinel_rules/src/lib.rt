@@ -21,7 +21,7 @@ pub use laws::{
     law_inputs_change_one_card, law_inputs_keep_sound, law_opening_is_sound,
     law_outputs_are_within,
 };
-pub use periods::{ASK_MS, BUSY_INFO_MS, HELLO_MS, INFO_MS, PING_MS, WRONG_ROLE_MS};
+pub use periods::{ASK_MS, BUSY_INFO_MS, HELLO_MS, INFO_MS, PING_MS, WRONG_ROLE_MS, law_periods};
 pub use worked::{
     law_example_answers, law_example_failover, law_example_no_failover, law_example_replicas,
     law_example_tilt, law_example_votes,

@@ -1,5 +1,8 @@
 //! How often a Sentinel sends what, and how long it bears what is wrong, in milliseconds.
 
+ghost use Rattle.std.specs.Prelude.{◌≡◌};
+ghost use Rattle.sentinel_rules.specs.declared.periods.TheConstants.{ASK_MS, BUSY_INFO_MS, HELLO_MS, INFO_MS, PING_MS, WRONG_ROLE_MS};
+
 /// The greatest time between two PINGs; it is shorter where the master's `down-after-milliseconds` is below it.
 pub const PING_MS: u64 = 1_000;
 
@@ -17,3 +20,13 @@ pub const ASK_MS: u64 = 1_000;
 
 /// How long a node may say that it is a master though it isn't.
 pub const WRONG_ROLE_MS: u64 = 8_000;
+
+/// These periods as numbers. Definitions and code cite them by name.
+pub fn law_periods()
+    ensures ping { PING_MS ≡ 1000 }
+    ensures info { INFO_MS ≡ 10000 }
+    ensures busy_info { BUSY_INFO_MS ≡ 1000 }
+    ensures hello { HELLO_MS ≡ 2000 }
+    ensures ask { ASK_MS ≡ 1000 }
+    ensures wrong_role { WRONG_ROLE_MS ≡ 8000 }
+{}

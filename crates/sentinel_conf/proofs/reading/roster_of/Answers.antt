@@ -14,5 +14,5 @@ returns-in-Ok c =
     let given : (let p : Roster = record { sentinels = members; masters = masters } in p) ≡ plan_of own states =
     ap (λ t. let p : Roster = record { sentinels = t; masters = masters } in p) c.in_ok-members.ensures
     ∙ ap (λ t. let p : Roster = record { sentinels = members_of own states; masters = t } in p) (c.in_ok-masters.ensures ∙ ap (map (master_of states)) c.requires) in
-    let fits : fault_of (plan_of own states) ≡ None = subst (λ p. fault_of p ≡ None) given c.in-Ok.ensures.0 in
-    (fits, c.in-Ok.ensures.1 ∙ ap ordered given ∙ ordered_again own states fits)
+    let fits : fault_of (plan_of own states) ≡ None = subst (λ p. fault_of p ≡ None) given c.in-Ok.ensures.made.0 in
+    (fits, c.in-Ok.ensures.made.1 ∙ ap ordered given ∙ ordered_again own states fits)
