@@ -23,6 +23,6 @@ pub use entry::{Entry, Outcome};
 pub use fault::{ActFault, CellFault, Reply};
 pub use keeper::Keeper;
 pub use laws::law_entry_is_steps;
-pub use shared::{MOST_SEATS, Seat, SharedSentinel};
+pub use shared::{MOST_SEATS, Seat, SharedSentinel, law_seats};
 pub use view::{Stage, View};
 pub use word::word_of;

@@ -34,6 +34,11 @@ use std::sync::Wait;
 /// The most seats that a cell is made for.
 pub const MOST_SEATS: u64 = 1024;
 
+/// That number of seats. The definitions and the code cite it by name.
+pub fn law_seats()
+    ensures { MOST_SEATS ≡ 1024 }
+{}
+
 /// The right to act, for one thread at a time. Contracts see of which cell it is, and its view.
 #[derive(Drop)]
 pub struct Seat {
