@@ -1,0 +1,3 @@
+pub mod SpelledNames
+pub mod Nearest
+pub mod Advices

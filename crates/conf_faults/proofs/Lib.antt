@@ -1,0 +1,3 @@
+pub mod FirstFaults
+pub mod Foreign
+pub mod Together

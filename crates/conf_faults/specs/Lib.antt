@@ -1,0 +1,3 @@
+pub mod AllFaults
+pub mod Claims
+pub mod Places
