@@ -1,0 +1,290 @@
+//! A shared Sentinel with one seat, and two clients who are answered at it.
+
+ghost use Rattle.std.specs.Prelude.{◌≡◌, IfOk};
+ghost use Rattle.sentinel_outbox.specs.declared.phase.Phase.TheVariants.{Ready};
+
+use crate::given::{number, number_16, says};
+use crate::told::{Told, Unplayed};
+use ballot_law::{Addr, Card, Note};
+use conf_store::MemoryStore;
+use port_serving::ServeFault;
+use port_sessions::Session;
+use sentinel_cell::{CellFault, Seat, SharedSentinel};
+use sentinel_conf::read;
+use sentinel_core::Sentinel;
+use std::alloc::Global;
+use std::sync::Wait;
+
+/// How many bytes have room in a store, so that it takes no memory.
+const ROOM: usize = 65_536;
+
+/// One seat of a Sentinel, and two clients who are answered at it.
+#[derive(Drop)]
+struct Talk {
+    alloc: Global,
+    cell: SharedSentinel<MemoryStore>,
+    seat: Seat,
+    first: Session,
+    second: Session,
+    /// What the first client wasn't sent of a session that lacked memory.
+    part: Vec<u8>,
+    ghost own: { seat.cell ≡ cell.id },
+}
+
+/// A shared Sentinel with this file, whose store refuses its first text if that is wanted, and its seat.
+fn shared(
+    alloc: Global,
+    file: &[u8],
+    refuses: bool,
+) -> Result<(SharedSentinel<MemoryStore>, Seat), Unplayed>
+    ensures { IfOk result (λ r. r.1.cell ≡ r.0.id) }
+{
+    let store = store(alloc, file, refuses)?;
+    match SharedSentinel::new(alloc, opened(alloc, file)?, store, 1) {
+        Ok(shared) => Ok(shared),
+        Err(_) => Err(Unplayed::NoMemory),
+    }
+}
+
+/// A Sentinel that opens with this file, at clock 0.
+fn opened(alloc: Global, file: &[u8]) -> Result<Sentinel, Unplayed>
+    ensures { IfOk result (λ sentinel. sentinel.phase ≡ Ready) }
+{
+    let Ok(conf) = read(alloc, file) else {
+        return Err(Unplayed::NoMemory);
+    };
+    match Sentinel::open(alloc, conf, 0) {
+        Ok(sentinel) => Ok(sentinel),
+        Err(_) => Err(Unplayed::NoMemory),
+    }
+}
+
+/// Tells the share of the first seat of a Sentinel that is shared by so many seats, or why it isn't shared so.
+fn tell_seats(alloc: Global, file: &[u8], seats: u64, told: &mut Told) -> Result<(), Unplayed> {
+    let store = store(alloc, file, false)?;
+    match SharedSentinel::new(alloc, opened(alloc, file)?, store, seats) {
+        Ok((_, seat)) => told.number(seat.share()),
+        Err((_, CellFault::NoMemory)) => Err(Unplayed::NoMemory),
+        Err((_, fault)) => told.shown(&fault),
+    }
+}
+
+/// A store with this text, which refuses its first text if that is wanted.
+fn store(alloc: Global, file: &[u8], refuses: bool) -> Result<MemoryStore, Unplayed>
+    ensures { IfOk result (λ store. store.failed ≡ 0) }
+{
+    let mut store = MemoryStore::with_room(alloc, file, ROOM)?;
+    if refuses {
+        store.refuse_next(false);
+    }
+    Ok(store)
+}
+
+/// Tells how a piece is taken.
+fn tell_end(end: Result<(), ServeFault>, told: &mut Told) -> Result<(), Unplayed> {
+    match end {
+        Ok(()) => told.ok(),
+        Err(ServeFault::NoMemory) => Err(Unplayed::NoMemory),
+        Err(fault) => told.shown(&fault),
+    }
+}
+
+/// The note that the first master moved to the node with this port.
+fn moved(epoch: u64, port: u16) -> Note {
+    let ip = 2_130_706_433;
+    Note {
+        master: 0,
+        old: Addr { ip, port: 6379 },
+        card: Card {
+            epoch,
+            addr: Addr { ip, port },
+        },
+    }
+}
+
+impl Talk {
+    /// A conversation that hasn't begun, in a box.
+    fn boxed(alloc: Global, file: &[u8], refuses: bool) -> Result<Box<Talk>, Unplayed> {
+        let (cell, seat) = shared(alloc, file, refuses)?;
+        let talk = Talk {
+            alloc,
+            cell,
+            seat,
+            first: Session::new(alloc),
+            second: Session::new(alloc),
+            part: Vec::new(alloc),
+        };
+        Ok(Box::new(alloc, talk)?)
+    }
+
+    /// The first client sends a piece, at clock 0.
+    fn say<R: Wait>(&mut self, rt: &R, piece: &[u8]) -> Result<(), ServeFault> {
+        self.first
+            .received(rt, &self.cell, &mut self.seat, 0, piece)
+    }
+
+    /// Tells how a piece of the first client is taken. A session that lacked memory is over: it answers that to any piece, and the next client
+    /// comes in its place.
+    fn tell_said<R: Wait>(
+        &mut self,
+        rt: &R,
+        piece: &[u8],
+        told: &mut Told,
+    ) -> Result<(), Unplayed> {
+        let end = self.say(rt, piece);
+        if end == Err(ServeFault::NoMemory) {
+            self.part = Vec::from_slice(self.alloc, self.first.unsent())?;
+            if self.say(rt, piece) != end {
+                return Err(Unplayed::Changed);
+            }
+            self.first = Session::new(self.alloc);
+        }
+        tell_end(end, told)
+    }
+
+    /// Tells what the first client wasn't sent; where a session lacked memory, that is to begin with what it had put out.
+    fn tell_unsent(&self, told: &mut Told) -> Result<(), Unplayed> {
+        if !self.first.unsent().starts_with(&self.part) {
+            return Err(Unplayed::Changed);
+        }
+        told.bytes(self.first.unsent())
+    }
+
+    /// The second client does.
+    fn other_say<R: Wait>(&mut self, rt: &R, piece: &[u8]) -> Result<(), ServeFault> {
+        self.second
+            .received(rt, &self.cell, &mut self.seat, 0, piece)
+    }
+
+    /// The first client sends a stream in pieces of this size.
+    fn say_in_pieces<R: Wait>(
+        &mut self,
+        rt: &R,
+        size: usize,
+        stream: &[u8],
+    ) -> Result<(), ServeFault> {
+        for piece in stream.chunks(size.max(1)) {
+            self.say(rt, piece)?;
+        }
+        Ok(())
+    }
+
+    /// The first client is sent so many bytes; false where there aren't so many.
+    fn send(&mut self, count: usize) -> bool {
+        if count > self.first.unsent().len() {
+            return false;
+        }
+        self.first.sent(count);
+        true
+    }
+
+    /// The first client is told of a note where it is due.
+    fn hear(&mut self, note: &Note, entry: u64) -> Result<bool, Unplayed> {
+        let roster = self.cell.roster();
+        if note.master as usize >= roster.masters().len() {
+            return Err(Unplayed::OutOfRange);
+        }
+        Ok(self.first.notify(roster, note, entry)?)
+    }
+
+    /// Tells what comes of a call with these words.
+    fn play<R: Wait>(
+        &mut self,
+        rt: &R,
+        call: &str,
+        words: &[Vec<u8>],
+        told: &mut Told,
+    ) -> Result<(), Unplayed> {
+        match (call, words) {
+            ("says", [piece]) => self.tell_said(rt, piece, told),
+            ("other_says", [piece]) => tell_end(self.other_say(rt, piece), told),
+            ("says_in_pieces", [size, stream]) => {
+                let size = number(size)? as usize;
+                tell_end(self.say_in_pieces(rt, size, stream), told)
+            }
+            ("unsent", []) => self.tell_unsent(told),
+            ("other_unsent", []) => told.bytes(self.second.unsent()),
+            ("sent", [count]) => told.yes(self.send(number(count)? as usize)),
+            ("hears", [epoch, port, entry]) => {
+                let note = moved(number(epoch)?, number_16(port)?);
+                told.yes(self.hear(&note, number(entry)?)?)
+            }
+            ("begins_anew", []) => {
+                self.first = Session::new(self.alloc);
+                told.ok()
+            }
+            _ => Err(Unplayed::NoSuchCall),
+        }
+    }
+}
+
+/// A conversation; none before one was made.
+#[derive(Drop)]
+pub(crate) struct Conversations {
+    alloc: Global,
+    talk: Option<Box<Talk>>,
+}
+
+impl Conversations {
+    /// None was made.
+    pub(crate) fn new(alloc: Global) -> Conversations {
+        Conversations { alloc, talk: None }
+    }
+
+    /// What a stream gets that is cut in two at a place, in a conversation of its own.
+    fn cut<R: Wait>(
+        &self,
+        rt: &R,
+        file: &[u8],
+        stream: &[u8],
+        place: usize,
+    ) -> Result<Vec<u8>, Unplayed> {
+        let (front, back) = stream.split_at(place.min(stream.len()));
+        let mut talk = Talk::boxed(self.alloc, file, false)?;
+        if talk.say(rt, front).is_err() || talk.say(rt, back).is_err() {
+            return Err(Unplayed::NoMemory);
+        }
+        Ok(Vec::from_slice(self.alloc, talk.first.unsent())?)
+    }
+
+    /// Tells what a stream gets, if it is the same wherever it is cut in two.
+    fn tell_cuts<R: Wait>(
+        &self,
+        rt: &R,
+        file: &[u8],
+        stream: &[u8],
+        told: &mut Told,
+    ) -> Result<(), Unplayed> {
+        let whole = self.cut(rt, file, stream, 0)?;
+        for place in 1..=stream.len() {
+            if self.cut(rt, file, stream, place)?.as_slice() != whole.as_slice() {
+                told.word("otherwise-cut-at")?;
+                return told.number(place as u64);
+            }
+        }
+        told.bytes(&whole)
+    }
+
+    /// Tells what comes of a call with these words.
+    pub(crate) fn play<R: Wait>(
+        &mut self,
+        rt: &R,
+        call: &str,
+        words: &[Vec<u8>],
+        told: &mut Told,
+    ) -> Result<(), Unplayed> {
+        match (call, words) {
+            ("conversation", [file, store]) => {
+                let refuses = says(store, "refuses", "stores")?;
+                self.talk = Some(Talk::boxed(self.alloc, file, refuses)?);
+                told.ok()
+            }
+            ("each_cut", [file, stream]) => self.tell_cuts(rt, file, stream, told),
+            ("seats", [file, seats]) => tell_seats(self.alloc, file, number(seats)?, told),
+            _ => {
+                let talk = self.talk.as_mut().ok_or(Unplayed::OutOfRange)?;
+                talk.play(rt, call, words, told)
+            }
+        }
+    }
+}

@@ -1,0 +1,246 @@
+//! What nodes send each other: as bytes, as words that people read, as what it becomes at its target.
+
+ghost use Rattle.std.specs.Prelude.{IfOk};
+ghost use Rattle.messages.specs.MessageTexts.{IsWritable};
+ghost use Rattle.sentinel_rules.specs.Limits.{IsWithinBody};
+
+use crate::bodies::body;
+use crate::commands::{tell_command, value_of};
+use crate::events::{node, tell_node};
+use crate::frames::tell_value;
+use crate::given::number;
+use crate::told::{Told, Unplayed};
+use crate::writable::can_write;
+use ballot_law::{Body, Event, Message, NodeName, Output, PingReply, Roster, Shown};
+use messages::{copy_of, event_of, message_text};
+use resp2_frames::OutText;
+use scenarios::{add_comment, add_message};
+use std::alloc::Global;
+
+/// Tells the configurations that an answer shows: the number of the master, the epoch and the address of each.
+fn tell_shown(shown: &[Shown], told: &mut Told) -> Result<(), Unplayed> {
+    if !shown.is_empty() {
+        told.word("shows")?;
+    }
+    for one in shown {
+        told.number(u64::from(one.master))?;
+        told.number(one.card.epoch)?;
+        told.address(one.card.addr)?;
+    }
+    Ok(())
+}
+
+/// Tells what a message says besides its bytes: the master that an answer is about, the configurations that it shows.
+fn tell_unwritten(body: &Body, told: &mut Told) -> Result<(), Unplayed> {
+    match body {
+        Body::Answer { master, .. } => {
+            told.word("about")?;
+            told.number(u64::from(*master))
+        }
+        Body::AddressAnswer(Some(shown)) => tell_shown(&[*shown], told),
+        Body::PortReply { shown, .. } => tell_shown(shown.as_slice(), told),
+        _ => Ok(()),
+    }
+}
+
+/// The bytes of a message.
+fn bytes_of(alloc: Global, message: &Message) -> Result<OutText, Unplayed> {
+    if !can_write(&message.body) {
+        return Err(Unplayed::OutOfRange);
+    }
+    let mut text = OutText::new(alloc);
+    message_text(alloc, message, &mut text)?;
+    Ok(text)
+}
+
+/// Tells a message: its target, the value that it is on the wire, and what isn't on the wire.
+pub(crate) fn tell_message(
+    alloc: Global,
+    message: &Message,
+    told: &mut Told,
+) -> Result<(), Unplayed> {
+    let text = bytes_of(alloc, message)?;
+    tell_node(message.target, told)?;
+    tell_value(&value_of(alloc, text.as_slice())?, told)?;
+    tell_unwritten(&message.body, told)
+}
+
+/// Whether an output is a message that a Sentinel sends again and again: PING, INFO, a hello.
+pub(crate) fn is_routine(output: &Output) -> bool {
+    match output {
+        Output::Send(message) => matches!(
+            message.body,
+            Body::Ping | Body::InfoAsk | Body::Publish(_)
+        ),
+        Output::Tell(_) => false,
+    }
+}
+
+/// Whether an output is a hello.
+pub(crate) fn is_hello(output: &Output) -> bool {
+    match output {
+        Output::Send(message) => matches!(message.body, Body::Publish(_)),
+        Output::Tell(_) => false,
+    }
+}
+
+/// Tells an output: a message, or that a master has another address.
+pub(crate) fn tell_output(
+    alloc: Global,
+    roster: &Roster,
+    output: &Output,
+    told: &mut Told,
+) -> Result<(), Unplayed> {
+    match output {
+        Output::Send(message) => tell_message(alloc, message, told),
+        Output::Tell(note) => {
+            let master = roster.masters().get(usize::from(note.master));
+            told.word("+switch-master")?;
+            told.bytes(master.ok_or(Unplayed::OutOfRange)?.name.as_slice())?;
+            told.address(note.old)?;
+            told.address(note.card.addr)
+        }
+    }
+}
+
+/// Tells the first text with comments behind it.
+fn tell_comments(alloc: Global, words: &[Vec<u8>], told: &mut Told) -> Result<(), Unplayed> {
+    let [first, comments @ ..] = words else {
+        return Err(Unplayed::WrongWords);
+    };
+    let mut text = OutText::new(alloc);
+    text.add(first)?;
+    for comment in comments {
+        add_comment(&mut text, comment)?;
+    }
+    told.bytes(text.as_slice())
+}
+
+/// The message of a sender to a target that says this.
+fn message(
+    alloc: Global,
+    sender: &[u8],
+    target: &[u8],
+    words: &[Vec<u8>],
+) -> Result<Message, Unplayed>
+    ensures within { IfOk result (λ message. IsWithinBody message.body) }
+    ensures writable { IfOk result (λ message. IsWritable message.body) }
+{
+    Ok(Message {
+        sender: node(sender)?,
+        target: node(target)?,
+        body: body(alloc, words)?,
+    })
+}
+
+/// The name of what an answer to a PING counts as.
+fn reply_name(reply: PingReply) -> &'static str {
+    match reply {
+        PingReply::Pong => "Pong",
+        PingReply::Loading => "Loading",
+        PingReply::MasterDown => "MasterDown",
+        PingReply::Other => "Other",
+    }
+}
+
+/// Tells an event that a message becomes.
+fn tell_event(alloc: Global, event: &Event, told: &mut Told) -> Result<(), Unplayed> {
+    match event {
+        Event::Command { sender, command } => {
+            told.word("Command")?;
+            tell_node(*sender, told)?;
+            tell_command(command, told)
+        }
+        Event::Pinged { node, reply } => {
+            told.word("Pinged")?;
+            tell_node(*node, told)?;
+            told.word(reply_name(*reply))
+        }
+        Event::InfoRead { node, text } => {
+            told.word("InfoRead")?;
+            tell_node(*node, told)?;
+            told.bytes(text.as_slice())
+        }
+        Event::HelloRead { text } => {
+            told.word("HelloRead")?;
+            told.bytes(text.as_slice())
+        }
+        Event::Handed(message) => {
+            told.word("Handed")?;
+            tell_node(message.sender, told)?;
+            tell_message(alloc, message, told)
+        }
+        _ => told.word("another-event"),
+    }
+}
+
+/// Tells what a copy of a message becomes at its target.
+fn tell_delivered(alloc: Global, message: &Message, told: &mut Told) -> Result<(), Unplayed>
+    requires within { IsWithinBody message.now.body }
+    requires writable { IsWritable message.now.body }
+{
+    let copy = copy_of(alloc, message)?;
+    match event_of(alloc, &copy)? {
+        Some(event) => tell_event(alloc, &event, told),
+        None => told.word("None"),
+    }
+}
+
+/// Tells the comment of a message with a number.
+fn tell_comment(
+    alloc: Global,
+    number: u64,
+    message: &Message,
+    told: &mut Told,
+) -> Result<(), Unplayed>
+    requires { IsWritable message.now.body }
+{
+    let mut text = OutText::new(alloc);
+    add_message(alloc, &mut text, number as usize, message)?;
+    told.bytes(text.as_slice())
+}
+
+/// Tells the bytes of a message that is added to a text so often, each time once more where that lacked memory.
+fn tell_often(alloc: Global, times: u64, message: &Message, told: &mut Told) -> Result<(), Unplayed>
+    requires { IsWritable message.now.body }
+{
+    let mut text = OutText::new(alloc);
+    for _ in 0..times {
+        let len = text.len();
+        if message_text(alloc, message, &mut text).is_err() {
+            if text.len() != len {
+                return Err(Unplayed::Changed);
+            }
+            message_text(alloc, message, &mut text)?;
+        }
+    }
+    told.bytes(text.as_slice())
+}
+
+/// Tells what comes of a call with these words.
+pub(crate) fn play(
+    alloc: Global,
+    call: &str,
+    words: &[Vec<u8>],
+    told: &mut Told,
+) -> Result<(), Unplayed> {
+    match (call, words) {
+        ("message_text", words) => {
+            let message = message(alloc, b"s0", b"s1", words)?;
+            told.bytes(bytes_of(alloc, &message)?.as_slice())
+        }
+        ("message_texts", [times, words @ ..]) => {
+            let message = message(alloc, b"s0", b"s1", words)?;
+            tell_often(alloc, number(times)?, &message, told)
+        }
+        ("add_message", [place, sender, target, words @ ..]) => {
+            let message = message(alloc, sender, target, words)?;
+            tell_comment(alloc, number(place)?, &message, told)
+        }
+        ("add_comment", words) => tell_comments(alloc, words, told),
+        ("event_of", [sender, target, words @ ..]) => {
+            tell_delivered(alloc, &message(alloc, sender, target, words)?, told)
+        }
+        _ => Err(Unplayed::NoSuchCall),
+    }
+}

@@ -1,0 +1,196 @@
+//! One data node or one client alone, with its outbox.
+
+ghost use Rattle.std.specs.Prelude.{OnOk, IfOk};
+ghost use Rattle.boxed_nodes.specs.Sendable.{IsTakeable, IsHeldBy};
+
+use crate::bodies::body;
+use crate::events::node;
+use crate::given::number_32;
+use crate::message_rows::tell_message;
+use crate::told::{Told, Unplayed};
+use ballot_law::{Event, Input, KeptText, Message, NodeName, Output};
+use boxed_nodes::{HowStored, Node};
+use client_nodes::ClientNode;
+use data_nodes::DataNode;
+use sentinel_conf::{Conf, read};
+use sentinel_outbox::Outbox;
+use std::alloc::Global;
+
+/// A node with its outbox.
+#[derive(Drop)]
+struct LoneNode<N: Node> {
+    node: N,
+    outbox: Outbox,
+}
+
+/// What happens at a node: a message reaches it, the timer of the first master rings, or it becomes another one.
+fn event(alloc: Global, call: &str, words: &[Vec<u8>]) -> Result<Event, Unplayed>
+    ensures { IfOk result IsTakeable }
+{
+    match (call, words) {
+        ("from", [sender, words @ ..]) | ("take", [sender, words @ ..]) => {
+            Ok(Event::Handed(Message {
+                sender: node(sender)?,
+                target: NodeName::StoreAt(0),
+                body: body(alloc, words)?,
+            }))
+        }
+        ("tick", []) => Ok(Event::Tick {
+            master: 0,
+            random: 0,
+        }),
+        ("become", [priority, offset, link_down]) => Ok(Event::Become {
+            priority: u64::from(number_32(priority)?),
+            offset: u64::from(number_32(offset)?),
+            link_down: u64::from(number_32(link_down)?),
+        }),
+        _ => Err(Unplayed::NoSuchCall),
+    }
+}
+
+impl<N: Node> LoneNode<N> {
+    fn boxed(alloc: Global, node: N) -> Result<Box<LoneNode<N>>, Unplayed> {
+        let outbox = Outbox::new(alloc);
+        Ok(Box::new(alloc, LoneNode { node, outbox })?)
+    }
+
+    /// Takes an input; what was held before is lost.
+    fn take(&mut self, event: Event) -> Result<(), Unplayed>
+        requires { IsTakeable event }
+        ensures { OnOk result (IsHeldBy (N.name self.new.node) self.new.outbox.held) }
+    {
+        self.outbox.clear();
+        self.outbox.drop_held();
+        self.outbox.reserve(&self.node.room())?;
+        match self.node.take(&Input { now: 0, event }, &mut self.outbox) {
+            Ok(_) => Ok(()),
+            Err(_) => Err(Unplayed::OutOfRange),
+        }
+    }
+
+    /// Takes an input, stores and releases.
+    fn give(&mut self, event: Event) -> Result<(), Unplayed>
+        requires { IsTakeable event }
+    {
+        self.take(event)?;
+        if self.node.store(HowStored::Done).is_err() {
+            return Err(Unplayed::OutOfRange);
+        }
+        match self.node.release(&mut self.outbox) {
+            Ok(()) => Ok(()),
+            Err(_) => Err(Unplayed::OutOfRange),
+        }
+    }
+
+    /// Tells what comes of a call with these words.
+    fn play(
+        &mut self,
+        alloc: Global,
+        call: &str,
+        words: &[Vec<u8>],
+        told: &mut Told,
+    ) -> Result<(), Unplayed> {
+        match call {
+            "start" => {
+                self.node.stop(KeptText::Old);
+                if self.node.start(0).is_err() {
+                    return Err(Unplayed::NoMemory);
+                }
+                told.ok()
+            }
+            "take" => {
+                self.take(event(alloc, call, words)?)?;
+                told.ok()
+            }
+            "from" | "tick" | "become" => {
+                self.give(event(alloc, call, words)?)?;
+                self.tell(alloc, told)
+            }
+            _ => Err(Unplayed::NoSuchCall),
+        }
+    }
+
+    /// Tells what was said.
+    fn tell(&self, alloc: Global, told: &mut Told) -> Result<(), Unplayed> {
+        for output in self.outbox.outputs() {
+            if let Output::Send(message) = output {
+                tell_message(alloc, message, told)?;
+            }
+        }
+        told.nothing()
+    }
+}
+
+/// A data node or a client.
+#[derive(Drop)]
+enum Kind {
+    Data(Box<LoneNode<DataNode>>),
+    Client(Box<LoneNode<ClientNode>>),
+}
+
+/// A node; none before one was made.
+#[derive(Drop)]
+pub(crate) struct Nodes {
+    alloc: Global,
+    kind: Option<Kind>,
+}
+
+/// What a file says.
+fn conf(alloc: Global, file: &[u8]) -> Result<Box<Conf>, Unplayed> {
+    match read(alloc, file) {
+        Ok(conf) => Ok(Box::new(alloc, conf)?),
+        Err(_) => Err(Unplayed::NoMemory),
+    }
+}
+
+impl Nodes {
+    /// None was made.
+    pub(crate) fn new(alloc: Global) -> Nodes {
+        Nodes { alloc, kind: None }
+    }
+
+    /// The node of this name of the group of a file; a client searches for its first master. None where there is no such node.
+    fn made(&self, name: NodeName, conf: &Conf) -> Result<Option<Kind>, Unplayed> {
+        match name {
+            NodeName::StoreAt(number) => match DataNode::new(conf, number) {
+                Some(node) => Ok(Some(Kind::Data(LoneNode::boxed(self.alloc, node)?))),
+                None => Ok(None),
+            },
+            NodeName::ClientAt(number) => {
+                if conf.roster().masters().is_empty() {
+                    return Ok(None);
+                }
+                let node = ClientNode::new(self.alloc, conf, number, 0)?;
+                Ok(Some(Kind::Client(LoneNode::boxed(self.alloc, node)?)))
+            }
+            _ => Err(Unplayed::WrongWords),
+        }
+    }
+
+    /// Makes the node of this name of the group of a file, if there is one.
+    fn make(&mut self, name: NodeName, file: &[u8], told: &mut Told) -> Result<(), Unplayed> {
+        let conf = conf(self.alloc, file)?;
+        self.kind = self.made(name, &conf)?;
+        match self.kind {
+            Some(_) => told.ok(),
+            None => told.word("None"),
+        }
+    }
+
+    /// Tells what comes of a call with these words.
+    pub(crate) fn play(
+        &mut self,
+        call: &str,
+        words: &[Vec<u8>],
+        told: &mut Told,
+    ) -> Result<(), Unplayed> {
+        match (call, words) {
+            ("node", [name, file]) => self.make(node(name)?, file, told),
+            _ => match &mut self.kind {
+                Some(Kind::Data(node)) => node.play(self.alloc, call, words, told),
+                Some(Kind::Client(node)) => node.play(self.alloc, call, words, told),
+                None => Err(Unplayed::OutOfRange),
+            },
+        }
+    }
+}

@@ -1,0 +1,384 @@
+//! One Sentinel alone, with its file in memory and its outbox.
+
+ghost use Rattle.std.specs.Prelude.{◌≡◌, IfOk, true};
+ghost use Rattle.sentinel_outbox.specs.declared.phase.Phase.TheVariants.{Ready};
+ghost use Rattle.sentinel_rules.specs.Facts.{IsWithinEvent};
+
+use crate::commands::value_of;
+use crate::counted_files::CountedFile;
+use crate::events::event;
+use crate::frames::tell_value;
+use crate::given::{addr, number, number_16, number_32, says};
+use crate::message_rows::{is_hello, is_routine, tell_output};
+use crate::told::{Told, Unplayed};
+use ballot_law::{Card, Event, Input, Output};
+use conf_lines::ConfKind;
+use conf_store::ConfStore;
+use port_serving::{ServeFault, Served};
+use resp2_frames::{OutText, push_bulk, push_size};
+use sentinel_conf::read;
+use sentinel_core::Sentinel;
+use sentinel_outbox::{Outbox, ReleaseFault, StoreFault, TakeFault, Took};
+use std::alloc::Global;
+use std::io::{Cursor, Read, Write};
+
+/// How many bytes of answers have room before a stream is served.
+const ROOM: usize = 65_536;
+
+/// A Sentinel with its file, and the outputs of its last input. It stands in a box: whatever lets it go then sees one call.
+#[derive(Drop)]
+pub(crate) struct Lone {
+    alloc: Global,
+    sentinel: Box<Sentinel>,
+    outbox: Outbox,
+    file: CountedFile,
+    /// Whether it is known that it can serve a stream.
+    is_ready: bool,
+    /// The configuration of the first master that was told last.
+    card: Option<Card>,
+    /// What a stream got for which memory was lacking.
+    part: Vec<u8>,
+    ghost ready: { is_ready ≡ true → sentinel.value.phase ≡ Ready },
+}
+
+/// A Sentinel that opens with this file, at this reading of its clock.
+fn opened(alloc: Global, file: &[u8], now: u64) -> Result<Box<Sentinel>, Unplayed>
+    ensures { IfOk result (λ sentinel. sentinel.value.phase ≡ Ready) }
+{
+    let conf = match read(alloc, file) {
+        Ok(conf) => conf,
+        Err(fault) if fault.kind == ConfKind::NoMemory => return Err(Unplayed::NoMemory),
+        Err(_) => return Err(Unplayed::WrongWords),
+    };
+    let Ok(sentinel) = Sentinel::open(alloc, conf, now) else {
+        return Err(Unplayed::NoMemory);
+    };
+    Ok(Box::new(alloc, sentinel)?)
+}
+
+impl Lone {
+    /// Opens it with this file, at this reading of its clock, with an outbox without room.
+    fn open(alloc: Global, file: &[u8], now: u64) -> Result<Lone, Unplayed> {
+        let store = CountedFile::holding(alloc, file)?;
+        let sentinel = opened(alloc, file, now)?;
+        let card = sentinel.address_now(0);
+        Ok(Lone {
+            alloc,
+            sentinel,
+            outbox: Outbox::new(alloc),
+            file: store,
+            is_ready: true,
+            card,
+            part: Vec::new(alloc),
+        })
+    }
+
+    /// Opens one in a box.
+    pub(crate) fn boxed(alloc: Global, file: &[u8], now: u64) -> Result<Box<Lone>, Unplayed> {
+        let lone = Lone::open(alloc, file, now)?;
+        Ok(Box::new(alloc, lone)?)
+    }
+
+    /// Makes room in its outbox for the outputs of any one input.
+    fn make_room(&mut self) -> Result<(), Unplayed> {
+        self.outbox.reserve(&self.sentinel.room())?;
+        Ok(())
+    }
+
+    fn take(&mut self, now: u64, event: Event) -> Result<Took, TakeFault>
+        requires { IsWithinEvent event }
+    {
+        self.is_ready = false;
+        self.sentinel.take(&Input { now, event }, &mut self.outbox)
+    }
+
+    fn store(&mut self) -> Result<(), StoreFault> {
+        if self.file.failures() == u64::MAX {
+            return Err(StoreFault::Refused);
+        }
+        self.is_ready = false;
+        self.sentinel.store(&mut self.file)
+    }
+
+    fn release(&mut self) -> Result<(), ReleaseFault> {
+        self.is_ready = false;
+        let released = self.sentinel.release(&mut self.outbox);
+        self.is_ready = released.is_ok();
+        released
+    }
+
+    /// Stops it, and starts it from its file at this reading of its clock, with what it held lost.
+    fn start_again(&mut self, now: u64) -> Result<(), Unplayed> {
+        self.is_ready = false;
+        self.sentinel.stop();
+        self.sentinel = opened(self.alloc, self.file.text(), now)?;
+        self.is_ready = true;
+        self.outbox.drop_held();
+        self.card = self.sentinel.address_now(0);
+        Ok(())
+    }
+
+    /// Serves a stream.
+    pub(crate) fn serve<R: Read, W: Write>(
+        &mut self,
+        now: u64,
+        reader: &mut R,
+        writer: &mut W,
+    ) -> Result<Result<Served, ServeFault>, Unplayed> {
+        if !self.is_ready || self.file.failures() == u64::MAX {
+            return Err(Unplayed::OutOfRange);
+        }
+        let served = self.sentinel.serve(now, reader, writer, &mut self.file);
+        self.is_ready = !matches!(served, Err(ServeFault::Halted));
+        Ok(served)
+    }
+
+    /// Serves these bytes: how many answers that were written, or the fault, is told, and what was written is given back. Where memory was
+    /// lacking, a first part of the answers was written.
+    fn serve_bytes(
+        &mut self,
+        now: u64,
+        bytes: &[u8],
+        told: &mut Told,
+    ) -> Result<Vec<u8>, Unplayed> {
+        let mut written = Vec::with_capacity(self.alloc, ROOM)?;
+        match self.serve(now, &mut Cursor::new(bytes), &mut written)? {
+            Ok(served) => told.number(served.answers)?,
+            Err(ServeFault::NoMemory) => {
+                self.part = written;
+                return Err(Unplayed::NoMemory);
+            }
+            Err(fault) => told.shown(&fault)?,
+        }
+        if !written.starts_with(&self.part) {
+            return Err(Unplayed::Changed);
+        }
+        Ok(written)
+    }
+
+    /// Tells what these bytes get.
+    fn tell_served(&mut self, now: u64, bytes: &[u8], told: &mut Told) -> Result<(), Unplayed> {
+        let written = self.serve_bytes(now, bytes, told)?;
+        told.bytes(&written)
+    }
+
+    /// Tells the answer to the command of these words, in a stream of its own.
+    fn tell_answer(
+        &mut self,
+        now: u64,
+        words: &[Vec<u8>],
+        told: &mut Told,
+    ) -> Result<(), Unplayed> {
+        let mut text = OutText::new(self.alloc);
+        push_size(&mut text, b'*', words.len())?;
+        for word in words {
+            push_bulk(&mut text, word)?;
+        }
+        let written = self.serve_bytes(now, text.as_slice(), told)?;
+        tell_value(&value_of(self.alloc, &written)?, told)
+    }
+
+    /// Tells the election and the new configuration of the first master that the last input brought.
+    fn tell_changes(&mut self, told: &mut Told) -> Result<(), Unplayed> {
+        if let Some((master, epoch)) = self.sentinel.won() {
+            told.word("elected")?;
+            told.number(u64::from(master))?;
+            told.number(epoch)?;
+        }
+        let card = self.sentinel.address_now(0);
+        if card != self.card {
+            told.word("stored")?;
+            tell_card(card, told)?;
+            self.card = card;
+        }
+        Ok(())
+    }
+
+    /// Takes an input, stores and releases; tells what is sent and told, but PING, INFO and hellos unless all is wanted, and what changed.
+    fn give(
+        &mut self,
+        now: u64,
+        words: &[Vec<u8>],
+        all: bool,
+        told: &mut Told,
+    ) -> Result<(), Unplayed> {
+        let event = event(self.alloc, words)?;
+        self.outbox.clear();
+        self.outbox.drop_held();
+        if let Err(fault) = self.take(now, event) {
+            return told.shown(&fault);
+        }
+        if let Err(fault) = self.store() {
+            return told.shown(&fault);
+        }
+        if let Err(fault) = self.release() {
+            return told.shown(&fault);
+        }
+        self.tell_outputs(all, told)?;
+        self.tell_changes(told)?;
+        told.nothing()
+    }
+
+    /// Tells what is shown.
+    fn tell_outputs(&self, all: bool, told: &mut Told) -> Result<(), Unplayed> {
+        for output in self.outbox.outputs() {
+            if all || !is_routine(output) {
+                tell_output(self.alloc, self.sentinel.roster(), output, told)?;
+            }
+        }
+        Ok(())
+    }
+
+    /// Tells the hellos that are shown.
+    fn tell_hellos(&self, told: &mut Told) -> Result<(), Unplayed> {
+        for output in self.outbox.outputs() {
+            if is_hello(output) {
+                tell_output(self.alloc, self.sentinel.roster(), output, told)?;
+            }
+        }
+        told.nothing()
+    }
+
+    /// Tells what comes of a call in the order of an input.
+    fn play_turn(
+        &mut self,
+        call: &str,
+        words: &[Vec<u8>],
+        told: &mut Told,
+    ) -> Result<(), Unplayed> {
+        match (call, words) {
+            ("take", [now, words @ ..]) => {
+                let event = event(self.alloc, words)?;
+                self.outbox.clear();
+                match self.take(number(now)?, event) {
+                    Ok(Took { changed: true }) => told.word("changed"),
+                    Ok(Took { changed: false }) => told.word("unchanged"),
+                    Err(fault) => told.shown(&fault),
+                }
+            }
+            ("store", []) => match self.store() {
+                Ok(()) => told.ok(),
+                Err(fault) => told.shown(&fault),
+            },
+            ("release", []) => match self.release() {
+                Ok(()) => told.ok(),
+                Err(fault) => told.shown(&fault),
+            },
+            ("stop", []) => {
+                self.is_ready = false;
+                self.sentinel.stop();
+                told.ok()
+            }
+            ("start", [now]) => {
+                self.start_again(number(now)?)?;
+                told.ok()
+            }
+            _ => self.play_question(call, words, told),
+        }
+    }
+
+    /// Tells the answer to a question about it.
+    fn play_question(
+        &self,
+        call: &str,
+        words: &[Vec<u8>],
+        told: &mut Told,
+    ) -> Result<(), Unplayed> {
+        match (call, words) {
+            ("shown", []) => told.number(self.outbox.outputs().len() as u64),
+            ("hellos", []) => self.tell_hellos(told),
+            ("text", []) => told.bytes(self.file.text()),
+            ("kept", []) => tell_kept(self.alloc, self.file.text(), told),
+            ("writes", []) => told.number(self.file.writes()),
+            ("failures", []) => told.number(self.file.failures()),
+            ("card", [master]) => tell_card(self.sentinel.address_now(number_16(master)?), told),
+            ("won", []) => told.maybe_number(self.sentinel.won().map(|won| won.1)),
+            ("place", []) => told.number(u64::from(self.sentinel.place())),
+            ("master_at", [at]) => {
+                let master = self.sentinel.roster().master_at(addr(at)?);
+                told.maybe_number(master.map(u64::from))
+            }
+            ("is_stopped", []) => told.yes(self.sentinel.is_stopped()),
+            _ => Err(Unplayed::NoSuchCall),
+        }
+    }
+
+    /// Tells what comes of a call with these words.
+    fn play(&mut self, call: &str, words: &[Vec<u8>], told: &mut Told) -> Result<(), Unplayed> {
+        match (call, words) {
+            ("at", [now, words @ ..]) => self.give(number(now)?, words, false, told),
+            ("all", [now, words @ ..]) => self.give(number(now)?, words, true, told),
+            ("serve", [now, bytes]) => self.tell_served(number(now)?, bytes, told),
+            ("ask", [now, words @ ..]) => self.tell_answer(number(now)?, words, told),
+            ("refuse_after", [passes, left]) => {
+                let is_new = says(left, "new", "old")?;
+                self.file.refuse_after(number_32(passes)?, is_new);
+                told.ok()
+            }
+            ("lose_room", []) => {
+                self.outbox = Outbox::new(self.alloc);
+                told.ok()
+            }
+            _ => self.play_turn(call, words, told),
+        }
+    }
+}
+
+/// Tells a configuration: its epoch and its address.
+fn tell_card(card: Option<Card>, told: &mut Told) -> Result<(), Unplayed> {
+    match card {
+        Some(card) => {
+            told.number(card.epoch)?;
+            told.address(card.addr)
+        }
+        None => told.word("None"),
+    }
+}
+
+/// Tells the current epoch that a file holds, and the epoch of the last vote for each master.
+fn tell_kept(alloc: Global, file: &[u8], told: &mut Told) -> Result<(), Unplayed> {
+    let Ok(conf) = read(alloc, file) else {
+        return Err(Unplayed::NoMemory);
+    };
+    let conf = Box::new(alloc, conf)?;
+    told.number(conf.kept().current)?;
+    for master in conf.kept().masters.as_slice() {
+        told.number(master.voted)?;
+    }
+    Ok(())
+}
+
+/// A Sentinel; none before one was opened.
+#[derive(Drop)]
+pub(crate) struct Sentinels {
+    alloc: Global,
+    lone: Option<Box<Lone>>,
+}
+
+impl Sentinels {
+    /// None was opened.
+    pub(crate) fn new(alloc: Global) -> Sentinels {
+        Sentinels { alloc, lone: None }
+    }
+
+    /// Tells what comes of a call with these words.
+    pub(crate) fn play(
+        &mut self,
+        call: &str,
+        words: &[Vec<u8>],
+        told: &mut Told,
+    ) -> Result<(), Unplayed> {
+        match (call, words) {
+            ("open", [file, now]) => {
+                let mut lone = Lone::boxed(self.alloc, file, number(now)?)?;
+                lone.make_room()?;
+                self.lone = Some(lone);
+                told.ok()
+            }
+            _ => {
+                let lone = self.lone.as_mut().ok_or(Unplayed::OutOfRange)?;
+                lone.play(call, words, told)
+            }
+        }
+    }
+}

@@ -1,0 +1,99 @@
+//! What the rows of a section act on, one after another.
+
+use crate::best_replica::Replicas;
+use crate::broken_streams::BrokenStreams;
+use crate::client_searches::Searches;
+use crate::conversations::Conversations;
+use crate::down_states::DownStates;
+use crate::failover_turns::Turns;
+use crate::nodes::Nodes;
+use crate::outboxes::Outboxes;
+use crate::plans::Plans;
+use crate::rosters_in_order::Rosters;
+use crate::sentinels::Sentinels;
+use crate::told::{Told, Unplayed};
+use crate::votes_and_elections::Votes;
+use std::alloc::Global;
+use std::sync::Wait;
+
+/// What the rows of a section act on.
+#[derive(Drop)]
+pub(crate) enum Stage {
+    /// The section begins.
+    NotSet,
+    /// Each row stands alone.
+    Empty,
+    Votes(Box<Votes>),
+    DownStates(Box<DownStates>),
+    Replicas(Box<Replicas>),
+    Searches(Box<Searches>),
+    Turns(Box<Turns>),
+    Rosters(Box<Rosters>),
+    Sentinels(Box<Sentinels>),
+    BrokenStreams(Box<BrokenStreams>),
+    Nodes(Box<Nodes>),
+    Plans(Box<Plans>),
+    Outboxes(Box<Outboxes>),
+    Conversations(Box<Conversations>),
+}
+
+impl Stage {
+    /// What the rows of a section of this family act on when it begins.
+    pub(crate) fn of(alloc: Global, family: &str) -> Result<Stage, Unplayed> {
+        Ok(match family {
+            "votes_and_elections" => Stage::Votes(Box::new(alloc, Votes::new(alloc)?)?),
+            "down_states" => Stage::DownStates(Box::new(alloc, DownStates::new(alloc)?)?),
+            "best_replica" => Stage::Replicas(Box::new(alloc, Replicas::new(alloc))?),
+            "client_searches" => Stage::Searches(Box::new(alloc, Searches::new(alloc))?),
+            "failover_turns" => Stage::Turns(Box::new(alloc, Turns::new(alloc))?),
+            "rosters_in_order" => Stage::Rosters(Box::new(alloc, Rosters::new(alloc))?),
+            "every_command"
+            | "failovers"
+            | "port_texts"
+            | "refusals"
+            | "refused_memory"
+            | "refused_votes"
+            | "served_streams"
+            | "silent_masters" => { Stage::Sentinels(Box::new(alloc, Sentinels::new(alloc))?) }
+            "broken_streams" => {
+                Stage::BrokenStreams(Box::new(alloc, BrokenStreams::new(alloc))?)
+            }
+            "clients" | "data_nodes_alone" => Stage::Nodes(Box::new(alloc, Nodes::new(alloc))?),
+            "roster_plans" | "frame_rooms" => Stage::Plans(Box::new(alloc, Plans::new(alloc))?),
+            "outboxes" => Stage::Outboxes(Box::new(alloc, Outboxes::new(alloc))?),
+            "endings"
+            | "listeners"
+            | "refused_memory_of_sessions"
+            | "seats"
+            | "single_answers"
+            | "streams" => { Stage::Conversations(Box::new(alloc, Conversations::new(alloc))?) }
+            _ => Stage::Empty,
+        })
+    }
+
+    /// Tells what comes of a call with these words.
+    pub(crate) fn play<R: Wait>(
+        &mut self,
+        wait: &R,
+        call: &str,
+        words: &[Vec<u8>],
+        told: &mut Told,
+    ) -> Result<(), Unplayed> {
+        match self {
+            Stage::NotSet => Err(Unplayed::NoSuchFamily),
+            Stage::Empty => Err(Unplayed::NoSuchFamily),
+            Stage::Votes(votes) => votes.play(call, words, told),
+            Stage::DownStates(states) => states.play(call, words, told),
+            Stage::Replicas(replicas) => replicas.play(call, words, told),
+            Stage::Searches(searches) => searches.play(call, words, told),
+            Stage::Turns(turns) => turns.play(call, words, told),
+            Stage::Rosters(rosters) => rosters.play(call, words, told),
+            Stage::Sentinels(sentinels) => sentinels.play(call, words, told),
+            Stage::BrokenStreams(streams) => streams.play(call, words, told),
+            Stage::Nodes(nodes) => nodes.play(call, words, told),
+            Stage::Plans(plans) => plans.play(call, words, told),
+            Stage::Outboxes(outboxes) => outboxes.play(call, words, told),
+            Stage::Conversations(conversations) => conversations.play(wait, call, words, told),
+        }
+    }
+}
