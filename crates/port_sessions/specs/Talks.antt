@@ -39,6 +39,11 @@ pub record Talk : Type 0 where
   pub listens : Option ℕ
   pub told : List (Option ℕ)
 
+-- a session that ended holds no bytes and listens to nothing
+abbrev pub IsEmptied : Option ServeFault → (held : List ℕ) → (listens : Option ℕ) → Type 0
+IsEmptied None held listens = Unit {0}
+IsEmptied (Some fault) held listens = (held ≡ []) × (listens ≡ None)
+
 -- what an answer rests on: what the seat has seen, and since which entry the session listens
 pub record Party : Type 0 where
   pub view : View

@@ -1,6 +1,6 @@
 //! A session as its callers see it.
 
-ghost use Rattle.std.specs.Prelude.{◌≡◌, ◌≤◌, ◌<◌, ◌++◌, ℕ, List, [], None, Some, OnOk, IfErr, IfSome, length, drop};
+ghost use Rattle.std.specs.Prelude.{◌≡◌, ◌≤◌, ◌<◌, ◌++◌, ℕ, List, [], None, Some, OnOk, OnErr, IfErr, IfSome, length, drop};
 ghost use Rattle.ballot_law.specs.declared.rosters.TheConstants.{MASTERS_MAX};
 ghost use Rattle.port_sessions.specs.Notes.{none_told, is_due, Notifies};
 ghost use Rattle.port_sessions.specs.Talks.{Receives, party};
@@ -27,7 +27,7 @@ pub struct Session {
 impl Model for Session {
     ghost use Rattle.std.specs.Prelude.{◌≡◌};
     ghost use Rattle.resp2_frames.specs.Stream.{reading, bytes_in};
-    ghost use Rattle.port_sessions.specs.Talks.{Talk};
+    ghost use Rattle.port_sessions.specs.Talks.{Talk, IsEmptied};
 
     ghost Value = { Talk };
 
@@ -39,7 +39,8 @@ impl Model for Session {
       told = session.told;
     } };
 
-    ghost invariant = { λ session. session.exchange.frames ≡ reading (bytes_in session.exchange.frames) };
+    ghost invariant = { λ session. (session.exchange.frames ≡ reading (bytes_in session.exchange.frames))
+        × IsEmptied session.fault (bytes_in session.exchange.frames) session.exchange.responder.listens };
 }
 
 impl Session {
@@ -86,6 +87,7 @@ impl Session {
         ensures told { self.new.told ≡ self.old.told }
         ensures open { OnOk result (self.new.ended ≡ None) }
         ensures closed { IfErr result (λ fault. self.new.ended ≡ Some fault) }
+        ensures emptied { OnErr result ((self.new.held ≡ []) × (self.new.listens ≡ None)) }
         // An ended session answers its fault, and nothing else happens.
         ensures ended { IfSome self.old.ended (λ fault. (result ≡ Err fault) × (self.new ≡ self.old) × (seat.new ≡ seat.old)) }
     {

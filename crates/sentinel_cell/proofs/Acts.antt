@@ -1,5 +1,5 @@
 -- What one turn adds to the history.
-use Rattle.std.proofs.Common.{◌≡◌, ◌≢◌, ℕ, ◌+◌, ◌<◌, ◌≤◌, Bool, cond, List, [], ◌∷◌, ◌++◌, drop, length, length-append, Option, Some, None, Result, Ok, Err, refl, sym, ap, ◌∙◌, subst, lt-ltb, le-ltb}
+use Rattle.std.proofs.Common.{◌≡◌, ◌≢◌, ℕ, ◌+◌, ◌<◌, ◌≤◌, Bool, cond, List, [], ◌∷◌, ◌++◌, drop, length, length-append, Option, Some, None, Result, Ok, Err, refl, sym, ap, ◌∙◌, subst, lt-ltb}
 use mathlib.Core.List.{append-nil}
 use Rattle.atomic_table.specs.Table.{Me}
 use Rattle.ballot_law.specs.declared.cards.Kept.{Kept}
@@ -19,7 +19,7 @@ use Rattle.sentinel_cell.specs.Calls.{Has, calls_by, AreOf}
 use Rattle.sentinel_cell.proofs.Cards.{same_plan}
 use Rattle.sentinel_cell.specs.Histories.{World, IsOutcome, IsStep, AreSteps, IsLegal, IsLeft, Fits, Announces, after, replay, stored_at, entry_of}
 use Rattle.sentinel_cell.specs.Turns.{unpacked, answered, first_view_at, AreGiven, IsFresh, looked, drawn, serving, raised, passed, numbered, left_half, right_half, Follows}
-use Rattle.sentinel_cell.specs.Standing.{Standing, standing, head_view, first_number, Adds, Acted, AtRest, IsSame, answer_of}
+use Rattle.sentinel_cell.specs.Standing.{Standing, standing, head_view, first_number, Adds, Acted, IsSame, answer_of}
 use Rattle.std.specs.Result.{IfOk, OnErr}
 use Rattle.sentinel_cell.specs.declared.place.TicketsSpent.{TicketsSpent}
 use Rattle.sentinel_cell.specs.declared.fault.Reply.{Reply}

@@ -16,9 +16,9 @@ use Rattle.sentinel_cell.specs.Calls.{Begins}
 use Rattle.sentinel_cell.specs.Histories.{World, IsGood, IsOutcome, IsStep, AreSteps, IsLegal, next_of, after_outcome, after, replay, stored_at}
 
 -- one input keeps a world good
-good_input : (w : World) (i : Input) → IsGood w → IsWithinEvent i.event → (halted : Bool) (stored : Kept) (text refused : _) (failures : ℕ) → (halted ≡ false → (next_of w i).core.kept ≡ stored)
-    → IsGood (record { plan = w.plan; core = (next_of w i).core; stored = stored; halted = halted; text = text; refused = refused; failures = failures })
-good_input w i g within halted stored text refused failures settled =
+good_input : (w : World) (i : Input) → IsGood w → IsWithinEvent i.event → (halted : Bool) (stored : Kept) (change text refused : _) (failures : ℕ) → (halted ≡ false → (next_of w i).core.kept ≡ stored)
+    → IsGood (record { plan = w.plan; core = (next_of w i).core; stored = stored; halted = halted; change = change; text = text; refused = refused; failures = failures })
+good_input w i g within halted stored change text refused failures settled =
     record {
       plan = g.plan;
       core = (inputs_keep_few w.plan w.core i.now i.event g.plan g.core within).0;
@@ -26,9 +26,9 @@ good_input w i g within halted stored text refused failures settled =
       settled = settled;
     }
 
-good_outcome : (w : World) (i : Input) (outputs : List Output) (n : ℕ) (o : Outcome) → IsGood w → IsOutcome w i outputs n o → IsGood (after_outcome w i n o)
-good_outcome w i outputs n Stored g h = good_input w i g h.3 w.halted (next_of w i).core.kept _ w.refused n (λ _. refl)
-good_outcome w i outputs n Refused g h = good_input w i g h.3 true w.stored w.text _ n (λ (e : true ≡ false). let no : ⊥ = cc in absurd no)
+pub good_outcome : (w : World) (i : Input) (outputs : List Output) (n : ℕ) (o : Outcome) → IsGood w → IsOutcome w i outputs n o → IsGood (after_outcome w i n o)
+good_outcome w i outputs n Stored g h = good_input w i g h.3 w.halted (next_of w i).core.kept _ _ w.refused n (λ _. refl)
+good_outcome w i outputs n Refused g h = good_input w i g h.3 true w.stored _ w.text _ n (λ (e : true ≡ false). let no : ⊥ = cc in absurd no)
 good_outcome w i outputs n Halted g h = record { plan = g.plan; core = g.core; ahead = g.ahead; settled = g.settled }
 
 pub good_after : (w : World) (e : Entry) → IsGood w → IsStep w e → IsGood (after w e)

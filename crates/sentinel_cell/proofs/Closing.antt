@@ -10,16 +10,17 @@ use Rattle.sentinel_cell.specs.declared.keeper.Keeper.{Keeper}
 use Rattle.sentinel_cell.specs.Histories.{World, IsLegal, IsLeft, Fits, Keeps, replay, stored_at}
 use Rattle.sentinel_cell.specs.Turns.{share_of}
 use mathlib.Core.List.{append-nil}
-use Rattle.sentinel_cell.specs.Calls.{IsOfBeginning, AreOf}
-use Rattle.sentinel_cell.specs.Standing.{Standing, standing, head_view, AtRest}
+use Rattle.sentinel_cell.specs.Calls.{IsOfBeginning, AreUnder}
+use Rattle.sentinel_cell.specs.Standing.{Standing, standing, head_view, AtRest, IsLeftBy}
 use Rattle.atomic_table.specs.Seated.{TableId}
 use Rattle.std.specs.Option.{IsSome}
 use Rattle.sentinel_cell.proofs.Totals.{total_at}
-use Rattle.sentinel_cell.proofs.Steps.{closes, orderly}
+use Rattle.sentinel_cell.proofs.Owners.{under}
+use Rattle.sentinel_cell.proofs.Steps.{closes, all_seen, orderly}
 
 module _ {S : Type 0} (text : S → Option (List ℕ)) (failures : S → ℕ) (start : World) (seats id : ℕ) (v : View) where
   abbrev pub Leaves : Option (Keeper S) → Type 0
-  Leaves slot = (v.share ≡ seats) × ((k : Keeper S) × (slot ≡ Some k) × ((more : List Entry) × IsLegal start (v.front ++ more) × IsLeft text failures (replay start (v.front ++ more)) k × AreOf (stored_at start) v.answers (v.front ++ more)))
+  Leaves slot = (v.share ≡ seats) × ((k : Keeper S) × (slot ≡ Some k) × IsLeftBy text failures start v k) × AreUnder v.numbers v.front
 
   pub leaves : (words : List ℕ) (slots : List (Option (Keeper S))) (slot : Option (Keeper S)) → Final (Seen (Keeps text failures start seats) id v) words slots → seats ≤ v.share → AtRest v
       → get_elem? slots 0 ≡ maybe.some slot → Leaves slot
@@ -35,18 +36,19 @@ module _ {S : Type 0} (text : S → Option (List ℕ)) (failures : S → ℕ) (s
       let same : slot ≡ home.0 = maybe.some-injective slot home.0 (sym taken ∙ there) in
       let fits = home.2 in
       let k = r.each id v at in
-      let all : r.history ++ r.flight ≡ v.front ++ k.front.0 = ap (λ (l : List Entry). r.history ++ l) home.3 ∙ (append-nil r.history ∙ k.front.1) in (
+      let seen = all_seen (IsLegal start) (stored_at start) (Fits text failures start) (addr_at start.plan) (master_count start.plan) seats s r id v at whole in
+      let all : r.history ++ r.flight ≡ v.front = ap (λ (l : List Entry). r.history ++ l) home.3 ∙ (append-nil r.history ∙ sym seen.1) in (
         whole,
         (
           fits.0,
           same ∙ fits.1,
           (
-            k.front.0,
             subst (IsLegal start) all r.legal,
-            subst (λ (l : List Entry). IsLeft text failures (replay start l) fits.0) k.front.1 fits.2,
+            subst (λ (l : List Entry). IsLeft text failures (replay start l) fits.0) (sym seen.1) fits.2,
             λ m c a. subst (λ (l : List Entry). IsOfBeginning (stored_at start) l m c) all (k.answers m c a),
           ),
         ),
+        under v.numbers v.front seen.0,
       )
 
 module _ {S : Type 0} (text : S → Option (List ℕ)) (failures : S → ℕ) (start : World) (seats id : ℕ) (seat : Standing) (t : TableId) (views : List View) (v : View) where
@@ -61,8 +63,8 @@ module _ {S : Type 0} (text : S → Option (List ℕ)) (failures : S → ℕ) (s
       subst (λ (x : View). Leaves text failures start seats id x slot) (here ∙ ap (λ (s : Standing). s.view) is) l
 
   pub leaves_keeper : (slot : Option (Keeper S)) (k : Keeper S) → Leaves text failures start seats id seat.view slot → slot ≡ Some k
-      → (more : List Entry) × IsLegal start (seat.view.front ++ more) × IsLeft text failures (replay start (seat.view.front ++ more)) k × AreOf (stored_at start) seat.view.answers (seat.view.front ++ more)
-  leaves_keeper slot k l e = let same : l.1.0 ≡ k = one (l.1.0) k (sym l.1.1 ∙ e) in (l.1.2.0, l.1.2.1, subst (λ (x : Keeper S). IsLeft text failures (replay start (seat.view.front ++ l.1.2.0)) x) same l.1.2.2, l.1.2.3)
+      → IsLeftBy text failures start seat.view k
+  leaves_keeper slot k l e = subst (IsLeftBy text failures start seat.view) (one l.1.0 k (sym l.1.1 ∙ e)) l.1.2
     where
       one : (a b : Keeper S) → Some a ≡ Some b → a ≡ b
       one a b e = cc

@@ -1,17 +1,18 @@
 -- What one turn leaves of a Sentinel and its store.
-use Rattle.std.proofs.Common.{◌≡◌, ◌≢◌, ◌↔◌, ◌⊎◌, ℕ, ◌+◌, ◌-◌, ◌^◌, ◌<◌, Bool, true, false, cond, List, [], ◌∷◌, ◌++◌, drop, length, Option, Some, None, refl, sym, ap, ◌∙◌, subst, inl, inr, ⊎_elim, arith, true≢false, eq-eqb}
-use Rattle.std.specs.Prelude.{IfSome, IsOk, Result, Ok, Err, not, ◌&&◌, ◌||◌, ◌==◌}
+use Rattle.std.proofs.Common.{◌≡◌, ◌≢◌, ◌↔◌, ◌⊎◌, ℕ, zero, suc, ◌+◌, ◌-◌, ◌^◌, ◌<◌, Bool, true, false, cond, List, [], ◌∷◌, ◌++◌, drop, length, Option, Some, None, refl, sym, ap, ◌∙◌, subst, inl, inr, ⊎_elim, arith, true≢false, eq-eqb}
+use Rattle.std.specs.Prelude.{slice_index_or, IfSome, IsOk, Result, Ok, Err, not, ◌&&◌, ◌||◌, ◌==◌}
 use Rattle.std.proofs.Math.Seq.{drop-append_seam, drop-length}
 use Rattle.std.proofs.lemmas.Bool.{eqb-true, and_parts, and_from}
-use Rattle.ballot_law.specs.declared.addresses.Addr.{Addr}
 use Rattle.ballot_law.specs.declared.addresses.RunId.{RunId}
+use Rattle.ballot_law.specs.declared.cards.Card.{Card}
 use Rattle.ballot_law.specs.declared.cards.Kept.{Kept}
 use Rattle.ballot_law.specs.declared.cards.KeptMaster.{KeptMaster}
 use Rattle.ballot_law.specs.declared.events.Input.{Input}
 use Rattle.ballot_law.specs.declared.messages.Output.{Output}
+use Rattle.ballot_law.specs.Ballots.{card_of, no_kept}
 use Rattle.ballot_law.specs.Orders.{same_addr}
 use Rattle.sentinel_conf.specs.Rewritten.{rewritten, IsKeptPart}
-use Rattle.sentinel_rules.specs.Plans.{Plan}
+use Rattle.sentinel_rules.specs.Plans.{Plan, master_count}
 use Rattle.sentinel_rules.specs.States.{Core}
 use Rattle.sentinel_rules.specs.Facts.{IsWithinEvent}
 use Rattle.sentinel_rules.specs.Takes.{Next, next}
@@ -19,11 +20,11 @@ use Rattle.sentinel_rules.proofs.Choices.{same_addr-equal, same_addr-same}
 use Rattle.sentinel_outbox.specs.declared.faults.StoreFault.{StoreFault}
 use Rattle.sentinel_outbox.specs.declared.faults.StoreFault.TheVariants.{Refused as WasRefused}
 use Rattle.sentinel_outbox.specs.declared.phase.Phase.TheVariants.{Ready, Halted}
-use Rattle.sentinel_core.specs.Sentinels.{Whole, is_flush}
+use Rattle.sentinel_core.specs.Sentinels.{Whole, IsWhole, is_flush}
 use Rattle.sentinel_cell.specs.declared.entry.Entry.{Entry}
 use Rattle.sentinel_cell.specs.declared.entry.Outcome.TheVariants.{Stored, Refused}
 use Rattle.sentinel_cell.specs.declared.keeper.Keeper.{Keeper}
-use Rattle.sentinel_cell.specs.Histories.{World, IsStep, IsLeft, IsText, after, entry_of, next_of, must_store, text_of, same_candidate, same_entry, same_entries, same_kept}
+use Rattle.sentinel_cell.specs.Histories.{World, IsStep, IsLeft, IsText, after, entry_of, next_of, must_store, text_of, same_candidate, same_entry, same_entries, same_kept, same_card, changed_from, changed_card}
 
 -- Whether two kept parts are the same
 
@@ -89,12 +90,70 @@ must_case true true a b e h = absurd (h.0 refl (kept_true a b e))
 must_case false true a b e h = refl
 must_case changed false a b e h = h.1 (λ same. true≢false (sym (kept_same a b same) ∙ e))
 
+-- The master whose configuration is another one
+
+abbrev card_here : List KeptMaster → ℕ → Card
+card_here xs m = (slice_index_or xs m no_kept).card
+
+same_card-true : (a b : Card) → a ≡ b → same_card a b ≡ true
+same_card-true a b e = subst (λ (x : Card). same_card a x ≡ true) e (and_from (a.epoch == a.epoch) (same_addr a.addr a.addr) (eq-eqb a.epoch a.epoch refl) (same_addr-same a.addr))
+
+same_card-false : (a b : Card) (s : Bool) → same_card a b ≡ s → a ≢ b → s ≡ false
+same_card-false a b true e apart =
+    let one = and_parts (a.epoch == b.epoch) (same_addr a.addr b.addr) e in
+    let epoch : a.epoch ≡ b.epoch = same_number a.epoch b.epoch one.0 in
+    let addr : a.addr ≡ b.addr = same_addr-equal a.addr b.addr one.1 in
+    absurd (apart (λ i. record { epoch = epoch i; addr = addr i }))
+same_card-false a b false e apart = refl
+
+none_changed : (base : ℕ) (xs ys : List KeptMaster) → length xs ≡ length ys → ((m : ℕ) → m < length xs → card_here ys m ≡ card_here xs m) → changed_from base xs ys ≡ None
+none_changed base [] ys e same = refl
+none_changed base (x ∷ xs) [] e same = refl
+none_changed base (x ∷ xs) (y ∷ ys) e same =
+    ap (λ (b : Bool). cond b (changed_from (base + 1) xs ys) (Some base)) (same_card-true x.card y.card (sym (same 0 (omega arith))))
+    ∙ none_changed (base + 1) xs ys (omega arith) (λ m low. same (suc m) (omega arith))
+
+one_changed : (base k : ℕ) (xs ys : List KeptMaster) → length xs ≡ length ys → k < length xs → card_here ys k ≢ card_here xs k → ((m : ℕ) → m ≢ k → card_here ys m ≡ card_here xs m)
+    → changed_from base xs ys ≡ Some (base + k)
+one_changed base k [] ys e low apart same = absurd (omega arith)
+one_changed base k (x ∷ xs) [] e low apart same = absurd (omega arith)
+one_changed base zero (x ∷ xs) (y ∷ ys) e low apart same =
+    ap (λ (b : Bool). cond b (changed_from (base + 1) xs ys) (Some base)) (same_card-false x.card y.card (same_card x.card y.card) refl (λ s. apart (sym s)))
+    ∙ ap (λ (n : ℕ). Some n) (let is : base ≡ base + 0 = omega arith in is)
+one_changed base (suc k) (x ∷ xs) (y ∷ ys) e low apart same =
+    ap (λ (b : Bool). cond b (changed_from (base + 1) xs ys) (Some base)) (same_card-true x.card y.card (sym (same 0 (omega arith))))
+    ∙ (one_changed (base + 1) k xs ys (omega arith) (omega arith) apart (λ m other. same (suc m) (omega arith)) ∙ ap (λ (n : ℕ). Some n) (let is : (base + 1) + k ≡ base + suc k = omega arith in is))
+
+-- a change is told where one configuration changed, and no other did
+change_is : (former now : Kept) (change : Option ℕ) → length former.masters ≡ length now.masters
+    → IfSome change (λ m. (m < length now.masters) × (card_of now m ≢ card_of former m)) → ((m : ℕ) → change ≢ Some m → card_of now m ≡ card_of former m)
+    → change ≡ changed_card former now
+change_is former now None long one others = sym (none_changed 0 former.masters now.masters long (λ m _. others m (λ e. let none : ⊥ = cc in none)))
+change_is former now (Some k) long one others =
+    sym (one_changed 0 k former.masters now.masters long (let low : k < length now.masters = one.0 in omega arith) one.1 (λ m other. others m (λ e. other (sym (same_some k m e))))
+    ∙ ap (λ (n : ℕ). Some n) (let is : 0 + k ≡ k = omega arith in is))
+  where
+    same_some : (a b : ℕ) → Some a ≡ Some b → a ≡ b
+    same_some a b e = cc
+
+-- the change that a Sentinel tells after a take
+pub change_taken : (before now : Whole) → IsWhole before → IsWhole now → now.plan ≡ before.plan
+    → IfSome now.change (λ m. (m < length now.core.kept.masters) × (card_of now.core.kept m ≢ card_of before.core.kept m))
+    → ((m : ℕ) → now.change ≢ Some m → card_of now.core.kept m ≡ card_of before.core.kept m)
+    → now.change ≡ changed_card before.core.kept now.core.kept
+change_taken before now was is plan one others =
+    change_is before.core.kept now.core.kept now.change (was.core.kept_masters ∙ (ap (λ (p : Plan). master_count p) (sym plan) ∙ sym is.core.kept_masters)) one others
+
 module _ {S : Type 0} (text : S → Option (List ℕ)) (failures : S → ℕ) (w : World) (i : Input) (k : Keeper S) (left : IsLeft text failures w k) where
   abbrev gives : Next
   gives = next k.sentinel.plan k.sentinel.core i.now i.event
 
   same_next : gives ≡ next_of w i
   same_next = λ j. next (left.plan j) (left.core j) i.now i.event
+
+  -- the master whose configuration was changed
+  changes : (taken : Whole) → taken.core ≡ (next_of w i).core → changed_card k.sentinel.core.kept taken.core.kept ≡ changed_card w.core.kept (next_of w i).core.kept
+  changes taken core = λ j. changed_card (left.core j).kept (core j).kept
 
   -- whether there was something to store
   pub musts : (changed : Bool) (core : Core) → core ≡ gives.core → (changed ≡ true ↔ (core.kept ≢ k.sentinel.core.kept)) → (changed || is_flush i.event) ≡ must_store w i
@@ -114,12 +173,12 @@ module _ {S : Type 0} (text : S → Option (List ℕ)) (failures : S → ℕ) (w
 
   pub stored_turn : (number : ℕ) (k2 : Keeper S) (taken : Whole) (changed : Bool) (shown outputs shown2 : List Output) → w.halted ≡ false → IsWithinEvent i.event
       → taken.plan ≡ k.sentinel.plan → taken.core ≡ gives.core → (changed ≡ true ↔ (taken.core.kept ≢ k.sentinel.core.kept)) → IsKeptPart taken.plan.conf taken.core.kept
-      → outputs ≡ gives.outputs → shown2 ≡ shown ++ outputs → k2.sentinel ≡ record taken { stored = taken.core.kept; phase = Ready }
+      → taken.change ≡ changed_card k.sentinel.core.kept taken.core.kept → outputs ≡ gives.outputs → shown2 ≡ shown ++ outputs → k2.sentinel ≡ record taken { stored = taken.core.kept; phase = Ready }
       → ((changed || is_flush i.event) ≡ false → text k2.store ≡ text k.store)
       → ((changed || is_flush i.event) ≡ true → IfSome (text k2.store) (λ bytes. bytes ≡ rewritten taken.plan.conf taken.core.kept))
       → failures k2.store ≡ failures k.store
       → let e = entry_of number i Stored (length shown) shown2 (failures k2.store) in IsStep w e × IsLeft text failures (after w e) k2
-  stored_turn number k2 taken changed shown outputs shown2 running within plan core differs part out more new same wrote count =
+  stored_turn number k2 taken changed shown outputs shown2 running within plan core differs part change out more new same wrote count =
       let e : Entry = entry_of number i Stored (length shown) shown2 (failures k2.store) in
       let to_core : taken.core ≡ (next_of w i).core = core ∙ ap (λ (n : Next). n.core) same_next in
       let to_plan : taken.plan ≡ w.plan = plan ∙ left.plan in
@@ -136,6 +195,7 @@ module _ {S : Type 0} (text : S → Option (List ℕ)) (failures : S → ℕ) (w
           core = ap (λ (x : Whole). x.core) new ∙ to_core;
           stored = ap (λ (x : Whole). x.stored) new ∙ ap (λ (c : Core). c.kept) to_core;
           phase = ap (λ (x : Whole). x.phase) new ∙ ap (λ (b : Bool). cond b Halted Ready) (sym running);
+          change = ap (λ (x : Whole). x.change) new ∙ (change ∙ changes taken to_core);
           failures_are = refl;
           text_is = written (after w e) (must_store w i) (text_of w i) (text k.store) (text k2.store) refl refl refl
               (λ f. same (must ∙ f)) (λ t. subst (λ (x : List ℕ). IfSome (text k2.store) (λ bytes. bytes ≡ x)) text_same (wrote (must ∙ t))) left.text_is;
@@ -154,12 +214,12 @@ module _ {S : Type 0} (text : S → Option (List ℕ)) (failures : S → ℕ) (w
       either
 
   pub refused_turn : (number : ℕ) (k2 : Keeper S) (taken : Whole) (changed : Bool) (shown shown2 : List Output) → w.halted ≡ false → IsWithinEvent i.event
-      → taken.plan ≡ k.sentinel.plan → taken.core ≡ gives.core → taken.stored ≡ k.sentinel.stored → (changed ≡ true ↔ (taken.core.kept ≢ k.sentinel.core.kept))
+      → taken.plan ≡ k.sentinel.plan → taken.core ≡ gives.core → taken.stored ≡ k.sentinel.stored → taken.change ≡ changed_card k.sentinel.core.kept taken.core.kept → (changed ≡ true ↔ (taken.core.kept ≢ k.sentinel.core.kept))
       → shown2 ≡ shown → k2.sentinel ≡ record taken { phase = Halted } → (changed || is_flush i.event) ≡ true
       → (text k2.store ≡ text k.store) ⊎ IfSome (text k2.store) (λ bytes. bytes ≡ rewritten taken.plan.conf taken.core.kept)
       → failures k2.store ≡ failures k.store + 1
       → let e = entry_of number i Refused (length shown) shown2 (failures k2.store) in IsStep w e × IsLeft text failures (after w e) k2
-  refused_turn number k2 taken changed shown shown2 running within plan core stored differs out new pending either count =
+  refused_turn number k2 taken changed shown shown2 running within plan core stored change differs out new pending either count =
       let e : Entry = entry_of number i Refused (length shown) shown2 (failures k2.store) in
       let to_core : taken.core ≡ (next_of w i).core = core ∙ ap (λ (n : Next). n.core) same_next in
       let to_plan : taken.plan ≡ w.plan = plan ∙ left.plan in
@@ -177,6 +237,7 @@ module _ {S : Type 0} (text : S → Option (List ℕ)) (failures : S → ℕ) (w
           core = ap (λ (x : Whole). x.core) new ∙ to_core;
           stored = ap (λ (x : Whole). x.stored) new ∙ (stored ∙ left.stored);
           phase = ap (λ (x : Whole). x.phase) new;
+          change = ap (λ (x : Whole). x.change) new ∙ (change ∙ changes taken to_core);
           failures_are = refl;
           text_is = refused_text (after w e) (text_of w i) (text k.store) (text k2.store) running refl refl refl
               (subst (λ (x : List ℕ). (text k2.store ≡ text k.store) ⊎ IfSome (text k2.store) (λ bytes. bytes ≡ x)) text_same either) left.text_is;

@@ -1,6 +1,7 @@
 pub mod Cards
 pub mod Fronts
 pub mod Totals
+pub mod Owners
 pub mod Steps
 pub mod Calls
 pub mod Acts

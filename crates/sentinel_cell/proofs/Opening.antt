@@ -47,19 +47,20 @@ module _ {S : Type 0} (text : S → Option (List ℕ)) (failures : S → ℕ) wh
         core = refl;
         stored = refl;
         phase = is;
+        change = refl;
         failures_are = refl;
         text_is = known (opened text failures k) (text k.store) refl;
         kept = kept_ready k.sentinel w is;
         room = λ _. room;
       }
 
-  pub starts_cell : (seats : ℕ) (k : Keeper S) (words ws : List ℕ) → words ≡ ws → length ws ≡ master_count k.sentinel.plan + 2 → get_or ws 0 0 ≡ 0 → get_or ws 1 0 ≡ 0
+  pub starts_cell : (seats : ℕ) (k : Keeper S) (words ws : List ℕ) → 0 < seats → words ≡ ws → length ws ≡ master_count k.sentinel.plan + 2 → get_or ws 0 0 ≡ 0 → get_or ws 1 0 ≡ 0
       → ((x : ℕ) → x < master_count k.sentinel.plan → unpacked (addr_at k.sentinel.plan) x (get_or ws (x + 2) 0) ≡ card_of k.sentinel.stored x)
       → Keeps text failures (opened text failures k) seats (opening words (None ∷ []) (first_view_at FirstStage seats))
-  starts_cell seats k words ws same wide none_served none_drawn cards =
+  starts_cell seats k words ws some_seats same wide none_served none_drawn cards =
       let start : World = opened text failures k in
       subst (λ (l : List ℕ). Keeps text failures start seats (opening l (None ∷ []) (first_view_at FirstStage seats))) (sym same)
-      (starts (IsLegal start) (stored_at start) (Fits text failures start) (addr_at start.plan) (master_count start.plan) seats None ws wide none_served none_drawn cards)
+      (starts (IsLegal start) (stored_at start) (Fits text failures start) (addr_at start.plan) (master_count start.plan) seats None ws some_seats wide none_served none_drawn cards)
 
   -- the rule was told of the same Sentinel and store
   pub fits_first : (told k : Keeper S) → told ≡ k → IsWhole k.sentinel → k.sentinel.phase ≡ Ready → failures k.store < 2 ^ 64 - 1

@@ -16,9 +16,10 @@ use Rattle.sentinel_cell.specs.declared.view.View.{View}
 use Rattle.sentinel_cell.specs.declared.view.Stage.{Stage}
 use Rattle.sentinel_cell.specs.declared.view.Stage.TheVariants.{Opening, Filling, Idle, Looked, Waiting, Serving}
 use Rattle.ballot_law.specs.declared.cards.Card.{Card}
-use Rattle.sentinel_cell.specs.Calls.{Begins, Has, calls_by, is_shorter, Answered, IsOfBeginning}
-use Rattle.sentinel_cell.specs.Turns.{total, share_of, looks, looks_of, Queued, Knows, AtHome, Out, Orderly, IsNew, Ruled, unpacked, first_view_at, first_view, spent, Enters, Fills, looked, drawn, serving, raised, passed, answered, numbered, firsts, rests, left_half, right_half, merged, Follows, IsFresh, Sits, Draws, Turns, Raises, Passes, Tells, Names, Settles}
-use Rattle.sentinel_cell.proofs.Fronts.{begins_self, begins_empty, begins_more, begins_through, begins_longer, compared, calls-append, calls_between, calls_begin}
+use Rattle.sentinel_cell.specs.Calls.{Begins, Has, AreApart, calls_by, is_shorter, Answered, IsOfBeginning}
+use Rattle.sentinel_cell.specs.Turns.{total, share_of, looks, looks_of, Queued, Owned, Knows, AtHome, Out, Orderly, IsNew, Ruled, unpacked, first_view_at, first_view, spent, Enters, Fills, looked, drawn, serving, raised, passed, answered, numbered, firsts, rests, left_half, right_half, merged, Follows, IsFresh, Sits, Draws, Turns, Raises, Passes, Tells, Names, Settles}
+use Rattle.sentinel_cell.proofs.Fronts.{calls_left, begins_self, begins_empty, begins_more, begins_through, begins_longer, compared, calls-append, calls_between, calls_begin}
+use Rattle.sentinel_cell.proofs.Owners.{has_either, apart_both, in_place, owned_after, owned_named, owned_split, owned_joined, has_or, no_calls}
 use Rattle.sentinel_cell.proofs.Totals.{total_at, total_set, total-append, total_below, no_share}
 
 pub same_ticket : (a b : ℕ) → Waiting a ≡ Waiting b → a ≡ b
@@ -40,6 +41,8 @@ module _ (stored : List Entry → ℕ → Card) where
     told = k.told;
     told_calls = k.told_calls;
     mine = λ n has. let m = k.mine n has in let below : n < given = m.0 in let o = owns n m.0 m.1 in (omega arith, o.0, o.1 ∙ m.2);
+    apart = k.apart;
+    armed = k.armed;
     answers = λ m c a. of_longer (history ++ flight) (history' ++ flight') m c grows' (k.answers m c a);
     tickets = let h = k.tickets in omega arith;
     numbers = let h : v.given ≤ given = k.numbers.upto in record { upto = omega arith; own = k.numbers.own; calls = k.numbers.calls };
@@ -89,15 +92,19 @@ module _ {C : Type 0} (Legal : List Entry → Type 0) (stored : List Entry → �
       → AtHome Fits history flight homes ⊎ Out homes views → AtHome Fits history flight homes ⊎ Out homes (set views id w)
   slot_stays history flight homes views id v w at idle slot = ⊎_elim (λ (a : AtHome Fits history flight homes). inl a) (λ (o : Out homes views). inr (out_stays homes views id v w at idle o)) slot
 
+  -- a seat that moves keeps its numbers
+  stays_owned : (s : St) (r : Rule s) (id : ℕ) (v w : View) → get_elem? s.views id ≡ some v → w.numbers ≡ v.numbers → Owned r.given r.owner (set s.views id w)
+  stays_owned s r id v w at same = owned_after s.views r.given r.owner id v w at (λ n h. subst (Has n) (sym same) h) r.owned
+
   -- a step that leaves the history and the served count
   moved : (s : St) (r : Rule s) (id : ℕ) (v w : View) → get_elem? s.views id ≡ some v
       → (words : List ℕ) → length words ≡ masters + 2 → ((m : ℕ) → m < masters → get_or words (m + 2) 0 ≡ get_or s.words (m + 2) 0) → get_or words 0 0 ≡ served s → next s ≤ get_or words 1 0
       → get_or words 1 0 + total looks_of (set s.views id w) ≤ 9223372036854775808 + seats → w.share ≡ v.share
       → (given : ℕ) → r.given ≤ given → (owner drawer : ℕ → ℕ) → ((n : ℕ) → n < r.given → owner n ≡ r.owner n) → ((t : ℕ) → t < next s → drawer t ≡ r.drawer t)
-      → Knows stored r.history r.flight given owner drawer (served s) (get_or words 1 0) id w
+      → Knows stored r.history r.flight given owner drawer (served s) (get_or words 1 0) id w → Owned given owner (set s.views id w)
       → (homes : List (Option C)) → AtHome Fits r.history r.flight homes ⊎ Out homes (set s.views id w)
       → Rule record { words = words; homes = homes; views = set s.views id w }
-  moved s r id v w at words wide shown same on room share given more owner drawer owns draws mine homes slot = record {
+  moved s r id v w at words wide shown same on room share given more owner drawer owns draws mine owned homes slot = record {
     history = r.history;
     flight = r.flight;
     given = given;
@@ -111,6 +118,7 @@ module _ {C : Type 0} (Legal : List Entry → Type 0) (stored : List Entry → �
     room = room;
     shares = let t = total_set share_of s.views id v w at in let h = r.shares in omega arith;
     numbered = λ n h. r.numbered n (omega arith);
+    owned = owned;
     each = subst (λ (z : ℕ). (j : ℕ) (u : View) → get_elem? (set s.views id w) j ≡ some u → Knows stored r.history r.flight given owner drawer z (get_or words 1 0) j u) (sym same)
         (seats_stay (Knows stored r.history r.flight given owner drawer (served s) (get_or words 1 0)) s.views id w mine
         (λ j u apart e. later stored r.history r.flight r.history r.flight r.given given r.owner owner r.drawer drawer (served s) (served s) (next s) (get_or words 1 0) j u
@@ -122,10 +130,10 @@ module _ {C : Type 0} (Legal : List Entry → Type 0) (stored : List Entry → �
   unmoved : (s : St) (r : Rule s) (id : ℕ) (v w : View) (i : ℕ) (cs : List (ℕ × C)) → get_elem? s.views id ≡ some v → ((t : ℕ) → v.stage ≡ Serving t → ⊥)
       → next s + total looks_of (set s.views id w) ≤ 9223372036854775808 + seats → w.share ≡ v.share
       → (given : ℕ) → r.given ≤ given → (owner : ℕ → ℕ) → ((n : ℕ) → n < r.given → owner n ≡ r.owner n)
-      → Knows stored r.history r.flight given owner r.drawer (served s) (next s) id w
+      → Knows stored r.history r.flight given owner r.drawer (served s) (next s) id w → Owned given owner (set s.views id w)
       → Rule (stepped s i (get_or s.words i 0) id cs w keeps)
-  unmoved s r id v w i cs at idle room share given more owner owns mine = subst (λ (ws : List ℕ). Rule record { words = ws; homes = s.homes; views = set s.views id w }) (sym (set-get_or s.words i 0))
-      (moved s r id v w at s.words r.wide (λ m low. refl) refl (omega arith) room share given more owner r.drawer owns (λ t h. refl) mine s.homes (slot_stays r.history r.flight s.homes s.views id v w at idle r.slot))
+  unmoved s r id v w i cs at idle room share given more owner owns mine owned = subst (λ (ws : List ℕ). Rule record { words = ws; homes = s.homes; views = set s.views id w }) (sym (set-get_or s.words i 0))
+      (moved s r id v w at s.words r.wide (λ m low. refl) refl (omega arith) room share given more owner r.drawer owns (λ t h. refl) mine owned s.homes (slot_stays r.history r.flight s.homes s.views id v w at idle r.slot))
 
   -- a step that changes nothing
   still : (s : St) (r : Rule s) (id : ℕ) (v : View) (i : ℕ) (cs : List (ℕ × C)) → get_elem? s.views id ≡ some v → Rule (stepped s i (get_or s.words i 0) id cs v keeps)
@@ -171,7 +179,8 @@ module _ {C : Type 0} (Legal : List Entry → Type 0) (stored : List Entry → �
         tt,
         unmoved s r id me.0 w 1 me.1 at (idle_serves me.0.stage idle) (sits_room n (total looks_of (set s.views id w)) (total looks_of s.views) (ltb n 9223372036854775808) refl (looks_all s r id me.0 w at l.0 some_share refl)
             (λ e. looks_set s.views id me.0 w at (e_looks (ltb n 9223372036854775808) e)) r.room) refl r.given (omega arith) r.owner (λ m h. refl)
-            record { front = k.front; told = k.told; told_calls = k.told_calls; mine = k.mine; answers = k.answers; tickets = omega arith; numbers = k.numbers; queued = l.1 },
+            record { front = k.front; told = k.told; told_calls = k.told_calls; mine = k.mine; apart = k.apart; armed = k.armed; answers = k.answers; tickets = omega arith; numbers = k.numbers; queued = l.1 }
+            (stays_owned s r id me.0 w at refl),
         (refl, refl),
       )
     where
@@ -219,19 +228,17 @@ module _ {C : Type 0} (Legal : List Entry → Type 0) (stored : List Entry → �
               told = k.told;
               told_calls = k.told_calls;
               mine = k.mine;
+              apart = k.apart;
+              armed = k.armed;
               answers = k.answers;
               tickets = omega arith;
               numbers = k.numbers;
               queued = (some_share, ap (λ (b : Bool). cond b id (r.drawer n)) (eq-eqb n n refl), o, omega arith);
             }
+            (stays_owned s r id me.0 w at refl)
             s.homes (slot_stays r.history r.flight s.homes s.views id me.0 w at (looked_serves me.0.stage is) r.slot),
         (refl, refl),
       )
-
-  in_place : {A : Type 0} (l : List A) (i : ℕ) (a b : A) → get_elem? l i ≡ some a → get_elem? (set l i b) i ≡ some b
-  in_place [] i a b e = absurd (some-ne-none a (sym e))
-  in_place (x ∷ xs) zero a b e = refl
-  in_place (x ∷ xs) (suc i) a b e = in_place xs i a b e
 
   -- the seat that has the slot out serves
   slot_served : (s : St) (r : Rule s) (o : Out s.homes s.views) → Queued r.history r.flight r.drawer (served s) (next s) o.1.0 o.1.1.share o.1.1.front o.1.1.flight (Serving o.1.2)
@@ -269,11 +276,14 @@ module _ {C : Type 0} (Legal : List Entry → Type 0) (stored : List Entry → �
               told = begins_empty r.history;
               told_calls = λ n has. absurd has;
               mine = λ n has. let m = k.mine n has in (m.0, m.1, refl);
+              apart = k.apart;
+              armed = k.armed;
               answers = k.answers;
               tickets = k.tickets;
               numbers = record { upto = omega arith; own = λ n has. (k.mine n has).0; calls = r.numbered };
               queued = (q.0, q.1, refl, q.3, refl, sym h.3);
             }
+            (stays_owned s r id me.0 w at refl)
             (none ∷ []) (inr (refl, (id, w, served s, in_place s.views id me.0 w at, refl)))),
         ((λ _. (r.history, h.0, (r.given, refl, k.numbers.upto), refl, subst Legal (ap (λ (l : List Entry). r.history ++ l) h.3 ∙ append-nil r.history) r.legal, h.2, (k.front, λ n has. (k.mine n has).2), sym r.counted)), (λ not. absurd (not now))),
       ))
@@ -340,6 +350,7 @@ module _ {C : Type 0} (Legal : List Entry → Type 0) (stored : List Entry → �
           room = omega arith;
           shares = let sum = total_set share_of s.views id me.0 w at in let h = r.shares in omega arith;
           numbered = λ x h. other_number x x e (λ same. omega arith) r.history ∙ r.numbered x h;
+          owned = stays_owned s r id me.0 w at refl;
           each = subst (λ (z : ℕ × ℕ). (j : ℕ) (u : View) → get_elem? (set s.views id w) j ≡ some u → Knows stored history [] r.given r.owner r.drawer z.0 z.1 j u) (λ i. (sym now i, sym still_next i))
               (seats_stay (Knows stored history [] r.given r.owner r.drawer (n + 1) m) s.views id w
               record {
@@ -347,6 +358,8 @@ module _ {C : Type 0} (Legal : List Entry → Type 0) (stored : List Entry → �
                 told = begins_empty (me.0.front ++ me.0.flight);
                 told_calls = λ x h. absurd h;
                 mine = λ x h. let o = k.mine x h in (o.0, o.1, ap (calls_by x) (sym front));
+                apart = k.apart;
+                armed = k.armed;
                 answers = λ x d a. subst (λ (l : List Entry). IsOfBeginning stored l x d) all (k.answers x d a);
                 tickets = k.tickets;
                 numbers = record { upto = k.numbers.upto; own = k.numbers.own; calls = known };
@@ -418,6 +431,7 @@ module _ {C : Type 0} (Legal : List Entry → Type 0) (stored : List Entry → �
           room = omega arith;
           shares = let sum = total_set share_of s.views id me.0 w at in let h = r.shares in omega arith;
           numbered = r.numbered;
+          owned = stays_owned s r id me.0 w at refl;
           each = subst (λ (z : ℕ × ℕ). (j : ℕ) (u : View) → get_elem? (set s.views id w) j ≡ some u → Knows stored r.history (e ∷ []) r.given r.owner r.drawer z.0 z.1 j u) (λ i. (sym still_served i, sym still_next i))
               (seats_stay (Knows stored r.history (e ∷ []) r.given r.owner r.drawer (served s) (next s)) s.views id w
               record {
@@ -425,6 +439,8 @@ module _ {C : Type 0} (Legal : List Entry → Type 0) (stored : List Entry → �
                 told = kn.told;
                 told_calls = kn.told_calls;
                 mine = kn.mine;
+                apart = kn.apart;
+                armed = kn.armed;
                 answers = λ x d a. of_longer stored (r.history ++ r.flight) (r.history ++ e ∷ []) x d (e ∷ [], sym longer ∙ ap (λ (l : List Entry). l ++ e ∷ []) (sym all)) (kn.answers x d a);
                 tickets = kn.tickets;
                 numbers = kn.numbers;
@@ -466,18 +482,21 @@ module _ {C : Type 0} (Legal : List Entry → Type 0) (stored : List Entry → �
               told = k.told;
               told_calls = k.told_calls;
               mine = k.mine;
+              apart = k.apart;
+              armed = k.armed;
               answers = λ x c a. ⊎_elim (λ (old : Answered x c me.0.answers). k.answers x c old)
                   (λ (new : Answered x c ((m, card) ∷ [])). ⊎_elim (λ (e : (x ≡ m) × (c ≡ card)). (all, begins_self all, e.1 ∙ (there ∙ ap (stored all) (sym e.0)))) (λ (none : ⊥). absurd none) new)
                   (answered_either x c me.0.answers ((m, card) ∷ []) a);
               tickets = k.tickets;
               numbers = k.numbers;
               queued = subst (Queued r.history r.flight r.drawer (served s) (next s) id me.0.share me.0.front me.0.flight) (sym is) tt;
-            },
+            }
+            (stays_owned s r id me.0 w at refl),
         (λ x e. let same : m ≡ x = omega arith in subst (λ (y : ℕ). (answered me.0 m card ≡ answered me.0 y (unpacked at_place y n)) × (me.1 ≡ me.1) × IsFresh Legal stored me.0 y (unpacked at_place y n)) same (refl, refl, fresh)),
       )
 
-  names : (slots id : ℕ) (me : M) → me.0.stage ≡ Idle → Allows Rule slots id me 0 (λ n. n) (Names (step slots 0 0 0 none) me)
-  names slots id me is s r _ at _ =
+  names : (slots id : ℕ) (me : M) → me.0.stage ≡ Idle → 0 < me.0.share → Allows Rule slots id me 0 (λ n. n) (Names (step slots 0 0 0 none) me)
+  names slots id me is some_share s r _ at _ =
       let k = r.each id me.0 at in
       let n : ℕ = r.given in
       let w : View = numbered me.0 n in
@@ -485,6 +504,7 @@ module _ {C : Type 0} (Legal : List Entry → Type 0) (stored : List Entry → �
       let quiet : calls_by n me.0.front ≡ [] = calls_begin n me.0.front r.history k.front (r.numbered n (omega arith)) in
       let less = looks_set s.views id me.0 w at (omega arith) in
       let room = r.room in
+      let new : ¬ Has n me.0.numbers = λ has. let m = k.mine n has in let low : n < n = m.0 in omega arith in
       let as_before : (x : ℕ) → x < n → owner x ≡ r.owner x = λ x low. ap (λ (b : Bool). cond b id (r.owner x)) (ne_eqb x n (λ e. omega arith)) in (
         w,
         keeps,
@@ -497,6 +517,8 @@ module _ {C : Type 0} (Legal : List Entry → Type 0) (stored : List Entry → �
               mine = λ x has. ⊎_elim
                   (λ (e : x ≡ n). (omega arith, ap (λ (b : Bool). cond b id (r.owner x)) (eq-eqb x n e), ap (λ (y : ℕ). calls_by y r.history) e ∙ (r.numbered n (omega arith) ∙ (sym quiet ∙ ap (λ (y : ℕ). calls_by y me.0.front) (sym e)))))
                   (λ (h : Has x me.0.numbers). let m = k.mine x h in let low : x < n = m.0 in (omega arith, as_before x low ∙ m.1, m.2)) has;
+              apart = (new, k.apart);
+              armed = λ _ _. some_share;
               answers = k.answers;
               tickets = k.tickets;
               numbers = record {
@@ -505,8 +527,9 @@ module _ {C : Type 0} (Legal : List Entry → Type 0) (stored : List Entry → �
                 calls = λ x high. calls_begin x me.0.front r.history k.front (r.numbered x (omega arith));
               };
               queued = subst (Queued r.history r.flight r.drawer (served s) (next s) id me.0.share me.0.front me.0.flight) (sym is) tt;
-            },
-        (n, refl, refl, k.numbers.upto, (λ has. let m = k.mine n has in let low : n < n = m.0 in omega arith), quiet),
+            }
+            (owned_named s.views n r.owner id me.0 at r.owned),
+        (n, refl, refl, k.numbers.upto, new, quiet),
       )
 
   settles : (slots id : ℕ) (me : M) → seats ≤ MOST_SEATS → Allows Rule slots id me 0 (λ n. n) (Settles (step slots 0 0 0 none) me)
@@ -514,7 +537,7 @@ module _ {C : Type 0} (Legal : List Entry → Type 0) (stored : List Entry → �
       let k = r.each id me.0 at in
       let part = total_at share_of s.views id me.0 at in
       let all = r.shares in
-      (me.0, keeps, tt, still s r id me.0 0 me.1 at, (refl, omega arith, k.told, k.told_calls))
+      (me.0, keeps, tt, still s r id me.0 0 me.1 at, (refl, omega arith, k.told, k.told_calls, k.apart))
 
   at_end : {A : Type 0} (l : List A) (a b : A) (j : ℕ) → get_elem? (l ++ a ∷ []) j ≡ some b → (get_elem? l j ≡ some b) ⊎ ((j ≡ length l) × (a ≡ b))
   at_end [] a b zero e = inr (refl, some-injective a b e)
@@ -525,8 +548,8 @@ module _ {C : Type 0} (Legal : List Entry → Type 0) (stored : List Entry → �
   -- other seats with the same history, words and slot, who have other numbers
   reseated : (s : St) (r : Rule s) (views : List View) (owner : ℕ → ℕ) → next s + total looks_of views ≤ 9223372036854775808 + seats → total share_of views ≡ seats
       → ((j : ℕ) (u : View) → get_elem? views j ≡ some u → Knows stored r.history r.flight r.given owner r.drawer (served s) (next s) j u)
-      → AtHome Fits r.history r.flight s.homes ⊎ Out s.homes views → Rule record { words = s.words; homes = s.homes; views = views }
-  reseated s r views owner room shares each slot = record {
+      → Owned r.given owner views → AtHome Fits r.history r.flight s.homes ⊎ Out s.homes views → Rule record { words = s.words; homes = s.homes; views = views }
+  reseated s r views owner room shares each owned slot = record {
     history = r.history;
     flight = r.flight;
     given = r.given;
@@ -540,13 +563,14 @@ module _ {C : Type 0} (Legal : List Entry → Type 0) (stored : List Entry → �
     room = room;
     shares = shares;
     numbered = r.numbered;
+    owned = owned;
     each = each;
     slot = slot;
   }
 
   -- a new seat at the end has none of the other seats' numbers but n
-  splits : (id : ℕ) (v : View) (n : ℕ) (ns : List ℕ) → v.stage ≡ Idle → v.numbers ≡ n ∷ ns → ¬ Has n ns → Splits Rule id v (left_half v) (right_half v)
-  splits id v n ns is numbers fresh s r at =
+  splits : (id : ℕ) (v : View) (n : ℕ) (ns : List ℕ) → v.stage ≡ Idle → 2 ≤ v.share → v.numbers ≡ n ∷ ns → ¬ Has n ns → Splits Rule id v (left_half v) (right_half v)
+  splits id v n ns is two numbers fresh s r at =
       let k = r.each id v at in
       let left : View = left_half v in
       let right : View = right_half v in
@@ -569,6 +593,8 @@ module _ {C : Type 0} (Legal : List Entry → Type 0) (stored : List Entry → �
         told_calls = k.told_calls;
         mine = λ x has. let h : Has x ns = subst (Has x) rests_are has in let m = k.mine x (subst (Has x) (sym numbers) (inr h)) in
             (m.0, else_owner x (λ e. fresh (subst (λ (y : ℕ). Has y ns) e h)) ∙ m.1, m.2);
+        apart = subst AreApart (sym rests_are) (subst AreApart numbers k.apart).1;
+        armed = λ _ _. omega arith;
         answers = k.answers;
         tickets = k.tickets;
         numbers = record { upto = k.numbers.upto; own = λ x has. k.numbers.own x (subst (Has x) (sym numbers) (inr (subst (Has x) rests_are has))); calls = k.numbers.calls };
@@ -580,6 +606,8 @@ module _ {C : Type 0} (Legal : List Entry → Type 0) (stored : List Entry → �
         told_calls = λ x h. absurd h;
         mine = λ x has. let h : Has x (n ∷ []) = subst (Has x) firsts_are has in let e : x ≡ n = ⊎_elim (λ (p : x ≡ n). p) (λ (none : ⊥). absurd none) h in
             (subst (λ (y : ℕ). y < r.given) (sym e) mine.0, ap (λ (b : Bool). cond b new (r.owner x)) (eq-eqb x n e), subst (λ (y : ℕ). calls_by y r.history ≡ calls_by y v.front) (sym e) mine.2);
+        apart = subst AreApart (sym firsts_are) ((λ (none : ⊥). none), tt);
+        armed = λ _ _. omega arith;
         answers = k.answers;
         tickets = k.tickets;
         numbers = record {
@@ -596,13 +624,10 @@ module _ {C : Type 0} (Legal : List Entry → Type 0) (stored : List Entry → �
       (λ y low own. (else_owner y (λ same. apart (sym own ∙ (ap r.owner same ∙ mine.1))) ∙ own, refl)) (omega arith) (λ t l. refl) (omega arith) (λ t d l. l) (λ d. (refl, refl, refl)) (r.each i x was)) j u there)
       (λ (last : (j ≡ length (set s.views id left)) × (right ≡ u)). subst (λ (x : ℕ × View). K x.0 x.1) (λ i. (sym (last.0 ∙ length-set s.views id left) i, last.1 i)) mine_right)
       (at_end (set s.views id left) right u j e))
+      (owned_split s.views r.given r.owner id v n ns at numbers r.owned)
       (⊎_elim (λ (a : AtHome Fits r.history r.flight s.homes). inl a)
       (λ (o : Out s.homes (set s.views id left)). inr (o.0, (o.1.0, o.1.1, o.1.2, at_longer (set s.views id left) (right ∷ []) o.1.0 o.1.1 o.1.3, o.1.4)))
       (slot_stays r.history r.flight s.homes s.views id v left at (idle_serves v.stage is) r.slot))
-
-  has_either : (n : ℕ) (xs ys : List ℕ) → Has n (xs ++ ys) → Has n xs ⊎ Has n ys
-  has_either n [] ys h = inr h
-  has_either n (x ∷ xs) ys h = ⊎_elim (λ (e : n ≡ x). inl (inl e)) (λ (t : Has n (xs ++ ys)). ⊎_elim (λ (p : Has n xs). inl (inr p)) (λ (p : Has n ys). inr p) (has_either n xs ys t)) h
 
   -- the longer of two fronts has all calls of both seats' numbers, and the shorter begins it
   record Joined (history : List Entry) (v w : View) (b : Bool) : Type 0 where
@@ -655,6 +680,11 @@ module _ {C : Type 0} (Legal : List Entry → Type 0) (stored : List Entry → �
             (λ (h : Has n v.numbers). let m = k.mine n h in (m.0, else_owner n (λ e. apart (sym e ∙ m.1)) ∙ m.1, f.first_calls n h))
             (λ (h : Has n w.numbers). let m = l.mine n h in (m.0, ap (λ (c : Bool). cond c id (r.owner n)) (eq-eqb (r.owner n) other m.1), f.second_calls n h))
             (has_either n v.numbers w.numbers has);
+        apart = apart_both v.numbers w.numbers k.apart l.apart (λ n (h : Has n v.numbers) (h' : Has n w.numbers). apart (sym (l.mine n h').1 ∙ (k.mine n h).1));
+        armed = λ n has. ⊎_elim
+            (λ (h : Has n v.numbers). let part : 0 < v.share = k.armed n h in omega arith)
+            (λ (h : Has n w.numbers). let part : 0 < w.share = l.armed n h in omega arith)
+            (has_either n v.numbers w.numbers has);
         answers = λ m c a. ⊎_elim (λ (h : Answered m c v.answers). k.answers m c h) (λ (h : Answered m c w.answers). l.answers m c h) (answered_either m c v.answers w.answers a);
         tickets = omega arith;
         numbers = let one : v.given ≤ r.given = k.numbers.upto in let two : w.given ≤ r.given = l.numbers.upto in record {
@@ -674,6 +704,8 @@ module _ {C : Type 0} (Legal : List Entry → Type 0) (stored : List Entry → �
         told = begins_empty [];
         told_calls = λ x h. absurd h;
         mine = λ x h. absurd h;
+        apart = tt;
+        armed = λ x h. absurd h;
         answers = λ x c h. absurd h;
         tickets = omega arith;
         numbers = record { upto = omega arith; own = λ x h. absurd h; calls = λ x h. refl };
@@ -682,14 +714,15 @@ module _ {C : Type 0} (Legal : List Entry → Type 0) (stored : List Entry → �
       (λ j u off e. seats_stay (λ i x. i ≢ other → K i x) s.views id both (λ _. mine_both)
       (λ i x not was away. later stored r.history r.flight r.history r.flight r.given r.given r.owner owner r.drawer r.drawer (served s) (served s) (next s) (next s) i x (begins_self r.history) (begins_self (r.history ++ r.flight))
       (λ y low own. (else_owner y (λ same. away (sym own ∙ same)) ∙ own, refl)) (omega arith) (λ t h. refl) (omega arith) (λ t d h. h) (λ d. (refl, refl, refl)) (r.each i x was)) j u e off))
+      (owned_joined s.views r.given r.owner id v other w at here apart r.owned)
       (slot_stays r.history r.flight s.homes views other w spent there (idle_serves w.stage is') (slot_stays r.history r.flight s.homes s.views id v both at (idle_serves v.stage is) r.slot))
 
   only_one : (v u : View) (j : ℕ) → get_elem? (v ∷ []) j ≡ some u → (j ≡ 0) × (v ≡ u)
   only_one v u zero e = (refl, some-injective v u e)
   only_one v u (suc j) e = absurd (some-ne-none u (sym e))
 
-  opens : (c : C) (ws : List ℕ) → Legal [] → Fits [] c → length ws ≡ masters + 2 → get_or ws 0 0 ≡ 0 → get_or ws 1 0 ≡ 0 → ((m : ℕ) → m < masters → unpacked at_place m (get_or ws (m + 2) 0) ≡ stored [] m) → Rule (opening ws (c ∷ []) (first_view seats))
-  opens c ws legal fits wide zero_served zero_drawn cards = record {
+  opens : (c : C) (ws : List ℕ) → 0 < seats → Legal [] → Fits [] c → length ws ≡ masters + 2 → get_or ws 0 0 ≡ 0 → get_or ws 1 0 ≡ 0 → ((m : ℕ) → m < masters → unpacked at_place m (get_or ws (m + 2) 0) ≡ stored [] m) → Rule (opening ws (c ∷ []) (first_view seats))
+  opens c ws some_seats legal fits wide zero_served zero_drawn cards = record {
     history = [];
     flight = [];
     given = 1;
@@ -703,12 +736,15 @@ module _ {C : Type 0} (Legal : List Entry → Type 0) (stored : List Entry → �
     room = omega arith;
     shares = omega arith;
     numbered = λ n h. refl;
+    owned = λ n low. (first_view seats, refl, inl (omega arith));
     each = λ j u e. let o = only_one (first_view seats) u j e in subst (λ (x : ℕ × View). Knows stored [] [] 1 (λ (n : ℕ). 0) (λ (t : ℕ). 0) (get_or ws 0 0) (get_or ws 1 0) x.0 x.1) (λ i. (sym o.0 i, o.1 i))
         record {
           front = begins_empty [];
           told = begins_empty [];
           told_calls = λ n h. absurd h;
           mine = λ n h. ⊎_elim (λ (p : n ≡ 0). (omega arith, refl, refl)) (λ (p : ⊥). absurd p) h;
+          apart = ((λ (none : ⊥). none), tt);
+          armed = λ _ _. some_seats;
           answers = λ m d h. absurd h;
           tickets = omega arith;
           numbers = record { upto = omega arith; own = λ n h. ⊎_elim (λ (p : n ≡ 0). omega arith) (λ (p : ⊥). absurd p) h; calls = λ n h. refl };
@@ -728,6 +764,31 @@ module _ {C : Type 0} (Legal : List Entry → Type 0) (stored : List Entry → �
           dite (ℕ_discrete o.1.0 id)
           (λ same. idle_serves v.stage is o.1.2 (ap (λ (x : View). x.stage) (some-injective v u (sym at ∙ (ap (get_elem? s.views) (sym same) ∙ o.1.3))) ∙ o.1.4))
           (λ apart. let none = no_share s.views id o.1.0 v u at (whole ∙ sym r.shares) apart o.1.3 in omega arith)
+
+  -- and each call of the history is under a number of that seat, which has seen them all
+  pub all_seen : (s : St) (r : Rule s) (id : ℕ) (v : View) → get_elem? s.views id ≡ some v → v.share ≡ seats → ((n : ℕ) → ¬ Has n v.numbers → calls_by n v.front ≡ []) × (v.front ≡ r.history)
+  all_seen s r id v at whole = ((λ n away. calls_begin n v.front r.history k.front (unheld n away)), sym (k.front.1 ∙ (ap (λ (l : List Entry). v.front ++ l) none_left ∙ append-nil v.front)))
+    where
+      k : Knows stored r.history r.flight r.given r.owner r.drawer (served s) (next s) id v
+      k = r.each id v at
+
+      of_seat : (n : ℕ) → ¬ Has n v.numbers → n < r.given → ⊥
+      of_seat n away low =
+          let o = r.owned n low in
+          let part : 0 < o.0.share = (r.each (r.owner n) o.0 o.1).armed n o.2 in
+          dite (ℕ_discrete (r.owner n) id)
+          (λ same. away (subst (λ (u : View). Has n u.numbers) (some-injective o.0 v (sym o.1 ∙ (ap (get_elem? s.views) same ∙ at))) o.2))
+          (λ apart. let none = no_share s.views id (r.owner n) v o.0 at (whole ∙ sym r.shares) apart o.1 in omega arith)
+
+      given_or : (n : ℕ) (b : Bool) → ltb n r.given ≡ b → ¬ Has n v.numbers → calls_by n r.history ≡ []
+      given_or n true e away = absurd (of_seat n away (ltb-true n r.given e))
+      given_or n false e away = r.numbered n (ltb-false n r.given e)
+
+      unheld : (n : ℕ) → ¬ Has n v.numbers → calls_by n r.history ≡ []
+      unheld n away = given_or n (ltb n r.given) refl away
+
+      none_left : k.front.0 ≡ []
+      none_left = no_calls k.front.0 (λ n. calls_left n v.front k.front.0 (ap (calls_by n) (sym k.front.1) ∙ ⊎_elim (λ (h : Has n v.numbers). (k.mine n h).2) (λ (away : ¬ Has n v.numbers). unheld n away ∙ sym (calls_begin n v.front r.history k.front (unheld n away))) (has_or n v.numbers)))
 
   -- A new table
 
@@ -813,22 +874,22 @@ module _ {C : Type 0} (Legal : List Entry → Type 0) (stored : List Entry → �
   tells_all empty slots id me m low is rises =
       begun empty slots id me (m + 2) (λ n. n) (Tells Legal stored at_place (step slots (m + 2) 0 0 none) me) (idle_begun me.0.stage is) (tells slots id me m low is rises)
 
-  pub names_all : (empty : C) (slots id : ℕ) (me : M) → me.0.stage ≡ Idle → Allows (All empty) slots id me 0 (λ n. n) (Names (step slots 0 0 0 none) me)
-  names_all empty slots id me is = begun empty slots id me 0 (λ n. n) (Names (step slots 0 0 0 none) me) (idle_begun me.0.stage is) (names slots id me is)
+  pub names_all : (empty : C) (slots id : ℕ) (me : M) → me.0.stage ≡ Idle → 0 < me.0.share → Allows (All empty) slots id me 0 (λ n. n) (Names (step slots 0 0 0 none) me)
+  names_all empty slots id me is some_share = begun empty slots id me 0 (λ n. n) (Names (step slots 0 0 0 none) me) (idle_begun me.0.stage is) (names slots id me is some_share)
 
   pub settles_all : (empty : C) (slots id : ℕ) (me : M) → me.0.stage ≡ Idle → seats ≤ MOST_SEATS → Allows (All empty) slots id me 0 (λ n. n) (Settles (step slots 0 0 0 none) me)
   settles_all empty slots id me is few = begun empty slots id me 0 (λ n. n) (Settles (step slots 0 0 0 none) me) (idle_begun me.0.stage is) (settles slots id me few)
 
-  pub splits_all : (empty : C) (id : ℕ) (v : View) (n : ℕ) (ns : List ℕ) → v.stage ≡ Idle → v.numbers ≡ n ∷ ns → ¬ Has n ns → Splits (All empty) id v (left_half v) (right_half v)
-  splits_all empty id v n ns is numbers fresh = begun_splits empty id v (left_half v) (right_half v) (idle_begun v.stage is) (splits id v n ns is numbers fresh)
+  pub splits_all : (empty : C) (id : ℕ) (v : View) (n : ℕ) (ns : List ℕ) → v.stage ≡ Idle → 2 ≤ v.share → v.numbers ≡ n ∷ ns → ¬ Has n ns → Splits (All empty) id v (left_half v) (right_half v)
+  splits_all empty id v n ns is two numbers fresh = begun_splits empty id v (left_half v) (right_half v) (idle_begun v.stage is) (splits id v n ns is two numbers fresh)
 
   pub joins_all : (empty : C) (id : ℕ) (v : View) (other : ℕ) (w : View) → v.stage ≡ Idle → w.stage ≡ Idle → Joins (All empty) id v other w (merged v w) spent
   joins_all empty id v other w is is' = begun_joins empty id v other w (merged v w) spent (idle_begun v.stage is) (joins id v other w is is')
 
   -- a new table, whose slot is empty
-  pub starts : (empty : C) (ws : List ℕ) → length ws ≡ masters + 2 → get_or ws 0 0 ≡ 0 → get_or ws 1 0 ≡ 0 → ((m : ℕ) → m < masters → unpacked at_place m (get_or ws (m + 2) 0) ≡ stored [] m)
+  pub starts : (empty : C) (ws : List ℕ) → 0 < seats → length ws ≡ masters + 2 → get_or ws 0 0 ≡ 0 → get_or ws 1 0 ≡ 0 → ((m : ℕ) → m < masters → unpacked at_place m (get_or ws (m + 2) 0) ≡ stored [] m)
       → All empty (opening ws (empty ∷ []) (first_view_at Opening seats))
-  starts empty ws wide zero_served zero_drawn cards = inl (record { wide = wide; none_served = zero_served; none_drawn = zero_drawn; cards = cards; slot = inl (refl, refl) })
+  starts empty ws some_seats wide zero_served zero_drawn cards = inl (record { some_seats = some_seats; wide = wide; none_served = zero_served; none_drawn = zero_drawn; cards = cards; slot = inl (refl, refl) })
 
   not_opening : (s : St) (r : Rule s) (id : ℕ) (v : View) (st : Stage) → get_elem? s.views id ≡ some v → v.stage ≡ st
       → Queued r.history r.flight r.drawer (served s) (next s) id v.share v.front v.flight st
@@ -853,7 +914,7 @@ module _ {C : Type 0} (Legal : List Entry → Type 0) (stored : List Entry → �
         ap (λ (l : List (Option C)). get_elem? l 0) a.0,
         subst (λ (x : List ℕ × List (Option C) × List View). All empty record { words = x.0; homes = x.1; views = x.2 })
             (λ i. (sym (set-get_or s.words 0 0) i, ap (λ (l : List (Option C)). set l 0 none) (sym a.0) i, one_view s.views id (first_view_at Opening seats) w a.1 one.0 i))
-            (inl (record { wide = new.wide; none_served = new.none_served; none_drawn = new.none_drawn; cards = new.cards; slot = inr (refl, refl) })),
+            (inl (record { some_seats = new.some_seats; wide = new.wide; none_served = new.none_served; none_drawn = new.none_drawn; cards = new.cards; slot = inr (refl, refl) })),
         (ap (λ (v : View). let x : View = record v { stage = Filling } in x) (sym is), refl),
       ))
       (λ (a : (s.homes ≡ none ∷ []) × (s.views ≡ first_view_at Filling seats ∷ [])).
@@ -877,7 +938,7 @@ module _ {C : Type 0} (Legal : List Entry → Type 0) (stored : List Entry → �
         subst (λ (l : List (ℕ × C)). All empty record { words = set s.words 0 (get_or s.words 0 0); homes = put_back s.homes l; views = set s.views id w }) (sym holds_it)
             (subst (λ (x : List ℕ × List (Option C) × List View). All empty record { words = x.0; homes = x.1; views = x.2 })
             (λ i. (sym (set-get_or s.words 0 0) i, ap (λ (l : List (Option C)). set l 0 (some c)) (sym a.0) i, one_view s.views id (first_view_at Filling seats) w a.1 one.0 i))
-            (inr (opens c s.words legal fits new.wide new.none_served new.none_drawn new.cards))),
+            (inr (opens c s.words new.some_seats legal fits new.wide new.none_served new.none_drawn new.cards))),
         (ap (λ (v : View). let x : View = record v { stage = Idle } in x) (sym is), ap rest holds_it),
       ))
       new.slot)

@@ -1,5 +1,5 @@
 -- Which histories of one Sentinel are legal, and what they leave.
-use Rattle.std.specs.Prelude.{◌≡◌, ◌≢◌, ℕ, ◌-◌, ◌^◌, ◌<◌, ◌≤◌, ◌⊎◌, Bool, true, false, not, ◌||◌, ◌&&◌, ◌==◌, cond, List, [], ◌∷◌, ◌++◌, drop, Option, Some, None, IfSome}
+use Rattle.std.specs.Prelude.{◌≡◌, ◌≢◌, ℕ, ◌+◌, ◌-◌, ◌^◌, ◌<◌, ◌≤◌, ◌⊎◌, Bool, true, false, not, ◌||◌, ◌&&◌, ◌==◌, cond, List, [], ◌∷◌, ◌++◌, drop, Option, Some, None, IfSome}
 use Rattle.ballot_law.specs.declared.addresses.RunId.{RunId}
 use Rattle.ballot_law.specs.declared.cards.Card.{Card}
 use Rattle.ballot_law.specs.declared.cards.Kept.{Kept}
@@ -26,13 +26,14 @@ use Rattle.atomic_table.specs.Table.{State}
 use Rattle.sentinel_cell.specs.declared.view.View.{View}
 use Rattle.sentinel_cell.specs.Turns.{unpacked, Ruled}
 
--- A Sentinel between two entries: its plan, what it keeps, what it stored last, whether it is halted; the text of its file, where that is
--- known, and the text that its store refused; and its store's failure count
+-- A Sentinel between two entries: its plan, what it keeps, what it stored last, whether it is halted, and the master whose configuration the
+-- last input changed; the text of its file, where that is known, and the text that its store refused; and its store's failure count
 pub record World : Type 0 where
   pub plan : Plan
   pub core : Core
   pub stored : Kept
   pub halted : Bool
+  pub change : Option ℕ
   pub text : Option (List ℕ)
   pub refused : Option (List ℕ)
   pub failures : ℕ
@@ -48,7 +49,7 @@ no_core = record { kept = no_kept_part; masters = []; peers = []; clock = record
 
 -- a world where none is known
 abbrev pub no_world : World
-no_world = record { plan = no_plan; core = no_core; stored = no_kept_part; halted = false; text = None; refused = None; failures = 0 }
+no_world = record { plan = no_plan; core = no_core; stored = no_kept_part; halted = false; change = None; text = None; refused = None; failures = 0 }
 
 -- Whether two kept parts are the same
 
@@ -57,6 +58,9 @@ same_candidate None None = true
 same_candidate None (Some d) = false
 same_candidate (Some c) None = false
 same_candidate (Some c) (Some d) = same_id c d
+
+abbrev pub same_card : Card → Card → Bool
+same_card a b = (a.epoch == b.epoch) && same_addr a.addr b.addr
 
 abbrev pub same_entry : KeptMaster → KeptMaster → Bool
 same_entry a b =
@@ -71,6 +75,15 @@ same_entries (x ∷ xs) (y ∷ ys) = same_entry x y && same_entries xs ys
 
 abbrev pub same_kept : Kept → Kept → Bool
 same_kept a b = (a.current == b.current) && same_entries a.masters b.masters
+
+-- the first master, from this number on, whose configuration is another one
+abbrev pub changed_from : ℕ → List KeptMaster → List KeptMaster → Option ℕ
+changed_from m [] ys = None
+changed_from m (x ∷ xs) [] = None
+changed_from m (x ∷ xs) (y ∷ ys) = cond (same_card x.card y.card) (changed_from (m + 1) xs ys) (Some m)
+
+abbrev pub changed_card : Kept → Kept → Option ℕ
+changed_card former now = changed_from 0 former.masters now.masters
 
 -- One input
 
@@ -92,6 +105,7 @@ after_outcome w i failures Stored =
       core = (next_of w i).core;
       stored = (next_of w i).core.kept;
       halted = w.halted;
+      change = changed_card w.core.kept (next_of w i).core.kept;
       text = cond (must_store w i) (Some (text_of w i)) w.text;
       refused = w.refused;
       failures = failures;
@@ -102,12 +116,13 @@ after_outcome w i failures Refused =
       core = (next_of w i).core;
       stored = w.stored;
       halted = true;
+      change = changed_card w.core.kept (next_of w i).core.kept;
       text = w.text;
       refused = Some (text_of w i);
       failures = failures;
     }
 after_outcome w i failures HaltedBefore =
-    record { plan = w.plan; core = w.core; stored = w.stored; halted = w.halted; text = w.text; refused = w.refused; failures = failures }
+    record { plan = w.plan; core = w.core; stored = w.stored; halted = w.halted; change = w.change; text = w.text; refused = w.refused; failures = failures }
 
 abbrev pub after : World → Entry → World
 after w e = after_outcome w e.input e.failures e.outcome
@@ -151,7 +166,16 @@ module _ {S : Type 0} (text : S → Option (List ℕ)) (failures : S → ℕ) wh
   -- the world that a cell was made with
   abbrev pub opened : Keeper S → World
   opened k =
-      record { plan = k.sentinel.plan; core = k.sentinel.core; stored = k.sentinel.stored; halted = false; text = text k.store; refused = None; failures = failures k.store }
+      record {
+        plan = k.sentinel.plan;
+        core = k.sentinel.core;
+        stored = k.sentinel.stored;
+        halted = false;
+        change = k.sentinel.change;
+        text = text k.store;
+        refused = None;
+        failures = failures k.store;
+      }
 
   -- a text that is known is the last one stored, or after a refusal that one or the refused one
   abbrev pub IsText : World → List ℕ → Type 0
@@ -163,6 +187,7 @@ module _ {S : Type 0} (text : S → Option (List ℕ)) (failures : S → ℕ) wh
     pub core : k.sentinel.core ≡ w.core
     pub stored : k.sentinel.stored ≡ w.stored
     pub phase : k.sentinel.phase ≡ cond w.halted Halted Ready
+    pub change : k.sentinel.change ≡ w.change
     pub failures_are : failures k.store ≡ w.failures
     pub text_is : IfSome (text k.store) (IsText w)
     pub kept : IsKeptPart w.plan.conf w.stored

@@ -89,8 +89,8 @@ answer_of (Ok (Refused, _)) first end = Err StoreRefused
 answer_of (Ok (Halted, _)) first end = Err ActHalted
 answer_of (Err _) first end = Err Spent
 
--- The Sentinel and its store are those that a legal history leaves, which begins with all that the seat had seen. Each answer that the seat
--- got is the configuration of some beginning of that history
+-- The Sentinel and its store are those that a legal history leaves, which the seat has seen whole. Each answer that the seat got is the
+-- configuration of some beginning of that history
 abbrev pub IsLeftBy : {S : Type 0} → (S → Option (List ℕ)) → (S → ℕ) → World → View → Keeper S → Type 0
 IsLeftBy text failures start v k =
-    (more : List Entry) × IsLegal start (v.front ++ more) × IsLeft text failures (replay start (v.front ++ more)) k × AreOf (stored_at start) v.answers (v.front ++ more)
+    IsLegal start v.front × IsLeft text failures (replay start v.front) k × AreOf (stored_at start) v.answers v.front

@@ -13,7 +13,7 @@ use Rattle.sentinel_cell.specs.declared.shared.TheConstants.{MOST_SEATS}
 use Rattle.sentinel_cell.specs.declared.view.View.{View}
 use Rattle.sentinel_cell.specs.declared.view.Stage.{Stage}
 use Rattle.sentinel_cell.specs.declared.view.Stage.TheVariants.{Opening, Filling, Idle, Looked, Waiting, Serving}
-use Rattle.sentinel_cell.specs.Calls.{Begins, Has, calls_by, is_shorter, Answered, IsOfBeginning, AreOf}
+use Rattle.sentinel_cell.specs.Calls.{Begins, Has, AreApart, calls_by, is_shorter, Answered, IsOfBeginning, AreOf}
 
 abbrev pub total : (View → ℕ) → List View → ℕ
 total f [] = 0
@@ -50,11 +50,17 @@ pub record KnowsNumbers (given seen : ℕ) (numbers : List ℕ) (front : List En
   pub calls : (n : ℕ) → seen ≤ n → calls_by n front ≡ []
 
 -- Each number below `given` was given out, and `owner` has the seat that has it now
+abbrev pub Owned : (given : ℕ) → (owner : ℕ → ℕ) → List View → Type 0
+Owned given owner views = (n : ℕ) → n < given → (v : View) × (get_elem? views (owner n) ≡ some v) × Has n v.numbers
+
+-- what is always true of a seat. One with no part of the share has no number
 pub record Knows (stored : List Entry → ℕ → Card) (history flight : List Entry) (given : ℕ) (owner drawer : ℕ → ℕ) (served next seat : ℕ) (v : View) : Type 0 where
   pub front : Begins v.front history
   pub told : Begins v.told v.front
   pub told_calls : (n : ℕ) → Has n v.told_numbers → calls_by n v.front ≡ calls_by n v.told
   pub mine : (n : ℕ) → Has n v.numbers → (n < given) × (owner n ≡ seat) × (calls_by n history ≡ calls_by n v.front)
+  pub apart : AreApart v.numbers
+  pub armed : (n : ℕ) → Has n v.numbers → 0 < v.share
   pub answers : (m : ℕ) (c : Card) → Answered m c v.answers → IsOfBeginning stored (history ++ flight) m c
   pub tickets : v.tickets ≤ next
   pub numbers : KnowsNumbers given v.given v.numbers v.front
@@ -67,8 +73,8 @@ module _ {C : Type 0} where
   abbrev pub Out : List (Option C) → List View → Type 0
   Out homes views = (homes ≡ none ∷ []) × ((j : ℕ) × (v : View) × (t : ℕ) × (get_elem? views j ≡ some v) × (v.stage ≡ Serving t))
 
--- There is one legal history, with the calls of numbers that were given out, and the slot fits it while it is at home. One more entry may be announced,
--- and the words have the configurations that are stored after it. Each turn that was served has added one entry
+-- There is one legal history, with the calls of numbers that were given out, each of which some seat has, and the slot fits it while it is at home. One
+-- more entry may be announced, and the words have the configurations that are stored after it. Each turn that was served has added one entry
 pub record Orderly {C : Type 0} (Legal : List Entry → Type 0) (stored : List Entry → ℕ → Card) (Fits : List Entry → C → Type 0) (at : ℕ → ℕ → Addr) (masters seats : ℕ) (s : State C View) : Type 0 where
   pub history : List Entry
   pub flight : List Entry
@@ -83,6 +89,7 @@ pub record Orderly {C : Type 0} (Legal : List Entry → Type 0) (stored : List E
   pub room : slice_index s.words 1 + total looks_of s.views ≤ 9223372036854775808 + seats
   pub shares : total share_of s.views ≡ seats
   pub numbered : (n : ℕ) → given ≤ n → calls_by n history ≡ []
+  pub owned : Owned given owner s.views
   pub each : (j : ℕ) (v : View) → get_elem? s.views j ≡ some v → Knows stored history flight given owner drawer (slice_index s.words 0) (slice_index s.words 1) j v
   pub slot : AtHome Fits history flight s.homes ⊎ Out s.homes s.views
 
@@ -100,6 +107,7 @@ spent = record { front = []; told = []; told_numbers = []; numbers = []; given =
 
 -- A new table: no ticket was drawn, the words have the configurations at the start, and the first seat is about to fill the slot
 pub record IsNew {C : Type 0} (stored : List Entry → ℕ → Card) (empty : C) (at : ℕ → ℕ → Addr) (masters seats : ℕ) (s : State C View) : Type 0 where
+  pub some_seats : 0 < seats
   pub wide : length s.words ≡ masters + 2
   pub none_served : slice_index s.words 0 ≡ 0
   pub none_drawn : slice_index s.words 1 ≡ 0
@@ -215,4 +223,6 @@ module _ {C : Type 0} where
   Names st m r m' = (n : ℕ) × (m'.0 ≡ numbered m.0 n) × (m'.1 ≡ m.1) × (m.0.given ≤ n) × (¬ Has n m.0.numbers) × (calls_by n m.0.front ≡ [])
 
   abbrev pub Settles : Step C → Me C View → ℕ → Me C View → Type 0
-  Settles st m r m' = (m' ≡ m) × (m.0.share ≤ MOST_SEATS) × Begins m.0.told m.0.front × ((n : ℕ) → Has n m.0.told_numbers → calls_by n m.0.front ≡ calls_by n m.0.told)
+  Settles st m r m' =
+      (m' ≡ m) × (m.0.share ≤ MOST_SEATS) × Begins m.0.told m.0.front × ((n : ℕ) → Has n m.0.told_numbers → calls_by n m.0.front ≡ calls_by n m.0.told)
+      × AreApart m.0.numbers

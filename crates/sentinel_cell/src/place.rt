@@ -9,7 +9,7 @@ ghost use Rattle.sentinel_cell.specs.Standing.{first_number, AtRest, Adds, IsSam
 ghost use Rattle.sentinel_outbox.specs.Outboxes.{Fits as HasFit, room_of_sentinel};
 ghost use Rattle.sentinel_rules.specs.Facts.{IsWithinEvent};
 ghost use Rattle.sentinel_rules.specs.Plans.{addr_at, master_count};
-ghost use Rattle.sentinel_cell.specs.Calls.{Begins, Has, calls_by, AreOf};
+ghost use Rattle.sentinel_cell.specs.Calls.{Begins, Has, AreApart, calls_by, AreOf};
 
 use crate::entry::Outcome;
 use crate::keeper::Keeper;
@@ -215,6 +215,7 @@ pub(crate) fn act_at<S: ConfStore, R: Wait>(
 pub(crate) fn split_at<S: ConfStore>(hall: &Hall<S>, place: &mut Place<S>) -> Place<S>
     requires own { (place.old.table_id ≡ hall.now.table_id) × (hall.now.table_id.words ≡ master_count hall.now.key.keeper.sentinel.plan + 2) }
     requires rest { AtRest place.old.me.0 × (place.old.me.1 ≡ []) }
+    requires two { 2 ≤ place.old.me.0.share }
     ensures same { (place.new.table_id ≡ place.old.table_id) × (place.new.id ≡ place.old.id) × (result.table_id ≡ place.old.table_id) }
     ensures halves { (n : ℕ) × (place.new.me ≡ (left_half (numbered place.old.me.0 n), []))
         × (result.me ≡ (right_half (numbered place.old.me.0 n), [])) × (place.old.me.0.given ≤ n) × (¬ Has n place.old.me.0.numbers)
@@ -234,6 +235,7 @@ pub(crate) fn join_at<S: ConfStore>(hall: &Hall<S>, place: &mut Place<S>, other:
     ensures few { place.new.me.0.share ≤ MOST_SEATS }
     ensures front { Begins place.new.me.0.told place.new.me.0.front }
     ensures calls { (n : ℕ) → Has n place.new.me.0.told_numbers → calls_by n place.new.me.0.front ≡ calls_by n place.new.me.0.told }
+    ensures apart { AreApart place.new.me.0.numbers }
 {
     hall.join_seat::<Merge>(place, other);
     hall.load::<Settle>(place, 0);

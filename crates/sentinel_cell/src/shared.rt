@@ -8,7 +8,7 @@ ghost use Rattle.sentinel_outbox.specs.declared.phase.Phase.TheVariants.{Ready};
 ghost use Rattle.sentinel_outbox.specs.Outboxes.{room_of_sentinel};
 ghost use Rattle.sentinel_cell.specs.declared.shared.TheConstants.{MOST_SEATS};
 ghost use Rattle.sentinel_cell.specs.declared.fault.CellFault.TheVariants.{NoMemory, NoSeatLeft, SeatsOut, SeatCount};
-ghost use Rattle.sentinel_cell.specs.Calls.{Begins, Has, calls_by, AreOf};
+ghost use Rattle.sentinel_cell.specs.Calls.{Begins, Has, calls_by, AreOf, AreUnder};
 ghost use Rattle.sentinel_cell.specs.Histories.{IsLegal, IsLeft, opened, replay, stored_at};
 ghost use Rattle.sentinel_cell.specs.Turns.{answered, first_view, unpacked, AreGiven, IsFresh};
 ghost use Rattle.sentinel_cell.specs.Standing.{standing, Acted, answer_of};
@@ -170,8 +170,8 @@ impl<S: ConfStore> SharedSentinel<S> {
     }
 
     /// Cuts a seat in two. The first keeps its numbers and the greater half of the share. The second has seen as much and got the same
-    /// answers, and its calls will stand under a number of its own: the next one, so that the numbers below `given` are those that were
-    /// given out.
+    /// answers, and its calls will stand under a number of its own: one above all that the seat knew to be given out, which no call has
+    /// that the seat has seen. `join` tells that no other seat has it.
     ///
     /// `NoSeatLeft` exactly where the share is 1; the seat comes back. No memory is taken.
     pub fn split(&self, seat: Seat) -> Result<(Seat, Seat), (Seat, CellFault)>
@@ -204,8 +204,10 @@ impl<S: ConfStore> SharedSentinel<S> {
     }
 
     /// Makes two seats one. It has seen the longer of the two histories, which the shorter one begins; the numbers, the answers and the
-    /// shares are those of both. Of the calls under these numbers the history has those that each seat made, and no others. No memory is
-    /// taken.
+    /// shares are those of both, and no number was given to both. Of the calls under these numbers the history has those that each seat
+    /// made, and no others. No memory is taken.
+    ///
+    /// Many clauses: one for each part of what a seat has, and two for what its history has of both.
     pub fn join(&self, one: Seat, two: Seat) -> Seat
         requires { (one.cell ≡ self.now.id) × (two.cell ≡ self.now.id) }
         ensures cell { result.cell ≡ one.cell }
@@ -214,6 +216,7 @@ impl<S: ConfStore> SharedSentinel<S> {
         ensures calls { (n : ℕ) → (Has n one.view.numbers → calls_by n result.view.front ≡ calls_by n one.view.front)
             × (Has n two.view.numbers → calls_by n result.view.front ≡ calls_by n two.view.front) }
         ensures numbers { result.view.numbers ≡ one.view.numbers ++ two.view.numbers }
+        ensures apart { (n : ℕ) → Has n one.view.numbers → ¬ Has n two.view.numbers }
         ensures answers { result.view.answers ≡ one.view.answers ++ two.view.answers }
         ensures given { (one.view.given ≤ result.view.given) × (two.view.given ≤ result.view.given) }
         ensures share { result.view.share ≡ one.view.share + two.view.share }
@@ -297,15 +300,16 @@ impl<S: ConfStore> SharedSentinel<S> {
         &self.roster
     }
 
-    /// Ends the sharing: the Sentinel and its store, as a legal history leaves them that begins with all that the seat had seen.
+    /// Ends the sharing: the Sentinel and its store, as the history leaves them. With the whole share the seat has seen the whole of it: it
+    /// is the seat's front, and each call in it is under one of the seat's numbers, which are those of all seats that were joined to it.
     ///
     /// `SeatsOut` exactly where the seat's share isn't the whole, since another seat may then hold the turn; both come back untouched. No
     /// memory is taken.
     pub fn close(self, seat: Seat) -> Result<Keeper<S>, (SharedSentinel<S>, Seat, CellFault)>
         requires own { seat.cell ≡ self.id }
-        ensures ok { let start = self.start in IfOk result (λ k. (more : _) × IsLegal start (seat.view.front ++ more)
-            × IsLeft S.held S.failure_count (replay start (seat.view.front ++ more)) k
-            × AreOf (stored_at start) seat.view.answers (seat.view.front ++ more)) }
+        ensures ok { let start = self.start in IfOk result (λ k. IsLegal start seat.view.front
+            × IsLeft S.held S.failure_count (replay start seat.view.front) k × AreOf (stored_at start) seat.view.answers seat.view.front) }
+        ensures calls { OnOk result (AreUnder seat.view.numbers seat.view.front) }
         ensures all { OnOk result (seat.view.share ≡ self.seats) }
         ensures err { IfErr result (λ r. (r.0 ≡ self) × (r.1 ≡ seat) × (r.2 ≡ SeatsOut) × (seat.view.share < self.seats)) }
     {

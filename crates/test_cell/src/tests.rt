@@ -5,6 +5,7 @@ mod files;
 mod histories;
 mod known_cell;
 mod mixed_calls;
+mod newer_addresses;
 mod plain_sentinel;
 mod refused_memory;
 mod seat_counts;

@@ -123,11 +123,18 @@ pub(crate) fn boxed<S: ConfStore + Drop>(
     Some((cell, seat))
 }
 
-/// That Sentinel shared, with two seats in one.
-pub(crate) fn shared(alloc: Global, number: u64, new: bool) -> Option<Opened>
+/// That Sentinel shared, with `seats` seats in one.
+pub(crate) fn shared_by(alloc: Global, number: u64, new: bool, seats: u64) -> Option<Opened>
     ensures { IfSome result (λ r. r.1.cell ≡ r.0.value.id) }
 {
     let (sentinel, file) = opened(alloc, number, new)?;
-    let (cell, seat) = SharedSentinel::new(alloc, sentinel, file, 2).ok()?;
+    let (cell, seat) = SharedSentinel::new(alloc, sentinel, file, seats).ok()?;
     boxed(alloc, cell, seat)
+}
+
+/// The same with two seats in one.
+pub(crate) fn shared(alloc: Global, number: u64, new: bool) -> Option<Opened>
+    ensures { IfSome result (λ r. r.1.cell ≡ r.0.value.id) }
+{
+    shared_by(alloc, number, new, 2)
 }

@@ -8,6 +8,7 @@ use super::files::boxed;
 use super::wire::add_outputs;
 use ballot_law::{Card, Input, Output};
 use conf_store::ConfStore;
+use port_sessions::Session;
 use resp2_frames::OutText;
 use sentinel_cell::{ActFault, CellFault, Reply, Seat, SharedSentinel};
 use sentinel_outbox::Outbox;
@@ -121,6 +122,23 @@ impl<J: Which, S: ConfStore> KnownCell<J, S> {
     pub(crate) fn address(&self, seat: &mut KnownSeat<J>, m: u16) -> Option<Card> {
         let (epoch, addr) = self.cell.address(&mut seat.seat, m)?;
         Some(Card { epoch, addr })
+    }
+
+    /// What a new session of the seat has to send after these bytes, at clock 0; None where it ended.
+    pub(crate) fn heard<R: Wait>(
+        &self,
+        rt: &R,
+        alloc: Global,
+        seat: &mut KnownSeat<J>,
+        bytes: &[u8],
+    ) -> Option<OutText> {
+        let mut session = Session::new(alloc);
+        session
+            .received(rt, &self.cell, &mut seat.seat, 0, bytes)
+            .ok()?;
+        let mut text = OutText::new(alloc);
+        text.add(session.unsent()).ok()?;
+        Some(text)
     }
 
     /// Cuts a seat in two.

@@ -3,7 +3,7 @@
 ghost use Rattle.std.specs.Prelude.{◌≡◌, IfSome};
 
 use super::calls::{A, Call, PlainCommand};
-use super::files::{FOUR_SENTINELS, Opened, RefusingFile, boxed, opened};
+use super::files::{FOUR_SENTINELS, Opened, RefusingFile, boxed, opened, shared_by};
 use super::known_cell::{KnownCell, KnownSeat, Which};
 use super::plain_sentinel::text_after;
 use conf_store::ConfStore;
@@ -71,6 +71,22 @@ fn a_cell_has_one_seat_to_a_thousand(rt: HostRuntime) -> Result<(), Fail> {
         assert!(rt; store.text() == FOUR_SENTINELS);
         assert_eq!(rt; store.failures(), 0);
     }
+    Ok(())
+}
+
+/// The share of the first seat of a cell that is made for `seats` seats.
+fn first_share(alloc: Global, seats: u64) -> Option<u64> {
+    let (cell, seat) = shared_by(alloc, 0, false, seats)?;
+    let _ = cell;
+    Some(seat.share())
+}
+
+#[test]
+fn a_thousand_and_twenty_four_seats_are_the_most(rt: HostRuntime) -> Result<(), Fail> {
+    for seats in [1, 2, 1_024] {
+        assert_eq!(rt; first_share(rt.alloc(), seats), Some(seats));
+    }
+    assert_eq!(rt; first_share(rt.alloc(), 1_025), None);
     Ok(())
 }
 

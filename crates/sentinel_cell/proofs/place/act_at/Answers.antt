@@ -1,4 +1,4 @@
-use Rattle.std.proofs.Common.{rules, ◌≡◌, ℕ, ◌<◌, List, [], ◌∷◌, Some, refl, sym, ap, subst, ◌∙◌, drop, length}
+use Rattle.std.proofs.Common.{rules, ◌≡◌, ℕ, ◌<◌, [], ◌∷◌, Some, refl, sym, ap, subst, ◌∙◌, drop, length}
 use Rattle.sentinel_rules.specs.Plans.{Plan, master_count}
 use Rattle.sentinel_cell.specs.declared.entry.Entry.{Entry}
 use Rattle.sentinel_cell.specs.declared.view.View.{View}

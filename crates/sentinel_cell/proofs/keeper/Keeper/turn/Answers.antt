@@ -8,7 +8,7 @@ use Rattle.sentinel_rules.specs.Takes.{next}
 use Rattle.sentinel_outbox.specs.declared.phase.Phase.TheVariants.{Ready, Pending, Halted}
 use Rattle.sentinel_cell.proofs.Opening.{settled_at}
 use Rattle.sentinel_core.specs.Sentinels.{Whole, is_pending, is_flush}
-use Rattle.sentinel_cell.proofs.Keeping.{stored_turn, refused_turn, runs, ran, pends}
+use Rattle.sentinel_cell.proofs.Keeping.{change_taken, stored_turn, refused_turn, runs, ran, pends}
 use Rattle.sentinel_core.proofs.Holding.{on_ok, refused_of}
 use Rattle.sentinel_cell.specs.Histories.{World, IsLeft}
 use Rattle.sentinel_cell.proofs.keeper.Keeper.turn.Given.{Over}
@@ -27,7 +27,7 @@ returns-then-is_err-clause-step g c = λ w number left.
     (λ none. true≢false (sym (ap is_pending e.phase) ∙ s.nothing.0 none)) in
     refused_turn held count w i k left number (record { sentinel = c.store.new.self; store = c.store.new.store }) c.take.new.self c.in-Ok.field-0.changed c.args.outbox.now.shown c.drop_held.new.self.shown
     (runs held count w i k left (λ h. ran c.take.result c.in-Ok.field-0 c.in-Ok.is (c.take.ensures.halted.1 h)))
-    c.requires.within e.plan e.core e.stored e.changed (c.drop_held.ensures.shown ∙ e.shown) (s.halted refused)
+    c.requires.within e.plan e.core e.stored (change_taken c.args.self.now.sentinel c.take.new.self c.is_whole.ensures c.is_whole-2.ensures e.plan e.card e.other_cards) e.changed (c.drop_held.ensures.shown ∙ e.shown) (s.halted refused)
     (pends c.store.result (c.in-Ok.field-0.changed || is_flush i.event) refused (λ f. s.untouched (e.phase ∙ ap Pending f)))
     (s.either refused) (s.refused refused)
 
@@ -47,7 +47,7 @@ returns-clause-step g at = λ w number left.
     let released = c.in-Ok-release.ensures in
     stored_turn held count w c.args.input.now c.args.self.now left number (record { sentinel = c.release.new.self; store = c.store.new.store }) c.take.new.self c.in-Ok.field-0.changed c.args.outbox.now.shown c.take.new.outbox.held c.release.new.outbox.shown
     (running g c w left)
-    c.requires.within e.plan e.core e.changed c.is_whole-2.ensures.core.kept e.outputs
+    c.requires.within e.plan e.core e.changed c.is_whole-2.ensures.core.kept (change_taken c.args.self.now.sentinel c.take.new.self c.is_whole.ensures c.is_whole-2.ensures e.plan e.card e.other_cards) e.outputs
     (released.shown ∙ ap (λ xs. xs ++ c.take.new.outbox.held) e.shown)
     (released.ready ∙ ap (λ (x : Whole). let y : Whole = record x { phase = Ready } in y) kept)
     (λ f. ap held (on_ok c.store.result fine (s.untouched (e.phase ∙ ap Pending f)).0))

@@ -29,6 +29,11 @@ returns-clause-ok g at =
     subst (λ (x : Cell). IsLeftBy text failures x.start at.args.seat.view at.unwrap.result) c.self.view_is
     (leaves_keeper text failures (start g c) c.self.inside.table.shared.key.seats c.into_seat.result.id c.args.seat c.seat.inside.badge.table_id c.seat.inside.badge.views c.into_seat.result.me.0 c.take-keeper.result at.unwrap.result (leaves g c) (search rules))
 
+pub returns-clause-calls : goal.returns-clause-calls
+returns-clause-calls g at =
+    let c = (goal.at.returns-clause-calls g at).After-free in
+    (leaves g c).2
+
 pub returns-clause-all : goal.returns-clause-all
 returns-clause-all g at =
     let c = (goal.at.returns-clause-all g at).After-free in
