@@ -4,6 +4,8 @@
 //! A word is the path of a story's files without their endings. The Sentinels of a story are the conf files of its folder. Behind the word
 //! `stops:` each story is run again and again, with each Sentinel stopped and started behind each of its steps, and leaving the old text of
 //! its file and the new one. It says how many runs these were, and how often they broke the laws of a group.
+//!
+//! After the word `refused:` a word is a folder whose conf files make no group, and it says how a story over them is refused.
 #![tactic(auto)]
 
 mod laws;
@@ -11,7 +13,7 @@ mod stops;
 
 use crate::stops::{Stopped, stop_behind_each};
 use resp2_frames::OutText;
-use scenario_replay::{Printed, Story};
+use scenario_replay::{Printed, ReplayFault, Story};
 use scenarios::read_scenario;
 use std::{env, fs, io};
 
@@ -82,6 +84,15 @@ fn stopped_at(rt: &HostRuntime, path: &str) -> Option<Stopped> {
     Some(all)
 }
 
+/// How a story over the folder's conf files is refused; none where it is played, or a file can't be read.
+fn refused_at(rt: &HostRuntime, folder: &str) -> Option<ReplayFault> {
+    let (story, _) = story_of(rt, folder, Vec::new(rt.alloc()))?;
+    match story.play(Printed::Report) {
+        Ok(_) => None,
+        Err(fault) => Some(fault),
+    }
+}
+
 /// Says what came of the runs of a story with stops in it.
 fn tell_stopped(rt: &HostRuntime, path: &str, stopped: &Stopped) -> io::Result<()> {
     println!(rt;
@@ -105,23 +116,55 @@ fn tell_stopped(rt: &HostRuntime, path: &str, stopped: &Stopped) -> io::Result<(
     println!(rt; "  lines that tell nothing: {}", stopped.breaches.unread)
 }
 
+/// What is done with the stories that are named.
+#[derive(Clone, Copy, PartialEq, Eq)]
+enum Play {
+    Whole,
+    Stopped,
+    Refused,
+}
+
+/// What is done after this word.
+fn play_named(word: &str) -> Option<Play> {
+    match word {
+        "stops:" => Some(Play::Stopped),
+        "refused:" => Some(Play::Refused),
+        _ => None,
+    }
+}
+
+/// Plays the story at this path, and says whether it prints what stands beside it.
+fn tell_whole(rt: &HostRuntime, path: &str) -> io::Result<()> {
+    match is_as_told(rt, path) {
+        Some(true) => println!(rt; "{path}"),
+        Some(false) => println!(rt; "{path} tells something else"),
+        None => println!(rt; "{path} can't be played"),
+    }
+}
+
+/// Says how a story over the conf files of this folder is refused.
+fn tell_refused(rt: &HostRuntime, folder: &str) -> io::Result<()> {
+    match refused_at(rt, folder) {
+        Some(fault) => println!(rt; "{folder}: {fault}"),
+        None => println!(rt; "{folder} isn't refused"),
+    }
+}
+
 fn main(rt: HostRuntime) -> io::Result<()> {
-    let mut is_stopped = false;
+    let mut play = Play::Whole;
     for path in env::args(&rt)?.skip(1) {
         let path = path.as_str();
-        if path == "stops:" {
-            is_stopped = true;
-        } else if is_stopped {
-            match stopped_at(&rt, path) {
+        if let Some(next) = play_named(path) {
+            play = next;
+            continue;
+        }
+        match play {
+            Play::Whole => tell_whole(&rt, path)?,
+            Play::Stopped => match stopped_at(&rt, path) {
                 Some(stopped) => tell_stopped(&rt, path, &stopped)?,
                 None => println!(rt; "{path} can't be played")?,
-            }
-        } else {
-            match is_as_told(&rt, path) {
-                Some(true) => println!(rt; "{path}")?,
-                Some(false) => println!(rt; "{path} tells something else")?,
-                None => println!(rt; "{path} can't be played")?,
-            }
+            },
+            Play::Refused => tell_refused(&rt, path)?,
         }
     }
     Ok(())
