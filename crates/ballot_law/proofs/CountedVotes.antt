@@ -57,7 +57,8 @@ count_below-with_one p one (suc n) lt e = ⊎_elim (λ l. above l (count_below-w
         known false h = rw (ne, h, earlier) refl
 
 -- so many counted voters and the own one are so many
-pub AtLeast-counted : (P : ℕ → Type 0) (p : ℕ → Bool) (n own need : ℕ) → own < n → p own ≡ false → ((v : ℕ) → p v ≡ true → P v) → P own → need ≤ count_below p n + 1 → AtLeast P n need
+pub AtLeast-counted : (P : ℕ → Type 0) (p : ℕ → Bool) (n own need : ℕ) → own < n → p own ≡ false → ((v : ℕ) → p v ≡ true → P v) → P own → need ≤ count_below p n + 1 →
+    AtLeast P n need
 AtLeast-counted P p n own need lt e f g enough =
     AtLeast-fewer P n need (count_below (with_one p own) n) (rw (count_below-with_one p own n lt e) enough) (AtLeast-count_below P (with_one p own) passes n)
   where
@@ -109,14 +110,17 @@ Contains-latest (h ∷ es) voter vote e = step (λ kept k. Contains-latest es vo
     is : (x y : HeardVote) → Some x ≡ Some y → Is x → Is y
     is x y same i = let equal : x ≡ y = cc in subst Is equal i
 
-    step : ((kept : HeardVote) → latest es voter ≡ Some kept → Contains es (record { voter = voter; vote = kept })) → (b : Bool) → eqb h.voter voter ≡ b → (told : Option HeardVote) → latest es voter ≡ told → cond b (Some (greater told h.vote)) told ≡ Some vote → Is vote
+    step : ((kept : HeardVote) → latest es voter ≡ Some kept → Contains es (record { voter = voter; vote = kept })) → (b : Bool) → eqb h.voter voter ≡ b →
+        (told : Option HeardVote) → latest es voter ≡ told → cond b (Some (greater told h.vote)) told ≡ Some vote → Is vote
     step earlier true t None k s = is h.vote vote s (at_head (eqb-true h.voter voter t))
-    step earlier true t (Some kept) k s = is (cond (nat_lt kept.epoch h.vote.epoch) h.vote kept) vote s (newer kept (nat_lt kept.epoch h.vote.epoch) (eqb-true h.voter voter t) (earlier kept k))
+    step earlier true t (Some kept) k s = is (cond (nat_lt kept.epoch h.vote.epoch) h.vote kept) vote s
+        (newer kept (nat_lt kept.epoch h.vote.epoch) (eqb-true h.voter voter t) (earlier kept k))
     step earlier false t None k s = absurd (cc)
     step earlier false t (Some kept) k s = is kept vote s (at_tail kept (earlier kept k))
 
 -- a voter that is counted was heard to vote so
-Contains-is_for : (heard : List Hearing) (epoch : ℕ) (candidate : RunId) (voter : ℕ) → is_for epoch candidate (latest heard voter) ≡ true → Contains heard (hearing_of voter epoch candidate)
+Contains-is_for : (heard : List Hearing) (epoch : ℕ) (candidate : RunId) (voter : ℕ) → is_for epoch candidate (latest heard voter) ≡ true →
+    Contains heard (hearing_of voter epoch candidate)
 Contains-is_for heard epoch candidate voter e = known (latest heard voter) refl e
   where
     known : (told : Option HeardVote) → latest heard voter ≡ told → is_for epoch candidate told ≡ true → Contains heard (hearing_of voter epoch candidate)
@@ -141,7 +145,8 @@ leader-is_leader candidate None h = absurd (cc)
 leader-is_leader candidate (Some leader) h = ap (λ (id : RunId). Some id) (same_id-equal leader candidate h)
 
 -- for any votes, and any P that holds of each voter whose vote counts and of the own vote
-pub AtLeast-kept : (P : ℕ → Type 0) (votes : ℕ → Option HeardVote) (book : Book) (n own epoch : ℕ) (me : RunId) (need : ℕ) → own < n → is_for epoch me (votes own) ≡ false → ((v : ℕ) → is_for epoch me (votes v) ≡ true → P v) → (book.voted ≡ epoch → book.leader ≡ Some me → P own) → IsElectedIn votes book n epoch me need → AtLeast P n need
+pub AtLeast-kept : (P : ℕ → Type 0) (votes : ℕ → Option HeardVote) (book : Book) (n own epoch : ℕ) (me : RunId) (need : ℕ) → own < n → is_for epoch me (votes own) ≡ false →
+    ((v : ℕ) → is_for epoch me (votes v) ≡ true → P v) → (book.voted ≡ epoch → book.leader ≡ Some me → P own) → IsElectedIn votes book n epoch me need → AtLeast P n need
 AtLeast-kept P votes book n own epoch me need lt none counted of_own elected = known ((eqb book.voted epoch) && is_leader me book.leader) refl elected
   where
     p : ℕ → Bool
@@ -154,10 +159,13 @@ AtLeast-kept P votes book n own epoch me need lt none counted of_own elected = k
     known false h enough = AtLeast-fewer P n need (count_below p n) (omega arith) (AtLeast-count_below P p counted n)
 
 -- for any P that holds of each voter that was heard and of the own vote
-pub AtLeast-elected : (P : ℕ → Type 0) (heard : List Hearing) (book : Book) (n own epoch : ℕ) (me : RunId) (need : ℕ) → own < n → HearsNone heard own → ((v : ℕ) → Contains heard (hearing_of v epoch me) → P v) → (book.voted ≡ epoch → book.leader ≡ Some me → P own) → IsElectedIn (latest heard) book n epoch me need → AtLeast P n need
+pub AtLeast-elected : (P : ℕ → Type 0) (heard : List Hearing) (book : Book) (n own epoch : ℕ) (me : RunId) (need : ℕ) → own < n → HearsNone heard own →
+    ((v : ℕ) → Contains heard (hearing_of v epoch me) → P v) → (book.voted ≡ epoch → book.leader ≡ Some me → P own) → IsElectedIn (latest heard) book n epoch me need →
+    AtLeast P n need
 AtLeast-elected P heard book n own epoch me need lt none of_heard of_own elected =
     AtLeast-kept P (latest heard) book n own epoch me need lt (latest-of_none heard own epoch me none) (λ v h. of_heard v (Contains-is_for heard epoch me v h)) of_own elected
 
-pub ElectedHasVotes-holds : (heard : List Hearing) (book : Book) (n own epoch : ℕ) (me : RunId) (need : ℕ) → own < n → HearsNone heard own → IsElectedIn (latest heard) book n epoch me need → AtLeast (HasVotedFor heard book own epoch me) n need
+pub ElectedHasVotes-holds : (heard : List Hearing) (book : Book) (n own epoch : ℕ) (me : RunId) (need : ℕ) → own < n → HearsNone heard own →
+    IsElectedIn (latest heard) book n epoch me need → AtLeast (HasVotedFor heard book own epoch me) n need
 ElectedHasVotes-holds heard book n own epoch me need lt none elected =
     AtLeast-elected (HasVotedFor heard book own epoch me) heard book n own epoch me need lt none (λ v c. inl c) (λ voted leader. inr (refl, voted, leader)) elected

@@ -21,7 +21,8 @@ some_more b (p ∷ ps) = (b ∷ p, ps, refl)
 
 some_by : (stop b : ℕ) (bs : List ℕ) (t : Bool) → eqb b stop ≡ t → IsSomeParts (cut_at stop (b ∷ bs))
 some_by stop b bs true e = ([], cut_at stop bs, ap (λ t. elim t as (λ _. List (List ℕ)) [ true ↦ [] ∷ cut_at stop bs | false ↦ with_first b (cut_at stop bs) ]) e)
-some_by stop b bs false e = let s = some_more b (cut_at stop bs) in (s.0, s.1, ap (λ t. elim t as (λ _. List (List ℕ)) [ true ↦ [] ∷ cut_at stop bs | false ↦ with_first b (cut_at stop bs) ]) e ∙ s.2)
+some_by stop b bs false e = let s = some_more b (cut_at stop bs) in
+    (s.0, s.1, ap (λ t. elim t as (λ _. List (List ℕ)) [ true ↦ [] ∷ cut_at stop bs | false ↦ with_first b (cut_at stop bs) ]) e ∙ s.2)
 
 pub some_parts : (stop : ℕ) (bs : List ℕ) → IsSomeParts (cut_at stop bs)
 some_parts stop [] = ([], [], refl)
@@ -57,7 +58,8 @@ module _ (stop : ℕ) where
       ∙ ap (with_first b) (cuts bs end (tail_end is_stop b bs end e))
       ∙ cut_first b (take end bs) (drop end bs)
 
-  pub cut_here : (text part tail rest : List ℕ) (end d : ℕ) → IsEnd is_stop text end → part ≡ take end text → tail ≡ drop end text → tail ≡ d ∷ rest → cut_at stop text ≡ part ∷ cut_at stop rest
+  pub cut_here : (text part tail rest : List ℕ) (end d : ℕ) → IsEnd is_stop text end → part ≡ take end text → tail ≡ drop end text → tail ≡ d ∷ rest →
+      cut_at stop text ≡ part ∷ cut_at stop rest
   cut_here text part tail rest end d e front back more =
       cuts text end e ∙ ap (cut (take end text)) (sym back ∙ more) ∙ ap (λ (t : List ℕ). t ∷ cut_at stop rest) (sym front)
 
@@ -89,11 +91,13 @@ lines_cut (b ∷ c ∷ cs) (suc end) h e =
     ∙ ap (with_first b) (lines_cut (c ∷ cs) end (omega arith) (tail_end (λ b. eqb b 10) b (c ∷ cs) end e))
     ∙ line_first b (take end (c ∷ cs)) (drop end (c ∷ cs))
 
-pub line_here : (text part tail rest : List ℕ) (end d : ℕ) → 0 < length text → IsEnd (λ b. eqb b 10) text end → part ≡ take end text → tail ≡ drop end text → tail ≡ d ∷ rest → lines text ≡ part ∷ lines rest
+pub line_here : (text part tail rest : List ℕ) (end d : ℕ) → 0 < length text → IsEnd (λ b. eqb b 10) text end → part ≡ take end text → tail ≡ drop end text → tail ≡ d ∷ rest →
+    lines text ≡ part ∷ lines rest
 line_here text part tail rest end d some e front back more =
     lines_cut text end some e ∙ ap (line_cut (take end text)) (sym back ∙ more) ∙ ap (λ (t : List ℕ). t ∷ lines rest) (sym front)
 
-pub line_last : (text part tail : List ℕ) (end : ℕ) → 0 < length text → IsEnd (λ b. eqb b 10) text end → part ≡ take end text → tail ≡ drop end text → length tail ≡ 0 → lines text ≡ part ∷ lines tail
+pub line_last : (text part tail : List ℕ) (end : ℕ) → 0 < length text → IsEnd (λ b. eqb b 10) text end → part ≡ take end text → tail ≡ drop end text → length tail ≡ 0 →
+    lines text ≡ part ∷ lines tail
 line_last text part tail end some e front back none =
     let empty : tail ≡ [] = nil_from_length tail none in
     lines_cut text end some e ∙ ap (line_cut (take end text)) (sym back ∙ empty) ∙ ap (λ (t : List ℕ). t ∷ []) (sym front) ∙ ap (λ (t : List ℕ). part ∷ lines t) (sym empty)

@@ -162,7 +162,14 @@ ok1 =
     record {
       moved = ((lit< tt, refl, lit< tt), ((lit< tt, refl, lit< tt), refl));
       must_store = ((λ _. inr (λ e. let f : 1 ≡ 0 = ap (λ (k : Kept). k.current) e in omega arith)), (λ _. refl));
-      held = held_one roster 0 c1.parts asks (record { sender = refl; cards = All-nil (IsCard c1.parts); votes = λ v e. absurd (cc); hellos = λ it e. absurd (cc); no_hello_text = refl });
+      held = held_one roster 0 c1.parts asks (record {
+        sender = refl;
+        cards = All-nil (IsCard c1.parts);
+        votes = λ v e. absurd (cc);
+        hellos = λ it e. absurd (cc);
+        no_hello_text =
+            refl;
+      });
     }
 
 ok4 : IsChoice roster 1 (event_from asks) (sentinel_at w3 1) c4

@@ -123,7 +123,8 @@ fields_one a b e = record { ip = cc; port = cc; id = cc; current = cc; master = 
 
 fields_hello_one : (a b : Hello) → IsHello a → IsHello b → SameFields a b → a ≡ b
 fields_hello_one a b h k s =
-    hello_one a b (addr_words_one a.addr b.addr h.addr k.addr s.ip s.port) (id_text_one a.id b.id h.id k.id s.id) (epoch_one a.current b.current h.current k.current s.current) s.master
+    hello_one a b (addr_words_one a.addr b.addr h.addr k.addr s.ip s.port) (id_text_one a.id b.id h.id k.id s.id) (epoch_one a.current b.current h.current k.current s.current)
+    s.master
     (card_one a.card b.card (epoch_one a.card.epoch b.card.epoch h.epoch k.epoch s.epoch) (addr_words_one a.card.addr b.card.addr h.card_addr k.card_addr s.card_ip s.card_port))
 
 pub hello_text_one : (a b : Hello) → IsHello a → IsHello b → hello_text a ≡ hello_text b → a ≡ b

@@ -113,7 +113,8 @@ CardOk-grows t h h2 m card w (inr x) =
       },
     )
 
-pub campaign_grows : (t : Group) (h h2 : History) (i m current : ℕ) (card : Card) (campaign : Campaign) → Within h h2 → ((e : ℕ) (a : Addr) → Picked h2 i m e a → Picked h i m e a) → CampaignOk t h i m current card campaign → CampaignOk t h2 i m current card campaign
+pub campaign_grows : (t : Group) (h h2 : History) (i m current : ℕ) (card : Card) (campaign : Campaign) → Within h h2 →
+    ((e : ℕ) (a : Addr) → Picked h2 i m e a → Picked h i m e a) → CampaignOk t h i m current card campaign → CampaignOk t h2 i m current card campaign
 campaign_grows t h h2 i m current card Idle w back ok = ok
 campaign_grows t h h2 i m current card (Running e) w back ok = (ok.0, λ a x. ok.1 a (back e a x))
 campaign_grows t h h2 i m current card (Won e) w back ok =
@@ -121,7 +122,8 @@ campaign_grows t h h2 i m current card (Won e) w back ok =
 campaign_grows t h h2 i m current card (Chosen e a) w back ok =
     (ok.0, w.picks (pick i m e a) ok.1, Backed-grows t h h2 m e i w ok.2)
 
-pub MasterOk-grows : (t : Group) (h h2 : History) (i m current : ℕ) (kept : KeptMaster) (opened : OpenMaster) → Grows i m h h2 → MasterOk t h i m current kept opened → MasterOk t h2 i m current kept opened
+pub MasterOk-grows : (t : Group) (h h2 : History) (i m current : ℕ) (kept : KeptMaster) (opened : OpenMaster) → Grows i m h h2 → MasterOk t h i m current kept opened →
+    MasterOk t h2 i m current kept opened
 MasterOk-grows t h h2 i m current kept opened g ok =
     record {
       one_vote = λ e c d x y. ok.one_vote e c d (g.votes e c x) (g.votes e d y);
@@ -140,14 +142,16 @@ way_raised t m current current2 card e l way =
     let b : e ≤ current = way.bound in
     record { above = way.above; not_below = way.not_below; bound = omega arith }
 
-campaign_raised : (t : Group) (h : History) (i m current current2 : ℕ) (card : Card) (campaign : Campaign) → current ≤ current2 → CampaignOk t h i m current card campaign → CampaignOk t h i m current2 card campaign
+campaign_raised : (t : Group) (h : History) (i m current current2 : ℕ) (card : Card) (campaign : Campaign) → current ≤ current2 → CampaignOk t h i m current card campaign →
+    CampaignOk t h i m current2 card campaign
 campaign_raised t h i m current current2 card Idle l ok = ok
 campaign_raised t h i m current current2 card (Running e) l ok = (way_raised t m current current2 card e l ok.0, ok.1)
 campaign_raised t h i m current current2 card (Won e) l ok = (way_raised t m current current2 card e l ok.0, ok.1, ok.2)
 campaign_raised t h i m current current2 card (Chosen e a) l ok = (way_raised t m current current2 card e l ok.0, ok.1, ok.2)
 
 -- a greater current epoch
-pub MasterOk-raised : (t : Group) (h : History) (i m current current2 : ℕ) (kept : KeptMaster) (opened : OpenMaster) → current ≤ current2 → MasterOk t h i m current kept opened → MasterOk t h i m current2 kept opened
+pub MasterOk-raised : (t : Group) (h : History) (i m current current2 : ℕ) (kept : KeptMaster) (opened : OpenMaster) → current ≤ current2 → MasterOk t h i m current kept opened →
+    MasterOk t h i m current2 kept opened
 MasterOk-raised t h i m current current2 kept opened l ok =
     record {
       one_vote = ok.one_vote;
@@ -180,23 +184,32 @@ Within-grown h casts picks =
 pub Within-both : (h h2 : History) (casts : List Vote) (picks : List Pick) → Within h h2 → Within (grown h casts picks) (grown h2 casts picks)
 Within-both h h2 casts picks w =
     record {
-      votes = λ v x. ⊎_elim (λ (y : Contains h.votes v). Contains-append_left h2.votes casts v (w.votes v y)) (λ (y : Contains casts v). Contains-append_right h2.votes casts v y) (Contains-append_cases h.votes casts v x);
-      picks = λ p x. ⊎_elim (λ (y : Contains h.picks p). Contains-append_left h2.picks picks p (w.picks p y)) (λ (y : Contains picks p). Contains-append_right h2.picks picks p y) (Contains-append_cases h.picks picks p x);
+      votes = λ v x. ⊎_elim (λ (y : Contains h.votes v). Contains-append_left h2.votes casts v (w.votes v y)) (λ (y : Contains casts v). Contains-append_right h2.votes casts v y)
+          (Contains-append_cases h.votes casts v x);
+      picks = λ p x. ⊎_elim (λ (y : Contains h.picks p). Contains-append_left h2.picks picks p (w.picks p y)) (λ (y : Contains picks p). Contains-append_right h2.picks picks p y)
+          (Contains-append_cases h.picks picks p x);
     }
 
 pub Grows-both : (j m : ℕ) (h h2 : History) (casts : List Vote) (picks : List Pick) → Grows j m h h2 → Grows j m (grown h casts picks) (grown h2 casts picks)
 Grows-both j m h h2 casts picks g =
     record {
       within = Within-both h h2 casts picks g.within;
-      votes = λ e c x. ⊎_elim (λ (y : Contains h2.votes (vote j m e c)). Contains-append_left h.votes casts (vote j m e c) (g.votes e c y)) (λ (y : Contains casts (vote j m e c)). Contains-append_right h.votes casts (vote j m e c) y) (Contains-append_cases h2.votes casts (vote j m e c) x);
-      picks = λ e a x. ⊎_elim (λ (y : Contains h2.picks (pick j m e a)). Contains-append_left h.picks picks (pick j m e a) (g.picks e a y)) (λ (y : Contains picks (pick j m e a)). Contains-append_right h.picks picks (pick j m e a) y) (Contains-append_cases h2.picks picks (pick j m e a) x);
+      votes = λ e c x. ⊎_elim (λ (y : Contains h2.votes (vote j m e c)). Contains-append_left h.votes casts (vote j m e c) (g.votes e c y))
+          (λ (y : Contains casts (vote j m e c)). Contains-append_right h.votes casts (vote j m e c) y) (Contains-append_cases h2.votes casts (vote j m e c) x);
+      picks = λ e a x. ⊎_elim (λ (y : Contains h2.picks (pick j m e a)). Contains-append_left h.picks picks (pick j m e a) (g.picks e a y))
+          (λ (y : Contains picks (pick j m e a)). Contains-append_right h.picks picks (pick j m e a) y) (Contains-append_cases h2.picks picks (pick j m e a) x);
     }
 
 -- what Sentinel i adds leaves what the others have
-pub Grows-others : (i j m : ℕ) (h : History) (casts : List Vote) (picks : List Pick) → j ≢ i → All (λ (v : Vote). v.voter ≡ i) casts → All (λ (p : Pick). p.sentinel ≡ i) picks → Grows j m h (grown h casts picks)
+pub Grows-others : (i j m : ℕ) (h : History) (casts : List Vote) (picks : List Pick) → j ≢ i → All (λ (v : Vote). v.voter ≡ i) casts → All (λ (p : Pick). p.sentinel ≡ i) picks →
+    Grows j m h (grown h casts picks)
 Grows-others i j m h casts picks apart by_i picks_by_i =
     record {
       within = Within-grown h casts picks;
-      votes = λ e c x. ⊎_elim (λ (y : Contains h.votes (vote j m e c)). y) (λ (y : Contains casts (vote j m e c)). absurd (apart (All-contains (λ (v : Vote). v.voter ≡ i) casts (vote j m e c) by_i y))) (Contains-append_cases h.votes casts (vote j m e c) x);
-      picks = λ e a x. ⊎_elim (λ (y : Contains h.picks (pick j m e a)). y) (λ (y : Contains picks (pick j m e a)). absurd (apart (All-contains (λ (p : Pick). p.sentinel ≡ i) picks (pick j m e a) picks_by_i y))) (Contains-append_cases h.picks picks (pick j m e a) x);
+      votes = λ e c x. ⊎_elim (λ (y : Contains h.votes (vote j m e c)). y)
+          (λ (y : Contains casts (vote j m e c)). absurd (apart (All-contains (λ (v : Vote). v.voter ≡ i) casts (vote j m e c) by_i y)))
+          (Contains-append_cases h.votes casts (vote j m e c) x);
+      picks = λ e a x. ⊎_elim (λ (y : Contains h.picks (pick j m e a)). y)
+          (λ (y : Contains picks (pick j m e a)). absurd (apart (All-contains (λ (p : Pick). p.sentinel ≡ i) picks (pick j m e a) picks_by_i y)))
+          (Contains-append_cases h.picks picks (pick j m e a) x);
     }

@@ -54,7 +54,9 @@ set_here w i j node inside e =
 set_there : (w : World) (i j : ℕ) (node : Sentinel) → j ≢ i → sentinel_at w j ≡ sentinel_at (with_sentinel w i node) j
 set_there w i j node apart = sym (get_or-set_other w.sentinels i j node no_sentinel apart)
 
-replaced : (t : Group) (picks picks2 : List Pick) (w : World) (i : ℕ) (node : Sentinel) (votes : List Vote) → Holds t picks w → i < size t.roster → Within (history w picks) (record { votes = votes; picks = picks2 }) → ((j m : ℕ) → j ≢ i → Grows j m (history w picks) (record { votes = votes; picks = picks2 })) → NodeOk t (record { votes = votes; picks = picks2 }) i node → Holds t picks2 (record (with_sentinel w i node) { votes = votes })
+replaced : (t : Group) (picks picks2 : List Pick) (w : World) (i : ℕ) (node : Sentinel) (votes : List Vote) → Holds t picks w → i < size t.roster →
+    Within (history w picks) (record { votes = votes; picks = picks2 }) → ((j m : ℕ) → j ≢ i → Grows j m (history w picks) (record { votes = votes; picks = picks2 })) →
+    NodeOk t (record { votes = votes; picks = picks2 }) i node → Holds t picks2 (record (with_sentinel w i node) { votes = votes })
 replaced t picks picks2 w i node votes ok place within others new =
     record {
       count = length-set w.sentinels i node ∙ ok.count;
@@ -62,7 +64,8 @@ replaced t picks picks2 w i node votes ok place within others new =
       stores = λ k. OtherOk-grows t (history w picks) g2 (StoreAt k) (get_or w.stores k no_other) within (ok.stores k);
       clients = λ k. OtherOk-grows t (history w picks) g2 (ClientAt k) (other_at w (ClientAt k)) within (ok.clients k);
       messages = All-weaker (MessageOk t (history w picks)) (MessageOk t g2) (λ m x. MessageOk-grows t (history w picks) g2 m within x) w.messages ok.messages;
-      elected = All-weaker (ElectedOk t (history w picks)) (ElectedOk t g2) (λ e x. (x.0, Backed-grows t (history w picks) g2 e.master e.epoch e.sentinel within x.1)) w.elected ok.elected;
+      elected = All-weaker (ElectedOk t (history w picks)) (ElectedOk t g2) (λ e x. (x.0, Backed-grows t (history w picks) g2 e.master e.epoch e.sentinel within x.1)) w.elected
+          ok.elected;
       said = All-weaker (SaidOk t (history w picks)) (SaidOk t g2) (λ s x. CardOk-grows t (history w picks) g2 s.master s.card within x) w.said ok.said;
     }
   where
@@ -84,37 +87,47 @@ replaced t picks picks2 w i node votes ok place within others new =
         (NodeOk-grows t (history w picks) g2 j (sentinel_at w j) (λ m. others j m apart) (ok.nodes j l))
 
 -- with nothing added
-replaced_same : (t : Group) (picks : List Pick) (w : World) (i : ℕ) (node : Sentinel) → Holds t picks w → i < size t.roster → NodeOk t (history w picks) i node → Holds t picks (with_sentinel w i node)
+replaced_same : (t : Group) (picks : List Pick) (w : World) (i : ℕ) (node : Sentinel) → Holds t picks w → i < size t.roster → NodeOk t (history w picks) i node →
+    Holds t picks (with_sentinel w i node)
 replaced_same t picks w i node ok place new =
     replaced t picks picks w i node w.votes ok place (record { votes = λ v x. x; picks = λ p x. x }) (λ j m _. Grows-same j m (history w picks)) new
 
 -- with the casts of its take
-replaced_filed : (t : Group) (picks : List Pick) (w : World) (i : ℕ) (node : Sentinel) (fresh : List Pick) → Holds t picks w → i < size t.roster → All (λ (v : Vote). v.voter ≡ i) node.parts.casts → All (λ (p : Pick). p.sentinel ≡ i) fresh → NodeOk t (grown (history w picks) node.parts.casts fresh) i node → Holds t (picks ++ fresh) (filed w i node)
+replaced_filed : (t : Group) (picks : List Pick) (w : World) (i : ℕ) (node : Sentinel) (fresh : List Pick) → Holds t picks w → i < size t.roster →
+    All (λ (v : Vote). v.voter ≡ i) node.parts.casts → All (λ (p : Pick). p.sentinel ≡ i) fresh → NodeOk t (grown (history w picks) node.parts.casts fresh) i node →
+    Holds t (picks ++ fresh) (filed w i node)
 replaced_filed t picks w i node fresh ok place casts_by picks_by new =
-    replaced t picks (picks ++ fresh) w i node (w.votes ++ node.parts.casts) ok place (Within-grown (history w picks) node.parts.casts fresh) (λ j m apart. Grows-others i j m (history w picks) node.parts.casts fresh apart casts_by picks_by) new
+    replaced t picks (picks ++ fresh) w i node (w.votes ++ node.parts.casts) ok place (Within-grown (history w picks) node.parts.casts fresh)
+    (λ j m apart. Grows-others i j m (history w picks) node.parts.casts fresh apart casts_by picks_by) new
 
 -- Messages, elections and what was said, with more behind them
 
-with_lists : (t : Group) (picks : List Pick) (w : World) (messages : List Message) (elected : List Election) (said : List Advertisement) → Holds t picks w → All (MessageOk t (history w picks)) messages → All (ElectedOk t (history w picks)) elected → All (SaidOk t (history w picks)) said → Holds t picks (record w { messages = messages; elected = elected; said = said })
+with_lists : (t : Group) (picks : List Pick) (w : World) (messages : List Message) (elected : List Election) (said : List Advertisement) → Holds t picks w →
+    All (MessageOk t (history w picks)) messages → All (ElectedOk t (history w picks)) elected → All (SaidOk t (history w picks)) said →
+    Holds t picks (record w { messages = messages; elected = elected; said = said })
 with_lists t picks w messages elected said ok sent led told =
     record { count = ok.count; nodes = ok.nodes; stores = ok.stores; clients = ok.clients; messages = sent; elected = led; said = told }
 
-more_elected : (t : Group) (picks : List Pick) (w : World) (new : List Election) → Holds t picks w → All (ElectedOk t (history w picks)) new → Holds t picks (record w { elected = w.elected ++ new })
+more_elected : (t : Group) (picks : List Pick) (w : World) (new : List Election) → Holds t picks w → All (ElectedOk t (history w picks)) new →
+    Holds t picks (record w { elected = w.elected ++ new })
 more_elected t picks w new ok more =
     with_lists t picks w w.messages (w.elected ++ new) w.said ok ok.messages (All-append (ElectedOk t (history w picks)) w.elected new ok.elected more) ok.said
 
-more_said : (t : Group) (picks : List Pick) (w : World) (new : List Advertisement) → Holds t picks w → All (SaidOk t (history w picks)) new → Holds t picks (record w { said = w.said ++ new })
+more_said : (t : Group) (picks : List Pick) (w : World) (new : List Advertisement) → Holds t picks w → All (SaidOk t (history w picks)) new →
+    Holds t picks (record w { said = w.said ++ new })
 more_said t picks w new ok more =
     with_lists t picks w w.messages w.elected (w.said ++ new) ok ok.messages ok.elected (All-append (SaidOk t (history w picks)) w.said new ok.said more)
 
-more_messages : (t : Group) (picks : List Pick) (w : World) (new : List Message) → Holds t picks w → All (MessageOk t (history w picks)) new → Holds t picks (record w { messages = w.messages ++ new })
+more_messages : (t : Group) (picks : List Pick) (w : World) (new : List Message) → Holds t picks w → All (MessageOk t (history w picks)) new →
+    Holds t picks (record w { messages = w.messages ++ new })
 more_messages t picks w new ok more =
     with_lists t picks w (w.messages ++ new) w.elected w.said ok (All-append (MessageOk t (history w picks)) w.messages new ok.messages more) ok.elected ok.said
 
 -- Files
 
 -- no file falls where one is replaced by one that is no lower
-falls_set : (w : World) (i : ℕ) (node : Sentinel) → i < length w.sentinels → ((m : ℕ) → (card_of (sentinel_at w i).file m).epoch ≤ (card_of node.file m).epoch) → FallsNowhere w (with_sentinel w i node)
+falls_set : (w : World) (i : ℕ) (node : Sentinel) → i < length w.sentinels → ((m : ℕ) → (card_of (sentinel_at w i).file m).epoch ≤ (card_of node.file m).epoch) →
+    FallsNowhere w (with_sentinel w i node)
 falls_set w i node inside up j m = ⊎_elim here there (cases_eq j i)
   where
     here : j ≡ i → (card_of (sentinel_at w j).file m).epoch ≤ (card_of (sentinel_at (with_sentinel w i node) j).file m).epoch
@@ -151,7 +164,8 @@ place_of : (t : Group) (picks : List Pick) (w : World) (i : ℕ) → Holds t pic
 place_of t picks w i ok inside = subst (λ (n : ℕ). i < n) ok.count inside
 
 -- a Sentinel's change that leaves its file and adds nothing
-step_same : (t : Group) (picks : List Pick) (w : World) (i : ℕ) (node : Sentinel) → Holds t picks w → i < length w.sentinels → node.file ≡ (sentinel_at w i).file → NodeOk t (history w picks) i node → Kept_by t w (with_sentinel w i node)
+step_same : (t : Group) (picks : List Pick) (w : World) (i : ℕ) (node : Sentinel) → Holds t picks w → i < length w.sentinels → node.file ≡ (sentinel_at w i).file →
+    NodeOk t (history w picks) i node → Kept_by t w (with_sentinel w i node)
 step_same t picks w i node ok inside same new =
     record {
       picks = picks;
@@ -162,7 +176,8 @@ step_same t picks w i node ok inside same new =
 pending : (t : Group) (picks : List Pick) (w : World) (i : ℕ) → Holds t picks w → IsSentinel w i Pending → LiveOk t (history w picks) i (sentinel_at w i) Pending
 pending t picks w i ok at = subst (LiveOk t (history w picks) i (sentinel_at w i)) at.1 (ok.nodes i (place_of t picks w i ok at.0)).live
 
-take_kept : (t : Group) (picks : List Pick) (w : World) (i : ℕ) (event : Event) (choice : Choice) → Holds t picks w → IsSentinel w i Ready → EventOk t (history w picks) event → IsChoice t.roster i event (sentinel_at w i) choice → Kept_by t w (with_sentinel w i (taken (sentinel_at w i) choice))
+take_kept : (t : Group) (picks : List Pick) (w : World) (i : ℕ) (event : Event) (choice : Choice) → Holds t picks w → IsSentinel w i Ready → EventOk t (history w picks) event →
+    IsChoice t.roster i event (sentinel_at w i) choice → Kept_by t w (with_sentinel w i (taken (sentinel_at w i) choice))
 take_kept t picks w i event choice ok at delivered chosen =
     let place : i < size t.roster = place_of t picks w i ok at.0 in
     step_same t picks w i (taken (sentinel_at w i) choice) ok at.0 refl
@@ -179,12 +194,16 @@ store_kept t picks w i ok at =
       picks = picks ++ live.0;
       holds = more_elected t (picks ++ live.0) (filed w i new) (elected_by i node.parts.wins)
           (replaced_filed t picks w i new live.0 ok place (live.1).casts_by (live.1).picks_by (stores_ok t (history w picks) i node live.0 (ok.nodes i place) live.1 live.2))
-          (All-map (ElectedOk t h) (λ win. record { sentinel = i; master = win.master; epoch = win.epoch }) node.parts.wins (All-weaker (WinOk t h i) (λ win. ElectedOk t h (record { sentinel = i; master = win.master; epoch = win.epoch })) (λ win b. (place, b)) node.parts.wins (live.1).wins));
+          (All-map (ElectedOk t h) (λ win. record { sentinel = i; master = win.master; epoch = win.epoch }) node.parts.wins
+          (All-weaker (WinOk t h i) (λ win. ElectedOk t h (record { sentinel = i; master = win.master; epoch = win.epoch })) (λ win b. (place, b)) node.parts.wins
+          (live.1).wins));
       falls = falls_set w i new at.0 (live.1).climbs;
     }
 
 -- a halt or a stop with the new text
-end_kept : (t : Group) (picks : List Pick) (w : World) (i : ℕ) (state : State) → ((h : History) → LiveOk t h i (record (sentinel_at w i) { file = (sentinel_at w i).parts.kept; state = state }) state) → Holds t picks w → IsSentinel w i Pending → Kept_by t w (filed w i (record (sentinel_at w i) { file = (sentinel_at w i).parts.kept; state = state }))
+end_kept : (t : Group) (picks : List Pick) (w : World) (i : ℕ) (state : State) →
+    ((h : History) → LiveOk t h i (record (sentinel_at w i) { file = (sentinel_at w i).parts.kept; state = state }) state) → Holds t picks w → IsSentinel w i Pending →
+    Kept_by t w (filed w i (record (sentinel_at w i) { file = (sentinel_at w i).parts.kept; state = state }))
 end_kept t picks w i state idle ok at =
     let node : Sentinel = sentinel_at w i in
     let new : Sentinel = record node { file = node.parts.kept; state = state } in
@@ -192,22 +211,26 @@ end_kept t picks w i state idle ok at =
     let live : LiveOk t (history w picks) i node Pending = pending t picks w i ok at in
     record {
       picks = picks ++ live.0;
-      holds = replaced_filed t picks w i new live.0 ok place (live.1).casts_by (live.1).picks_by (ends_new t (history w picks) i node live.0 state (idle (grown (history w picks) node.parts.casts live.0)) (ok.nodes i place) live.1);
+      holds = replaced_filed t picks w i new live.0 ok place (live.1).casts_by (live.1).picks_by
+          (ends_new t (history w picks) i node live.0 state (idle (grown (history w picks) node.parts.casts live.0)) (ok.nodes i place) live.1);
       falls = falls_set w i new at.0 (live.1).climbs;
     }
 
 -- with the old text
-old_kept : (t : Group) (picks : List Pick) (w : World) (i : ℕ) (state : State) → LiveOk t (history w picks) i (record (sentinel_at w i) { state = state }) state → Holds t picks w → i < length w.sentinels → Kept_by t w (with_sentinel w i (record (sentinel_at w i) { state = state }))
+old_kept : (t : Group) (picks : List Pick) (w : World) (i : ℕ) (state : State) → LiveOk t (history w picks) i (record (sentinel_at w i) { state = state }) state →
+    Holds t picks w → i < length w.sentinels → Kept_by t w (with_sentinel w i (record (sentinel_at w i) { state = state }))
 old_kept t picks w i state idle ok inside =
     step_same t picks w i (record (sentinel_at w i) { state = state }) ok inside refl
     (ends_old t (history w picks) i (sentinel_at w i) state idle (ok.nodes i (place_of t picks w i ok inside)))
 
-refused_kept : (t : Group) (picks : List Pick) (w : World) (i : ℕ) (must_store : Bool) (left : KeptText) → Holds t picks w → IsSentinel w i Pending → Kept_by t w (after_refused w i (sentinel_at w i) must_store left)
+refused_kept : (t : Group) (picks : List Pick) (w : World) (i : ℕ) (must_store : Bool) (left : KeptText) → Holds t picks w → IsSentinel w i Pending →
+    Kept_by t w (after_refused w i (sentinel_at w i) must_store left)
 refused_kept t picks w i false left ok at = store_kept t picks w i ok at
 refused_kept t picks w i true Old ok at = old_kept t picks w i Halted tt ok at.0
 refused_kept t picks w i true New ok at = end_kept t picks w i Halted (λ h. tt) ok at
 
-stop_kept : (t : Group) (picks : List Pick) (w : World) (i : ℕ) (state : State) (left : KeptText) → Holds t picks w → i < length w.sentinels → (sentinel_at w i).state ≡ state → Kept_by t w (after_stop w i (sentinel_at w i) state left)
+stop_kept : (t : Group) (picks : List Pick) (w : World) (i : ℕ) (state : State) (left : KeptText) → Holds t picks w → i < length w.sentinels → (sentinel_at w i).state ≡ state →
+    Kept_by t w (after_stop w i (sentinel_at w i) state left)
 stop_kept t picks w i Pending New ok inside e = end_kept t picks w i Stopped (λ h. tt) ok (inside, e)
 stop_kept t picks w i _ _ ok inside e = old_kept t picks w i Stopped tt ok inside
 
@@ -228,19 +251,22 @@ release_kept t picks w i ok at =
       falls = k.falls;
     }
 
-start_kept : (t : Group) (picks : List Pick) (w : World) (i : ℕ) → Holds t picks w → i < length w.sentinels → Kept_by t w (with_sentinel w i (started t.roster (sentinel_at w i).file))
+start_kept : (t : Group) (picks : List Pick) (w : World) (i : ℕ) → Holds t picks w → i < length w.sentinels →
+    Kept_by t w (with_sentinel w i (started t.roster (sentinel_at w i).file))
 start_kept t picks w i ok inside =
     step_same t picks w i (started t.roster (sentinel_at w i).file) ok inside refl
     (starts_ok t (history w picks) i (sentinel_at w i).file (ok.nodes i (place_of t picks w i ok inside)).file)
 
-answer_kept : (t : Group) (picks : List Pick) (w : World) (i m k : ℕ) → Holds t picks w → i < length w.sentinels → k < length (sentinel_at w i).stored → Kept_by t w (after_answer w i m k)
+answer_kept : (t : Group) (picks : List Pick) (w : World) (i m k : ℕ) → Holds t picks w → i < length w.sentinels → k < length (sentinel_at w i).stored →
+    Kept_by t w (after_answer w i m k)
 answer_kept t picks w i m k ok inside before =
     let g : History = history w picks in
     let node : NodeOk t g i (sentinel_at w i) = ok.nodes i (place_of t picks w i ok inside) in
     record {
       picks = picks;
       holds = more_said t picks w ((record { sentinel = i; master = m; card = card_after (sentinel_at w i) m k }) ∷ []) ok
-          (All-push (SaidOk t g) [] (record { sentinel = i; master = m; card = card_after (sentinel_at w i) m k }) (All-nil (SaidOk t g)) (All-get_or (StoredOk t g) (sentinel_at w i).stored k (record { current = 0; masters = [] }) before node.stored m));
+          (All-push (SaidOk t g) [] (record { sentinel = i; master = m; card = card_after (sentinel_at w i) m k }) (All-nil (SaidOk t g))
+          (All-get_or (StoredOk t g) (sentinel_at w i).stored k (record { current = 0; masters = [] }) before node.stored m));
       falls = λ j n. omega arith;
     }
 
@@ -256,7 +282,8 @@ other_ok t picks w (ClientAt k) ok there = ok.clients k
 other_ok t picks w (SentinelAt k) ok there = absurd there
 other_ok t picks w (PortAt k) ok there = absurd there
 
-nodes_set : {X : Type 0} (d : X) (P : ℕ → X → Type 0) (xs : List X) (k : ℕ) (node : X) → k < length xs → P k node → ((j : ℕ) → P j (get_or xs j d)) → (j : ℕ) → P j (get_or (set xs k node) j d)
+nodes_set : {X : Type 0} (d : X) (P : ℕ → X → Type 0) (xs : List X) (k : ℕ) (node : X) → k < length xs → P k node → ((j : ℕ) → P j (get_or xs j d)) → (j : ℕ) →
+    P j (get_or (set xs k node) j d)
 nodes_set {X} d P xs k node inside new before j = ⊎_elim here there (cases_eq j k)
   where
     here : j ≡ k → P j (get_or (set xs k node) j d)
@@ -272,7 +299,8 @@ client_within [] k there = absurd (cc)
 client_within (client ∷ clients) zero there = omega arith
 client_within (client ∷ clients) (suc k) there = let l = client_within clients k there in omega arith
 
-with_other_ok : (t : Group) (picks : List Pick) (w : World) (name : NodeName) (node : Other) → Holds t picks w → IsOther w name → OtherOk t (history w picks) name node → Holds t picks (with_other w name node)
+with_other_ok : (t : Group) (picks : List Pick) (w : World) (name : NodeName) (node : Other) → Holds t picks w → IsOther w name → OtherOk t (history w picks) name node →
+    Holds t picks (with_other w name node)
 with_other_ok t picks w (StoreAt k) node ok there new =
     record {
       count = ok.count;
@@ -288,7 +316,8 @@ with_other_ok t picks w (ClientAt k) node ok there new =
       count = ok.count;
       nodes = ok.nodes;
       stores = ok.stores;
-      clients = nodes_set None (λ j client. OtherOk t (history w picks) (ClientAt j) (unwrap_or client no_other)) w.clients k (Some node) (client_within w.clients k there) new ok.clients;
+      clients = nodes_set None (λ j client. OtherOk t (history w picks) (ClientAt j) (unwrap_or client no_other)) w.clients k (Some node) (client_within w.clients k there) new
+          ok.clients;
       messages = ok.messages;
       elected = ok.elected;
       said = ok.said;
@@ -302,7 +331,8 @@ with_other_falls w (ClientAt k) node i m = omega arith
 with_other_falls w (SentinelAt k) node i m = omega arith
 with_other_falls w (PortAt k) node i m = omega arith
 
-other_kept : (t : Group) (picks : List Pick) (w w2 : World) (name : NodeName) (node : Other) → Holds t picks w → IsOther w name → w2 ≡ with_other w name node → OtherOk t (history w picks) name node → Kept_by t w w2
+other_kept : (t : Group) (picks : List Pick) (w w2 : World) (name : NodeName) (node : Other) → Holds t picks w → IsOther w name → w2 ≡ with_other w name node →
+    OtherOk t (history w picks) name node → Kept_by t w w2
 other_kept t picks w w2 name node ok there e new =
     kept_as t w w2 (with_other w name node) e
     (record { picks = picks; holds = with_other_ok t picks w name node ok there new; falls = with_other_falls w name node })
@@ -344,13 +374,15 @@ other_releases : (t : Group) (picks : List Pick) (w : World) (name : NodeName) �
 other_releases t picks w (StoreAt k) ok there =
     record {
       picks = picks;
-      holds = more_messages t picks (with_other w (StoreAt k) fresh_other) (sent (other_at w (StoreAt k)).held) (fresh_ok t picks w (StoreAt k) ok there) (other_sent t (history w picks) w (StoreAt k) there (other_at w (StoreAt k)).held (other_ok t picks w (StoreAt k) ok there));
+      holds = more_messages t picks (with_other w (StoreAt k) fresh_other) (sent (other_at w (StoreAt k)).held) (fresh_ok t picks w (StoreAt k) ok there)
+          (other_sent t (history w picks) w (StoreAt k) there (other_at w (StoreAt k)).held (other_ok t picks w (StoreAt k) ok there));
       falls = λ i m. omega arith;
     }
 other_releases t picks w (ClientAt k) ok there =
     record {
       picks = picks;
-      holds = more_messages t picks (with_other w (ClientAt k) fresh_other) (sent (other_at w (ClientAt k)).held) (fresh_ok t picks w (ClientAt k) ok there) (other_sent t (history w picks) w (ClientAt k) there (other_at w (ClientAt k)).held (other_ok t picks w (ClientAt k) ok there));
+      holds = more_messages t picks (with_other w (ClientAt k) fresh_other) (sent (other_at w (ClientAt k)).held) (fresh_ok t picks w (ClientAt k) ok there)
+          (other_sent t (history w picks) w (ClientAt k) there (other_at w (ClientAt k)).held (other_ok t picks w (ClientAt k) ok there));
       falls = λ i m. omega arith;
     }
 other_releases t picks w (SentinelAt k) ok there = absurd there
@@ -358,11 +390,13 @@ other_releases t picks w (PortAt k) ok there = absurd there
 
 -- Each kind of step, by the kind of its node
 
-other_takes : (t : Group) (picks : List Pick) (w w2 : World) (name : NodeName) (event : Event) (held : List Output) → Holds t picks w → IsOther w name → EventOk t (history w picks) event → All (IsPassable name event) held → w2 ≡ with_other w name (record { state = Pending; held = held }) → Kept_by t w w2
+other_takes : (t : Group) (picks : List Pick) (w w2 : World) (name : NodeName) (event : Event) (held : List Output) → Holds t picks w → IsOther w name →
+    EventOk t (history w picks) event → All (IsPassable name event) held → w2 ≡ with_other w name (record { state = Pending; held = held }) → Kept_by t w w2
 other_takes t picks w w2 name event held ok there delivered passes e =
     other_kept t picks w w2 name (record { state = Pending; held = held }) ok there e (all_passable t (history w picks) name event held delivered passes)
 
-takes_kept : (t : Group) (picks : List Pick) (w w2 : World) (name : NodeName) (event : Event) → Holds t picks w → IsAt w name Ready → EventOk t (history w picks) event → Takes t.roster name event w w2 → Kept_by t w w2
+takes_kept : (t : Group) (picks : List Pick) (w w2 : World) (name : NodeName) (event : Event) → Holds t picks w → IsAt w name Ready → EventOk t (history w picks) event →
+    Takes t.roster name event w w2 → Kept_by t w w2
 takes_kept t picks w w2 (SentinelAt i) event ok at delivered x =
     kept_as t w w2 (with_sentinel w i (taken (sentinel_at w i) x.0)) x.2 (take_kept t picks w i event x.0 ok at delivered x.1)
 takes_kept t picks w w2 (StoreAt k) event ok at delivered x = other_takes t picks w w2 (StoreAt k) event x.0 ok at.0 delivered x.1 x.2
@@ -370,7 +404,8 @@ takes_kept t picks w w2 (ClientAt k) event ok at delivered x = other_takes t pic
 takes_kept t picks w w2 (PortAt k) event ok at delivered x = absurd at.0
 
 -- another state of another node
-other_turns : (t : Group) (picks : List Pick) (w w2 : World) (name : NodeName) (state : State) → Holds t picks w → IsOther w name → w2 ≡ with_other w name (record (other_at w name) { state = state }) → Kept_by t w w2
+other_turns : (t : Group) (picks : List Pick) (w w2 : World) (name : NodeName) (state : State) → Holds t picks w → IsOther w name →
+    w2 ≡ with_other w name (record (other_at w name) { state = state }) → Kept_by t w w2
 other_turns t picks w w2 name state ok there e =
     other_kept t picks w w2 name (record (other_at w name) { state = state }) ok there e (other_ok t picks w name ok there)
 
@@ -380,7 +415,8 @@ stores_kept t picks w w2 (StoreAt k) ok at e = other_turns t picks w w2 (StoreAt
 stores_kept t picks w w2 (ClientAt k) ok at e = other_turns t picks w w2 (ClientAt k) Stored ok at.0 e
 stores_kept t picks w w2 (PortAt k) ok at e = absurd at.0
 
-refusals_kept : (t : Group) (picks : List Pick) (w w2 : World) (name : NodeName) (left : KeptText) → Holds t picks w → IsAt w name Pending → IsRefused name left w w2 → Kept_by t w w2
+refusals_kept : (t : Group) (picks : List Pick) (w w2 : World) (name : NodeName) (left : KeptText) → Holds t picks w → IsAt w name Pending → IsRefused name left w w2 →
+    Kept_by t w w2
 refusals_kept t picks w w2 (SentinelAt i) left ok at e =
     kept_as t w w2 (after_refused w i (sentinel_at w i) (sentinel_at w i).must_store left) e (refused_kept t picks w i (sentinel_at w i).must_store left ok at)
 refusals_kept t picks w w2 (StoreAt k) left ok at e = other_turns t picks w w2 (StoreAt k) Stored ok at.0 e
@@ -415,7 +451,8 @@ now_kept t picks w w2 (StoreAt k) m ok e = kept_same t picks w w2 ok e
 now_kept t picks w w2 (ClientAt k) m ok e = kept_same t picks w w2 ok e
 now_kept t picks w w2 (PortAt k) m ok e = kept_same t picks w w2 ok e
 
-delivered_kept : (t : Group) (picks : List Pick) (w w2 : World) (found : Option Message) → Holds t picks w → ((message : Message) → found ≡ Some message → MessageOk t (history w picks) message) → IsDelivered t.roster found w w2 → Kept_by t w w2
+delivered_kept : (t : Group) (picks : List Pick) (w w2 : World) (found : Option Message) → Holds t picks w →
+    ((message : Message) → found ≡ Some message → MessageOk t (history w picks) message) → IsDelivered t.roster found w w2 → Kept_by t w w2
 delivered_kept t picks w w2 None ok right e = kept_same t picks w w2 ok e
 delivered_kept t picks w w2 (Some message) ok right (inr x) = kept_same t picks w w2 ok x.1
 delivered_kept t picks w w2 (Some message) ok right (inl x) =

@@ -61,7 +61,8 @@ made_in_order given seen sentinels given_masters seen_masters sorted masters s m
     let s_len : length seen ≡ length given = ap length s in
     let m_len : length seen_masters ≡ length given_masters = ap length m in
     let s_le : length (in_order (λ (a b : Member). id_before a.id b.id) given) ≤ length given = in_order_len (λ (a b : Member). id_before a.id b.id) given in
-    let m_le : length (in_order (λ (a b : MasterPlan). bytes_before a.name b.name) sorted) ≤ length sorted = in_order_len (λ (a b : MasterPlan). bytes_before a.name b.name) sorted in
+    let m_le : length (in_order (λ (a b : MasterPlan). bytes_before a.name b.name) sorted) ≤ length sorted =
+    in_order_len (λ (a b : MasterPlan). bytes_before a.name b.name) sorted in
     let sorted_len : length sorted ≡ length given_masters = ap length sorted_is ∙ length-map given_masters nodes_in_order in
     let s_is_len : length sentinels ≡ length (in_order (λ (a b : Member). id_before a.id b.id) given) = ap length s_is in
     let m_is_len : length masters ≡ length (in_order (λ (a b : MasterPlan). bytes_before a.name b.name) sorted) = ap length m_is in

@@ -16,7 +16,8 @@ use Rattle.ballot_law.proofs.History.{Pick, History, Group, pick, Voted, Picked,
 -- One master
 
 -- another open part
-pub reopened : (t : Group) (h : History) (i m current : ℕ) (kept : KeptMaster) (opened opened2 : OpenMaster) → MasterOk t h i m current kept opened → All (Contains h.votes) opened2.heard → CampaignOk t h i m current kept.card opened2.campaign → MasterOk t h i m current kept opened2
+pub reopened : (t : Group) (h : History) (i m current : ℕ) (kept : KeptMaster) (opened opened2 : OpenMaster) → MasterOk t h i m current kept opened →
+    All (Contains h.votes) opened2.heard → CampaignOk t h i m current kept.card opened2.campaign → MasterOk t h i m current kept opened2
 reopened t h i m current kept opened opened2 ok heard campaign =
     record {
       one_vote = ok.one_vote;
@@ -31,16 +32,20 @@ reopened t h i m current kept opened opened2 ok heard campaign =
     }
 
 -- without the open part
-pub MasterOk-closed : (t : Group) (h : History) (i m current : ℕ) (kept : KeptMaster) (opened : OpenMaster) → MasterOk t h i m current kept opened → MasterOk t h i m current kept empty
+pub MasterOk-closed : (t : Group) (h : History) (i m current : ℕ) (kept : KeptMaster) (opened : OpenMaster) → MasterOk t h i m current kept opened →
+    MasterOk t h i m current kept empty
 MasterOk-closed t h i m current kept opened ok = reopened t h i m current kept opened empty ok (All-nil (Contains h.votes)) tt
 
 -- another campaign
-pub campaigned : (t : Group) (h : History) (i m current : ℕ) (kept : KeptMaster) (opened : OpenMaster) (campaign : Campaign) → MasterOk t h i m current kept opened → CampaignOk t h i m current kept.card campaign → MasterOk t h i m current kept (record opened { campaign = campaign })
+pub campaigned : (t : Group) (h : History) (i m current : ℕ) (kept : KeptMaster) (opened : OpenMaster) (campaign : Campaign) → MasterOk t h i m current kept opened →
+    CampaignOk t h i m current kept.card campaign → MasterOk t h i m current kept (record opened { campaign = campaign })
 campaigned t h i m current kept opened campaign ok new =
     reopened t h i m current kept opened (record opened { campaign = campaign }) ok ok.heard new
 
 -- another card
-pub carded : (t : Group) (h : History) (i m current : ℕ) (kept : KeptMaster) (opened opened2 : OpenMaster) (card : Card) → MasterOk t h i m current kept opened → CardOk t h m card → card.epoch ≤ current → All (Contains h.votes) opened2.heard → CampaignOk t h i m current card opened2.campaign → MasterOk t h i m current (record kept { card = card }) opened2
+pub carded : (t : Group) (h : History) (i m current : ℕ) (kept : KeptMaster) (opened opened2 : OpenMaster) (card : Card) → MasterOk t h i m current kept opened →
+    CardOk t h m card → card.epoch ≤ current → All (Contains h.votes) opened2.heard → CampaignOk t h i m current card opened2.campaign →
+    MasterOk t h i m current (record kept { card = card }) opened2
 carded t h i m current kept opened opened2 card ok new bound heard campaign =
     record {
       one_vote = ok.one_vote;
@@ -54,7 +59,8 @@ carded t h i m current kept opened opened2 card ok new bound heard campaign =
       campaign = campaign;
     }
 
-pub begun : (t : Group) (h : History) (i m current : ℕ) (kept : KeptMaster) (opened : OpenMaster) → MasterOk t h i m current kept opened → MasterOk t h i m (current + 1) kept (record opened { campaign = Running (current + 1) })
+pub begun : (t : Group) (h : History) (i m current : ℕ) (kept : KeptMaster) (opened : OpenMaster) → MasterOk t h i m current kept opened →
+    MasterOk t h i m (current + 1) kept (record opened { campaign = Running (current + 1) })
 begun t h i m current kept opened ok =
     let b : kept.card.epoch ≤ current = ok.card_bound in
     let o : (t.origin m).epoch ≤ kept.card.epoch = origin_below t h m kept.card ok.card in
@@ -90,7 +96,8 @@ pub Grows-vote : (h : History) (i m k e : ℕ) (c : RunId) → k ≢ m → Grows
 Grows-vote h i m k e c apart =
     record {
       within = Within-vote h (vote i m e c);
-      votes = λ e2 c2 x. ⊎_elim (λ (y : Voted h i k e2 c2). y) (λ (y : vote i m e c ≡ vote i k e2 c2). absurd (apart (sym (ap (λ (v : Vote). v.master) y)))) (Contains-push_cases h.votes (vote i m e c) (vote i k e2 c2) x);
+      votes = λ e2 c2 x. ⊎_elim (λ (y : Voted h i k e2 c2). y) (λ (y : vote i m e c ≡ vote i k e2 c2). absurd (apart (sym (ap (λ (v : Vote). v.master) y))))
+          (Contains-push_cases h.votes (vote i m e c) (vote i k e2 c2) x);
       picks = λ e2 a x. x;
     }
 
@@ -99,7 +106,8 @@ Grows-pick h i m k e a apart =
     record {
       within = Within-pick h (pick i m e a);
       votes = λ e2 c2 x. x;
-      picks = λ e2 a2 x. ⊎_elim (λ (y : Picked h i k e2 a2). y) (λ (y : pick i m e a ≡ pick i k e2 a2). absurd (apart (sym (ap (λ (p : Pick). p.master) y)))) (Contains-push_cases h.picks (pick i m e a) (pick i k e2 a2) x);
+      picks = λ e2 a2 x. ⊎_elim (λ (y : Picked h i k e2 a2). y) (λ (y : pick i m e a ≡ pick i k e2 a2). absurd (apart (sym (ap (λ (p : Pick). p.master) y))))
+          (Contains-push_cases h.picks (pick i m e a) (pick i k e2 a2) x);
     }
 
 -- a vote of the new history is the new one or an old one
@@ -117,25 +125,30 @@ pick_cases h i m e e2 a b x =
     (λ (y : pick i m e a ≡ pick i m e2 b). inr (ap (λ (p : Pick). p.epoch) y, ap (λ (p : Pick). p.choice) y))
     (Contains-push_cases h.picks (pick i m e a) (pick i m e2 b) x)
 
-one_more_vote : (h : History) (i m e voted : ℕ) (c : RunId) → voted < e → ((e2 : ℕ) (x : RunId) → Voted h i m e2 x → e2 ≤ voted) → ((e2 : ℕ) (x y : RunId) → Voted h i m e2 x → Voted h i m e2 y → x ≡ y) → (e2 : ℕ) (x y : RunId) → (Voted h i m e2 x ⊎ ((e ≡ e2) × (c ≡ x))) → (Voted h i m e2 y ⊎ ((e ≡ e2) × (c ≡ y))) → x ≡ y
+one_more_vote : (h : History) (i m e voted : ℕ) (c : RunId) → voted < e → ((e2 : ℕ) (x : RunId) → Voted h i m e2 x → e2 ≤ voted) →
+    ((e2 : ℕ) (x y : RunId) → Voted h i m e2 x → Voted h i m e2 y → x ≡ y) → (e2 : ℕ) (x y : RunId) → (Voted h i m e2 x ⊎ ((e ≡ e2) × (c ≡ x))) →
+    (Voted h i m e2 y ⊎ ((e ≡ e2) × (c ≡ y))) → x ≡ y
 one_more_vote h i m e voted c l bound one e2 x y (inl p) (inl q) = one e2 x y p q
 one_more_vote h i m e voted c l bound one e2 x y (inl p) (inr q) = let b : e2 ≤ voted = bound e2 x p in let s : e ≡ e2 = q.0 in absurd (omega arith)
 one_more_vote h i m e voted c l bound one e2 x y (inr p) (inl q) = let b : e2 ≤ voted = bound e2 y q in let s : e ≡ e2 = p.0 in absurd (omega arith)
 one_more_vote h i m e voted c l bound one e2 x y (inr p) (inr q) = sym p.1 ∙ q.1
 
-one_more_pick : (h : History) (i m e : ℕ) (a : Addr) → NotPicked h i m e → ((e2 : ℕ) (x y : Addr) → Picked h i m e2 x → Picked h i m e2 y → x ≡ y) → (e2 : ℕ) (x y : Addr) → (Picked h i m e2 x ⊎ ((e ≡ e2) × (a ≡ x))) → (Picked h i m e2 y ⊎ ((e ≡ e2) × (a ≡ y))) → x ≡ y
+one_more_pick : (h : History) (i m e : ℕ) (a : Addr) → NotPicked h i m e → ((e2 : ℕ) (x y : Addr) → Picked h i m e2 x → Picked h i m e2 y → x ≡ y) → (e2 : ℕ) (x y : Addr) →
+    (Picked h i m e2 x ⊎ ((e ≡ e2) × (a ≡ x))) → (Picked h i m e2 y ⊎ ((e ≡ e2) × (a ≡ y))) → x ≡ y
 one_more_pick h i m e a none one e2 x y (inl p) (inl q) = one e2 x y p q
 one_more_pick h i m e a none one e2 x y (inl p) (inr q) = absurd (none x (subst (λ (k : ℕ). Picked h i m k x) (sym q.0) p))
 one_more_pick h i m e a none one e2 x y (inr p) (inl q) = absurd (none y (subst (λ (k : ℕ). Picked h i m k y) (sym p.0) q))
 one_more_pick h i m e a none one e2 x y (inr p) (inr q) = sym p.1 ∙ q.1
 
-pub cast_kept : (t : Group) (h : History) (i m current e : ℕ) (c : RunId) (kept : KeptMaster) (opened : OpenMaster) → kept.voted < e → MasterOk t h i m current kept opened → MasterOk t (with_vote h (vote i m e c)) i m current (record kept { voted = e; candidate = Some c }) opened
+pub cast_kept : (t : Group) (h : History) (i m current e : ℕ) (c : RunId) (kept : KeptMaster) (opened : OpenMaster) → kept.voted < e → MasterOk t h i m current kept opened →
+    MasterOk t (with_vote h (vote i m e c)) i m current (record kept { voted = e; candidate = Some c }) opened
 cast_kept t h i m current e c kept opened l ok =
     let h2 : History = with_vote h (vote i m e c) in
     let w : Within h h2 = Within-vote h (vote i m e c) in
     record {
       one_vote = λ e2 x y p q. one_more_vote h i m e kept.voted c l ok.vote_bound ok.one_vote e2 x y (vote_cases h i m e e2 c x p) (vote_cases h i m e e2 c y q);
-      vote_bound = λ e2 x p. ⊎_elim (λ (y : Voted h i m e2 x). let b : e2 ≤ kept.voted = ok.vote_bound e2 x y in omega arith) (λ (y : (e ≡ e2) × (c ≡ x)). let s : e ≡ e2 = y.0 in omega arith) (vote_cases h i m e e2 c x p);
+      vote_bound = λ e2 x p. ⊎_elim (λ (y : Voted h i m e2 x). let b : e2 ≤ kept.voted = ok.vote_bound e2 x y in omega arith)
+          (λ (y : (e ≡ e2) × (c ≡ x)). let s : e ≡ e2 = y.0 in omega arith) (vote_cases h i m e e2 c x p);
       one_pick = ok.one_pick;
       pick_bound = ok.pick_bound;
       card = CardOk-grows t h h2 m kept.card w ok.card;
@@ -145,7 +158,8 @@ cast_kept t h i m current e c kept opened l ok =
       campaign = campaign_grows t h h2 i m current kept.card opened.campaign w (λ e2 a x. x) ok.campaign;
     }
 
-pub choose_kept : (t : Group) (h : History) (i m current e : ℕ) (a : Addr) (kept : KeptMaster) (opened : OpenMaster) → opened.campaign ≡ Won e → MasterOk t h i m current kept opened → MasterOk t (with_pick h (pick i m e a)) i m current kept (record opened { campaign = Chosen e a })
+pub choose_kept : (t : Group) (h : History) (i m current e : ℕ) (a : Addr) (kept : KeptMaster) (opened : OpenMaster) → opened.campaign ≡ Won e →
+    MasterOk t h i m current kept opened → MasterOk t (with_pick h (pick i m e a)) i m current kept (record opened { campaign = Chosen e a })
 choose_kept t h i m current e a kept opened won ok =
     let h2 : History = with_pick h (pick i m e a) in
     let w : Within h h2 = Within-pick h (pick i m e a) in
@@ -154,7 +168,8 @@ choose_kept t h i m current e a kept opened won ok =
       one_vote = ok.one_vote;
       vote_bound = ok.vote_bound;
       one_pick = λ e2 x y p q. one_more_pick h i m e a ok_won.1 ok.one_pick e2 x y (pick_cases h i m e e2 a x p) (pick_cases h i m e e2 a y q);
-      pick_bound = λ e2 x p. ⊎_elim (λ (y : Picked h i m e2 x). ok.pick_bound e2 x y) (λ (y : (e ≡ e2) × (a ≡ x)). let s : e ≡ e2 = y.0 in let b : e ≤ current = (ok_won.0).bound in omega arith) (pick_cases h i m e e2 a x p);
+      pick_bound = λ e2 x p. ⊎_elim (λ (y : Picked h i m e2 x). ok.pick_bound e2 x y)
+          (λ (y : (e ≡ e2) × (a ≡ x)). let s : e ≡ e2 = y.0 in let b : e ≤ current = (ok_won.0).bound in omega arith) (pick_cases h i m e e2 a x p);
       card = CardOk-grows t h h2 m kept.card w ok.card;
       card_bound = ok.card_bound;
       heard = ok.heard;
@@ -203,7 +218,8 @@ PartsOk-file t h i kept ok =
       each = λ m. subst (λ (o : OpenMaster). MasterOk t h i m kept.current (kept_of kept m) o) (sym (empty_at (length t.roster.masters) m)) (ok.each m);
     }
 
-pub PartsOk-raised : (t : Group) (h : History) (i current : ℕ) (kept : Kept) (opens : List OpenMaster) → kept.current ≤ current → PartsOk t h i kept opens → PartsOk t h i (record { current = current; masters = kept.masters }) opens
+pub PartsOk-raised : (t : Group) (h : History) (i current : ℕ) (kept : Kept) (opens : List OpenMaster) → kept.current ≤ current → PartsOk t h i kept opens →
+    PartsOk t h i (record { current = current; masters = kept.masters }) opens
 PartsOk-raised t h i current kept opens l ok =
     record {
       kept_length = ok.kept_length;
@@ -212,7 +228,9 @@ PartsOk-raised t h i current kept opens l ok =
     }
 
 -- one master changed
-pub PartsOk-changed : (t : Group) (h h2 : History) (i m current : ℕ) (kept : Kept) (opens : List OpenMaster) (new : KeptMaster) (opened : OpenMaster) → ((k : ℕ) → k ≢ m → Grows i k h h2) → m < length t.roster.masters → kept.current ≤ current → PartsOk t h i kept opens → MasterOk t h2 i m current new opened → PartsOk t h2 i (record { current = current; masters = set kept.masters m new }) (set opens m opened)
+pub PartsOk-changed : (t : Group) (h h2 : History) (i m current : ℕ) (kept : Kept) (opens : List OpenMaster) (new : KeptMaster) (opened : OpenMaster) →
+    ((k : ℕ) → k ≢ m → Grows i k h h2) → m < length t.roster.masters → kept.current ≤ current → PartsOk t h i kept opens → MasterOk t h2 i m current new opened →
+    PartsOk t h2 i (record { current = current; masters = set kept.masters m new }) (set opens m opened)
 PartsOk-changed t h h2 i m current kept opens new opened g inside l ok changed =
     record {
       kept_length = length-set kept.masters m new ∙ ok.kept_length;
@@ -227,7 +245,8 @@ PartsOk-changed t h h2 i m current kept opens new opened g inside l ok changed =
         subst
         (λ (j : ℕ). MasterOk t h2 i j current (get_or (set kept.masters m new) j no_kept) (get_or (set opens m opened) j empty))
         (sym e)
-        (subst₂ (λ (x : KeptMaster) (y : OpenMaster). MasterOk t h2 i m current x y) (sym (get_or-set_same kept.masters m new no_kept a)) (sym (get_or-set_same opens m opened empty b)) changed)
+        (subst₂ (λ (x : KeptMaster) (y : OpenMaster). MasterOk t h2 i m current x y) (sym (get_or-set_same kept.masters m new no_kept a))
+        (sym (get_or-set_same opens m opened empty b)) changed)
 
     there : (k : ℕ) → k ≢ m → MasterOk t h2 i k current (get_or (set kept.masters m new) k no_kept) (get_or (set opens m opened) k empty)
     there k apart =
@@ -235,4 +254,5 @@ PartsOk-changed t h h2 i m current kept opens new opened g inside l ok changed =
         (λ (x : KeptMaster) (y : OpenMaster). MasterOk t h2 i k current x y)
         (sym (get_or-set_other kept.masters m k new no_kept apart))
         (sym (get_or-set_other opens m k opened empty apart))
-        (MasterOk-raised t h2 i k kept.current current (kept_of kept k) (get_or opens k empty) l (MasterOk-grows t h h2 i k kept.current (kept_of kept k) (get_or opens k empty) (g k apart) (ok.each k)))
+        (MasterOk-raised t h2 i k kept.current current (kept_of kept k) (get_or opens k empty) l
+        (MasterOk-grows t h h2 i k kept.current (kept_of kept k) (get_or opens k empty) (g k apart) (ok.each k)))

@@ -54,23 +54,28 @@ shown_voter i (Answer m addr down None e) v s = absurd (cc)
 shown_voter i _ v s = absurd (cc)
 
 -- the card of a hello is among those that it advertises
-hello_card : (P : Shown → Type 0) (found : Option ℕ) (m : ℕ) (card : Card) → All P (elim found as (λ _. List Shown) [ None ↦ [] | Some k ↦ (record { master = k; card = card }) ∷ [] ]) → found ≡ Some m → P (record { master = m; card = card })
+hello_card : (P : Shown → Type 0) (found : Option ℕ) (m : ℕ) (card : Card) →
+    All P (elim found as (λ _. List Shown) [ None ↦ [] | Some k ↦ (record { master = k; card = card }) ∷ [] ]) → found ≡ Some m → P (record { master = m; card = card })
 hello_card P None m card all e = absurd (cc)
 hello_card P (Some k) m card all e =
     let same : k ≡ m = cc in
     subst (λ (n : ℕ). P (record { master = n; card = card })) same (All-head P (record { master = k; card = card }) [] all)
 
-published_shown : (P : Shown → Type 0) (roster : Roster) (body : Body) (hello : Hello) (m : ℕ) → All P (advertised roster body) → published body ≡ Some hello → master_named roster hello.master ≡ Some m → P (record { master = m; card = hello.card })
+published_shown : (P : Shown → Type 0) (roster : Roster) (body : Body) (hello : Hello) (m : ℕ) → All P (advertised roster body) → published body ≡ Some hello →
+    master_named roster hello.master ≡ Some m → P (record { master = m; card = hello.card })
 published_shown P roster (Publish it) hello m all s e =
     let same : it ≡ hello = cc in
     hello_card P (master_named roster hello.master) m hello.card (subst (λ (x : Hello). All P (shown_by roster x)) same all) e
 published_shown P roster _ hello m all s e = absurd (cc)
 
 -- what a Sentinel may hold rests on its parts
-right_message : (t : Group) (h : History) (i : ℕ) (parts : Parts) → PartsOk t h i parts.kept parts.masters → (message : Message) → IsRight t.roster i parts message → SentOk t h message
+right_message : (t : Group) (h : History) (i : ℕ) (parts : Parts) → PartsOk t h i parts.kept parts.masters → (message : Message) → IsRight t.roster i parts message →
+    SentOk t h message
 right_message t h i parts ok message right =
     let body : Body = message.body in
-    let shown : All (ShownOk t h) (advertised t.roster body) = All-weaker (λ (s : Shown). s.card ≡ card_of parts.kept s.master) (ShownOk t h) (λ s e. subst (CardOk t h s.master) (sym e) (ok.each s.master).card) (advertised t.roster body) right.cards in (
+    let shown : All (ShownOk t h) (advertised t.roster body) =
+    All-weaker (λ (s : Shown). s.card ≡ card_of parts.kept s.master) (ShownOk t h) (λ s e. subst (CardOk t h s.master) (sym e) (ok.each s.master).card)
+    (advertised t.roster body) right.cards in (
       record {
         vote = λ v s.
             let voter : i ≡ v.voter = shown_voter i body v (subst (λ (name : NodeName). vote_shown name body ≡ Some v) right.sender s) in
@@ -82,7 +87,8 @@ right_message t h i parts ok message right =
       shown,
     )
 
-right_output : (t : Group) (h : History) (i : ℕ) (parts : Parts) → PartsOk t h i parts.kept parts.masters → (output : Output) → IsRightOutput t.roster i parts output → OutputOk t h output
+right_output : (t : Group) (h : History) (i : ℕ) (parts : Parts) → PartsOk t h i parts.kept parts.masters → (output : Output) → IsRightOutput t.roster i parts output →
+    OutputOk t h output
 right_output t h i parts ok (Tell note) right = subst (CardOk t h note.master) (sym right) (ok.each note.master).card
 right_output t h i parts ok (Send message) right = right_message t h i parts ok message right
 
@@ -135,7 +141,8 @@ stored_grows : (t : Group) (h h2 : History) (kepts : List Kept) → Within h h2 
 stored_grows t h h2 kepts w ok =
     All-weaker (StoredOk t h) (StoredOk t h2) (λ kept x m. CardOk-grows t h h2 m (card_of kept m) w (x m)) kepts ok
 
-draft_grows : (t : Group) (g g2 : History) (i : ℕ) (file : Kept) (parts : Parts) (picks : List Pick) → ((m : ℕ) → Grows i m g g2) → DraftOk t g i file parts picks → DraftOk t g2 i file parts picks
+draft_grows : (t : Group) (g g2 : History) (i : ℕ) (file : Kept) (parts : Parts) (picks : List Pick) → ((m : ℕ) → Grows i m g g2) → DraftOk t g i file parts picks →
+    DraftOk t g2 i file parts picks
 draft_grows t g g2 i file parts picks grows ok =
     let h : History = grown g parts.casts picks in
     let h2 : History = grown g2 parts.casts picks in
@@ -176,7 +183,8 @@ NodeOk-grows t g g2 i node grows ok =
 nothing_more : (g : History) → g ≡ grown g [] []
 nothing_more g = ap₂ (λ (vs : List Vote) (ps : List Pick). let h : History = record { votes = vs; picks = ps } in h) (sym (append-nil g.votes)) (sym (append-nil g.picks))
 
-blank_draft : (t : Group) (g : History) (i : ℕ) (file : Kept) (parts : Parts) → parts.kept ≡ file → PartsOk t g i parts.kept parts.masters → DraftOk t g i file (record parts { casts = []; wins = [] }) []
+blank_draft : (t : Group) (g : History) (i : ℕ) (file : Kept) (parts : Parts) → parts.kept ≡ file → PartsOk t g i parts.kept parts.masters →
+    DraftOk t g i file (record parts { casts = []; wins = [] }) []
 blank_draft t g i file parts same ok =
     record {
       casts_by = All-nil (λ (v : Vote). v.voter ≡ i);
@@ -186,10 +194,12 @@ blank_draft t g i file parts same ok =
       wins = All-nil (WinOk t (grown g [] []) i);
     }
 
-pub takes_ok : (t : Group) (g : History) (i : ℕ) (node : Sentinel) (event : Event) (choice : Choice) → i < size t.roster → EventOk t g event → NodeOk t g i node → node.state ≡ Ready → IsChoice t.roster i event node choice → NodeOk t g i (taken node choice)
+pub takes_ok : (t : Group) (g : History) (i : ℕ) (node : Sentinel) (event : Event) (choice : Choice) → i < size t.roster → EventOk t g event → NodeOk t g i node →
+    node.state ≡ Ready → IsChoice t.roster i event node choice → NodeOk t g i (taken node choice)
 takes_ok t g i node event choice place delivers ok ready chosen =
     let live : LiveOk t g i node Ready = subst (LiveOk t g i node) ready ok.live in
-    let draft : Drafted t g i node.file choice.parts = all_stepped t g i node.file event place delivers choice.ballots (record node.parts { casts = []; wins = [] }) choice.parts [] (blank_draft t g i node.file node.parts live.0 live.1) chosen.moved in
+    let draft : Drafted t g i node.file choice.parts = all_stepped t g i node.file event place delivers choice.ballots (record node.parts { casts = []; wins = [] }) choice.parts
+    [] (blank_draft t g i node.file node.parts live.0 live.1) chosen.moved in
     let h : History = grown g choice.parts.casts draft.0 in
     record {
       file = ok.file;
@@ -198,21 +208,27 @@ takes_ok t g i node event choice place delivers ok ready chosen =
     }
 
 -- The file becomes the new kept part
-pub filed_ok : (t : Group) (g : History) (i : ℕ) (node : Sentinel) (picks : List Pick) → DraftOk t g i node.file node.parts picks → FileOk t (grown g node.parts.casts picks) i node.parts.kept
+pub filed_ok : (t : Group) (g : History) (i : ℕ) (node : Sentinel) (picks : List Pick) → DraftOk t g i node.file node.parts picks →
+    FileOk t (grown g node.parts.casts picks) i node.parts.kept
 filed_ok t g i node picks draft =
     FileOk-parts t (grown g node.parts.casts picks) i node.parts.kept node.parts.masters draft.sound
 
-pub stores_ok : (t : Group) (g : History) (i : ℕ) (node : Sentinel) (picks : List Pick) → NodeOk t g i node → DraftOk t g i node.file node.parts picks → All (OutputOk t (grown g node.parts.casts picks)) node.held → NodeOk t (grown g node.parts.casts picks) i (record node { file = node.parts.kept; state = Stored; stored = node.stored ++ node.parts.kept ∷ [] })
+pub stores_ok : (t : Group) (g : History) (i : ℕ) (node : Sentinel) (picks : List Pick) → NodeOk t g i node → DraftOk t g i node.file node.parts picks →
+    All (OutputOk t (grown g node.parts.casts picks)) node.held →
+    NodeOk t (grown g node.parts.casts picks) i (record node { file = node.parts.kept; state = Stored; stored = node.stored ++ node.parts.kept ∷ [] })
 stores_ok t g i node picks ok draft held =
     let h : History = grown g node.parts.casts picks in
     record {
       file = filed_ok t g i node picks draft;
-      stored = All-push (StoredOk t h) node.stored node.parts.kept (stored_grows t g h node.stored (Within-grown g node.parts.casts picks) ok.stored) (λ m. ((draft.sound).each m).card);
+      stored = All-push (StoredOk t h) node.stored node.parts.kept (stored_grows t g h node.stored (Within-grown g node.parts.casts picks) ok.stored)
+          (λ m. ((draft.sound).each m).card);
       live = (refl, draft.sound, held);
     }
 
 -- a halt or a stop that leaves the new text
-pub ends_new : (t : Group) (g : History) (i : ℕ) (node : Sentinel) (picks : List Pick) (state : State) → LiveOk t (grown g node.parts.casts picks) i (record node { file = node.parts.kept; state = state }) state → NodeOk t g i node → DraftOk t g i node.file node.parts picks → NodeOk t (grown g node.parts.casts picks) i (record node { file = node.parts.kept; state = state })
+pub ends_new : (t : Group) (g : History) (i : ℕ) (node : Sentinel) (picks : List Pick) (state : State) →
+    LiveOk t (grown g node.parts.casts picks) i (record node { file = node.parts.kept; state = state }) state → NodeOk t g i node → DraftOk t g i node.file node.parts picks →
+    NodeOk t (grown g node.parts.casts picks) i (record node { file = node.parts.kept; state = state })
 ends_new t g i node picks state live ok draft =
     let h : History = grown g node.parts.casts picks in
     record {
@@ -222,7 +238,8 @@ ends_new t g i node picks state live ok draft =
     }
 
 -- a halt or a stop that leaves the old text
-pub ends_old : (t : Group) (g : History) (i : ℕ) (node : Sentinel) (state : State) → LiveOk t g i (record node { state = state }) state → NodeOk t g i node → NodeOk t g i (record node { state = state })
+pub ends_old : (t : Group) (g : History) (i : ℕ) (node : Sentinel) (state : State) → LiveOk t g i (record node { state = state }) state → NodeOk t g i node →
+    NodeOk t g i (record node { state = state })
 ends_old t g i node state live ok = record { file = ok.file; stored = ok.stored; live = live }
 
 pub releases_ok : (t : Group) (g : History) (i : ℕ) (node : Sentinel) → NodeOk t g i node → node.state ≡ Stored → NodeOk t g i (record node { state = Ready; held = [] })
@@ -267,7 +284,8 @@ passable t g name event ok (Send message) p =
     record { sender = p.sender; no_publish = p.no_publish; passes = λ hello s. ok.handed hello (p.handed hello s) }
 passable t g name event ok (Tell note) p = tt
 
-pub all_passable : (t : Group) (g : History) (name : NodeName) (event : Event) (held : List Output) → EventOk t g event → All (IsPassable name event) held → All (PassedOutput t g name) held
+pub all_passable : (t : Group) (g : History) (name : NodeName) (event : Event) (held : List Output) → EventOk t g event → All (IsPassable name event) held →
+    All (PassedOutput t g name) held
 all_passable t g name event held ok p = All-weaker (IsPassable name event) (PassedOutput t g name) (passable t g name event ok) held p
 
 -- Events
@@ -283,7 +301,8 @@ hands : (t : Group) (g : History) (message : Message) → MessageOk t g message 
 hands t g message ok =
     record { vote = λ x s. absurd (cc); reads = λ text s. absurd (cc); handed = λ hello s. ok.publishes hello s }
 
-heard_ok : (t : Group) (g : History) (reply : PingReply) (info : List ℕ) (sender target : NodeName) (body : Body) → MessageOk t g (message_of sender target body) → EventOk t g (heard_as reply info (message_of sender target body) sender body)
+heard_ok : (t : Group) (g : History) (reply : PingReply) (info : List ℕ) (sender target : NodeName) (body : Body) → MessageOk t g (message_of sender target body) →
+    EventOk t g (heard_as reply info (message_of sender target body) sender body)
 heard_ok t g reply info sender target (Ask m addr e candidate) ok = silent t g _ refl refl refl
 heard_ok t g reply info (SentinelAt v) target (Answer m addr down (Some c) e) ok =
     record { vote = λ x s. ok.vote x s; reads = λ text s. absurd (cc); handed = λ hello s. absurd (cc) }
@@ -310,7 +329,8 @@ heard_ok t g reply info sender target RoleAsk ok = hands t g (message_of sender 
 heard_ok t g reply info sender target (RoleText role) ok = hands t g (message_of sender target (RoleText role)) ok
 heard_ok t g reply info sender target Done ok = hands t g (message_of sender target Done) ok
 
-event_ok : (t : Group) (g : History) (reply : PingReply) (info : List ℕ) (target : NodeName) (message : Message) → MessageOk t g message → EventOk t g (event_at target reply info message)
+event_ok : (t : Group) (g : History) (reply : PingReply) (info : List ℕ) (target : NodeName) (message : Message) → MessageOk t g message →
+    EventOk t g (event_at target reply info message)
 event_ok t g reply info (SentinelAt i) message ok = heard_ok t g reply info message.sender message.target message.body ok
 event_ok t g reply info (StoreAt k) message ok = hands t g message ok
 event_ok t g reply info (ClientAt k) message ok = hands t g message ok

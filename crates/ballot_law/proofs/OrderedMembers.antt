@@ -28,7 +28,8 @@ module _ {X : Type 0} (before : X → X → Bool) where
   Apart [] = Unit {0}
   Apart (x ∷ xs) = All (λ y. one_first x y ≡ true) xs × Apart xs
 
-  added_by : (x y : X) (ys : List X) (s t : Bool) → before y x ≡ s → before x y ≡ t → one_first x y ≡ true → IsPermutation (x ∷ ys) (add before x ys) → IsPermutation (x ∷ y ∷ ys) (add before x (y ∷ ys))
+  added_by : (x y : X) (ys : List X) (s t : Bool) → before y x ≡ s → before x y ≡ t → one_first x y ≡ true → IsPermutation (x ∷ ys) (add before x ys) →
+      IsPermutation (x ∷ y ∷ ys) (add before x (y ∷ ys))
   added_by x y ys true t e f h p =
       subst (IsPermutation (x ∷ y ∷ ys)) (sym (add_at before x y ys e)) (IsPermutation-trans _ _ _ (IsPermutation-middle (x ∷ []) y ys) (IsPermutation-cons y _ _ p))
   added_by x y ys false true e f h p = subst (IsPermutation (x ∷ y ∷ ys)) (sym (add_before before x y ys e f)) (IsPermutation-refl (x ∷ y ∷ ys))
@@ -124,7 +125,8 @@ names_apart [] a = tt
 names_apart (master ∷ masters) a = (name_from master masters a.0, names_apart masters a.1)
 
 -- each master with its nodes in order
-listed : (masters : List MasterPlan) → repeats same_addr (flat_map (λ (master : MasterPlan). master.nodes) masters) ≡ false → AllZip IsSameMaster masters (map nodes_in_order masters)
+listed : (masters : List MasterPlan) → repeats same_addr (flat_map (λ (master : MasterPlan). master.nodes) masters) ≡ false →
+    AllZip IsSameMaster masters (map nodes_in_order masters)
 listed [] h = tt
 listed (master ∷ masters) h =
     let rest : List Addr = flat_map (λ (next : MasterPlan). next.nodes) masters in
@@ -155,7 +157,8 @@ has_same_members given roster fits is =
       sentinels = in_order_permutes member_before given.sentinels
           (apart_of member_before (λ (a b : Member). same_id a.id b.id) (λ a b. pair_total a.id.hi a.id.lo b.id.hi b.id.lo) given.sentinels all.1.1.1.1.1.1.1.1.0);
       listed = map nodes_in_order given.masters;
-      each = listed given.masters (repeats_back same_addr (map (λ (member : Member). member.addr) given.sentinels) (flat_map (λ (master : MasterPlan). master.nodes) given.masters) all.1.1.1.1.1.1.1.1.1.0);
+      each = listed given.masters (repeats_back same_addr (map (λ (member : Member). member.addr) given.sentinels) (flat_map (λ (master : MasterPlan). master.nodes) given.masters)
+          all.1.1.1.1.1.1.1.1.1.0);
       masters = in_order_permutes name_before (map nodes_in_order given.masters)
           (names_apart given.masters (apart_of name_before (λ (a b : MasterPlan). same_bytes a.name b.name) (λ a b. bytes_total a.name b.name) given.masters all.1.1.1.1.0));
     })

@@ -80,7 +80,8 @@ module _ {X : Type 0} (same : X → X → Bool) where
   second_past (y ∷ ys) whole p zero l a = absurd (omega arith)
   second_past (y ∷ ys) whole p (suc j) l a = second_past ys whole p j (omega arith) a
 
-  pub second_end : (list : List X) (i j : ℕ) (r rest : Bool) → i < length list → length list ≤ j → ((d : X) → r ≡ (list_any (same (get_or list i d)) (drop j list) || rest)) → r ≡ rest
+  pub second_end : (list : List X) (i j : ℕ) (r rest : Bool) → i < length list → length list ≤ j → ((d : X) → r ≡ (list_any (same (get_or list i d)) (drop j list) || rest)) →
+      r ≡ rest
   second_end [] i j r rest k l h = absurd (omega arith)
   second_end (y ∷ ys) i j r rest k l h = h y ∙ ap (λ t. t || rest) (second_past (y ∷ ys) ys same j l (get_or (y ∷ ys) i y))
 

@@ -26,7 +26,8 @@ module _ {X : Type 0} (before : X → X → Bool) (o : IsStrict before) where
   above_more x y [] e h = tt
   above_more x y (z ∷ zs) e h = (o.transitive x y z e h.0, above_more x y zs e h.1)
 
-  above_by : (y x z : X) (zs : List X) (s t : Bool) → before z x ≡ s → before x z ≡ t → before y x ≡ true → Above y (z ∷ zs) → Above y (add before x zs) → Above y (add before x (z ∷ zs))
+  above_by : (y x z : X) (zs : List X) (s t : Bool) → before z x ≡ s → before x z ≡ t → before y x ≡ true → Above y (z ∷ zs) → Above y (add before x zs) →
+      Above y (add before x (z ∷ zs))
   above_by y x z zs true t e f g h more = subst (Above y) (sym (add_at before x z zs e)) (h.0, more)
   above_by y x z zs false true e f g h more = subst (Above y) (sym (add_before before x z zs e f)) (g, h)
   above_by y x z zs false false e f g h more = subst (Above y) (sym (add_tied before x z zs e f)) h
@@ -70,7 +71,8 @@ module _ {X K : Type 0} (key : X → K) (before : K → K → Bool) (o : IsStric
   never_tied : (a b : K) → before a b ≡ true → a ≡ b → ⊥
   never_tied a b e f = true≢false (sym e ∙ ap (before a) (sym f) ∙ o.irreflexive a)
 
-  apart : (xs : List X) (d : X) (i j : ℕ) → Rises (λ (a b : X). before (key a) (key b)) xs → i < length xs → j < length xs → key (get_or xs i d) ≡ key (get_or xs j d) → (i ≡ j) ⊎ ((i < j) ⊎ (j < i)) → i ≡ j
+  apart : (xs : List X) (d : X) (i j : ℕ) → Rises (λ (a b : X). before (key a) (key b)) xs → i < length xs → j < length xs → key (get_or xs i d) ≡ key (get_or xs j d) →
+      (i ≡ j) ⊎ ((i < j) ⊎ (j < i)) → i ≡ j
   apart xs d i j r k l e (inl same) = same
   apart xs d i j r k l e (inr (inl less)) =
       absurd (never_tied (key (get_or xs i d)) (key (get_or xs j d)) (rises_at (λ (a b : X). before (key a) (key b)) strict_by xs d i j r less l) e)
@@ -78,7 +80,8 @@ module _ {X K : Type 0} (key : X → K) (before : K → K → Bool) (o : IsStric
       absurd (never_tied (key (get_or xs j d)) (key (get_or xs i d)) (rises_at (λ (a b : X). before (key a) (key b)) strict_by xs d j i r more k) (sym e))
 
   -- no two elements of a list in order have one key
-  pub in_order_apart : (xs : List X) (d : X) (i j : ℕ) → i < length (in_order (λ (a b : X). before (key a) (key b)) xs) → j < length (in_order (λ (a b : X). before (key a) (key b)) xs)
+  pub in_order_apart : (xs : List X) (d : X) (i j : ℕ) → i < length (in_order (λ (a b : X). before (key a) (key b)) xs) →
+      j < length (in_order (λ (a b : X). before (key a) (key b)) xs)
       → key (get_or (in_order (λ (a b : X). before (key a) (key b)) xs) i d) ≡ key (get_or (in_order (λ (a b : X). before (key a) (key b)) xs) j d) → i ≡ j
   in_order_apart xs d i j k l e =
       apart (in_order (λ (a b : X). before (key a) (key b)) xs) d i j (in_order_rises (λ (a b : X). before (key a) (key b)) strict_by xs) k l e (cases_order i j)
@@ -92,7 +95,8 @@ less_on x y z h k = grind (arith, nat_tests)
 
 -- by a number, and where it is the same by more
 module _ (x y z : ℕ) (p q r : Bool) where
-  pub first_then_on : (p ≡ true → q ≡ true → r ≡ true) → (ltb x y ≡ true) ⊎ ((eqb x y && p) ≡ true) → (ltb y z ≡ true) ⊎ ((eqb y z && q) ≡ true) → (ltb x z || (eqb x z && r)) ≡ true
+  pub first_then_on : (p ≡ true → q ≡ true → r ≡ true) → (ltb x y ≡ true) ⊎ ((eqb x y && p) ≡ true) → (ltb y z ≡ true) ⊎ ((eqb y z && q) ≡ true) →
+      (ltb x z || (eqb x z && r)) ≡ true
   first_then_on t (inl h) (inl k) = or_left (ltb x z) (eqb x z && r) (less_on x y z h k)
   first_then_on t (inl h) (inr k) =
       let both = and_parts (eqb y z) q k in

@@ -83,17 +83,20 @@ named_master roster name m h =
 pub unnamed_masters : (roster : Roster) (name : List ℕ) → master_named roster name ≡ None → (m : ℕ) → m < length roster.masters → (master_at roster m).name ≢ name
 unnamed_masters roster name h m l = none_is 0 name roster.masters h m l
 
-named_as : (roster : Roster) (name : List ℕ) (m : ℕ) (found : Option ℕ) → HasDistinctNames roster → m < length roster.masters → (master_at roster m).name ≡ name → master_named roster name ≡ found → found ≡ Some m
+named_as : (roster : Roster) (name : List ℕ) (m : ℕ) (found : Option ℕ) → HasDistinctNames roster → m < length roster.masters → (master_at roster m).name ≡ name →
+    master_named roster name ≡ found → found ≡ Some m
 named_as roster name m None distinct l f h = absurd (unnamed_masters roster name h m l f)
 named_as roster name m (Some k) distinct l f h =
     let at = named_master roster name k h in
     ap Some (distinct k m at.0 l (at.1 ∙ sym f))
 
 -- the number of a master's name
-pub number_of_name : (roster : Roster) (name : List ℕ) (m : ℕ) → HasDistinctNames roster → m < length roster.masters → (master_at roster m).name ≡ name → master_named roster name ≡ Some m
+pub number_of_name : (roster : Roster) (name : List ℕ) (m : ℕ) → HasDistinctNames roster → m < length roster.masters → (master_at roster m).name ≡ name →
+    master_named roster name ≡ Some m
 number_of_name roster name m distinct l f = named_as roster name m (master_named roster name) distinct l f refl
 
-no_number_by : (roster : Roster) (name : List ℕ) (found : Option ℕ) → ((m : ℕ) → m < length roster.masters → (master_at roster m).name ≢ name) → master_named roster name ≡ found → found ≡ None
+no_number_by : (roster : Roster) (name : List ℕ) (found : Option ℕ) → ((m : ℕ) → m < length roster.masters → (master_at roster m).name ≢ name) → master_named roster name ≡ found →
+    found ≡ None
 no_number_by roster name None none h = refl
 no_number_by roster name (Some m) none h = let at = named_master roster name m h in absurd (none m at.0 at.1)
 

@@ -63,7 +63,8 @@ file_at_start roster w i begins place =
           };
     }
 
-node_at_start : (roster : Roster) (w : World) (i : ℕ) → IsStart roster w → i < size roster → IsFresh roster (sentinel_at w i) → NodeOk (group_of roster w) (history w []) i (sentinel_at w i)
+node_at_start : (roster : Roster) (w : World) (i : ℕ) → IsStart roster w → i < size roster → IsFresh roster (sentinel_at w i) →
+    NodeOk (group_of roster w) (history w []) i (sentinel_at w i)
 node_at_start roster w i begins place (inl e) =
     subst
     (λ (s : Sentinel). NodeOk (group_of roster w) (history w []) i s)
@@ -76,7 +77,8 @@ node_at_start roster w i begins place (inr e) =
     let stopped : NodeOk t (history w []) i (record (started roster file) { state = Stopped }) = record { file = up.file; stored = up.stored; live = tt } in
     subst (λ (s : Sentinel). NodeOk t (history w []) i s) (sym e) stopped
 
-other_at_start : (t : Group) (g : History) (name : NodeName) (others : List Other) (k : ℕ) → All IsFreshOther others → (k < length others) ⊎ (length others ≤ k) → OtherOk t g name (get_or others k no_other)
+other_at_start : (t : Group) (g : History) (name : NodeName) (others : List Other) (k : ℕ) → All IsFreshOther others → (k < length others) ⊎ (length others ≤ k) →
+    OtherOk t g name (get_or others k no_other)
 other_at_start t g name others k fresh (inl l) =
     subst
     (λ (held : List Output). All (PassedOutput t g name) held)
@@ -117,14 +119,16 @@ run_kept t (move ∷ moves) picks w last ok joined =
     let next : Kept_by t w joined.0 = moves_kept t picks w joined.0 move ok joined.1 in
     run_kept t moves next.picks joined.0 last next.holds joined.2
 
-held_after : (roster : Roster) (start w : World) (moves : List Move) → IsStart roster start → Joined roster moves start w → (picks : List Pick) × Holds (group_of roster start) picks w
+held_after : (roster : Roster) (start w : World) (moves : List Move) → IsStart roster start → Joined roster moves start w →
+    (picks : List Pick) × Holds (group_of roster start) picks w
 held_after roster start w moves begins joined =
     run_kept (group_of roster start) moves [] start w (holds_at_start roster start begins) joined
 
 -- The laws
 
 -- two Sentinels with enough votes at one epoch share a voter, who has one vote
-one_backed : (t : Group) (picks : List Pick) (w : World) (m e i j : ℕ) → HasDistinctIds t.roster → Holds t picks w → i < size t.roster → j < size t.roster → Backed t (history w picks) m e i → Backed t (history w picks) m e j → i ≡ j
+one_backed : (t : Group) (picks : List Pick) (w : World) (m e i j : ℕ) → HasDistinctIds t.roster → Holds t picks w → i < size t.roster → j < size t.roster →
+    Backed t (history w picks) m e i → Backed t (history w picks) m e j → i ≡ j
 one_backed t picks w m e i j distinct ok i_in j_in for_i for_j =
     let g : History = history w picks in
     let enough : size t.roster < need t.roster m + need t.roster m = omega arith in
@@ -138,11 +142,14 @@ one_leader roster start w moves distinct begins joined i j m e x y =
     let t : Group = group_of roster start in
     let held : (picks : List Pick) × Holds t picks w = held_after roster start w moves begins joined in
     let g : History = history w held.0 in
-    let at_i : ElectedOk t g (record { sentinel = i; master = m; epoch = e }) = All-contains (ElectedOk t g) w.elected (record { sentinel = i; master = m; epoch = e }) (held.1).elected x in
-    let at_j : ElectedOk t g (record { sentinel = j; master = m; epoch = e }) = All-contains (ElectedOk t g) w.elected (record { sentinel = j; master = m; epoch = e }) (held.1).elected y in
+    let at_i : ElectedOk t g (record { sentinel = i; master = m; epoch = e }) =
+    All-contains (ElectedOk t g) w.elected (record { sentinel = i; master = m; epoch = e }) (held.1).elected x in
+    let at_j : ElectedOk t g (record { sentinel = j; master = m; epoch = e }) =
+    All-contains (ElectedOk t g) w.elected (record { sentinel = j; master = m; epoch = e }) (held.1).elected y in
     one_backed t held.0 w m e i j distinct held.1 at_i.0 at_j.0 at_i.1 at_j.1
 
-one_chosen : (t : Group) (picks : List Pick) (w : World) (m : ℕ) (c d : Card) → HasDistinctIds t.roster → Holds t picks w → c.epoch ≡ d.epoch → CardOk t (history w picks) m c → CardOk t (history w picks) m d → c.addr ≡ d.addr
+one_chosen : (t : Group) (picks : List Pick) (w : World) (m : ℕ) (c d : Card) → HasDistinctIds t.roster → Holds t picks w → c.epoch ≡ d.epoch → CardOk t (history w picks) m c →
+    CardOk t (history w picks) m d → c.addr ≡ d.addr
 one_chosen t picks w m c d distinct ok e (inl p) (inl q) = ap (λ (x : Card). x.addr) (p ∙ sym q)
 one_chosen t picks w m c d distinct ok e (inl p) (inr q) =
     let l : (t.origin m).epoch < d.epoch = (q.1).above in

@@ -122,7 +122,8 @@ ip_part-decimal n h =
     ap (λ found. then_some found (λ m. some_if (same_bytes (decimal n) (decimal m)) m)) (number_within-decimal 0 255 n (omega arith) (omega arith) h)
     ∙ some_if-true (same_bytes (decimal n) (decimal n)) n (same_bytes-refl (decimal n))
 
-ip_of_four : (a b c d : ℕ) → a ≤ 255 → b ≤ 255 → c ≤ 255 → d ≤ 255 → ip (decimal a ++ 46 ∷ (decimal b ++ 46 ∷ (decimal c ++ 46 ∷ decimal d))) ≡ Some (((a * 256 + b) * 256 + c) * 256 + d)
+ip_of_four : (a b c d : ℕ) → a ≤ 255 → b ≤ 255 → c ≤ 255 → d ≤ 255 →
+    ip (decimal a ++ 46 ∷ (decimal b ++ 46 ∷ (decimal c ++ 46 ∷ decimal d))) ≡ Some (((a * 256 + b) * 256 + c) * 256 + d)
 ip_of_four a b c d ha hb hc hd =
     let sa = spells_decimal a (omega arith) in
     let sb = spells_decimal b (omega arith) in
@@ -133,7 +134,8 @@ ip_of_four a b c d ha hb hc hd =
     ∙ ap (λ t. decimal a ∷ t)
     (parts_more (decimal b) (decimal c ++ 46 ∷ decimal d) sb.high
     ∙ ap (λ t. decimal b ∷ t) (parts_more (decimal c) (decimal d) sc.high ∙ ap (λ t. decimal c ∷ t) (parts_last (decimal d) sd.high))))
-    ∙ ap (λ p. then_some p (λ a. then_some (ip_part (decimal b)) (λ b. then_some (ip_part (decimal c)) (λ c. then_some (ip_part (decimal d)) (λ d. Some (((a * 256 + b) * 256 + c) * 256 + d)))))) (ip_part-decimal a ha)
+    ∙ ap (λ p. then_some p (λ a. then_some (ip_part (decimal b))
+    (λ b. then_some (ip_part (decimal c)) (λ c. then_some (ip_part (decimal d)) (λ d. Some (((a * 256 + b) * 256 + c) * 256 + d)))))) (ip_part-decimal a ha)
     ∙ ap (λ p. then_some p (λ b. then_some (ip_part (decimal c)) (λ c. then_some (ip_part (decimal d)) (λ d. Some (((a * 256 + b) * 256 + c) * 256 + d))))) (ip_part-decimal b hb)
     ∙ ap (λ p. then_some p (λ c. then_some (ip_part (decimal d)) (λ d. Some (((a * 256 + b) * 256 + c) * 256 + d)))) (ip_part-decimal c hc)
     ∙ ap (λ p. then_some p (λ d. Some (((a * 256 + b) * 256 + c) * 256 + d))) (ip_part-decimal d hd)
@@ -230,7 +232,9 @@ hex_more k n ds s =
       digits =
           list_all-append is_hex ds (hex_digit (n % 16) ∷ [])
           ∙ and_from (list_all is_hex ds) (list_all is_hex (hex_digit (n % 16) ∷ [])) s.digits (and_from (is_hex (hex_digit (n % 16))) true d.hex refl);
-      value = hex_on-append 0 ds (hex_digit (n % 16) ∷ []) ∙ (let e : hex_on 0 ds ≡ n / 16 = s.value in let f : hex_value (hex_digit (n % 16)) ≡ n % 16 = d.value in let r : hex_on 0 ds * 16 + hex_value (hex_digit (n % 16)) ≡ n = omega arith in r);
+      value = hex_on-append 0 ds (hex_digit (n % 16) ∷ []) ∙
+          (let e : hex_on 0 ds ≡ n / 16 = s.value in let f : hex_value (hex_digit (n % 16)) ≡ n % 16 = d.value in
+          let r : hex_on 0 ds * 16 + hex_value (hex_digit (n % 16)) ≡ n = omega arith in r);
       high = high_append 45 ds (hex_digit (n % 16) ∷ []) s.high (d.high, tt);
     }
 

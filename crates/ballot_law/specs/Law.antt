@@ -55,7 +55,8 @@ HasOneLeader elected =
 -- cards of one master and one epoch that were shown have one address
 abbrev pub HasOneAddress : List Advertisement → Type 0
 HasOneAddress said =
-    (i j m : ℕ) (c d : Card) → Contains said (record { sentinel = i; master = m; card = c }) → Contains said (record { sentinel = j; master = m; card = d }) → c.epoch ≡ d.epoch → c.addr ≡ d.addr
+    (i j m : ℕ) (c d : Card) → Contains said (record { sentinel = i; master = m; card = c }) → Contains said (record { sentinel = j; master = m; card = d }) → c.epoch ≡ d.epoch →
+    c.addr ≡ d.addr
 
 -- no file's epoch for a master falls
 abbrev pub FallsNowhere : World → World → Type 0
@@ -81,7 +82,8 @@ OneAddress =
 
 abbrev pub NeverFalls : Type 0
 NeverFalls =
-    (roster : Roster) (start w w2 : World) (moves : List Move) (move : Move) → HasDistinctIds roster → IsStart roster start → Joined roster moves start w → Moves roster move w w2 → IsSafeStep w w2
+    (roster : Roster) (start w w2 : World) (moves : List Move) (move : Move) → HasDistinctIds roster → IsStart roster start → Joined roster moves start w →
+    Moves roster move w w2 → IsSafeStep w w2
 
 abbrev pub NeverFallsAlong : Type 0
 NeverFallsAlong =
@@ -99,4 +101,6 @@ StepsJoin =
 -- there is a roster, as `Roster::new` makes them, with a run in which a Sentinel is elected, and another Sentinel then shows the card of its choice
 abbrev pub FailoverHappens : Type 0
 FailoverHappens =
-    (roster : Roster) × (start : World) × (w : World) × (steps : List Step) × (i : ℕ) × (j : ℕ) × (e : ℕ) × (card : Card) × IsRoster roster × IsStart roster start × Run roster steps start w × Contains w.elected (record { sentinel = i; master = 0; epoch = e }) × Contains w.said (record { sentinel = j; master = 0; card = card }) × (j ≢ i) × (card.epoch ≡ e) × (card.addr ≢ (card_of (sentinel_at start 0).file 0).addr)
+    (roster : Roster) × (start : World) × (w : World) × (steps : List Step) × (i : ℕ) × (j : ℕ) × (e : ℕ) × (card : Card) × IsRoster roster × IsStart roster start ×
+    Run roster steps start w × Contains w.elected (record { sentinel = i; master = 0; epoch = e }) × Contains w.said (record { sentinel = j; master = 0; card = card }) ×
+    (j ≢ i) × (card.epoch ≡ e) × (card.addr ≢ (card_of (sentinel_at start 0).file 0).addr)

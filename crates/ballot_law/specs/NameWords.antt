@@ -21,8 +21,10 @@ is_name bytes = nat_lt 0 (length bytes) && (nat_le (length bytes) NAME_MAX && li
 
 is_name-true : (bytes : List ℕ) → IsName bytes → is_name bytes ≡ true
 is_name-true bytes h =
-    and_from (nat_lt 0 (length bytes)) (nat_le (length bytes) NAME_MAX && list_all is_name_byte bytes) (let k : 1 ≤ length bytes = h.0 in let a : nat_lt 0 (length bytes) ≡ true = grind (arith, nat_tests) in a)
-    (and_from (nat_le (length bytes) NAME_MAX) (list_all is_name_byte bytes) (let k : length bytes ≤ NAME_MAX = h.1 in let b : nat_le (length bytes) NAME_MAX ≡ true = grind (arith, nat_tests) in b)
+    and_from (nat_lt 0 (length bytes)) (nat_le (length bytes) NAME_MAX && list_all is_name_byte bytes)
+    (let k : 1 ≤ length bytes = h.0 in let a : nat_lt 0 (length bytes) ≡ true = grind (arith, nat_tests) in a)
+    (and_from (nat_le (length bytes) NAME_MAX) (list_all is_name_byte bytes)
+    (let k : length bytes ≤ NAME_MAX = h.1 in let b : nat_le (length bytes) NAME_MAX ≡ true = grind (arith, nat_tests) in b)
     (list_all-from_AllPass is_name_byte bytes (λ k d l. byte_test (get_or bytes k d) (h.2 k d l))))
 
 name_only : (bytes : List ℕ) → is_name bytes ≡ true → IsName bytes

@@ -30,7 +30,8 @@ output_sendable : (output : Output) → IsWithinOutput output → ShowsWithin ou
 output_sendable (Send message) within epochs writable = record { within = within; epochs = epochs; writable = writable }
 output_sendable (Tell note) within epochs writable = epochs
 
-pub outputs_sendable : (outputs : List Output) → All IsWithinOutput outputs → All ShowsWithin outputs → AllByRecursion IsWritableOutput outputs → AllByRecursion IsSendableOutput outputs
+pub outputs_sendable : (outputs : List Output) → All IsWithinOutput outputs → All ShowsWithin outputs → AllByRecursion IsWritableOutput outputs →
+    AllByRecursion IsSendableOutput outputs
 outputs_sendable [] within epochs writable = tt
 outputs_sendable (output ∷ outputs) within epochs writable = (
   output_sendable output (All-head IsWithinOutput output outputs within) (All-head ShowsWithin output outputs epochs) writable.0,

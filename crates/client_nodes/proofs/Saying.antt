@@ -22,7 +22,8 @@ use Rattle.client_nodes.specs.Searches.{Search, Group, sent_to, question, said}
 module _ (P : Output → Type 0) (group : Group) (name : NodeName)
     (address : (target : NodeName) → P (Send (record { sender = name; target = target; body = AddressAsk group.master })))
     (role : (target : NodeName) → P (Send (record { sender = name; target = target; body = RoleAsk }))) where
-  each_sent : (body : Body) → ((target : NodeName) → P (Send (record { sender = name; target = target; body = body }))) → (target : Option NodeName) → AllByRecursion P (sent_to name target body)
+  each_sent : (body : Body) → ((target : NodeName) → P (Send (record { sender = name; target = target; body = body }))) → (target : Option NodeName) →
+      AllByRecursion P (sent_to name target body)
   each_sent body h None = tt
   each_sent body h (Some target) = (h target, tt)
 

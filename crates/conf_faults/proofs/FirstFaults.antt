@@ -125,7 +125,8 @@ module _ (texts : List (List ℕ)) (fault : ConfFault) (listed : is_of_lines fau
 
   too_long : (id : RunId) → last_guard id ≡ Err fault → Begins (faults_in said) fault
   too_long id e =
-      elim (stops (guard (ltb FILE_MAX (length (rewritten (whole_conf texts id) (longest (whole_conf texts id).kept)))) TooLong) (λ _. let r : Result ConfPlan ConfFault = Ok (whole_conf texts id) in r) fault e)
+      elim (stops (guard (ltb FILE_MAX (length (rewritten (whole_conf texts id) (longest (whole_conf texts id).kept)))) TooLong)
+      (λ _. let r : Result ConfPlan ConfFault = Ok (whole_conf texts id) in r) fault e)
       as (λ _. Begins (faults_in said) fault) [
         | inl g ↦ alone (ap is_of_lines (guard_kind (ltb FILE_MAX (length (rewritten (whole_conf texts id) (longest (whole_conf texts id).kept)))) TooLong fault g))
         | inr m ↦ no_ok (whole_conf texts id) fault m.2

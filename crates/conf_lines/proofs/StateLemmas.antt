@@ -52,14 +52,27 @@ word_epoch e h = word_decimal e (omega arith)
 are_words : (state : StateLine) → IsState state → AreWords (codes "sentinel" ∷ state_words state)
 are_words (MyId id) v = (word_by_test 115 (codes "entinel") refl, (word_by_test 109 (codes "yid") refl, (word_id_text id v.hi v.lo, tt)))
 are_words (CurrentEpoch e) v = (word_by_test 115 (codes "entinel") refl, (word_by_test 99 (codes "urrent-epoch") refl, (word_epoch e v, tt)))
-are_words (Monitor n a q) v =
-    (word_by_test 115 (codes "entinel") refl, (word_by_test 109 (codes "onitor") refl, (word_name n n v.0, (word_ip_text a.ip v.1.ip, (word_addr a v.1, (word_decimal q (let h : q ≤ 4294967295 = v.2 in omega arith), tt))))))
+are_words (Monitor n a q) v = (
+  word_by_test 115 (codes "entinel") refl,
+  (
+    word_by_test 109 (codes "onitor") refl,
+    (word_name n n v.0, (word_ip_text a.ip v.1.ip, (word_addr a v.1, (word_decimal q (let h : q ≤ 4294967295 = v.2 in omega arith), tt)))),
+  ),
+)
 are_words (ConfigEpoch n e) v = (word_by_test 115 (codes "entinel") refl, (word_by_test 99 (codes "onfig-epoch") refl, (word_name n n v.0, (word_epoch e v.1, tt))))
 are_words (LeaderEpoch n e) v = (word_by_test 115 (codes "entinel") refl, (word_by_test 108 (codes "eader-epoch") refl, (word_name n n v.0, (word_epoch e v.1, tt))))
 are_words (LeaderId n i) v = (word_by_test 115 (codes "entinel") refl, (word_by_test 108 (codes "eader-id") refl, (word_name n n v.0, (word_id_text i v.1.hi v.1.lo, tt))))
-are_words (KnownReplica n a) v = (word_by_test 115 (codes "entinel") refl, (word_by_test 107 (codes "nown-replica") refl, (word_name n n v.0, (word_ip_text a.ip v.1.ip, (word_addr a v.1, tt)))))
-are_words (KnownSentinel n a i) v =
-    (word_by_test 115 (codes "entinel") refl, (word_by_test 107 (codes "nown-sentinel") refl, (word_name n n v.0, (word_ip_text a.ip v.1.ip, (word_addr a v.1, (word_id_text i v.2.hi v.2.lo, tt))))))
+are_words (KnownReplica n a) v = (
+  word_by_test 115 (codes "entinel") refl,
+  (word_by_test 107 (codes "nown-replica") refl, (word_name n n v.0, (word_ip_text a.ip v.1.ip, (word_addr a v.1, tt)))),
+)
+are_words (KnownSentinel n a i) v = (
+  word_by_test 115 (codes "entinel") refl,
+  (
+    word_by_test 107 (codes "nown-sentinel") refl,
+    (word_name n n v.0, (word_ip_text a.ip v.1.ip, (word_addr a v.1, (word_id_text i v.2.hi v.2.lo, tt)))),
+  ),
+)
 
 epoch-decimal : (e : ℕ) → e ≤ MAX_EPOCH → epoch (decimal e) ≡ Some e
 epoch-decimal e h = number_within-decimal 0 MAX_EPOCH e (omega arith) (omega arith) h
@@ -74,7 +87,8 @@ words_say : (state : StateLine) → IsState state → line_of_words (codes "sent
 words_say (MyId id) v = ap (λ i. given_or BadRunId i (λ id. line.State (MyId id))) (run_id-id_text id v.hi v.lo)
 words_say (CurrentEpoch e) v = ap (λ i. given_or BadNumber i (λ e. line.State (CurrentEpoch e))) (epoch-decimal e v)
 words_say (Monitor n a q) v =
-    ap (λ m. given_or BadName m (λ n. given_or BadAddress (address (ip_text a.ip) (decimal a.port)) (λ a. given_or BadNumber (count (decimal q)) (λ q. line.State (Monitor n a q))))) v.0
+    ap (λ m. given_or BadName m (λ n. given_or BadAddress (address (ip_text a.ip) (decimal a.port))
+    (λ a. given_or BadNumber (count (decimal q)) (λ q. line.State (Monitor n a q))))) v.0
     ∙ ap (λ m. given_or BadAddress m (λ a. given_or BadNumber (count (decimal q)) (λ q. line.State (Monitor n a q)))) (address-is a v.1)
     ∙ ap (λ m. given_or BadNumber m (λ q. line.State (Monitor n a q))) (count-decimal q v.2)
 words_say (ConfigEpoch n e) v =
@@ -90,7 +104,8 @@ words_say (KnownReplica n a) v =
     ap (λ m. given_or BadName m (λ n. given_or BadAddress (address (ip_text a.ip) (decimal a.port)) (λ a. line.State (KnownReplica n a)))) v.0
     ∙ ap (λ m. given_or BadAddress m (λ a. line.State (KnownReplica n a))) (address-is a v.1)
 words_say (KnownSentinel n a i) v =
-    ap (λ m. given_or BadName m (λ n. given_or BadAddress (address (ip_text a.ip) (decimal a.port)) (λ a. given_or BadRunId (run_id (id_text i)) (λ i. line.State (KnownSentinel n a i))))) v.0
+    ap (λ m. given_or BadName m (λ n. given_or BadAddress (address (ip_text a.ip) (decimal a.port))
+    (λ a. given_or BadRunId (run_id (id_text i)) (λ i. line.State (KnownSentinel n a i))))) v.0
     ∙ ap (λ m. given_or BadAddress m (λ a. given_or BadRunId (run_id (id_text i)) (λ i. line.State (KnownSentinel n a i)))) (address-is a v.1)
     ∙ ap (λ m. given_or BadRunId m (λ i. line.State (KnownSentinel n a i))) (run_id-id_text i v.2.hi v.2.lo)
 

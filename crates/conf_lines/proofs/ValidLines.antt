@@ -67,7 +67,8 @@ identified w id h =
     let k = some_if-is (eqb (length w) 40 && list_all is_hex w) made id h in
     let both = and_parts (eqb (length w) 40) (list_all is_hex w) k.0 in
     let len : length w ≡ 40 = grind (arith, nat_tests, both.0) in
-    let parts = and_parts (list_all is_hex (take 32 w)) (list_all is_hex (drop 32 w)) (sym (list_all-append is_hex (take 32 w) (drop 32 w)) ∙ ap (list_all is_hex) (take-append-drop 32 w) ∙ both.1) in
+    let parts = and_parts (list_all is_hex (take 32 w)) (list_all is_hex (drop 32 w))
+    (sym (list_all-append is_hex (take 32 w) (drop 32 w)) ∙ ap (list_all is_hex) (take-append-drop 32 w) ∙ both.1) in
     subst IsId k.1 (record {
       hi = hex_on-small 32 (take 32 w) (length-take-le 32 w (omega arith)) parts.0;
       lo = hex_on-small 8 (drop 32 w) (omega (arith, length-drop 32 w)) parts.1;
@@ -170,7 +171,8 @@ chosen_is : (t : Bool) (l m : Line) → IsLine l → IsLine m → IsLine (elim t
 chosen_is true l m h g = h
 chosen_is false l m h g = g
 
-first_is_line : (word : List ℕ) (ds : List (List ℕ × (List (List ℕ) → Line))) (args : List (List ℕ)) → AllByRecursion (λ d. IsLine (d.1 args)) ds → IsLine (first_named word ds args)
+first_is_line : (word : List ℕ) (ds : List (List ℕ × (List (List ℕ) → Line))) (args : List (List ℕ)) → AllByRecursion (λ d. IsLine (d.1 args)) ds →
+    IsLine (first_named word ds args)
 first_is_line word [] args h = tt
 first_is_line word (d ∷ ds) args h = chosen_is (bytes_eq (lower word) d.0) (d.1 args) (first_named word ds args) h.0 (first_is_line word ds args h.1)
 

@@ -53,7 +53,8 @@ abbrev pub current_line : List (List ℕ) → Line
 current_line = one (λ e. given_or BadNumber (epoch e) (λ epoch. line.State (CurrentEpoch epoch)))
 
 abbrev pub monitor_line : List (List ℕ) → Line
-monitor_line = four (λ n i p q. given_or BadName (name n) (λ name. given_or BadAddress (address i p) (λ addr. given_or BadNumber (count q) (λ quorum. line.State (Monitor name addr quorum)))))
+monitor_line = four (λ n i p q. given_or BadName (name n) (λ name. given_or BadAddress (address i p)
+    (λ addr. given_or BadNumber (count q) (λ quorum. line.State (Monitor name addr quorum)))))
 
 abbrev pub config_line : List (List ℕ) → Line
 config_line = two (λ n e. given_or BadName (name n) (λ name. given_or BadNumber (epoch e) (λ epoch. line.State (ConfigEpoch name epoch))))
@@ -68,7 +69,8 @@ abbrev pub replica_line : List (List ℕ) → Line
 replica_line = three (λ n i p. given_or BadName (name n) (λ name. given_or BadAddress (address i p) (λ addr. line.State (KnownReplica name addr))))
 
 abbrev pub sentinel_line : List (List ℕ) → Line
-sentinel_line = four (λ n i p r. given_or BadName (name n) (λ name. given_or BadAddress (address i p) (λ addr. given_or BadRunId (run_id r) (λ id. line.State (KnownSentinel name addr id)))))
+sentinel_line = four (λ n i p r. given_or BadName (name n) (λ name. given_or BadAddress (address i p)
+    (λ addr. given_or BadRunId (run_id r) (λ id. line.State (KnownSentinel name addr id)))))
 
 abbrev pub port_line : List (List ℕ) → Line
 port_line = one (λ p. given_or BadNumber (port p) (λ port. line.Setting (Port port)))

@@ -42,8 +42,11 @@ file_cards conf part = (part.current, kept_cards conf.kept.current conf.roster.m
 -- those of one file more
 pub more_cards : (current : ℕ) (cards : List Card) (conf : ConfPlan) → AreCardsOf current cards conf.roster → IsKeptPart conf conf.kept
     → AreCardsOf (max current conf.kept.current) (newer_each cards (cards_of conf)) conf.roster
-more_cards current cards conf fits part =
-    (max-le fits.0 part.current, fits_each current conf.kept.current conf.roster.masters cards (cards_of conf) fits.1 (kept_cards conf.kept.current conf.roster.masters conf.kept.masters part.masters))
+more_cards current cards conf fits part = (
+  max-le fits.0 part.current,
+  fits_each current conf.kept.current conf.roster.masters cards (cards_of conf) fits.1
+      (kept_cards conf.kept.current conf.roster.masters conf.kept.masters part.masters),
+)
 
 with_each : (e f : ℕ) → e ≤ f → (masters : List MasterPlan) (kept : List KeptMaster) (cards : List Card) → AllZip (IsKeptMaster e) masters kept
     → AllZip (IsCardOf f) masters cards → AllZip (IsKeptMaster f) masters (with_cards kept cards)

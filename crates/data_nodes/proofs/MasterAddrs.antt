@@ -10,7 +10,8 @@ use Rattle.sentinel_conf.specs.Facts.{IsSoundConf}
 use Rattle.sentinel_conf.specs.Meaning.{ConfPlan}
 use Rattle.sentinel_rules.proofs.KeptParts.{kept_at, kept_long}
 
-pub card_addr : (conf : ConfPlan) (ks : List KeptMaster) (m : ℕ) (d : KeptMaster) → IsSoundConf conf → ks ≡ conf.kept.masters → m < length conf.roster.masters → IsAddr (slice_index_or ks m d).card.addr
+pub card_addr : (conf : ConfPlan) (ks : List KeptMaster) (m : ℕ) (d : KeptMaster) → IsSoundConf conf → ks ≡ conf.kept.masters → m < length conf.roster.masters →
+    IsAddr (slice_index_or ks m d).card.addr
 card_addr conf ks m d s e lt =
     let long : length ks ≡ length conf.roster.masters = ap length e ∙ kept_long conf conf.kept s.kept in
     let same : slice_index_or ks m d ≡ kept_of conf.kept m = get_or_any ks m d no_kept (omega arith) ∙ ap (λ (xs : List KeptMaster). slice_index_or xs m no_kept) e in

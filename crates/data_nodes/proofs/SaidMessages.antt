@@ -29,7 +29,8 @@ push_all : (P : Output → Type 0) (xs : List Output) (x : Output) → AllByRecu
 push_all P [] x h p = (p, tt)
 push_all P (y ∷ ys) x h p = (h.0, push_all P ys x h.1 p)
 
-each_passed : (P : Output → Type 0) (name : NodeName) (hello : Hello) → ((i : ℕ) → P (send name (SentinelAt i) (HelloText hello))) → (count : ℕ) → AllByRecursion P (to_each name hello count)
+each_passed : (P : Output → Type 0) (name : NodeName) (hello : Hello) → ((i : ℕ) → P (send name (SentinelAt i) (HelloText hello))) → (count : ℕ) →
+    AllByRecursion P (to_each name hello count)
 each_passed P name hello h zero = tt
 each_passed P name hello h (suc count) =
     push_all P (to_each name hello count) (send name (SentinelAt count) (HelloText hello)) (each_passed P name hello h count) (h count)
@@ -39,7 +40,8 @@ each_order P true d answer e = subst P (cc) d
 each_order P false d answer e = cc
 
 -- an answer is one of four
-each_reply : (P : Body → Type 0) (server : Server) → P pong → P (InfoText (info_of server)) → P (RoleText (role_of server.follows server.offset)) → P Done → (body answer : Body) → reply server body ≡ Some answer → P answer
+each_reply : (P : Body → Type 0) (server : Server) → P pong → P (InfoText (info_of server)) → P (RoleText (role_of server.follows server.offset)) → P Done → (body answer : Body) →
+    reply server body ≡ Some answer → P answer
 each_reply P server a b c d Ping answer e = subst P (cc) a
 each_reply P server a b c d InfoAsk answer e = subst P (cc) b
 each_reply P server a b c d RoleAsk answer e = subst P (cc) c
@@ -61,15 +63,18 @@ record IsEach (P : Output → Type 0) (name : NodeName) (server : Server) (messa
   passed : (hello : Hello) → published message.body ≡ Some hello → (i : ℕ) → P (send name (SentinelAt i) (HelloText hello))
   replied : (answer : Body) → reply server message.body ≡ Some answer → P (send name message.sender answer)
 
-each_answered : (P : Output → Type 0) (name target : NodeName) (answer : Option Body) → ((body : Body) → answer ≡ Some body → P (send name target body)) → AllByRecursion P (answered name target answer)
+each_answered : (P : Output → Type 0) (name target : NodeName) (answer : Option Body) → ((body : Body) → answer ≡ Some body → P (send name target body)) →
+    AllByRecursion P (answered name target answer)
 each_answered P name target None h = tt
 each_answered P name target (Some body) h = (h body refl, tt)
 
-each_said_to : (P : Output → Type 0) (name : NodeName) (count : ℕ) (server : Server) (message : Message) → IsEach P name server message → (hello : Option Hello) → published message.body ≡ hello → AllByRecursion P (said_to name count server message.sender message.body hello)
+each_said_to : (P : Output → Type 0) (name : NodeName) (count : ℕ) (server : Server) (message : Message) → IsEach P name server message → (hello : Option Hello) →
+    published message.body ≡ hello → AllByRecursion P (said_to name count server message.sender message.body hello)
 each_said_to P name count server message h (Some hello) e = each_passed P name hello (h.passed hello e) count
 each_said_to P name count server message h None e = each_answered P name message.sender (reply server message.body) h.replied
 
-each_said : (P : Output → Type 0) (name : NodeName) (count : ℕ) (server : Server) (message : Message) → IsEach P name server message → AllByRecursion P (said name count server (Handed message))
+each_said : (P : Output → Type 0) (name : NodeName) (count : ℕ) (server : Server) (message : Message) → IsEach P name server message →
+    AllByRecursion P (said name count server (Handed message))
 each_said P name count server message h = each_said_to P name count server message h (published message.body) refl
 
 -- ---- a hello that was published
@@ -149,7 +154,8 @@ readable_role server s (Some addr) e = (s.follows addr e, let h = s.offset in om
 sendable : (k : ℕ) (server : Server) (message : Message) → IsServer server → IsSendable message → IsEach IsSendableOutput (StoreAt k) server message
 sendable k server message s h = record {
   passed = λ hello e i.
-      let published_now : IsSendable (record message { body = Publish hello }) = subst (λ body. IsSendable (record message { body = body })) (is_published message.body hello e) h in
+      let published_now : IsSendable (record message { body = Publish hello }) =
+      subst (λ body. IsSendable (record message { body = body })) (is_published message.body hello e) h in
       record { within = published_now.within; epochs = tt; writable = published_now.writable };
   replied = λ answer e. each_reply (λ body. IsSendableOutput (send (StoreAt k) message.sender body)) server
       (record { within = tt; epochs = tt; writable = pong_line })

@@ -6,7 +6,8 @@ use Rattle.ballot_law.specs.declared.hearings.DownReport.{DownReport}
 use Rattle.ballot_law.specs.Reports.{kept_at, without_reports}
 
 -- a loop that forgets each
-pub cleared_more : (xs ys : List (Option DownReport)) (i : ℕ) → i < length xs → i < length ys → ys ≡ without_reports (take i xs) ++ drop i xs → set ys i None ≡ without_reports (take (i + 1) xs) ++ drop (i + 1) xs
+pub cleared_more : (xs ys : List (Option DownReport)) (i : ℕ) → i < length xs → i < length ys → ys ≡ without_reports (take i xs) ++ drop i xs →
+    set ys i None ≡ without_reports (take (i + 1) xs) ++ drop (i + 1) xs
 cleared_more xs ys i lt within is =
     map_over_more (λ _. None) xs ys i (get_or ys i None) lt is (get_or_default ys i None (get_or ys i None) within)
 

@@ -42,7 +42,9 @@ within busy count limit = grind (arith, nat_tests)
 abbrev in_turn : (due : ℕ → Bool) (free : ℕ) → ℕ → Bool
 in_turn due free place = due place && nat_lt (count_below due place) free
 
-place_told : (can : ℕ → Bool) (now free : ℕ) (due : ℕ → Bool) (p : ℕ) (y : Replica) (ys : List Replica) → due p ≡ (is_unsent y.progress && can p) → in_turn due free p ≡ true → ordered_from can now (p + 1) (free - count_below due (p + 1)) ys ≡ by_place (change (in_turn due free) now) (p + 1) ys → ordered_from can now p (free - count_below due p) (y ∷ ys) ≡ by_place (change (in_turn due free) now) p (y ∷ ys)
+place_told : (can : ℕ → Bool) (now free : ℕ) (due : ℕ → Bool) (p : ℕ) (y : Replica) (ys : List Replica) → due p ≡ (is_unsent y.progress && can p) → in_turn due free p ≡ true →
+    ordered_from can now (p + 1) (free - count_below due (p + 1)) ys ≡ by_place (change (in_turn due free) now) (p + 1) ys →
+    ordered_from can now p (free - count_below due p) (y ∷ ys) ≡ by_place (change (in_turn due free) now) p (y ∷ ys)
 place_told can now free due p y ys same turn rest =
     let chosen = and_parts (due p) (nat_lt (count_below due p) free) turn in
     let yes : due p ≡ true = chosen.0 in
@@ -51,7 +53,9 @@ place_told can now free due p y ys same turn rest =
     let left : free - count_below due p - 1 ≡ free - count_below due (p + 1) = rw (count_yes due p yes) (omega arith) in
     let some : 0 < free - count_below due p = omega (arith, room) in
     head_yes can now p (free - count_below due p) y ys some (and_parts (is_unsent y.progress) (can p) both).0 (and_parts (is_unsent y.progress) (can p) both).1
-    ∙ (ap (λ n. sent_now now ∷ ordered_from can now (p + 1) n ys) left ∙ (ap (λ (zs : List Replica). sent_now now ∷ zs) rest ∙ ap (λ (z : Replica). z ∷ by_place (change (in_turn due free) now) (p + 1) ys) (sym (first (in_turn due free p) (sent_now now) y turn))))
+    ∙ (ap (λ n. sent_now now ∷ ordered_from can now (p + 1) n ys) left ∙
+    (ap (λ (zs : List Replica). sent_now now ∷ zs) rest ∙
+    ap (λ (z : Replica). z ∷ by_place (change (in_turn due free) now) (p + 1) ys) (sym (first (in_turn due free p) (sent_now now) y turn))))
 
 left_over : (due : ℕ → Bool) (free p : ℕ) → in_turn due free p ≡ false → free - count_below due p ≡ free - count_below due (p + 1)
 left_over due free p turn =
@@ -62,15 +66,21 @@ left_over due free p turn =
       | inr isnt ↦ rw (count_no due p isnt) refl
     ]
 
-place_kept : (can : ℕ → Bool) (now free : ℕ) (due : ℕ → Bool) (p : ℕ) (y : Replica) (ys : List Replica) → due p ≡ (is_unsent y.progress && can p) → in_turn due free p ≡ false → ordered_from can now (p + 1) (free - count_below due (p + 1)) ys ≡ by_place (change (in_turn due free) now) (p + 1) ys → ordered_from can now p (free - count_below due p) (y ∷ ys) ≡ by_place (change (in_turn due free) now) p (y ∷ ys)
+place_kept : (can : ℕ → Bool) (now free : ℕ) (due : ℕ → Bool) (p : ℕ) (y : Replica) (ys : List Replica) → due p ≡ (is_unsent y.progress && can p) → in_turn due free p ≡ false →
+    ordered_from can now (p + 1) (free - count_below due (p + 1)) ys ≡ by_place (change (in_turn due free) now) (p + 1) ys →
+    ordered_from can now p (free - count_below due p) (y ∷ ys) ≡ by_place (change (in_turn due free) now) p (y ∷ ys)
 place_kept can now free due p y ys same turn rest =
     let none : 0 < free - count_below due p → (is_unsent y.progress && can p) ≡ false = λ some.
     let room : count_below due p < free = omega (arith, some) in
     sym same ∙ and_not (due p) (nat_lt (count_below due p) free) turn (lt-ltb (count_below due p) free room) in
     head_no can now p (free - count_below due p) y ys none
-    ∙ (ap (λ n. y ∷ ordered_from can now (p + 1) n ys) (left_over due free p turn) ∙ (ap (λ (zs : List Replica). y ∷ zs) rest ∙ ap (λ (z : Replica). z ∷ by_place (change (in_turn due free) now) (p + 1) ys) (sym (second (in_turn due free p) (sent_now now) y turn))))
+    ∙ (ap (λ n. y ∷ ordered_from can now (p + 1) n ys) (left_over due free p turn) ∙
+    (ap (λ (zs : List Replica). y ∷ zs) rest ∙ ap (λ (z : Replica). z ∷ by_place (change (in_turn due free) now) (p + 1) ys)
+    (sym (second (in_turn due free p) (sent_now now) y turn))))
 
-place_done : (can : ℕ → Bool) (now free : ℕ) (due : ℕ → Bool) (p : ℕ) (y : Replica) (ys : List Replica) → due p ≡ (is_unsent y.progress && can p) → ordered_from can now (p + 1) (free - count_below due (p + 1)) ys ≡ by_place (change (in_turn due free) now) (p + 1) ys → ordered_from can now p (free - count_below due p) (y ∷ ys) ≡ by_place (change (in_turn due free) now) p (y ∷ ys)
+place_done : (can : ℕ → Bool) (now free : ℕ) (due : ℕ → Bool) (p : ℕ) (y : Replica) (ys : List Replica) → due p ≡ (is_unsent y.progress && can p) →
+    ordered_from can now (p + 1) (free - count_below due (p + 1)) ys ≡ by_place (change (in_turn due free) now) (p + 1) ys →
+    ordered_from can now p (free - count_below due p) (y ∷ ys) ≡ by_place (change (in_turn due free) now) p (y ∷ ys)
 place_done can now free due p y ys same rest =
     elim (either (in_turn due free p)) [
       | inl turn ↦ place_told can now free due p y ys same turn rest
@@ -82,7 +92,8 @@ further whole ys y p same j =
     let next : p + 1 + j ≡ p + (j + 1) = omega arith in
     ap (λ n. replica_at whole n) next ∙ (same (j + 1) ∙ ap (λ n. replica_at (y ∷ ys) n) (add-one j))
 
-in_order : (can : ℕ → Bool) (now free : ℕ) (whole ys : List Replica) (p : ℕ) → ((j : ℕ) → replica_at whole (p + j) ≡ replica_at ys j) → ordered_from can now p (free - count_below (is_due can whole) p) ys ≡ by_place (change (in_turn (is_due can whole) free) now) p ys
+in_order : (can : ℕ → Bool) (now free : ℕ) (whole ys : List Replica) (p : ℕ) → ((j : ℕ) → replica_at whole (p + j) ≡ replica_at ys j) →
+    ordered_from can now p (free - count_below (is_due can whole) p) ys ≡ by_place (change (in_turn (is_due can whole) free) now) p ys
 unfolding is_due
 in_order can now free whole [] p same = refl
 in_order can now free whole (y ∷ ys) p same =

@@ -54,7 +54,8 @@ below n h = omega arith
 
 -- a configuration that is shown is of a Sentinel and a master of the roster
 pub card_inside : {M : Type 0} (members : List M) (k i m : ℕ) (x : M) (card : Card) (roster : Roster) (messages : List Message) → k < length members → x ≡ get_or members k x →
-    (name : M → NodeName) (seat : M → Roster → Image → Type 0) → (w : World) × IsShown name seat roster members messages w → IfSome (slice_get members k) (λ m. name m ≡ SentinelAt i) → ShowsCard m (Some card) (seat x) →
+    (name : M → NodeName) (seat : M → Roster → Image → Type 0) → (w : World) × IsShown name seat roster members messages w →
+    IfSome (slice_get members k) (λ m. name m ≡ SentinelAt i) → ShowsCard m (Some card) (seat x) →
     (i < size roster) × (m < length roster.masters)
 card_inside members k i m x card roster messages within is name seat shown found shows =
     let w = shown.0 in
@@ -70,7 +71,9 @@ card_inside members k i m x card roster messages within is name seat shown found
 
 answer_said : {M : Type 0} (members : List M) (k i m : ℕ) (x : M) (card : Card) (roster : Roster) (messages : List Message) → slice_get members k ≡ Some x →
     (name : M → NodeName) (seat : M → Roster → Image → Type 0) → name x ≡ SentinelAt i → ShowsCard m (Some card) (seat x) →
-    (w : World) → IsShown name seat roster members messages w → RunsTo roster (step.Answer (SentinelAt i) m ∷ []) w (news_of roster [] ((record { sentinel = i; master = m; card = card }) ∷ [])) (IsShown name seat roster members messages)
+    (w : World) → IsShown name seat roster members messages w →
+    RunsTo roster (step.Answer (SentinelAt i) m ∷ []) w (news_of roster [] ((record { sentinel = i; master = m; card = card }) ∷ []))
+    (IsShown name seat roster members messages)
 answer_said members k i m x card roster messages here name seat named shows w g =
     let at' = g.each k x here in
     let s = sentinel_at w i in
@@ -81,33 +84,43 @@ answer_said members k i m x card roster messages here name seat named shows w g 
     let stored = shows.stored roster image seated runs in
     let there : i < length w.sentinels = subst (λ n. Rattle.ballot_law.specs.Worlds.IsNode w n) named at'.0 in
     let st = answer_steps roster w i m there (subst (λ n. m < n) stored.1 (ltb-true m (length (last_stored s).masters) told.1)) runs (below (length s.stored) stored.0) in
-    subst (λ c. RunsTo roster (step.Answer (SentinelAt i) m ∷ []) w (news_of roster [] ((record { sentinel = i; master = m; card = c }) ∷ [])) (IsShown name seat roster members messages)) (sym told.2)
-    (subst (λ ms. RunsTo roster (step.Answer (SentinelAt i) m ∷ []) w (news_of roster [] ((record { sentinel = i; master = m; card = card_of (last_stored s) m }) ∷ [])) (IsShown name seat roster ms messages)) (set_same members k x here)
-    (moved_silently name seat roster members messages [] ((record { sentinel = i; master = m; card = card_of (last_stored s) m }) ∷ []) w k x x (image_at w (name x)) (step.Answer (SentinelAt i) m) g here refl (kind_at w (name x) at'.0) at'.1 (ap Some (sym named))
-    (subst (λ n. Applied roster (step.Answer (SentinelAt i) m) w n (image_at w n) [] [] ((record { sentinel = i; master = m; card = card_of (last_stored s) m }) ∷ [])) (sym named) st)))
+    subst (λ c. RunsTo roster (step.Answer (SentinelAt i) m ∷ []) w (news_of roster [] ((record { sentinel = i; master = m; card = c }) ∷ []))
+    (IsShown name seat roster members messages)) (sym told.2)
+    (subst (λ ms. RunsTo roster (step.Answer (SentinelAt i) m ∷ []) w (news_of roster [] ((record { sentinel = i; master = m; card = card_of (last_stored s) m }) ∷ []))
+    (IsShown name seat roster ms messages)) (set_same members k x here)
+    (moved_silently name seat roster members messages [] ((record { sentinel = i; master = m; card = card_of (last_stored s) m }) ∷ []) w k x x (image_at w (name x))
+    (step.Answer (SentinelAt i) m) g here refl (kind_at w (name x) at'.0) at'.1 (ap Some (sym named))
+    (subst (λ n. Applied roster (step.Answer (SentinelAt i) m) w n (image_at w n) [] [] ((record { sentinel = i; master = m; card = card_of (last_stored s) m }) ∷ [])) (sym named)
+    st)))
 
-pub answer_found : {M : Type 0} (members : List M) (k i m : ℕ) (x : M) (node : NodeName) (card : Card) (roster : Roster) (messages : List Message) (before after : List Entry) → k < length members → x ≡ get_or members k x → node ≡ SentinelAt i →
+pub answer_found : {M : Type 0} (members : List M) (k i m : ℕ) (x : M) (node : NodeName) (card : Card) (roster : Roster) (messages : List Message) (before after : List Entry) →
+    k < length members → x ≡ get_or members k x → node ≡ SentinelAt i →
     after ≡ before ++ map (entry_of_said roster) ((record { sentinel = i; master = m; card = card }) ∷ []) →
     (name : M → NodeName) (seat : M → Roster → Image → Type 0) → IfSome (slice_get members k) (λ m. name m ≡ SentinelAt i) → ShowsCard m (Some card) (seat x) →
     Tells roster (step.Answer node m ∷ []) before after (IsShown name seat roster members messages) (IsShown name seat roster members messages)
 answer_found members k i m x node card roster messages before after within is kind told name seat found shows w g =
     telling told
-    (subst (λ n. RunsTo roster (step.Answer n m ∷ []) w (news_of roster [] ((record { sentinel = i; master = m; card = card }) ∷ [])) (IsShown name seat roster members messages)) (sym kind)
-    (answer_said members k i m x card roster messages (slice_get_at members k x within ∙ ap Some (sym is)) name seat (held_at members k x within is (λ m. name m ≡ SentinelAt i) found) shows w g))
+    (subst (λ n. RunsTo roster (step.Answer n m ∷ []) w (news_of roster [] ((record { sentinel = i; master = m; card = card }) ∷ [])) (IsShown name seat roster members messages))
+    (sym kind)
+    (answer_said members k i m x card roster messages (slice_get_at members k x within ∙ ap Some (sym is)) name seat
+    (held_at members k x within is (λ m. name m ≡ SentinelAt i) found) shows w g))
 
 -- no card is shown: the node is stopped, or there is no such master
-no_answer : (roster : Roster) (w : World) (i m : ℕ) (s : Sentinel) → s ≡ sentinel_at w i → None ≡ card_shown (OfSentinel s) m → HasStored roster (OfSentinel s) → Steps roster (step.Answer (SentinelAt i) m) w w
+no_answer : (roster : Roster) (w : World) (i m : ℕ) (s : Sentinel) → s ≡ sentinel_at w i → None ≡ card_shown (OfSentinel s) m → HasStored roster (OfSentinel s) →
+    Steps roster (step.Answer (SentinelAt i) m) w w
 no_answer roster w i m s is none stored =
     inr (
       λ a. (
           let runs : s.state ≢ Stopped = λ e. a.2 (ap (λ (t : Sentinel). t.state) (sym is) ∙ e) in
           let listed : m < length (last_stored s).masters = subst (λ n. m < n) (sym (stored runs).1) a.1 in
-          none-some (card_of (last_stored s) m) (none ∙ ap (λ b. cond b None (cond (nat_lt m (length (last_stored s).masters)) (Some (card_of (last_stored s) m)) None)) (not_stopped s.state runs) ∙ ap (λ b. cond b (Some (card_of (last_stored s) m)) None) (lt_true m (length (last_stored s).masters) listed))
+          none-some (card_of (last_stored s) m) (none ∙ ap (λ b. cond b None (cond (nat_lt m (length (last_stored s).masters)) (Some (card_of (last_stored s) m)) None))
+          (not_stopped s.state runs) ∙ ap (λ b. cond b (Some (card_of (last_stored s) m)) None) (lt_true m (length (last_stored s).masters) listed))
           ),
       refl,
     )
 
-pub answer_nothing : {M : Type 0} (members : List M) (k i m : ℕ) (x : M) (node : NodeName) (roster : Roster) (messages : List Message) (before after : List Entry) → k < length members → x ≡ get_or members k x → node ≡ SentinelAt i → after ≡ before →
+pub answer_nothing : {M : Type 0} (members : List M) (k i m : ℕ) (x : M) (node : NodeName) (roster : Roster) (messages : List Message) (before after : List Entry) →
+    k < length members → x ≡ get_or members k x → node ≡ SentinelAt i → after ≡ before →
     (name : M → NodeName) (seat : M → Roster → Image → Type 0) → IfSome (slice_get members k) (λ m. name m ≡ SentinelAt i) → ShowsCard m None (seat x) →
     Tells roster (step.Answer node m ∷ []) before after (IsShown name seat roster members messages) (IsShown name seat roster members messages)
 answer_nothing members k i m x node roster messages before after within is kind same name seat found shows w g =
@@ -115,15 +128,18 @@ answer_nothing members k i m x node roster messages before after within is kind 
     let seated = subst (λ n. seat x roster (image_at w n)) named (g.each k x (slice_get_at members k x within ∙ ap Some (sym is))).1 in
     quietly same
     (subst (λ n. RunsTo roster (step.Answer n m ∷ []) w [] (IsShown name seat roster members messages)) (sym kind)
-    (still roster w (step.Answer (SentinelAt i) m) (IsShown name seat roster members messages) g (no_answer roster w i m (sentinel_at w i) refl (shows.each roster (OfSentinel (sentinel_at w i)) seated) (shows.stored roster (OfSentinel (sentinel_at w i)) seated))))
+    (still roster w (step.Answer (SentinelAt i) m) (IsShown name seat roster members messages) g
+    (no_answer roster w i m (sentinel_at w i) refl (shows.each roster (OfSentinel (sentinel_at w i)) seated) (shows.stored roster (OfSentinel (sentinel_at w i)) seated))))
 
-pub answer_none : {M : Type 0} (members : List M) (i m : ℕ) (node : NodeName) (roster : Roster) (messages : List Message) (before after : List Entry) → node ≡ SentinelAt i → after ≡ before →
+pub answer_none : {M : Type 0} (members : List M) (i m : ℕ) (node : NodeName) (roster : Roster) (messages : List Message) (before after : List Entry) → node ≡ SentinelAt i →
+    after ≡ before →
     (name : M → NodeName) (seat : M → Roster → Image → Type 0) → ((k : ℕ) → k < length members → IfSome (slice_get members k) (λ m. name m ≢ SentinelAt i)) →
     Tells roster (step.Answer node m ∷ []) before after (IsShown name seat roster members messages) (IsShown name seat roster members messages)
 answer_none members i m node roster messages before after kind same name seat none w g =
     quietly same
     (subst (λ n. RunsTo roster (step.Answer n m ∷ []) w [] (IsShown name seat roster members messages)) (sym kind)
-    (still roster w (step.Answer (SentinelAt i) m) (IsShown name seat roster members messages) g (inr (λ a. (let x = g.all (SentinelAt i) a.0 in none_at_all members (λ m. name m ≢ SentinelAt i) none x.0 x.1 x.2 x.3), refl))))
+    (still roster w (step.Answer (SentinelAt i) m) (IsShown name seat roster members messages) g
+    (inr (λ a. (let x = g.all (SentinelAt i) a.0 in none_at_all members (λ m. name m ≢ SentinelAt i) none x.0 x.1 x.2 x.3), refl))))
 
 other_answers : (node : NodeName) (roster : Roster) (m : ℕ) (w : World) → ((i : ℕ) → node ≢ SentinelAt i) → Steps roster (step.Answer node m) w w
 other_answers (SentinelAt i) roster m w other = absurd (other i refl)
@@ -135,7 +151,9 @@ pub shows_none : (m : ℕ) (o : Option Card) (shows : Shows) → o ≡ None → 
 shows_none m o shows e s = subst (λ x. ShowsCard m x shows) e s
 
 -- only Sentinels are asked
-pub answer_other : {M : Type 0} (members : List M) (m : ℕ) (node : NodeName) (roster : Roster) (messages : List Message) (before after : List Entry) → ((i : ℕ) → node ≢ SentinelAt i) → after ≡ before →
-    (name : M → NodeName) (seat : M → Roster → Image → Type 0) → Tells roster (step.Answer node m ∷ []) before after (IsShown name seat roster members messages) (IsShown name seat roster members messages)
+pub answer_other : {M : Type 0} (members : List M) (m : ℕ) (node : NodeName) (roster : Roster) (messages : List Message) (before after : List Entry) →
+    ((i : ℕ) → node ≢ SentinelAt i) → after ≡ before →
+    (name : M → NodeName) (seat : M → Roster → Image → Type 0) →
+    Tells roster (step.Answer node m ∷ []) before after (IsShown name seat roster members messages) (IsShown name seat roster members messages)
 answer_other members m node roster messages before after other same name seat w g =
     quietly same (still roster w (step.Answer node m) (IsShown name seat roster members messages) g (other_answers node roster m w other))

@@ -70,7 +70,8 @@ fresh_card roster s m fresh less =
 no_card_past : (roster : Roster) (kept : Kept) (m : ℕ) → IsWellFormed roster kept → length roster.masters ≤ m → card_of kept m ≡ no_kept.card
 no_card_past roster kept m formed past = ap (λ k. k.card) (get_or_past kept.masters m no_kept (subst (λ n. n ≤ m) (sym formed.masters) past))
 
-module _ {N : Type 0} (name : N → NodeName) (seat : N → Roster → Image → Type 0) (roster : Roster) (nodes : List N) (begun : (k : ℕ) (n : N) → slice_get nodes k ≡ Some n → Begun roster (name n) (seat n roster)) where
+module _ {N : Type 0} (name : N → NodeName) (seat : N → Roster → Image → Type 0) (roster : Roster) (nodes : List N)
+    (begun : (k : ℕ) (n : N) → slice_get nodes k ≡ Some n → Begun roster (name n) (seat n roster)) where
   -- the image of the node with this name
   abbrev chosen_by : (wanted : NodeName) → Search name nodes wanted → Option Image
   chosen_by wanted (inl found) = Some (begun found.0 found.1 found.2).image
@@ -143,12 +144,20 @@ module _ {N : Type 0} (name : N → NodeName) (seat : N → Roster → Image →
   sentinel_image : (i : ℕ) → i < size roster → HasNamed name nodes (SentinelAt i) → IsHere (SentinelAt i)
   sentinel_image i less has =
       let c = chosen_at (SentinelAt i) has in
-      record { chosen_is = c; image_is = ap OfSentinel (sentinel_here i less ∙ ap as_sentinel c.is) ∙ sentinel_is i (begun c.place c.node c.at).image (kind_at (SentinelAt i) (chosen (SentinelAt i)) c) }
+      record {
+        chosen_is = c;
+        image_is = ap OfSentinel (sentinel_here i less ∙ ap as_sentinel c.is) ∙
+            sentinel_is i (begun c.place c.node c.at).image (kind_at (SentinelAt i) (chosen (SentinelAt i)) c);
+      }
 
   store_image : (k : ℕ) → k < node_count roster → HasNamed name nodes (StoreAt k) → IsHere (StoreAt k)
   store_image k less has =
       let c = chosen_at (StoreAt k) has in
-      record { chosen_is = c; image_is = ap OfOther (store_here k less ∙ ap as_other c.is) ∙ store_is k (begun c.place c.node c.at).image (kind_at (StoreAt k) (chosen (StoreAt k)) c) }
+      record {
+        chosen_is = c;
+        image_is = ap OfOther (store_here k less ∙ ap as_other c.is) ∙
+            store_is k (begun c.place c.node c.at).image (kind_at (StoreAt k) (chosen (StoreAt k)) c);
+      }
 
   client_image : (c : ℕ) → HasNamed name nodes (ClientAt c) → IsHere (ClientAt c)
   client_image c has =
@@ -165,7 +174,8 @@ module _ {N : Type 0} (name : N → NodeName) (seat : N → Roster → Image →
     named_here (PortAt k) is = absurd is
 
     here : (wanted : NodeName) → IsNode beginning wanted → IsHere wanted
-    here (SentinelAt i) is = sentinel_image i (subst (λ n. i < n) (length-map-range_with_len (λ i. as_sentinel (chosen (SentinelAt i))) 0 (size roster)) is) (named_here (SentinelAt i) is)
+    here (SentinelAt i) is = sentinel_image i (subst (λ n. i < n) (length-map-range_with_len (λ i. as_sentinel (chosen (SentinelAt i))) 0 (size roster)) is)
+        (named_here (SentinelAt i) is)
     here (StoreAt k) is = store_image k (subst (λ n. k < n) (length-map-range_with_len (λ i. as_other (chosen (StoreAt i))) 0 (node_count roster)) is) (named_here (StoreAt k) is)
     here (ClientAt c) is = client_image c (named_here (ClientAt c) is)
     here (PortAt k) is = absurd is
@@ -206,16 +216,20 @@ module _ {N : Type 0} (name : N → NodeName) (seat : N → Roster → Image →
     store_fresh : (k : ℕ) → k < node_count roster → IsFreshOther (slice_index_or beginning.stores k no_other)
     store_fresh k less =
         let h = store_image k less (stores k less) in
-        other_fresh roster (slice_index_or beginning.stores k no_other) (subst (IsFreshImage roster) (sym h.image_is) (begun h.chosen_is.place h.chosen_is.node h.chosen_is.at).fresh)
+        other_fresh roster (slice_index_or beginning.stores k no_other)
+        (subst (IsFreshImage roster) (sym h.image_is) (begun h.chosen_is.place h.chosen_is.node h.chosen_is.at).fresh)
 
     client_fresh_by : (c : ℕ) (o : Option Other) → client_at beginning c ≡ o → IfSome o IsFreshOther
     client_fresh_by c None e = tt
     client_fresh_by c (Some o) e =
         let h = client_image c (client_named c (subst IsSome (sym e) refl)) in
-        other_fresh roster o (subst (IsFreshImage roster) (ap (λ x. OfOther (unwrap_or x no_other)) e) (subst (IsFreshImage roster) (sym h.image_is) (begun h.chosen_is.place h.chosen_is.node h.chosen_is.at).fresh))
+        other_fresh roster o (subst (IsFreshImage roster) (ap (λ x. OfOther (unwrap_or x no_other)) e)
+        (subst (IsFreshImage roster) (sym h.image_is) (begun h.chosen_is.place h.chosen_is.node h.chosen_is.at).fresh))
 
-    module _ (alike : (j k : ℕ) (m n : N) (at-j : slice_get nodes j ≡ Some m) (at-k : slice_get nodes k ≡ Some n) → IsSentinelName (name m) → IsSentinelName (name n) → (master : ℕ) → master < length roster.masters → card_shown (begun j m at-j).image master ≡ card_shown (begun k n at-k).image master) where
-      same_within : (i j m : ℕ) → i < size roster → j < size roster → m < length roster.masters → card_of (sentinel_at beginning i).file m ≡ card_of (sentinel_at beginning j).file m
+    module _ (alike : (j k : ℕ) (m n : N) (at-j : slice_get nodes j ≡ Some m) (at-k : slice_get nodes k ≡ Some n) → IsSentinelName (name m) → IsSentinelName (name n) →
+        (master : ℕ) → master < length roster.masters → card_shown (begun j m at-j).image master ≡ card_shown (begun k n at-k).image master) where
+      same_within : (i j m : ℕ) → i < size roster → j < size roster → m < length roster.masters →
+          card_of (sentinel_at beginning i).file m ≡ card_of (sentinel_at beginning j).file m
       same_within i j m less-i less-j less =
           let h = sentinel_image i less-i (sentinels i less-i) in
           let g = sentinel_image j less-j (sentinels j less-j) in
@@ -232,7 +246,8 @@ module _ {N : Type 0} (name : N → NodeName) (seat : N → Roster → Image →
       same_cards i j m less-i less-j =
           elim (cases_lt m (length roster.masters)) as (λ _. card_of (sentinel_at beginning i).file m ≡ card_of (sentinel_at beginning j).file m) [
             | inl less ↦ same_within i j m less-i less-j less
-            | inr past ↦ no_card_past roster (sentinel_at beginning i).file m (file_fresh i less-i).1 past ∙ sym (no_card_past roster (sentinel_at beginning j).file m (file_fresh j less-j).1 past)
+            | inr past ↦ no_card_past roster (sentinel_at beginning i).file m (file_fresh i less-i).1 past ∙
+                sym (no_card_past roster (sentinel_at beginning j).file m (file_fresh j less-j).1 past)
           ]
 
       pub starts : IsStart roster beginning
@@ -242,7 +257,8 @@ module _ {N : Type 0} (name : N → NodeName) (seat : N → Roster → Image →
             fresh = λ i less. inl (file_fresh i less).0;
             files = λ i less. (file_fresh i less).1;
             same_cards = λ i j less-i less-j m. same_cards i j m less-i less-j;
-            stores = All-from_get_or IsFreshOther beginning.stores no_other (λ k less. store_fresh k (subst (λ n. k < n) (length-map-range_with_len (λ i. as_other (chosen (StoreAt i))) 0 (node_count roster)) less));
+            stores = All-from_get_or IsFreshOther beginning.stores no_other
+                (λ k less. store_fresh k (subst (λ n. k < n) (length-map-range_with_len (λ i. as_other (chosen (StoreAt i))) 0 (node_count roster)) less));
             clients = All-from_get_or (λ client. IfSome client IsFreshOther) beginning.clients None (λ c less. client_fresh_by c (client_at beginning c) refl);
             messages = refl;
             votes = are_filed beginning;

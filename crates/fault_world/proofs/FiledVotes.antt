@@ -84,8 +84,10 @@ are_filed w v has =
     let is = is_told i m (kept_of (sentinel_at w i).file m).voted (kept_of (sentinel_at w i).file m).candidate v of_master.2 in
     record {
       place = subst (λ (j : ℕ). j < length w.sentinels) is.voter of_voter.1;
-      voted = subst (λ (j : ℕ). (kept_of (sentinel_at w j).file v.master).voted ≡ v.epoch) is.voter (subst (λ (n : ℕ). (kept_of (sentinel_at w i).file n).voted ≡ v.epoch) is.master is.epoch);
-      candidate = subst (λ (j : ℕ). (kept_of (sentinel_at w j).file v.master).candidate ≡ Some v.candidate) is.voter (subst (λ (n : ℕ). (kept_of (sentinel_at w i).file n).candidate ≡ Some v.candidate) is.master is.whom);
+      voted = subst (λ (j : ℕ). (kept_of (sentinel_at w j).file v.master).voted ≡ v.epoch) is.voter
+          (subst (λ (n : ℕ). (kept_of (sentinel_at w i).file n).voted ≡ v.epoch) is.master is.epoch);
+      candidate = subst (λ (j : ℕ). (kept_of (sentinel_at w j).file v.master).candidate ≡ Some v.candidate) is.voter
+          (subst (λ (n : ℕ). (kept_of (sentinel_at w i).file n).candidate ≡ Some v.candidate) is.master is.whom);
     }
 
 pub all_filed : (w : World) (v : Vote) → IsFiled w v → Contains (filed_votes w.sentinels) v
@@ -93,11 +95,13 @@ all_filed w v filed =
     let s : Sentinel = sentinel_at w v.voter in
     is_gathered (told_by w.sentinels) (length w.sentinels) v.voter v filed.place
     (is_gathered (told_of s v.voter) (length s.file.masters) v.master v within
-    (told_it v.voter v.master (kept_of s.file v.master).voted (kept_of s.file v.master).candidate v (record { voter = refl; master = refl; epoch = filed.voted; whom = filed.candidate })))
+    (told_it v.voter v.master (kept_of s.file v.master).voted (kept_of s.file v.master).candidate v
+    (record { voter = refl; master = refl; epoch = filed.voted; whom = filed.candidate })))
   where
     within : v.master < length (sentinel_at w v.voter).file.masters
     within =
         elim (cases_lt v.master (length (sentinel_at w v.voter).file.masters)) [
           | inl less ↦ less
-          | inr past ↦ absurd (let e : None ≡ Some v.candidate = sym (ap (λ (k : KeptMaster). k.candidate) (get_or_past (sentinel_at w v.voter).file.masters v.master no_kept past)) ∙ filed.candidate in cc)
+          | inr past ↦ absurd (let e : None ≡ Some v.candidate =
+              sym (ap (λ (k : KeptMaster). k.candidate) (get_or_past (sentinel_at w v.voter).file.masters v.master no_kept past)) ∙ filed.candidate in cc)
         ]

@@ -6,7 +6,8 @@ use Rattle.ballot_law.specs.Worlds.{World}
 use Rattle.fault_world.specs.declared.entry.Entry.{Entry}
 use Rattle.fault_world.specs.Runs.{Ran}
 
-pub reports_join : (roster : Roster) (steps more : List Step) (w middle last : World) (news added : List Entry) → Ran roster steps w news middle → Ran roster more middle added last → Ran roster (steps ++ more) w (news ++ added) last
+pub reports_join : (roster : Roster) (steps more : List Step) (w middle last : World) (news added : List Entry) → Ran roster steps w news middle →
+    Ran roster more middle added last → Ran roster (steps ++ more) w (news ++ added) last
 reports_join roster [] more w middle last news added ran next =
     subst (λ v. Ran roster more v (news ++ added) last) (sym ran.0) (subst (λ ns. Ran roster more middle (ns ++ added) last) (sym ran.1) next)
 reports_join roster (step ∷ steps) more w middle last news added ran next =

@@ -59,7 +59,8 @@ slice_get_past (x ∷ xs) (suc k) h = slice_get_past xs k (omega arith)
 pub found_at : {M : Type 0} (xs : List M) (k : ℕ) (x d : M) → k < length xs → x ≡ get_or xs k d → (P : M → Type 0) → P x → IfSome (slice_get xs k) P
 found_at xs k x d h e P p = subst (λ o. IfSome o P) (sym (slice_get_at xs k d h)) (subst P e p)
 
-pub none_before : {M : Type 0} (xs : List M) (k : ℕ) (x d : M) → k < length xs → x ≡ get_or xs k d → (P : M → Type 0) → ((j : ℕ) → j < k → IfSome (slice_get xs j) P) → P x → (j : ℕ) → j < k + 1 → IfSome (slice_get xs j) P
+pub none_before : {M : Type 0} (xs : List M) (k : ℕ) (x d : M) → k < length xs → x ≡ get_or xs k d → (P : M → Type 0) → ((j : ℕ) → j < k → IfSome (slice_get xs j) P) → P x →
+    (j : ℕ) → j < k + 1 → IfSome (slice_get xs j) P
 none_before xs k x d h e P before p j less =
     elim (cases_eq j k) as (λ _. IfSome (slice_get xs j) P) [
       | inl same ↦ subst (λ i. IfSome (slice_get xs i) P) (sym same) (found_at xs k x d h e P p)

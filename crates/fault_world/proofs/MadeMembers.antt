@@ -23,7 +23,8 @@ fresh_ready : (roster : Roster) (image : Image) → IsFreshImage roster image �
 fresh_ready roster (OfSentinel s) f = (ap (λ x. x.state) f.0, ap (λ x. x.held) f.0)
 fresh_ready roster (OfOther o) f = (ap (λ x. x.state) f, ap (λ x. x.held) f)
 
-seat_of : (name own : NodeName) (shows : Shows) (held : List Output) (stopped : Bool) (roster : Roster) (image : Image) → IsNewMember name own held stopped → IsFreshImage roster image → shows roster image → IsSeat name own shows held stopped roster image
+seat_of : (name own : NodeName) (shows : Shows) (held : List Output) (stopped : Bool) (roster : Roster) (image : Image) → IsNewMember name own held stopped →
+    IsFreshImage roster image → shows roster image → IsSeat name own shows held stopped roster image
 seat_of name own shows held stopped roster image new fresh shown =
     let ready = fresh_ready roster image fresh in
     empty_seat name own shows held stopped roster image new.goes_by shown ready.1 new.holds (new.runs ∙ sym (ap is_stopped ready.0))
@@ -40,7 +41,8 @@ some_of : {M N : Type 0} (f : M → N) (o : Option M) (n : N) → option_map f o
 some_of f None n e = absurd (none-some n e)
 some_of f (Some m) n e = (m, refl, same_Some (f m) n e)
 
-module _ {M N : Type 0} (roster : Roster) (nodes : List N) (members : List M) (node : M → N) (own : M → NodeName) (held : M → List Output) (stopped : M → Bool) (name : N → NodeName) (knows : N → Roster → Type 0) (shows : N → Shows) where
+module _ {M N : Type 0} (roster : Roster) (nodes : List N) (members : List M) (node : M → N) (own : M → NodeName) (held : M → List Output) (stopped : M → Bool)
+    (name : N → NodeName) (knows : N → Roster → Type 0) (shows : N → Shows) where
   -- the members are those of the nodes, in their order
   pub record AreMadeOf : Type 0 where
     pub nodes_are : map node members ≡ nodes
@@ -55,7 +57,8 @@ module _ {M N : Type 0} (roster : Roster) (nodes : List N) (members : List M) (n
   made_at : AreMadeOf → (k : ℕ) (m : M) → slice_get members k ≡ Some m → IsNewMember (own m) (name (node m)) (held m) (stopped m)
   made_at made k m e = each_from_all (λ m. IsNewMember (own m) (name (node m)) (held m) (stopped m)) members made.each k m e
 
-  pub begins : HasDistinctNames roster → All (λ n. ShowsKind (name n) (shows n)) nodes → All (λ n. IsFresh (knows n) (shows n)) nodes → IsGroupOf name (λ n. knows n roster) roster nodes → BeginAlike name shows roster nodes → AreMadeOf
+  pub begins : HasDistinctNames roster → All (λ n. ShowsKind (name n) (shows n)) nodes → All (λ n. IsFresh (knows n) (shows n)) nodes →
+      IsGroupOf name (λ n. knows n roster) roster nodes → BeginAlike name shows roster nodes → AreMadeOf
       → Begins roster (IsShown own (λ m. IsSeat (own m) (name (node m)) (shows (node m)) (held m) (stopped m)) roster members [])
   begins names kinds fresh group alike made =
       record {
@@ -63,7 +66,8 @@ module _ {M N : Type 0} (roster : Roster) (nodes : List N) (members : List M) (n
         begins = start;
         shows = record {
           each = each;
-          apart = λ j k m n e f same. group.apart j k (node m) (node n) (node_at made j m e) (node_at made k n f) ((made_at made j m e).goes_by ∙ same ∙ sym (made_at made k n f).goes_by);
+          apart = λ j k m n e f same. group.apart j k (node m) (node n) (node_at made j m e) (node_at made k n f)
+              ((made_at made j m e).goes_by ∙ same ∙ sym (made_at made k n f).goes_by);
           all = all;
           sentinels = start.count;
           names = names;

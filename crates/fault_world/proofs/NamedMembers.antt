@@ -42,7 +42,8 @@ abbrev pub Search : {N : Type 0} → (N → NodeName) → List N → NodeName �
 Search {N} name nodes wanted = HasNamed name nodes wanted ⊎ ((k : ℕ) (n : N) → slice_get nodes k ≡ Some n → name n ≢ wanted)
 
 module _ {N : Type 0} (name : N → NodeName) where
-  not_first : (n : N) (nodes : List N) (wanted : NodeName) → name n ≢ wanted → ((k : ℕ) (m : N) → slice_get nodes k ≡ Some m → name m ≢ wanted) → (k : ℕ) (m : N) → slice_get (n ∷ nodes) k ≡ Some m → name m ≢ wanted
+  not_first : (n : N) (nodes : List N) (wanted : NodeName) → name n ≢ wanted → ((k : ℕ) (m : N) → slice_get nodes k ≡ Some m → name m ≢ wanted) → (k : ℕ) (m : N) →
+      slice_get (n ∷ nodes) k ≡ Some m → name m ≢ wanted
   not_first n nodes wanted here rest zero m e = subst (λ x. name x ≢ wanted) (same_Some n m e) here
   not_first n nodes wanted here rest (suc k) m e = rest k m e
 

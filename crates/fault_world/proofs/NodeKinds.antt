@@ -61,7 +61,8 @@ kind_released (StoreAt i) (OfSentinel s) k = absurd k
 kind_released (ClientAt i) (OfSentinel s) k = absurd k
 kind_released (PortAt i) image k = absurd k
 
-pub kind_taken : (roster : Roster) (name : NodeName) (event : Event) (image : Image) (held : List Output) (after : Image) → TakenTo roster name event image held after → IsOfKind name after
+pub kind_taken : (roster : Roster) (name : NodeName) (event : Event) (image : Image) (held : List Output) (after : Image) → TakenTo roster name event image held after →
+    IsOfKind name after
 kind_taken roster (SentinelAt i) event (OfSentinel s) held after t = subst (IsOfKind (SentinelAt i)) (sym t.3) tt
 kind_taken roster (StoreAt k) event (OfOther o) held after t = subst (IsOfKind (StoreAt k)) (sym t.1) tt
 kind_taken roster (ClientAt k) event (OfOther o) held after t = subst (IsOfKind (ClientAt k)) (sym t.1) tt

@@ -15,7 +15,8 @@ use Rattle.fault_world.specs.Laws.{RunsSafely, GoesOn}
 use Rattle.fault_world.proofs.Found.{joined, run_of, reached_on}
 use Rattle.fault_world.proofs.Joining.{reports_join}
 
-along : NeverFalls → (roster : Roster) (start w last : World) (before steps : List Step) → HasDistinctIds roster → IsStart roster start → Run roster before start w → Run roster steps w last → JoinedBy IsSafeStep roster (map StepOf steps) w last
+along : NeverFalls → (roster : Roster) (start w last : World) (before steps : List Step) → HasDistinctIds roster → IsStart roster start → Run roster before start w →
+    Run roster steps w last → JoinedBy IsSafeStep roster (map StepOf steps) w last
 along law roster start w last before [] distinct begins prior run = run
 along law roster start w last before (s ∷ steps) distinct begins prior run = (
   run.0,
@@ -25,7 +26,8 @@ along law roster start w last before (s ∷ steps) distinct begins prior run = (
 )
 
 pub safe_runs : (r : Result Listed RunFault) (roster : Roster) (steps : List Step) (old new : World → Type 0) → OneLeader → OneAddress → NeverFalls →
-    IfOk r (λ report. (w : World) → old w → RunsTo roster steps w report.entries new) → IfOk r (λ report. (w : World) → IsReached roster w → old w → RunsSafely roster steps w report.entries new)
+    IfOk r (λ report. (w : World) → old w → RunsTo roster steps w report.entries new) →
+    IfOk r (λ report. (w : World) → IsReached roster w → old w → RunsSafely roster steps w report.entries new)
 safe_runs (Ok report) roster steps old new leader address falls run = λ w reached shown.
     let r = run w shown in
     let there = reached_on roster steps w report.entries r.last reached r.ran in
@@ -42,7 +44,8 @@ safe_runs (Err fault) roster steps old new leader address falls run = tt
 
 -- All runs since the start
 
-goes_on : OneLeader → OneAddress → NeverFalls → (roster : Roster) (steps : List Step) (news : List Entry) (old new : World → Type 0) → ((w : World) → old w → RunsTo roster steps w news new) → GoesOn roster steps news old new
+goes_on : OneLeader → OneAddress → NeverFalls → (roster : Roster) (steps : List Step) (news : List Entry) (old new : World → Type 0) →
+    ((w : World) → old w → RunsTo roster steps w news new) → GoesOn roster steps news old new
 goes_on leader address falls roster steps news old new next start before told h =
     let r = next h.last h.shows in
     let ran = reports_join roster before steps start h.last r.last told news h.ran r.ran in
@@ -64,6 +67,7 @@ all_told (Ok report) roster steps old new leader address falls run = goes_on lea
 all_told (Err fault) roster steps old new leader address falls run = tt
 
 pub first_told : (r : Result Listed RunFault) (roster : Roster) (steps : List Step) (old new : World → Type 0) → OneLeader → OneAddress → NeverFalls →
-    IfErr r (λ fault. (news : List Entry) × ((w : World) → old w → RunsTo roster (take (steps_done fault) steps) w news new)) → IfErr r (λ fault. (news : List Entry) × GoesOn roster (take (steps_done fault) steps) news old new)
+    IfErr r (λ fault. (news : List Entry) × ((w : World) → old w → RunsTo roster (take (steps_done fault) steps) w news new)) →
+    IfErr r (λ fault. (news : List Entry) × GoesOn roster (take (steps_done fault) steps) news old new)
 first_told (Ok report) roster steps old new leader address falls made = tt
 first_told (Err fault) roster steps old new leader address falls made = (made.0, goes_on leader address falls roster (take (steps_done fault) steps) made.0 old new made.1)

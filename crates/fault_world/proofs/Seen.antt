@@ -41,17 +41,20 @@ pub record Changed (w : World) (name : NodeName) (image : Image) (messages : Lis
 -- images in changed lists
 pub image_here : (w w2 : World) (name : NodeName) (image : Image) → IsNode w name → IsOfKind name image →
     w2.sentinels ≡ (with_image w name image).sentinels → w2.stores ≡ (with_image w name image).stores → w2.clients ≡ (with_image w name image).clients → image_at w2 name ≡ image
-image_here w w2 (SentinelAt i) (OfSentinel s) node kind a b c = ap (λ xs. OfSentinel (slice_index_or xs i no_sentinel)) a ∙ ap OfSentinel (get_or-set_same w.sentinels i s no_sentinel node)
+image_here w w2 (SentinelAt i) (OfSentinel s) node kind a b c =
+    ap (λ xs. OfSentinel (slice_index_or xs i no_sentinel)) a ∙ ap OfSentinel (get_or-set_same w.sentinels i s no_sentinel node)
 image_here w w2 (StoreAt k) (OfOther o) node kind a b c = ap (λ xs. OfOther (slice_index_or xs k no_other)) b ∙ ap OfOther (get_or-set_same w.stores k o no_other node)
 image_here w w2 (ClientAt k) (OfOther o) node kind a b c =
-    ap (λ xs. OfOther (unwrap_or (slice_index_or xs k None) no_other)) c ∙ ap (λ x. OfOther (unwrap_or x no_other)) (get_or-set_same w.clients k (Some o) None (client_within w.clients k node))
+    ap (λ xs. OfOther (unwrap_or (slice_index_or xs k None) no_other)) c ∙
+    ap (λ x. OfOther (unwrap_or x no_other)) (get_or-set_same w.clients k (Some o) None (client_within w.clients k node))
 image_here w w2 (SentinelAt i) (OfOther o) node kind a b c = absurd kind
 image_here w w2 (StoreAt k) (OfSentinel s) node kind a b c = absurd kind
 image_here w w2 (ClientAt k) (OfSentinel s) node kind a b c = absurd kind
 image_here w w2 (PortAt k) image node kind a b c = absurd kind
 
 -- the lists of Sentinels, of data nodes and of clients at another name
-sentinels_there : (w : World) (name : NodeName) (image : Image) (j : ℕ) → SentinelAt j ≢ name → slice_index_or (with_image w name image).sentinels j no_sentinel ≡ slice_index_or w.sentinels j no_sentinel
+sentinels_there : (w : World) (name : NodeName) (image : Image) (j : ℕ) → SentinelAt j ≢ name →
+    slice_index_or (with_image w name image).sentinels j no_sentinel ≡ slice_index_or w.sentinels j no_sentinel
 sentinels_there w (SentinelAt i) (OfSentinel s) j apart = get_or-set_other w.sentinels i j s no_sentinel (λ e. apart (ap SentinelAt e))
 sentinels_there w (SentinelAt i) (OfOther o) j apart = refl
 sentinels_there w (StoreAt k) (OfSentinel s) j apart = refl
@@ -61,7 +64,8 @@ sentinels_there w (ClientAt k) (OfOther o) j apart = refl
 sentinels_there w (PortAt k) (OfSentinel s) j apart = refl
 sentinels_there w (PortAt k) (OfOther o) j apart = refl
 
-stores_there : (w : World) (name : NodeName) (image : Image) (j : ℕ) → StoreAt j ≢ name → slice_index_or (with_image w name image).stores j no_other ≡ slice_index_or w.stores j no_other
+stores_there : (w : World) (name : NodeName) (image : Image) (j : ℕ) → StoreAt j ≢ name →
+    slice_index_or (with_image w name image).stores j no_other ≡ slice_index_or w.stores j no_other
 stores_there w (StoreAt k) (OfOther o) j apart = get_or-set_other w.stores k j o no_other (λ e. apart (ap StoreAt e))
 stores_there w (StoreAt k) (OfSentinel s) j apart = refl
 stores_there w (SentinelAt k) (OfSentinel s) j apart = refl
@@ -71,7 +75,8 @@ stores_there w (ClientAt k) (OfOther o) j apart = refl
 stores_there w (PortAt k) (OfSentinel s) j apart = refl
 stores_there w (PortAt k) (OfOther o) j apart = refl
 
-clients_there : (w : World) (name : NodeName) (image : Image) (j : ℕ) → ClientAt j ≢ name → slice_index_or (with_image w name image).clients j None ≡ slice_index_or w.clients j None
+clients_there : (w : World) (name : NodeName) (image : Image) (j : ℕ) → ClientAt j ≢ name →
+    slice_index_or (with_image w name image).clients j None ≡ slice_index_or w.clients j None
 clients_there w (ClientAt k) (OfOther o) j apart = get_or-set_other w.clients k j (Some o) None (λ e. apart (ap ClientAt e))
 clients_there w (ClientAt k) (OfSentinel s) j apart = refl
 clients_there w (SentinelAt k) (OfSentinel s) j apart = refl
@@ -82,10 +87,12 @@ clients_there w (PortAt k) (OfSentinel s) j apart = refl
 clients_there w (PortAt k) (OfOther o) j apart = refl
 
 pub image_there : (w w2 : World) (name : NodeName) (image : Image) (other : NodeName) → other ≢ name →
-    w2.sentinels ≡ (with_image w name image).sentinels → w2.stores ≡ (with_image w name image).stores → w2.clients ≡ (with_image w name image).clients → image_at w2 other ≡ image_at w other
+    w2.sentinels ≡ (with_image w name image).sentinels → w2.stores ≡ (with_image w name image).stores → w2.clients ≡ (with_image w name image).clients →
+    image_at w2 other ≡ image_at w other
 image_there w w2 name image (SentinelAt j) apart a b c = ap (λ xs. OfSentinel (slice_index_or xs j no_sentinel)) a ∙ ap OfSentinel (sentinels_there w name image j apart)
 image_there w w2 name image (StoreAt j) apart a b c = ap (λ xs. OfOther (slice_index_or xs j no_other)) b ∙ ap OfOther (stores_there w name image j apart)
-image_there w w2 name image (ClientAt j) apart a b c = ap (λ xs. OfOther (unwrap_or (slice_index_or xs j None) no_other)) c ∙ ap (λ x. OfOther (unwrap_or x no_other)) (clients_there w name image j apart)
+image_there w w2 name image (ClientAt j) apart a b c = ap (λ xs. OfOther (unwrap_or (slice_index_or xs j None) no_other)) c ∙
+    ap (λ x. OfOther (unwrap_or x no_other)) (clients_there w name image j apart)
 image_there w w2 name image (PortAt j) apart a b c = refl
 
 -- as many nodes as before
@@ -110,7 +117,8 @@ stores_many w (PortAt k) (OfSentinel s) = refl
 stores_many w (PortAt k) (OfOther o) = refl
 
 -- the same numbers are clients'
-clients_same : (w : World) (name : NodeName) (image : Image) (j : ℕ) → IsNode w name → IsSome (slice_index_or (with_image w name image).clients j None) ≡ IsSome (slice_index_or w.clients j None)
+clients_same : (w : World) (name : NodeName) (image : Image) (j : ℕ) → IsNode w name →
+    IsSome (slice_index_or (with_image w name image).clients j None) ≡ IsSome (slice_index_or w.clients j None)
 clients_same w (ClientAt k) (OfOther o) j node =
     elim (nat_cases j k) as (λ _. IsSome (slice_index_or (set w.clients k (Some o)) j None) ≡ IsSome (slice_index_or w.clients j None)) [
       | inl same ↦ subst (λ n. IsSome (slice_index_or (set w.clients k (Some o)) n None) ≡ IsSome (slice_index_or w.clients n None)) (sym same)
@@ -130,7 +138,8 @@ clients_same w (PortAt k) (OfSentinel s) j node = refl
 clients_same w (PortAt k) (OfOther o) j node = refl
 
 pub nodes_same : (w w2 : World) (name : NodeName) (image : Image) (other : NodeName) → IsNode w name →
-    w2.sentinels ≡ (with_image w name image).sentinels → w2.stores ≡ (with_image w name image).stores → w2.clients ≡ (with_image w name image).clients → IsNode w2 other ≡ IsNode w other
+    w2.sentinels ≡ (with_image w name image).sentinels → w2.stores ≡ (with_image w name image).stores → w2.clients ≡ (with_image w name image).clients →
+    IsNode w2 other ≡ IsNode w other
 nodes_same w w2 name image (SentinelAt j) node a b c = ap (λ n. j < n) (ap length a ∙ sentinels_many w name image)
 nodes_same w w2 name image (StoreAt j) node a b c = ap (λ n. j < n) (ap length b ∙ stores_many w name image)
 nodes_same w w2 name image (ClientAt j) node a b c = ap (λ xs. IsSome (slice_index_or xs j None)) c ∙ clients_same w name image j node
@@ -142,8 +151,24 @@ some_unwrap None there = absurd (cc)
 
 -- a node that is as it was
 pub unchanged : (w : World) (name : NodeName) → IsNode w name → Changed w name (image_at w name) [] [] [] w
-unchanged w (SentinelAt i) node = record { sentinels = sym (set-get_or w.sentinels i no_sentinel); stores = refl; clients = refl; messages_are = sym (append-nil w.messages); elected_are = sym (append-nil w.elected); said_are = sym (append-nil w.said) }
-unchanged w (StoreAt k) node = record { sentinels = refl; stores = sym (set-get_or w.stores k no_other); clients = refl; messages_are = sym (append-nil w.messages); elected_are = sym (append-nil w.elected); said_are = sym (append-nil w.said) }
+unchanged w (SentinelAt i) node = record {
+  sentinels = sym (set-get_or w.sentinels i no_sentinel);
+  stores = refl;
+  clients = refl;
+  messages_are =
+      sym (append-nil w.messages);
+  elected_are = sym (append-nil w.elected);
+  said_are = sym (append-nil w.said);
+}
+unchanged w (StoreAt k) node = record {
+  sentinels = refl;
+  stores = sym (set-get_or w.stores k no_other);
+  clients = refl;
+  messages_are = sym (append-nil w.messages);
+  elected_are =
+      sym (append-nil w.elected);
+  said_are = sym (append-nil w.said);
+}
 unchanged w (ClientAt k) node =
     record {
       sentinels = refl;

@@ -15,8 +15,10 @@ use Rattle.fault_world.proofs.Lists.{set_get, get_set, get_other, nat_cases, all
 use Rattle.fault_world.proofs.Seen.{Changed, image_here, image_there, nodes_same, sentinels_many}
 
 -- the group after a change of its member k
-pub shown_after : {M : Type 0} (name : M → NodeName) (seat : M → Roster → Image → Type 0) (roster : Roster) (members : List M) (messages more : List Message) (elected : List Election) (said : List Advertisement) (w w2 : World) (k : ℕ) (m m2 : M) (image : Image) →
-    IsShown name seat roster members messages w → slice_get members k ≡ Some m → name m2 ≡ name m → IsOfKind (name m) image → seat m2 roster image → AllByRecursion IsSendable more → Changed w (name m) image more elected said w2 →
+pub shown_after : {M : Type 0} (name : M → NodeName) (seat : M → Roster → Image → Type 0) (roster : Roster) (members : List M) (messages more : List Message)
+    (elected : List Election) (said : List Advertisement) (w w2 : World) (k : ℕ) (m m2 : M) (image : Image) →
+    IsShown name seat roster members messages w → slice_get members k ≡ Some m → name m2 ≡ name m → IsOfKind (name m) image → seat m2 roster image →
+    AllByRecursion IsSendable more → Changed w (name m) image more elected said w2 →
     IsShown name seat roster (set members k m2) (messages ++ more) w2
 shown_after name seat roster members messages more elected said w w2 k m m2 image g at' named kind seated fine ch =
     record {

@@ -52,7 +52,8 @@ taken_at (StoreAt k) message event e within s = subst IsTakeable (same_Some (Han
 taken_at (ClientAt k) message event e within s = subst IsTakeable (same_Some (Handed message) event e) s
 taken_at (PortAt k) message event e within s = subst IsTakeable (same_Some (Handed message) event e) s
 
-pub takeable_of : (message : Message) (found : Option Event) (event : Event) → found ≡ event_of message → found ≡ Some event → IfSome found IsWithinEvent → IsSendable message → IsTakeable event
+pub takeable_of : (message : Message) (found : Option Event) (event : Event) → found ≡ event_of message → found ≡ Some event → IfSome found IsWithinEvent → IsSendable message →
+    IsTakeable event
 takeable_of message found event e is within s = taken_at message.target message event (sym e ∙ is) (subst (λ x. IfSome x IsWithinEvent) is within) s
 
 pub none_said : {X : Type 0} (o : Option X) → o ≡ None → IsSome o → ⊥

@@ -62,4 +62,5 @@ IsMatched {N} name shows roster nodes place =
 -- each two Sentinels tell the same
 abbrev pub BeginAlike : {N : Type 0} → (N → NodeName) → (N → Shows) → Roster → List N → Type 0
 BeginAlike {N} name shows roster nodes =
-    (j k : ℕ) (m n : N) → slice_get nodes j ≡ Some m → slice_get nodes k ≡ Some n → IsSentinelName (name m) → IsSentinelName (name n) → HaveSameCards roster (shows m roster) (shows n roster)
+    (j k : ℕ) (m n : N) → slice_get nodes j ≡ Some m → slice_get nodes k ≡ Some n → IsSentinelName (name m) → IsSentinelName (name n) →
+    HaveSameCards roster (shows m roster) (shows n roster)

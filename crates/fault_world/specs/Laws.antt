@@ -46,4 +46,5 @@ GoesOn roster steps entries old new =
 -- a run and one that goes on from its end are one run, with the entries of the first and then those of the second
 abbrev pub ReportsJoin : Type 0
 ReportsJoin =
-    (roster : Roster) (steps more : List Step) (w middle last : World) (news added : List Entry) → Ran roster steps w news middle → Ran roster more middle added last → Ran roster (steps ++ more) w (news ++ added) last
+    (roster : Roster) (steps more : List Step) (w middle last : World) (news added : List Entry) → Ran roster steps w news middle → Ran roster more middle added last →
+    Ran roster (steps ++ more) w (news ++ added) last

@@ -43,7 +43,8 @@ abbrev pub wins_stored : HowStored → Image → List Win
 wins_stored how image = if is_ok (store_answer how image) then wins_of image else []
 
 pub record SeatStores (how : HowStored) (won : Option (ℕ × ℕ)) (old new : Shows) : Type 0 where
-  pub pending : (roster : Roster) (image : Image) → old roster image → state_of image ≡ Pending → new roster (after_store how image) × (wins_told won ≡ wins_stored how image) × IsWonIn roster won
+  pub pending : (roster : Roster) (image : Image) → old roster image → state_of image ≡ Pending →
+      new roster (after_store how image) × (wins_told won ≡ wins_stored how image) × IsWonIn roster won
   pub other : (roster : Roster) (image : Image) → old roster image → state_of image ≢ Pending → new roster image × (won ≡ None)
 
 -- what the image held joins the list of outputs

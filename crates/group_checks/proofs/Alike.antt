@@ -33,7 +33,8 @@ pub one_group : (one other : ConfPlan) (some others : List KeptMaster) → one.r
     → ((m : ℕ) → m < length some → (slice_index_or some m no_kept).card ≡ (slice_index_or others m no_kept).card) → AreOfOneGroup one other
 one_group one other some others same first second e f each =
     let of_one = subst (λ (xs : List KeptMaster). (m : ℕ) → m < length xs → (slice_index_or xs m no_kept).card ≡ (slice_index_or others m no_kept).card) e each in
-    let of_both = subst (λ (ys : List KeptMaster). (m : ℕ) → m < length one.kept.masters → (slice_index_or one.kept.masters m no_kept).card ≡ (slice_index_or ys m no_kept).card) f of_one in
+    let of_both = subst (λ (ys : List KeptMaster). (m : ℕ) → m < length one.kept.masters → (slice_index_or one.kept.masters m no_kept).card ≡ (slice_index_or ys m no_kept).card) f
+    of_one in
     (same, start_alike one.kept other.kept (as_many one other same first second) of_both)
 
 -- what holds of all below n, and of n, holds of all below n + 1

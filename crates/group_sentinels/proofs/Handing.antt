@@ -14,7 +14,8 @@ sent_append (Send message ∷ xs) ys = ap (λ (zs : List Message). message ∷ z
 sent_append (Tell note ∷ xs) ys = sent_append xs ys
 
 -- the messages among one output more
-sent_next : (outputs : List Output) (i : ℕ) (output : Output) → i < length outputs → output ≡ get_or outputs i output → sent (take (i + 1) outputs) ≡ sent (take i outputs) ++ sent (output ∷ [])
+sent_next : (outputs : List Output) (i : ℕ) (output : Output) → i < length outputs → output ≡ get_or outputs i output →
+    sent (take (i + 1) outputs) ≡ sent (take i outputs) ++ sent (output ∷ [])
 sent_next outputs i output within is =
     ap sent (take_more outputs i output within ∙ ap (λ (o : Output). take i outputs ++ o ∷ []) (sym is)) ∙ sent_append (take i outputs) (output ∷ [])
 
@@ -26,14 +27,16 @@ handed_more (Some before) second third xs ys zs is one other =
     let last : third ≡ Some ((before ++ xs) ++ ys) = subst (λ (h : Option (List Message)). IfSome h (λ b. third ≡ Some (b ++ ys))) one other in
     last ∙ ap (λ (l : List Message). Some l) (append_assoc before xs ys ∙ ap (λ (l : List Message). before ++ l) (sym is))
 
-pub handed_send : (first second third : Option (List Message)) (outputs : List Output) (i : ℕ) (output : Output) (message : Message) → i < length outputs → output ≡ get_or outputs i output → output ≡ Send message
+pub handed_send : (first second third : Option (List Message)) (outputs : List Output) (i : ℕ) (output : Output) (message : Message) → i < length outputs →
+    output ≡ get_or outputs i output → output ≡ Send message
     → IfSome first (λ before. second ≡ Some (before ++ sent (take i outputs))) → IfSome second (λ before. third ≡ Some (before ++ message ∷ []))
     → IfSome first (λ before. third ≡ Some (before ++ sent (take (i + 1) outputs)))
 handed_send first second third outputs i output message within is send one other =
     handed_more first second third (sent (take i outputs)) (message ∷ []) (sent (take (i + 1) outputs))
     (sent_next outputs i output within is ∙ ap (λ (o : Output). sent (take i outputs) ++ sent (o ∷ [])) send) one other
 
-pub handed_tell : (first second : Option (List Message)) (outputs : List Output) (i : ℕ) (output : Output) (note : Note) → i < length outputs → output ≡ get_or outputs i output → output ≡ Tell note
+pub handed_tell : (first second : Option (List Message)) (outputs : List Output) (i : ℕ) (output : Output) (note : Note) → i < length outputs → output ≡ get_or outputs i output →
+    output ≡ Tell note
     → IfSome first (λ before. second ≡ Some (before ++ sent (take i outputs))) → IfSome first (λ before. second ≡ Some (before ++ sent (take (i + 1) outputs)))
 handed_tell first second outputs i output note within is tell one =
     subst (λ (xs : List Message). IfSome first (λ before. second ≡ Some (before ++ xs)))

@@ -50,7 +50,8 @@ count_is [] = refl
 count_is (x ∷ xs) = ap suc (count_is xs)
 
 -- behind a header and all words, an array of them
-pub words_added : (old new : List ℕ) (xs : List (Bor (List ℕ))) (i : ℕ) → length xs ≤ i → new ≡ old ++ (header (length xs) ++ spelled (take i xs)) → new ≡ old ++ spelling (words_frame (map (λ word. word.now) xs))
+pub words_added : (old new : List ℕ) (xs : List (Bor (List ℕ))) (i : ℕ) → length xs ≤ i → new ≡ old ++ (header (length xs) ++ spelled (take i xs)) →
+    new ≡ old ++ spelling (words_frame (map (λ word. word.now) xs))
 words_added old new xs i h e = e ∙ ap (λ t. old ++ (header (length xs) ++ spelled t)) (take_all i xs h) ∙ ap (λ n. old ++ (header n ++ spelled xs)) (sym (count_is xs))
 
 pub front_text : (down : Bool) (digit : ℕ) → digit ≡ from_bool down → 42 ∷ 51 ∷ 13 ∷ 10 ∷ 58 ∷ (48 + digit) ∷ 13 ∷ 10 ∷ [] ≡ answer_front down
@@ -65,7 +66,8 @@ front_text false digit e =
     ap (λ n. 42 ∷ 51 ∷ 13 ∷ 10 ∷ 58 ∷ (48 + n) ∷ 13 ∷ 10 ∷ []) e
     ∙ sym (ap (λ n. 42 ∷ ((n ++ line_end) ++ 58 ∷ (decimal 0 ++ line_end))) three ∙ ap (λ n. 42 ∷ 51 ∷ 13 ∷ 10 ∷ 58 ∷ (n ++ line_end)) none)
 
-pub answer_added : (old one two new : List ℕ) (down : Bool) (leader : Option RunId) (epoch : ℕ) → one ≡ old ++ answer_front down → two ≡ one ++ spelling (bulk (candidate_text leader))
+pub answer_added : (old one two new : List ℕ) (down : Bool) (leader : Option RunId) (epoch : ℕ) → one ≡ old ++ answer_front down →
+    two ≡ one ++ spelling (bulk (candidate_text leader))
     → new ≡ two ++ spelling (int (pos epoch)) → new ≡ old ++ spelling (answer_frame down leader epoch)
 answer_added old one two new down leader epoch e f g =
     let whether = spelling (int (pos (down_number down))) in

@@ -46,21 +46,25 @@ same_parts : (bs : List ℕ) → cut_at 44 bs ≡ fields_of bs
 same_parts [] = refl
 same_parts (b ∷ bs) = ap (λ ps. elim (eqb b 44) as (λ _. List (List ℕ)) [ true ↦ [] ∷ ps | false ↦ with_first b ps ]) (same_parts bs)
 
-sender_again : (h : Hello) → IsHello h → sender_of (ip_text h.addr.ip) (decimal h.addr.port) (id_text h.id) (decimal h.current) ≡ Ok (record { addr = h.addr; id = h.id; current = Some h.current })
+sender_again : (h : Hello) → IsHello h → sender_of (ip_text h.addr.ip) (decimal h.addr.port) (id_text h.id) (decimal h.current) ≡ Ok
+    (record { addr = h.addr; id = h.id; current = Some h.current })
 sender_again h w =
     let i = ip-ip_text h.addr.ip w.addr.ip in
     let p = port_again h.addr.port w.addr.port_low w.addr.port_high in
     let r = run_id-id_text h.id w.id.hi w.id.lo in
     let e = epoch_again h.current w.current in
-    λ t. wanted (BadField 1) (i t) >>= λ i. wanted (BadField 2) (p t) >>= λ p. wanted (BadField 3) (r t) >>= λ id. wanted (BadField 4) (e t) >>= λ current. Ok (record { addr = record { ip = i; port = p }; id = id; current = current })
+    λ t. wanted (BadField 1) (i t) >>= λ i. wanted (BadField 2) (p t) >>= λ p. wanted (BadField 3) (r t) >>= λ id. wanted (BadField 4) (e t) >>= λ current. Ok
+    (record { addr = record { ip = i; port = p }; id = id; current = current })
 
-master_again : (h : Hello) → IsHello h → master_of h.master (ip_text h.card.addr.ip) (decimal h.card.addr.port) (decimal h.card.epoch) ≡ Ok (record { name = h.master; addr = h.card.addr; epoch = Some h.card.epoch })
+master_again : (h : Hello) → IsHello h → master_of h.master (ip_text h.card.addr.ip) (decimal h.card.addr.port) (decimal h.card.epoch) ≡ Ok
+    (record { name = h.master; addr = h.card.addr; epoch = Some h.card.epoch })
 master_again h w =
     let n = name_is h.master w.master in
     let i = ip-ip_text h.card.addr.ip w.card_addr.ip in
     let p = port_again h.card.addr.port w.card_addr.port_low w.card_addr.port_high in
     let e = epoch_again h.card.epoch w.epoch in
-    λ t. wanted (BadField 5) (n t) >>= λ master. wanted (BadField 6) (i t) >>= λ i. wanted (BadField 7) (p t) >>= λ p. wanted (BadField 8) (e t) >>= λ epoch. Ok (record { name = master; addr = record { ip = i; port = p }; epoch = epoch })
+    λ t. wanted (BadField 5) (n t) >>= λ master. wanted (BadField 6) (i t) >>= λ i. wanted (BadField 7) (p t) >>= λ p. wanted (BadField 8) (e t) >>= λ epoch. Ok
+    (record { name = master; addr = record { ip = i; port = p }; epoch = epoch })
 
 parts_again : (h : Hello) → IsHello h → hello_of_parts (hello_fields h) ≡ Ok h
 parts_again h w = let s = sender_again h w in let m = master_again h w in λ t. s t >>= λ sender. m t >>= λ of_master. hello_from sender of_master

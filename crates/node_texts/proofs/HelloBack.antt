@@ -76,7 +76,8 @@ record SenderRead (a b c d : List ℕ) (s : Sender) : Type 0 where
   pub current : epoch d ≡ Some s.current
 
 sender_by : (a b c d : List ℕ) (s : Sender) (oi op : Option ℕ) (oid : Option RunId) (oe : Option (Option ℕ)) → ip a ≡ oi → canonical_port b ≡ op → run_id c ≡ oid → epoch d ≡ oe
-    → (wanted (BadField 1) oi >>= λ i. wanted (BadField 2) op >>= λ p. wanted (BadField 3) oid >>= λ id. wanted (BadField 4) oe >>= λ current. Ok (record { addr = record { ip = i; port = p }; id = id; current = current })) ≡ Ok s
+    → (wanted (BadField 1) oi >>= λ i. wanted (BadField 2) op >>= λ p. wanted (BadField 3) oid >>= λ id. wanted (BadField 4) oe >>= λ current. Ok
+    (record { addr = record { ip = i; port = p }; id = id; current = current })) ≡ Ok s
     → SenderRead a b c d s
 sender_by a b c d s None op oid oe ei ep eid ee h = absurd cc
 sender_by a b c d s (Some i) None oid oe ei ep eid ee h = absurd cc
@@ -99,7 +100,8 @@ record MasterRead (a b c d : List ℕ) (m : OfMaster) : Type 0 where
   pub epoch : epoch d ≡ Some m.epoch
 
 master_by : (a b c d : List ℕ) (m : OfMaster) (on : Option (List ℕ)) (oi op : Option ℕ) (oe : Option (Option ℕ)) → name a ≡ on → ip b ≡ oi → canonical_port c ≡ op → epoch d ≡ oe
-    → (wanted (BadField 5) on >>= λ master. wanted (BadField 6) oi >>= λ i. wanted (BadField 7) op >>= λ p. wanted (BadField 8) oe >>= λ epoch. Ok (record { name = master; addr = record { ip = i; port = p }; epoch = epoch })) ≡ Ok m
+    → (wanted (BadField 5) on >>= λ master. wanted (BadField 6) oi >>= λ i. wanted (BadField 7) op >>= λ p. wanted (BadField 8) oe >>= λ epoch. Ok
+    (record { name = master; addr = record { ip = i; port = p }; epoch = epoch })) ≡ Ok m
     → MasterRead a b c d m
 master_by a b c d m None oi op oe en ei ep ee h = absurd cc
 master_by a b c d m (Some n) None op oe en ei ep ee h = absurd cc
@@ -124,7 +126,8 @@ record HelloMade (s : Sender) (m : OfMaster) (hello : Hello) : Type 0 where
   pub epoch : m.epoch ≡ Some hello.card.epoch
 
 made_by : (s : Sender) (m : OfMaster) (hello : Hello) (oc oe : Option ℕ) → s.current ≡ oc → m.epoch ≡ oe
-    → (wanted EpochTooLarge oc >>= λ current. wanted EpochTooLarge oe >>= λ epoch. Ok (record { addr = s.addr; id = s.id; current = current; master = m.name; card = record { epoch = epoch; addr = m.addr } })) ≡ Ok hello
+    → (wanted EpochTooLarge oc >>= λ current. wanted EpochTooLarge oe >>= λ epoch. Ok
+    (record { addr = s.addr; id = s.id; current = current; master = m.name; card = record { epoch = epoch; addr = m.addr } })) ≡ Ok hello
     → HelloMade s m hello
 made_by s m hello None oe ec ee h = absurd cc
 made_by s m hello (Some c) None ec ee h = absurd cc
@@ -151,7 +154,8 @@ record WordsOf (a b c d e f g h : List ℕ) (hello : Hello) : Type 0 where
   pub master_port : g ≡ decimal hello.card.addr.port
   pub epoch : h ≡ decimal hello.card.epoch
 
-words_of : (a b c d e f g h : List ℕ) (s : Sender) (m : OfMaster) (hello : Hello) → SenderRead a b c d s → MasterRead e f g h m → HelloMade s m hello → WordsOf a b c d e f g h hello
+words_of : (a b c d e f g h : List ℕ) (s : Sender) (m : OfMaster) (hello : Hello) → SenderRead a b c d s → MasterRead e f g h m → HelloMade s m hello →
+    WordsOf a b c d e f g h hello
 words_of a b c d e f g h s m hello sr mr made =
     let i = ip_is a hello.addr.ip (sr.ip ∙ ap (λ (x : Addr). Some x.ip) made.addr) in
     let p = canonical_is 1 65535 hello.addr.port b (sr.port ∙ ap (λ (x : Addr). Some x.port) made.addr) in
@@ -183,7 +187,8 @@ words_of a b c d e f g h s m hello sr mr made =
 spells : (a b c d e f g h : List ℕ) (hello : Hello) → WordsOf a b c d e f g h hello → SpellsHello (with_commas (a ∷ b ∷ c ∷ d ∷ e ∷ f ∷ g ∷ h ∷ [])) hello
 spells a b c d e f g h hello w =
     let words : a ∷ b ∷ c ∷ d ∷ e ∷ f ∷ g ∷ h ∷ []
-    ≡ ip_text hello.addr.ip ∷ decimal hello.addr.port ∷ id_text hello.id ∷ decimal hello.current ∷ hello.master ∷ ip_text hello.card.addr.ip ∷ decimal hello.card.addr.port ∷ decimal hello.card.epoch ∷ [] =
+    ≡ ip_text hello.addr.ip ∷ decimal hello.addr.port ∷ id_text hello.id ∷ decimal hello.current ∷ hello.master ∷ ip_text hello.card.addr.ip ∷ decimal hello.card.addr.port ∷
+    decimal hello.card.epoch ∷ [] =
     (λ t. w.ip t ∷ w.port t ∷ w.id t ∷ w.current t ∷ w.name t ∷ w.master_ip t ∷ w.master_port t ∷ w.epoch t ∷ []) in
     record { is_hello = w.valid; spelled = ap with_commas words }
 

@@ -139,7 +139,8 @@ given id role host port up down priority offset = record {
 
 read_by : (id : Option RunId) (role : DataRole) (master : Option Addr) (up : Bool) (d p o : ℕ)
     → ((i : RunId) → id ≡ Some i → IsRunId i) → ((a : Addr) → master ≡ Some a → IsAddr a) → d ≤ COUNT_MAX → p ≤ COUNT_MAX → o ≤ COUNT_MAX
-    → (let info : Info = record { id = id; role = role; master = master; link_up = up; link_down_s = d; priority = p; offset = o } in info_of_fields (fields_of (info_lines info)) ≡ Ok info)
+    → (let info : Info = record { id = id; role = role; master = master; link_up = up; link_down_s = d; priority = p; offset = o } in
+    info_of_fields (fields_of (info_lines info)) ≡ Ok info)
 read_by None role None up d p o hid hm hd hp ho =
     λ t. info_of_fields (given None (role_again role t) None None (up_again up t) (minus_again d hd t) (count_again p hp t) (minus_again o ho t))
 read_by None role (Some a) up d p o hid hm hd hp ho =

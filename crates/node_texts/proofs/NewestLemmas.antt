@@ -9,7 +9,8 @@ newest_twice : {X : Type 0} (a b c : Option X) → newest (newest a b) c ≡ new
 newest_twice a b None = refl
 newest_twice a b (Some x) = refl
 
-newest_line : (older : Fields) (line : List ℕ) (ls : List (List ℕ)) → newest_fields (newest_fields older (fields_of (line ∷ []))) (fields_of ls) ≡ newest_fields older (fields_of (line ∷ ls))
+newest_line : (older : Fields) (line : List ℕ) (ls : List (List ℕ)) →
+    newest_fields (newest_fields older (fields_of (line ∷ []))) (fields_of ls) ≡ newest_fields older (fields_of (line ∷ ls))
 newest_line older line ls =
     let one = fields_of (line ∷ []) in
     let more = fields_of ls in

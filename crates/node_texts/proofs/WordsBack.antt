@@ -20,7 +20,8 @@ pub record IsWithin (low high n : ℕ) (bytes : List ℕ) : Type 0 where
   pub least : low ≤ n
   pub most : n ≤ high
 
-canonical_by : (low high n : ℕ) (bytes : List ℕ) (o : Option ℕ) → number_within low high bytes ≡ o → then_some o (λ m. some_if (same_bytes bytes (decimal m)) m) ≡ Some n → IsWithin low high n bytes
+canonical_by : (low high n : ℕ) (bytes : List ℕ) (o : Option ℕ) → number_within low high bytes ≡ o → then_some o (λ m. some_if (same_bytes bytes (decimal m)) m) ≡ Some n →
+    IsWithin low high n bytes
 canonical_by low high n bytes None e h = absurd cc
 canonical_by low high n bytes (Some m) e h =
     let same : m ≡ n = (some_if-is (same_bytes bytes (decimal m)) m n h).1 in
@@ -70,7 +71,8 @@ quarters : (a b c d n : ℕ) → a ≤ 255 → b ≤ 255 → c ≤ 255 → d ≤
     → (n / 256 / 256 / 256 ≡ a) × (n / 256 / 256 % 256 ≡ b) × (n / 256 % 256 ≡ c) × (n % 256 ≡ d) × (n < 2 ^ 32)
 quarters a b c d n ha hb hc hd e = (omega arith, omega arith, omega arith, omega arith, omega arith)
 
-four_texts : (pa pb pc pd : List ℕ) (a b c d n : ℕ) → pa ≡ decimal a → pb ≡ decimal b → pc ≡ decimal c → pd ≡ decimal d → a ≤ 255 → b ≤ 255 → c ≤ 255 → d ≤ 255 → ((a * 256 + b) * 256 + c) * 256 + d ≡ n
+four_texts : (pa pb pc pd : List ℕ) (a b c d n : ℕ) → pa ≡ decimal a → pb ≡ decimal b → pc ≡ decimal c → pd ≡ decimal d → a ≤ 255 → b ≤ 255 → c ≤ 255 → d ≤ 255 →
+    ((a * 256 + b) * 256 + c) * 256 + d ≡ n
     → IsIp n (with_dots (pa ∷ pb ∷ pc ∷ pd ∷ []))
 unfolding with_dots
 four_texts pa pb pc pd a b c d n ea eb ec ed ha hb hc hd e =
@@ -181,7 +183,8 @@ pub record IsIdText (id : RunId) (bytes : List ℕ) : Type 0 where
   pub text : bytes ≡ id_text id
   pub valid : IsRunId id
 
-id_of_halves : (high low : List ℕ) → length high ≡ 32 → length low ≡ 8 → list_all is_hex high ≡ true → list_all is_hex low ≡ true → IsIdText (record { hi = hex_on 0 high; lo = hex_on 0 low }) (high ++ low)
+id_of_halves : (high low : List ℕ) → length high ≡ 32 → length low ≡ 8 → list_all is_hex high ≡ true → list_all is_hex low ≡ true →
+    IsIdText (record { hi = hex_on 0 high; lo = hex_on 0 low }) (high ++ low)
 id_of_halves high low lh ll h l = record {
   text = sym (ap (λ t. t ++ hex 8 (hex_on 0 low)) (hex-hex_on 32 high lh h) ∙ ap (λ t. high ++ t) (hex-hex_on 8 low ll l));
   valid = record { hi = hex_on-small 32 high lh h; lo = hex_on-small 8 low ll l };
@@ -190,7 +193,8 @@ id_of_halves high low lh ll h l = record {
 id_by : (bytes : List ℕ) → length bytes ≡ 40 → list_all is_hex bytes ≡ true → IsIdText (record { hi = hex_on 0 (take 32 bytes); lo = hex_on 0 (drop 32 bytes) }) bytes
 id_by bytes l h =
     let whole = take-append-drop 32 bytes in
-    let both = and_parts (list_all is_hex (take 32 bytes)) (list_all is_hex (drop 32 bytes)) (sym (list_all-append is_hex (take 32 bytes) (drop 32 bytes)) ∙ ap (list_all is_hex) whole ∙ h) in
+    let both = and_parts (list_all is_hex (take 32 bytes)) (list_all is_hex (drop 32 bytes))
+    (sym (list_all-append is_hex (take 32 bytes) (drop 32 bytes)) ∙ ap (list_all is_hex) whole ∙ h) in
     let high : length (take 32 bytes) ≡ 32 = length-take-le 32 bytes (omega arith) in
     let low : length (drop 32 bytes) ≡ 8 = omega (arith, length-drop 32 bytes) in
     subst (IsIdText (record { hi = hex_on 0 (take 32 bytes); lo = hex_on 0 (drop 32 bytes) })) whole (id_of_halves (take 32 bytes) (drop 32 bytes) high low both.0 both.1)

@@ -20,7 +20,8 @@ one_field old name value =
     added_both ANSWER_MAX old (spelling (bulk name)) (spelling (bulk value))
     ∙ ap (λ t. bounded (old ++ (spelling (bulk name) ++ t))) (sym (append-nil (spelling (bulk value))))
 
-pub field_of : (old mid new name value : List ℕ) → mid ≡ bounded (old ++ spelling (bulk name)) → new ≡ bounded (mid ++ spelling (bulk value)) → new ≡ bounded (old ++ fields_text ((name, value) ∷ []))
+pub field_of : (old mid new name value : List ℕ) → mid ≡ bounded (old ++ spelling (bulk name)) → new ≡ bounded (mid ++ spelling (bulk value)) →
+    new ≡ bounded (old ++ fields_text ((name, value) ∷ []))
 field_of old mid new name value e f = f ∙ ap (λ t. bounded (t ++ spelling (bulk value))) e ∙ one_field old name value
 
 -- some fields, and then others
@@ -44,5 +45,6 @@ pub headed : (count : ℕ) (fields : List (List ℕ × List ℕ)) (old mid new :
 headed count fields old mid new e f = f ∙ ap (λ t. bounded (t ++ fields_text fields)) e ∙ added_both ANSWER_MAX old (header count) (fields_text fields)
 
 -- a line of two texts and a number between them
-pub line_of : (old new before number behind end : List ℕ) → new ≡ bounded (old ++ (before ++ (number ++ (behind ++ end)))) → new ≡ bounded (old ++ (before ++ ((number ++ behind) ++ end)))
+pub line_of : (old new before number behind end : List ℕ) → new ≡ bounded (old ++ (before ++ (number ++ (behind ++ end)))) →
+    new ≡ bounded (old ++ (before ++ ((number ++ behind) ++ end)))
 line_of old new before number behind end e = e ∙ ap (λ t. bounded (old ++ (before ++ t))) (sym (append_assoc number behind end))

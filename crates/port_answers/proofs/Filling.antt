@@ -25,5 +25,6 @@ unfolding lists.bounded
 pushed_part before after piece short long e =
     let size : length after ≡ ANSWER_MAX = ap length e ∙ length-take-le ANSWER_MAX (before ++ piece) (omega (arith, length-append before piece)) in
     let front : Begins before after =
-    ap (take (length before)) e ∙ take-take (length before) ANSWER_MAX (before ++ piece) short ∙ take-append-le (length before) before piece (omega arith) ∙ take_all (length before) before (omega arith) in
+    ap (take (length before)) e ∙ take-take (length before) ANSWER_MAX (before ++ piece) short ∙ take-append-le (length before) before piece (omega arith) ∙
+    take_all (length before) before (omega arith) in
     (front, ap (λ (n : ℕ). take n (before ++ piece)) size ∙ sym e, size)

@@ -74,7 +74,8 @@ module _ (plan : Plan) (now : ℕ) (first : Core) (before : Option (List ℕ)) w
   bytes_asked : (core : Core) (asked : Result Command CommandFault) (f : Frame) → asked ≡ command_of f → (replied_to plan now core asked).bytes ≡ (replied plan now core f).bytes
   bytes_asked core asked f e = ap (λ k. (replied_to plan now core k).bytes) e
 
-  pub value_answered : (input written : List ℕ) (held : Held) (core : Core) (text : List ℕ) (answers : ℕ) (stored : Option (List ℕ)) (asked : Result Command CommandFault) (after : Held)
+  pub value_answered : (input written : List ℕ) (held : Held) (core : Core) (text : List ℕ) (answers : ℕ) (stored : Option (List ℕ)) (asked : Result Command CommandFault)
+      (after : Held)
       → IsAnswered plan now first before input written held core text answers stored → Asks held (Ok (Some asked)) after → (later : Option (List ℕ))
       → Holds plan.conf first.kept before (replied_to plan now core asked).core.kept later
       → IsAnswered plan now first before input written after (replied_to plan now core asked).core (text ++ (replied_to plan now core asked).bytes) (answers + 1) later
@@ -87,7 +88,8 @@ module _ (plan : Plan) (now : ℕ) (first : Core) (before : Option (List ℕ)) w
         held_is = next.1;
         parts = next.2;
         core_is = core_asked core asked given.0 given.2 ∙ core_next a.values core given.0 a.core_is;
-        text_is = ap (λ b. written ++ (text ++ b)) (bytes_asked core asked given.0 given.2) ∙ sym (append_assoc written text bytes) ∙ ap (λ t. t ++ bytes) a.text_is ∙ sym (answers_next a.values core given.0 a.core_is);
+        text_is = ap (λ b. written ++ (text ++ b)) (bytes_asked core asked given.0 given.2) ∙ sym (append_assoc written text bytes) ∙ ap (λ t. t ++ bytes) a.text_is ∙
+            sym (answers_next a.values core given.0 a.core_is);
         answers_is = ap (λ n. n + 1) a.answers_is ∙ sym (length-append a.values (given.0 ∷ []));
         stored_is = h;
       }
@@ -120,7 +122,8 @@ module _ (plan : Plan) (now : ℕ) (first : Core) (before : Option (List ℕ)) w
   }
 
   -- the value that couldn't be answered was taken, or it wasn't; the store holds what is kept before it or behind it
-  stuck : (input written : List ℕ) (held : Held) (core : Core) (text : List ℕ) (answers : ℕ) (stored : Option (List ℕ)) (asked : Result Command CommandFault) (after : Held) (later : Option (List ℕ)) (text2 : List ℕ) (core2 : Core)
+  stuck : (input written : List ℕ) (held : Held) (core : Core) (text : List ℕ) (answers : ℕ) (stored : Option (List ℕ)) (asked : Result Command CommandFault) (after : Held)
+      (later : Option (List ℕ)) (text2 : List ℕ) (core2 : Core)
       → IsAnswered plan now first before input written held core text answers stored → Asks held (Ok (Some asked)) after → text2 ≡ text
       → (core2 ≡ core) ⊎ (core2 ≡ (replied_to plan now core asked).core)
       → Holds plan.conf first.kept before core.kept later ⊎ Holds plan.conf first.kept before core2.kept later
@@ -166,7 +169,8 @@ module _ (plan : Plan) (now : ℕ) (first : Core) (before : Option (List ℕ)) w
   breaks_stuck input written text core stored Halted e a = a
   breaks_stuck input written text core stored NoMemoryLeft e a = a
 
-  pub breaks_answer : (input written : List ℕ) (held : Held) (core : Core) (text : List ℕ) (answers : ℕ) (stored : Option (List ℕ)) (asked : Result Command CommandFault) (after : Held) (later : Option (List ℕ)) (text2 : List ℕ) (core2 : Core)
+  pub breaks_answer : (input written : List ℕ) (held : Held) (core : Core) (text : List ℕ) (answers : ℕ) (stored : Option (List ℕ)) (asked : Result Command CommandFault)
+      (after : Held) (later : Option (List ℕ)) (text2 : List ℕ) (core2 : Core)
       (why : ServeFault) → (why ≡ Halted) ⊎ (why ≡ NoMemoryLeft)
       → IsAnswered plan now first before input written held core text answers stored → Asks held (Ok (Some asked)) after → text2 ≡ text
       → (core2 ≡ core) ⊎ (core2 ≡ (replied_to plan now core asked).core)
@@ -200,7 +204,14 @@ module _ (plan : Plan) (now : ℕ) (first : Core) (before : Option (List ℕ)) w
       breaks_frame_by input written text core stored f (stuck_here input written held core text answers stored a)
       (elim (fault_asked input a.values held f after (so_far input written held core text answers stored a) given) [
         | inl none ↦ inl none
-        | inr shows ↦ inr (record { values = a.values; splits = shows; text_is = a.text_is; core_is = a.core_is; stored_is = held_after a.values core stored a.core_is a.stored_is })
+        | inr shows ↦ inr (record {
+          values = a.values;
+          splits = shows;
+          text_is = a.text_is;
+          core_is = a.core_is;
+          stored_is =
+              held_after a.values core stored a.core_is a.stored_is;
+        })
       ])
 
   -- ---- one piece more
@@ -213,7 +224,8 @@ module _ (plan : Plan) (now : ℕ) (first : Core) (before : Option (List ℕ)) w
       record { values = a.values; rest = next.0; held_is = next.1; parts = next.2; core_is = a.core_is; text_is = a.text_is; answers_is = a.answers_is; stored_is = a.stored_is }
 
   -- after a piece that was taken in
-  pub fed_by : {X : Type 0} (answer : Result X FrameFault) (input piece written : List ℕ) (held : Held) (core : Core) (text : List ℕ) (answers : ℕ) (stored : Option (List ℕ)) (after : Held)
+  pub fed_by : {X : Type 0} (answer : Result X FrameFault) (input piece written : List ℕ) (held : Held) (core : Core) (text : List ℕ) (answers : ℕ) (stored : Option (List ℕ))
+      (after : Held)
       → IsAnswered plan now first before input written held core text answers stored → is_err answer ≡ false → Feeds held piece answer after
       → IsAnswered plan now first before (input ++ piece) written after core text answers stored
   fed_by (Ok x) input piece written held core text answers stored after a ok given = fed input piece written held core text answers stored after x a given
@@ -261,7 +273,8 @@ module _ (plan : Plan) (now : ℕ) (first : Core) (before : Option (List ℕ)) w
     none_left = refl;
   }
 
-  pub idle_cut : (input written : List ℕ) (held : Held) (core : Core) (text : List ℕ) (answers : ℕ) (stored : Option (List ℕ)) → IsIdle plan now first before input written held core text answers stored
+  pub idle_cut : (input written : List ℕ) (held : Held) (core : Core) (text : List ℕ) (answers : ℕ) (stored : Option (List ℕ)) →
+      IsIdle plan now first before input written held core text answers stored
       → IsCut plan now first before input written core stored
   idle_cut input written held core text answers stored idle =
       subst (λ (w : List ℕ). IsCut plan now first before input w core stored) (append-nil written) (cut_here input written held core text answers stored idle.answered)
@@ -287,7 +300,8 @@ module _ (plan : Plan) (now : ℕ) (first : Core) (before : Option (List ℕ)) w
 
   -- ---- faults
 
-  pub cut_before_fault : (input written : List ℕ) (f : FrameFault) (text : List ℕ) (core : Core) (stored : Option (List ℕ)) (count : ℕ) → IsFaulted plan now first before input written f text core stored
+  pub cut_before_fault : (input written : List ℕ) (f : FrameFault) (text : List ℕ) (core : Core) (stored : Option (List ℕ)) (count : ℕ) →
+      IsFaulted plan now first before input written f text core stored
       → IsCut plan now first before input (written ++ take count text) core stored
   cut_before_fault input written f text core stored count a = record {
     values = a.values;
@@ -299,7 +313,8 @@ module _ (plan : Plan) (now : ℕ) (first : Core) (before : Option (List ℕ)) w
     left = left_here a.values core stored a.core_is a.stored_is;
   }
 
-  cut_at_fault : (input written : List ℕ) (f : FrameFault) (text : List ℕ) (core : Core) (stored : Option (List ℕ)) (count : ℕ) → IsFaulted plan now first before input written f text core stored
+  cut_at_fault : (input written : List ℕ) (f : FrameFault) (text : List ℕ) (core : Core) (stored : Option (List ℕ)) (count : ℕ) →
+      IsFaulted plan now first before input written f text core stored
       → IsCutAtRefusal plan now first before input (written ++ (text ++ take count last_line)) core stored
   cut_at_fault input written f text core stored count a = record {
     values = a.values;
@@ -323,7 +338,8 @@ module _ (plan : Plan) (now : ℕ) (first : Core) (before : Option (List ℕ)) w
 
   -- ---- what the functions that write make of it
 
-  pub refusal_by : {X : Type 0} (answer : Result X ServeFault) (input written : List ℕ) (f : FrameFault) (text : List ℕ) (core : Core) (stored : Option (List ℕ)) (old mid new : Option (List ℕ))
+  pub refusal_by : {X : Type 0} (answer : Result X ServeFault) (input written : List ℕ) (f : FrameFault) (text : List ℕ) (core : Core) (stored : Option (List ℕ))
+      (old mid new : Option (List ℕ))
       → Appends old mid text → OnOk answer (Appends mid new last_line) → (count : ℕ) × Appends mid new (take count last_line)
       → IsFaulted plan now first before input written f text core stored
       → (more : List ℕ) × Appends old new more × IsRefusal plan now first before input (written ++ more) f answer core stored
@@ -371,7 +387,8 @@ module _ (plan : Plan) (now : ℕ) (first : Core) (before : Option (List ℕ)) w
   ends_cut input written core stored NoMemoryLeft other a = a
 
   -- a fault that isn't the bytes' own: a first part of the answers that were left was written
-  pub ends_with_part : (input written text : List ℕ) (core : Core) (stored : Option (List ℕ)) (why : ServeFault) (old new : Option (List ℕ)) → ((f : FrameFault) → why ≢ FaultyFrame f)
+  pub ends_with_part : (input written text : List ℕ) (core : Core) (stored : Option (List ℕ)) (why : ServeFault) (old new : Option (List ℕ)) →
+      ((f : FrameFault) → why ≢ FaultyFrame f)
       → Breaks plan now first before input written why text core stored → (count : ℕ) × Appends old new (take count text)
       → (more : List ℕ) × Appends old new more × EndsWith plan now first before input (written ++ more) (Err why) core stored
   ends_with_part input written text core stored why old new other b part =
@@ -379,7 +396,8 @@ module _ (plan : Plan) (now : ℕ) (first : Core) (before : Option (List ℕ)) w
 
   -- ---- the end
 
-  pub served : (input written : List ℕ) (held : Held) (core : Core) (text : List ℕ) (answers : ℕ) (stored : Option (List ℕ)) → IsIdle plan now first before input written held core text answers stored
+  pub served : (input written : List ℕ) (held : Held) (core : Core) (text : List ℕ) (answers : ℕ) (stored : Option (List ℕ)) →
+      IsIdle plan now first before input written held core text answers stored
       → IsServed plan now first before input written answers core stored
   served input written held core text answers stored idle =
       let a = idle.answered in
@@ -423,7 +441,8 @@ spelled_longer [] = omega arith
 spelled_longer (value ∷ values) = omega (arith, ap length (first_byte value).2, spelled_longer values, length-append (spelling value) (flat_map spelling values))
 
 -- each answer and each byte held has a byte of the input
-pub answers_counted : (plan : Plan) (now : ℕ) (first : Core) (before : Option (List ℕ)) (input written : List ℕ) (held : Held) (core : Core) (text : List ℕ) (answers : ℕ) (stored : Option (List ℕ))
+pub answers_counted : (plan : Plan) (now : ℕ) (first : Core) (before : Option (List ℕ)) (input written : List ℕ) (held : Held) (core : Core) (text : List ℕ) (answers : ℕ)
+    (stored : Option (List ℕ))
     → IsAnswered plan now first before input written held core text answers stored → answers + held_size held ≤ length input
 answers_counted plan now first before input written held core text answers stored a =
     let size : held_size held ≡ length a.rest = ap held_size a.held_is in

@@ -27,25 +27,29 @@ frame_writable plan core (PromoteTo target) within = tt
 frame_writable plan core (FollowTo target m) within = tt
 frame_writable plan core (NoteOf m old) within = tt
 
-frames_writable : (plan : Plan) (core : Core) (frames : List Frame) → All IsWithinOutput (map (output_of plan core) frames) → AllByRecursion IsWritableOutput (map (output_of plan core) frames)
+frames_writable : (plan : Plan) (core : Core) (frames : List Frame) → All IsWithinOutput (map (output_of plan core) frames) →
+    AllByRecursion IsWritableOutput (map (output_of plan core) frames)
 frames_writable plan core [] within = tt
 frames_writable plan core (frame ∷ frames) within = (
   frame_writable plan core frame (All-head IsWithinOutput (output_of plan core frame) (map (output_of plan core) frames) within),
   frames_writable plan core frames (All-tail IsWithinOutput (output_of plan core frame) (map (output_of plan core) frames) within),
 )
 
-outputs_at : (plan : Plan) (now : ℕ) (event : Event) (core : Core) → IsKeptPart plan.conf (next_at plan now event core).core.kept → All IsWithinOutput (next_at plan now event core).outputs
+outputs_at : (plan : Plan) (now : ℕ) (event : Event) (core : Core) → IsKeptPart plan.conf (next_at plan now event core).core.kept →
+    All IsWithinOutput (next_at plan now event core).outputs
     → AllByRecursion IsWritableOutput (next_at plan now event core).outputs
 outputs_at plan now (Commanded sender c) core kept within = (command_writable plan now c core kept, tt)
 outputs_at plan now (Tick m random) core kept within = frames_writable plan (part_of plan now (Tick m random) core).core (part_of plan now (Tick m random) core).frames within
 outputs_at plan now (AnswerCame voter m addr down leader epoch) core kept within = tt
 outputs_at plan now (Pinged node reply) core kept within = tt
-outputs_at plan now (InfoRead node text) core kept within = frames_writable plan (part_of plan now (InfoRead node text) core).core (part_of plan now (InfoRead node text) core).frames within
+outputs_at plan now (InfoRead node text) core kept within = frames_writable plan (part_of plan now (InfoRead node text) core).core
+    (part_of plan now (InfoRead node text) core).frames within
 outputs_at plan now (HelloRead text) core kept within = frames_writable plan (part_of plan now (HelloRead text) core).core (part_of plan now (HelloRead text) core).frames within
 outputs_at plan now (Become priority offset link_down) core kept within = tt
 outputs_at plan now (Handed message) core kept within = tt
 
 -- of a Sentinel that keeps a part of its file after the input
-pub outputs_writable : (plan : Plan) (core : Core) (now : ℕ) (event : Event) → IsKeptPart plan.conf (next plan core now event).core.kept → All IsWithinOutput (next plan core now event).outputs
+pub outputs_writable : (plan : Plan) (core : Core) (now : ℕ) (event : Event) → IsKeptPart plan.conf (next plan core now event).core.kept →
+    All IsWithinOutput (next plan core now event).outputs
     → AllByRecursion IsWritableOutput (next plan core now event).outputs
 outputs_writable plan core now event = outputs_at plan (clock now) event (cleared core)

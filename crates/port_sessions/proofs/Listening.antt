@@ -17,7 +17,8 @@ pong_bytes =
 -- how each note begins
 abbrev pub note_front : List ℕ
 note_front =
-    42 ∷ 51 ∷ 13 ∷ 10 ∷ 36 ∷ 55 ∷ 13 ∷ 10 ∷ 109 ∷ 101 ∷ 115 ∷ 115 ∷ 97 ∷ 103 ∷ 101 ∷ 13 ∷ 10 ∷ 36 ∷ 49 ∷ 52 ∷ 13 ∷ 10 ∷ 43 ∷ 115 ∷ 119 ∷ 105 ∷ 116 ∷ 99 ∷ 104 ∷ 45 ∷ 109 ∷ 97 ∷ 115 ∷ 116 ∷ 101 ∷ 114 ∷ 13 ∷ 10 ∷ []
+    42 ∷ 51 ∷ 13 ∷ 10 ∷ 36 ∷ 55 ∷ 13 ∷ 10 ∷ 109 ∷ 101 ∷ 115 ∷ 115 ∷ 97 ∷ 103 ∷ 101 ∷ 13 ∷ 10 ∷ 36 ∷ 49 ∷ 52 ∷ 13 ∷ 10 ∷ 43 ∷ 115 ∷ 119 ∷ 105 ∷ 116 ∷ 99 ∷ 104 ∷ 45 ∷ 109 ∷ 97 ∷
+    115 ∷ 116 ∷ 101 ∷ 114 ∷ 13 ∷ 10 ∷ []
 
 pub note_bytes : (text : List ℕ) → note_front ++ spelling (bulk text) ≡ spelling (message_frame text)
 note_bytes text =

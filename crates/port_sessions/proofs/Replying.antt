@@ -42,7 +42,8 @@ module _ (start : World) (now : ℕ) where
       subst (λ (l : Option ℕ). RespondsAt start now l v command bytes (party w after)) (sym silent) (r, same)
 
   -- the answer to an address
-  pub told_written : {X : Type 0} (v : View) (listens : Option ℕ) (name : Option (List ℕ)) (answer : Result X ServeFault) (text : List ℕ) (told : Option Shown) (body : Body) (w : View)
+  pub told_written : {X : Type 0} (v : View) (listens : Option ℕ) (name : Option (List ℕ)) (answer : Result X ServeFault) (text : List ℕ) (told : Option Shown) (body : Body)
+      (w : View)
       → listens ≡ None → body ≡ AddressAnswer told → OnOk answer (text ≡ message_bytes body) → IfErr answer (λ fault. fault ≡ OutOfMemory)
       → IsTold start v (named start.plan name) told w → Ends start now (party v listens) (Ok (GetMasterAddrByName name)) answer text (party w listens)
   told_written v listens name answer text told body w silent body_is ok err h =
@@ -50,7 +51,8 @@ module _ (start : World) (now : ℕ) where
       (silent_one v listens listens (Ok (GetMasterAddrByName name)) (message_bytes body) w silent silent (told, ap message_bytes body_is, h))
 
   -- a command that takes a turn is answered by what it shows
-  by_turn : (v : View) (command : Command) (bytes : List ℕ) (w : View) → takes_turn command ≡ true → TakesTurn start now v command bytes w → Replies start now v (Ok command) bytes w
+  by_turn : (v : View) (command : Command) (bytes : List ℕ) (w : View) → takes_turn command ≡ true → TakesTurn start now v command bytes w →
+      Replies start now v (Ok command) bytes w
   by_turn v Ping bytes w t h = h
   by_turn v (IsMasterDownByAddr addr epoch candidate) bytes w t h = h
   by_turn v (GetMasterAddrByName name) bytes w t h = absurd (true≢false (sym t))
@@ -63,7 +65,8 @@ module _ (start : World) (now : ℕ) where
   by_turn v FlushConfig bytes w t h = h
   by_turn v Subscribe bytes w t h = h
 
-  pub turn_written : {X : Type 0} (v : View) (listens after : Option ℕ) (command : Command) (shown : List Output) (answer : Result X ServeFault) (text : List ℕ) (message : Message) (w : View)
+  pub turn_written : {X : Type 0} (v : View) (listens after : Option ℕ) (command : Command) (shown : List Output) (answer : Result X ServeFault) (text : List ℕ)
+      (message : Message) (w : View)
       → listens ≡ None → after ≡ listens_after (Ok command) w → takes_turn command ≡ true → (h : ShowsAnswer start now v command shown w) → message ≡ h.0
       → OnOk answer (text ≡ message_bytes message.body) → IfErr answer (λ fault. fault ≡ OutOfMemory) → Ends start now (party v listens) (Ok command) answer text (party w after)
   turn_written v listens after command shown answer text message w silent listening t h same ok err =

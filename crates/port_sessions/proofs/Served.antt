@@ -71,7 +71,8 @@ turn_served start now v w command bytes h =
     let at_core = ap (λ (c : Core). flat_map output_bytes (next start.plan c now event).outputs) settled in
     inr (history, (legal.0, first_steps start history (a.1 ∷ []) legal.1), (a.0, refl), by_rules ∙ at_plan ∙ at_core)
 
-served_by : (start : World) (now : ℕ) (v w : View) (command : Result Command CommandFault) (bytes : List ℕ) → Replies start now v command bytes w → IsServedBy start now v command bytes
+served_by : (start : World) (now : ℕ) (v w : View) (command : Result Command CommandFault) (bytes : List ℕ) → Replies start now v command bytes w →
+    IsServedBy start now v command bytes
 served_by start now v w (Err fault) bytes h = inl (λ core. h.0)
 served_by start now v w (Ok Ping) bytes h = turn_served start now v w Ping bytes h
 served_by start now v w (Ok (IsMasterDownByAddr addr epoch candidate)) bytes h = turn_served start now v w (IsMasterDownByAddr addr epoch candidate) bytes h

@@ -78,7 +78,8 @@ better_irrefl a = rises_irrefl a.priority _ (rises_irrefl a.offset _ (id_irrefl 
 abbrev IsBest : List Candidate → (now : ℕ) → Limits → (n : ℕ) → Option ℕ → Type 0
 IsBest candidates now limits n choice = MatchOption choice (HasNoEligible candidates now limits n) (IsChoice candidates now limits n)
 
-first : (candidates : List Candidate) (now : ℕ) (limits : Limits) (n : ℕ) (eligible : Bool) → is_eligible now limits (candidate_at candidates n) ≡ eligible → HasNoEligible candidates now limits n → IsBest candidates now limits (suc n) (cond eligible (Some n) None)
+first : (candidates : List Candidate) (now : ℕ) (limits : Limits) (n : ℕ) (eligible : Bool) → is_eligible now limits (candidate_at candidates n) ≡ eligible →
+    HasNoEligible candidates now limits n → IsBest candidates now limits (suc n) (cond eligible (Some n) None)
 first candidates now limits n true e none =
     record {
       place = omega arith;
@@ -92,7 +93,8 @@ first candidates now limits n true e none =
 first candidates now limits n false e none =
     λ i lt. ⊎_elim (λ l. none i l) (λ same. rw same e) (below_suc i n lt)
 
-replaced : (candidates : List Candidate) (now : ℕ) (limits : Limits) (n best : ℕ) → IsEligiblePlace candidates now limits n → is_better (candidate_at candidates n) (candidate_at candidates best) ≡ true → IsChoice candidates now limits n best → IsChoice candidates now limits (suc n) n
+replaced : (candidates : List Candidate) (now : ℕ) (limits : Limits) (n best : ℕ) → IsEligiblePlace candidates now limits n →
+    is_better (candidate_at candidates n) (candidate_at candidates best) ≡ true → IsChoice candidates now limits n best → IsChoice candidates now limits (suc n) n
 replaced candidates now limits n best e b choice =
     record {
       place = omega arith;
@@ -114,7 +116,9 @@ replaced candidates now limits n best e b choice =
         known true h = choice.none_better i l el (inl h)
         known false h = let won = better_above (candidate_at candidates n) (candidate_at candidates best) (candidate_at candidates i) b h in cc
 
-kept : (candidates : List Candidate) (now : ℕ) (limits : Limits) (n best : ℕ) → (IsEligiblePlace candidates now limits n → is_better (candidate_at candidates n) (candidate_at candidates best) ≡ false) → IsChoice candidates now limits n best → IsChoice candidates now limits (suc n) best
+kept : (candidates : List Candidate) (now : ℕ) (limits : Limits) (n best : ℕ) →
+    (IsEligiblePlace candidates now limits n → is_better (candidate_at candidates n) (candidate_at candidates best) ≡ false) → IsChoice candidates now limits n best →
+    IsChoice candidates now limits (suc n) best
 kept candidates now limits n best lost choice =
     record {
       place = let l = choice.place in omega arith;
@@ -122,21 +126,27 @@ kept candidates now limits n best lost choice =
       none_better = λ i lt el better.
           ⊎_elim
           (λ l. choice.none_better i l el better)
-          (λ same. ⊎_elim (λ h. let n_el : IsEligiblePlace candidates now limits n = rw (← same) el in let not = lost n_el in cc) (λ h. absurd (let l = choice.place in omega (arith, h.1))) better)
+          (λ same. ⊎_elim (λ h. let n_el : IsEligiblePlace candidates now limits n = rw (← same) el in let not = lost n_el in cc)
+          (λ h. absurd (let l = choice.place in omega (arith, h.1))) better)
           (below_suc i n lt);
     }
 
-further : (candidates : List Candidate) (now : ℕ) (limits : Limits) (n best : ℕ) (eligible better : Bool) → is_eligible now limits (candidate_at candidates n) ≡ eligible → is_better (candidate_at candidates n) (candidate_at candidates best) ≡ better → IsChoice candidates now limits n best → IsBest candidates now limits (suc n) (cond (eligible && better) (Some n) (Some best))
+further : (candidates : List Candidate) (now : ℕ) (limits : Limits) (n best : ℕ) (eligible better : Bool) → is_eligible now limits (candidate_at candidates n) ≡ eligible →
+    is_better (candidate_at candidates n) (candidate_at candidates best) ≡ better → IsChoice candidates now limits n best →
+    IsBest candidates now limits (suc n) (cond (eligible && better) (Some n) (Some best))
 further candidates now limits n best true true e b choice = replaced candidates now limits n best e b choice
 further candidates now limits n best true false e b choice = kept candidates now limits n best (λ _. b) choice
 further candidates now limits n best false better e b choice = kept candidates now limits n best (λ el. cc) choice
 
-more : (candidates : List Candidate) (now : ℕ) (limits : Limits) (n : ℕ) (choice : Option ℕ) → IsBest candidates now limits n choice → IsBest candidates now limits (suc n) (with_place candidates now limits choice n)
+more : (candidates : List Candidate) (now : ℕ) (limits : Limits) (n : ℕ) (choice : Option ℕ) → IsBest candidates now limits n choice →
+    IsBest candidates now limits (suc n) (with_place candidates now limits choice n)
 more candidates now limits n None none = first candidates now limits n (is_eligible now limits (candidate_at candidates n)) refl none
 more candidates now limits n (Some best) choice =
-    further candidates now limits n best (is_eligible now limits (candidate_at candidates n)) (is_better (candidate_at candidates n) (candidate_at candidates best)) refl refl choice
+    further candidates now limits n best (is_eligible now limits (candidate_at candidates n)) (is_better (candidate_at candidates n) (candidate_at candidates best)) refl refl
+    choice
 
-choice_below-best : (candidates : List Candidate) (now : ℕ) (limits : Limits) (n : ℕ) → MatchOption (choice_below candidates now limits n) (HasNoEligible candidates now limits n) (IsChoice candidates now limits n)
+choice_below-best : (candidates : List Candidate) (now : ℕ) (limits : Limits) (n : ℕ) →
+    MatchOption (choice_below candidates now limits n) (HasNoEligible candidates now limits n) (IsChoice candidates now limits n)
 choice_below-best candidates now limits zero = λ i lt. absurd (omega arith)
 choice_below-best candidates now limits (suc n) = more candidates now limits n (choice_below candidates now limits n) (choice_below-best candidates now limits n)
 
@@ -149,14 +159,17 @@ IsEligible-choice_of candidates now limits = known (choice_of candidates now lim
     known None best = tt
     known (Some place) best = (best.place, best.eligible)
 
-pub none_better-choice_of : (candidates : List Candidate) (now : ℕ) (limits : Limits) → IfSome (choice_of candidates now limits) (λ best. (place : ℕ) → IsEligible candidates now limits place → ¬ IsBetter candidates place best)
+pub none_better-choice_of : (candidates : List Candidate) (now : ℕ) (limits : Limits) →
+    IfSome (choice_of candidates now limits) (λ best. (place : ℕ) → IsEligible candidates now limits place → ¬ IsBetter candidates place best)
 none_better-choice_of candidates now limits = known (choice_of candidates now limits) (choice_below-best candidates now limits (length candidates))
   where
-    known : (choice : Option ℕ) → IsBest candidates now limits (length candidates) choice → IfSome choice (λ best. (place : ℕ) → IsEligible candidates now limits place → ¬ IsBetter candidates place best)
+    known : (choice : Option ℕ) → IsBest candidates now limits (length candidates) choice →
+        IfSome choice (λ best. (place : ℕ) → IsEligible candidates now limits place → ¬ IsBetter candidates place best)
     known None best = tt
     known (Some chosen) best = λ place eligible. best.none_better place eligible.0 eligible.1
 
-pub IsNone-choice_of : (candidates : List Candidate) (now : ℕ) (limits : Limits) → IsNone (choice_of candidates now limits) ↔ ((place : ℕ) → ¬ IsEligible candidates now limits place)
+pub IsNone-choice_of : (candidates : List Candidate) (now : ℕ) (limits : Limits) →
+    IsNone (choice_of candidates now limits) ↔ ((place : ℕ) → ¬ IsEligible candidates now limits place)
 IsNone-choice_of candidates now limits = known (choice_of candidates now limits) (choice_below-best candidates now limits (length candidates))
   where
     known : (choice : Option ℕ) → IsBest candidates now limits (length candidates) choice → IsNone choice ↔ ((place : ℕ) → ¬ IsEligible candidates now limits place)

@@ -38,10 +38,12 @@ candidate_again (Some id) is =
     ap (λ (b : Bool). cond b (Some None) (then_some (run_id (id_text id)) (λ i. Some (Some i)))) (no_star (id_text id) (length-id_text id))
     ∙ ap (λ (o : Option RunId). then_some o (λ i. Some (Some i))) (run_id-id_text id is.hi is.lo)
 
-pub ask_again : (addr : Addr) (epoch : ℕ) (c : Option RunId) → IsAddr addr → epoch ≤ MAX_EPOCH → IsCandidate c → command_of (ask_frame addr epoch c) ≡ Ok (IsMasterDownByAddr addr epoch c)
+pub ask_again : (addr : Addr) (epoch : ℕ) (c : Option RunId) → IsAddr addr → epoch ≤ MAX_EPOCH → IsCandidate c →
+    command_of (ask_frame addr epoch c) ≡ Ok (IsMasterDownByAddr addr epoch c)
 ask_again addr epoch c is_addr most is_candidate =
     let read_epoch : canonical_within 0 MAX_EPOCH (decimal epoch) ≡ Some epoch = canonical_decimal 0 MAX_EPOCH epoch (omega arith) (omega arith) most in
-    ap (λ (o : Option Addr). wanted BadAddress o >>= λ a. wanted BadEpoch (canonical_within 0 MAX_EPOCH (decimal epoch)) >>= λ e. wanted BadRunId (candidate (candidate_text c)) >>= λ k. Ok (IsMasterDownByAddr a e k)) (address_again addr is_addr)
+    ap (λ (o : Option Addr). wanted BadAddress o >>= λ a. wanted BadEpoch (canonical_within 0 MAX_EPOCH (decimal epoch)) >>= λ e. wanted BadRunId (candidate (candidate_text c))
+    >>= λ k. Ok (IsMasterDownByAddr a e k)) (address_again addr is_addr)
     ∙ ap (λ (o : Option ℕ). wanted BadEpoch o >>= λ e. wanted BadRunId (candidate (candidate_text c)) >>= λ k. Ok (IsMasterDownByAddr addr e k)) read_epoch
     ∙ ap (λ (o : Option (Option RunId)). wanted BadRunId o >>= λ k. Ok (IsMasterDownByAddr addr epoch k)) (candidate_again c is_candidate)
 

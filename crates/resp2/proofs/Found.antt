@@ -145,7 +145,8 @@ address_found bytes behind word rest h d short =
     (sym (called commands h.0 (codes "sentinel") (h.1 ∷ word ∷ []) h.3.0 ∙ called subcommands h.1 (codes "get-master-addr-by-name") (word ∷ []) h.4.0))
 
 pub question_found : (bytes one two three last rest ip port epoch id : List ℕ) (asked : Result Command CommandFault)
-    → IsBehindNames 6 (codes "is-master-down-by-addr") bytes one → one ≡ spelling (bulk ip) ++ two → two ≡ spelling (bulk port) ++ three → three ≡ spelling (bulk epoch) ++ last → last ≡ spelling (bulk id) ++ rest
+    → IsBehindNames 6 (codes "is-master-down-by-addr") bytes one → one ≡ spelling (bulk ip) ++ two → two ≡ spelling (bulk port) ++ three → three ≡ spelling (bulk epoch) ++ last →
+    last ≡ spelling (bulk id) ++ rest
     → length ip ≤ 99 → length port ≤ 99 → length epoch ≤ 99 → length id ≤ 99
     → asked ≡ is_master_down_by_addr (ip ∷ port ∷ epoch ∷ id ∷ []) → Found bytes asked rest
 question_found bytes one two three last rest ip port epoch id asked h a b c d la lb lc ld is =
@@ -160,7 +161,8 @@ question_found bytes one two three last rest ip port epoch id asked h a b c d la
 -- ---- readers
 
 -- the bytes behind a command, by their number
-pub found_count : (bytes rest : List ℕ) (asked : Result Command CommandFault) (count : ℕ) → Found bytes asked rest → count ≡ length bytes - length rest → Found bytes asked (drop count bytes)
+pub found_count : (bytes rest : List ℕ) (asked : Result Command CommandFault) (count : ℕ) → Found bytes asked rest → count ≡ length bytes - length rest →
+    Found bytes asked (drop count bytes)
 found_count bytes rest asked count h is =
     let text : bytes ≡ spelling h.0 ++ rest = (read_is_spelled bytes h.0 rest h.1).0 in
     let size : count ≡ length (spelling h.0) = omega (arith, is, ap length text, length-append (spelling h.0) rest) in
@@ -183,7 +185,8 @@ asks_fault (reading bytes) after TooMany h = (null_bulk, h, tt)
 asks_fault (ended k) after f h = (null_bulk, ((let d = h.0 in cc), h.1), tt)
 
 -- a command that stands at the front was taken away
-pub asks_found : (before after : Held) (asked : Result Command CommandFault) (count : ℕ) → before ≡ reading (bytes_in before) → Found (bytes_in before) asked (drop count (bytes_in before))
+pub asks_found : (before after : Held) (asked : Result Command CommandFault) (count : ℕ) → before ≡ reading (bytes_in before) →
+    Found (bytes_in before) asked (drop count (bytes_in before))
     → after ≡ reading (drop count (bytes_in before)) → Asks before (Ok (Some asked)) after
 asks_found (reading bytes) after asked count open_is h e = (h.0, (drop count bytes, h.1, e), h.2)
 asks_found (ended k) after asked count open_is h e = absurd (let d = open_is in cc)
@@ -191,7 +194,8 @@ asks_found (ended k) after asked count open_is h e = absurd (let d = open_is in 
 -- where a command stands at the front, no fault was answered
 pub found_open : (held : Held) (asked : Result Command CommandFault) (rest : List ℕ) → Found (bytes_in held) asked rest → held ≡ reading (bytes_in held)
 found_open (reading bytes) asked rest h = refl
-found_open (ended k) asked rest h = absurd (let some = spelled_some h.0 in let text : [] ≡ spelling h.0 ++ rest = (read_is_spelled [] h.0 rest h.1).0 in omega (arith, some, ap length text, length-append (spelling h.0) rest))
+found_open (ended k) asked rest h = absurd (let some = spelled_some h.0 in let text : [] ≡ spelling h.0 ++ rest = (read_is_spelled [] h.0 rest h.1).0 in
+    omega (arith, some, ap length text, length-append (spelling h.0) rest))
 
 -- ---- how much is held
 

@@ -65,7 +65,8 @@ depth_pos null_items = omega arith
 mutual
   unfolding value_at kind_at values_at
 
-  pub value_again : (f : Frame) (most more d : ℕ) (rest : List ℕ) → IsPlain f → depth_of f ≤ suc d → width_of f ≤ most → value_at most more (suc d) (spelling f ++ rest) ≡ Ok (f, rest)
+  pub value_again : (f : Frame) (most more d : ℕ) (rest : List ℕ) → IsPlain f → depth_of f ≤ suc d → width_of f ≤ most →
+      value_at most more (suc d) (spelling f ++ rest) ≡ Ok (f, rest)
   value_again (simple text) most more d rest plain deep wide = text_again simple text rest plain
   value_again (fault text) most more d rest plain deep wide = text_again fault text rest plain
   value_again (int n) most more d rest plain deep wide = integer_reads_again n rest plain
@@ -75,7 +76,8 @@ mutual
       items_again most (value_at most more d) fs rest plain.0 (omega arith) (values_again fs most more d rest plain.1 (omega arith) (omega arith))
   value_again null_items most more d rest plain deep wide = null_items_again most (value_at most more d) rest
 
-  pub values_again : (fs : FrameList) (most more d : ℕ) (rest : List ℕ) → ArePlain fs → deepest_of fs ≤ d → widest_of fs ≤ most → values_at (value_at most more d) (count fs) (spellings fs ++ rest) ≡ Ok (fs, rest)
+  pub values_again : (fs : FrameList) (most more d : ℕ) (rest : List ℕ) → ArePlain fs → deepest_of fs ≤ d → widest_of fs ≤ most →
+      values_at (value_at most more d) (count fs) (spellings fs ++ rest) ≡ Ok (fs, rest)
   values_again no_frames most more d rest plain deep wide = refl
   values_again (frame f fs) most more zero rest plain deep wide = let some = depth_pos f in absurd (omega arith)
   values_again (frame f fs) most more (suc d) rest plain deep wide =

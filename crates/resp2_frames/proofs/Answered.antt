@@ -27,7 +27,8 @@ contradicts bytes u f rest e frame front =
     let d = sym e ∙ ap frame_at same ∙ frame_again f rest frame in
     cc
 
-pub answers_only : (held : Held) (answer : Result (Option Value) FrameFault) (after : Held) (f : Frame) (rest : List ℕ) → Answers view held answer after → IsFrame f → held ≡ reading (spelling f ++ rest)
+pub answers_only : (held : Held) (answer : Result (Option Value) FrameFault) (after : Held) (f : Frame) (rest : List ℕ) → Answers view held answer after → IsFrame f →
+    held ≡ reading (spelling f ++ rest)
     → MatchResult answer (λ given. MatchOption given ⊥ (λ value. (view value ≡ f) × (after ≡ reading rest))) (λ fault. fault ≡ NoMemory)
 answers_only (reading bytes) (Ok (Some v)) after f rest h frame front =
     let same : bytes ≡ spelling f ++ rest = cc in

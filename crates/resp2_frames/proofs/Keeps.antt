@@ -13,11 +13,13 @@ use Rattle.resp2_frames.proofs.Lines.{end_stays, line_stays}
 
 text_stays : (kind : List ℕ → Frame) (p bytes : List ℕ) → Stays p (text_at kind bytes) (text_at kind (bytes ++ p))
 unfolding text_at
-text_stays kind p bytes = stays_then p (line_at bytes) (line_at (bytes ++ p)) (λ line. Ok (kind line.0, line.1)) (λ line. Ok (kind line.0, line.1)) (line_stays p bytes) (λ line rest. refl)
+text_stays kind p bytes = stays_then p (line_at bytes) (line_at (bytes ++ p)) (λ line. Ok (kind line.0, line.1)) (λ line. Ok (kind line.0, line.1)) (line_stays p bytes)
+    (λ line rest. refl)
 
 integer_stays : (p bytes : List ℕ) → Stays p (integer_at bytes) (integer_at (bytes ++ p))
 unfolding integer_at
-integer_stays p bytes = stays_then p (line_at bytes) (line_at (bytes ++ p)) (λ line. if_some (integer_of line.0) (λ n. Ok (int n, line.1)) (Err (Faulty BadNumber))) (λ line. if_some (integer_of line.0) (λ n. Ok (int n, line.1)) (Err (Faulty BadNumber))) (line_stays p bytes)
+integer_stays p bytes = stays_then p (line_at bytes) (line_at (bytes ++ p)) (λ line. if_some (integer_of line.0) (λ n. Ok (int n, line.1)) (Err (Faulty BadNumber)))
+    (λ line. if_some (integer_of line.0) (λ n. Ok (int n, line.1)) (Err (Faulty BadNumber))) (line_stays p bytes)
     (λ line rest. stays_some p (integer_of line) (λ n. Ok (int n, rest)) (λ n. Ok (int n, rest ++ p)) (Err (Faulty BadNumber)) (Err (Faulty BadNumber)) (λ n. refl) refl)
 
 block_stays : (p : List ℕ) (more n : ℕ) (bytes : List ℕ) → Stays p (block_at (more + length p) n bytes) (block_at more n (bytes ++ p))
@@ -28,7 +30,13 @@ block_stays p more n bytes =
       | inl lt ↦ rw (lt-ltb (length bytes + (more + length p)) (n + 2) lt, lt-ltb (length (bytes ++ p) + more) (n + 2) (omega arith)) refl
       | inr le ↦ rw (le-ltb (length bytes + (more + length p)) (n + 2) le, le-ltb (length (bytes ++ p) + more) (n + 2) (omega arith)) (elim (cases_lt (length bytes) n) [
         | inl lt ↦ rw (lt-ltb (length bytes) n lt) tt
-        | inr enough ↦ rw (le-ltb (length bytes) n enough, le-ltb (length (bytes ++ p)) n (omega (arith, length-append bytes p)), drop-append-le n bytes p enough, take-append-le n bytes p enough) (end_stays p (bulk (take n bytes)) (drop n bytes))
+        | inr enough ↦ rw (
+          le-ltb (length bytes) n enough,
+          le-ltb (length (bytes ++ p)) n (omega (arith, length-append bytes p)),
+          drop-append-le n bytes p enough,
+          take-append-le n
+              bytes p enough,
+        ) (end_stays p (bulk (take n bytes)) (drop n bytes))
       ])
     ]
 
@@ -42,12 +50,14 @@ bulk_stays p more bytes =
     (λ line rest. stays_after p (size_of line)
     (λ size. if_some size (λ n. block_at (more + length p) n rest) (Ok (null_bulk, rest)))
     (λ size. if_some size (λ n. block_at more n (rest ++ p)) (Ok (null_bulk, rest ++ p)))
-    (λ size. stays_some p size (λ n. block_at (more + length p) n rest) (λ n. block_at more n (rest ++ p)) (Ok (null_bulk, rest)) (Ok (null_bulk, rest ++ p)) (λ n. block_stays p more n rest) refl))
+    (λ size. stays_some p size (λ n. block_at (more + length p) n rest) (λ n. block_at more n (rest ++ p)) (Ok (null_bulk, rest)) (Ok (null_bulk, rest ++ p))
+    (λ n. block_stays p more n rest) refl))
 
 abbrev StaysEach : List ℕ → (List ℕ → Result (Frame × List ℕ) Unread) → (List ℕ → Result (Frame × List ℕ) Unread) → Type 0
 StaysEach p inner longer = (bytes : List ℕ) → Stays p (inner bytes) (longer (bytes ++ p))
 
-values_stay : (p : List ℕ) (inner longer : List ℕ → Result (Frame × List ℕ) Unread) → StaysEach p inner longer → (n : ℕ) (bytes : List ℕ) → Stays p (values_at inner n bytes) (values_at longer n (bytes ++ p))
+values_stay : (p : List ℕ) (inner longer : List ℕ → Result (Frame × List ℕ) Unread) → StaysEach p inner longer → (n : ℕ) (bytes : List ℕ) →
+    Stays p (values_at inner n bytes) (values_at longer n (bytes ++ p))
 unfolding values_at
 values_stay p inner longer h zero bytes = refl
 values_stay p inner longer h (suc n) bytes =
@@ -55,14 +65,18 @@ values_stay p inner longer h (suc n) bytes =
     (λ first. values_at inner n first.1 >>= λ others. Ok (frame first.0 others.0, others.1))
     (λ first. values_at longer n first.1 >>= λ others. Ok (frame first.0 others.0, others.1))
     (h bytes)
-    (λ f rest. stays_then p (values_at inner n rest) (values_at longer n (rest ++ p)) (λ others. Ok (frame f others.0, others.1)) (λ others. Ok (frame f others.0, others.1)) (values_stay p inner longer h n rest) (λ fs after. refl))
+    (λ f rest. stays_then p (values_at inner n rest) (values_at longer n (rest ++ p)) (λ others. Ok (frame f others.0, others.1)) (λ others. Ok (frame f others.0, others.1))
+    (values_stay p inner longer h n rest) (λ fs after. refl))
 
-items_stay : (p : List ℕ) (most : ℕ) (inner longer : List ℕ → Result (Frame × List ℕ) Unread) → StaysEach p inner longer → (bytes : List ℕ) → Stays p (items_at most inner bytes) (items_at most longer (bytes ++ p))
+items_stay : (p : List ℕ) (most : ℕ) (inner longer : List ℕ → Result (Frame × List ℕ) Unread) → StaysEach p inner longer → (bytes : List ℕ) →
+    Stays p (items_at most inner bytes) (items_at most longer (bytes ++ p))
 unfolding items_at
 items_stay p most inner longer h bytes =
     stays_then p (line_at bytes) (line_at (bytes ++ p))
-    (λ line. size_of line.0 >>= λ size. if_some size (λ n. cond (ltb most n) (Err (Faulty TooMany)) (values_at inner n line.1 >>= λ list. Ok (items list.0, list.1))) (Ok (null_items, line.1)))
-    (λ line. size_of line.0 >>= λ size. if_some size (λ n. cond (ltb most n) (Err (Faulty TooMany)) (values_at longer n line.1 >>= λ list. Ok (items list.0, list.1))) (Ok (null_items, line.1)))
+    (λ line. size_of line.0 >>= λ size. if_some size (λ n. cond (ltb most n) (Err (Faulty TooMany)) (values_at inner n line.1 >>= λ list. Ok (items list.0, list.1)))
+    (Ok (null_items, line.1)))
+    (λ line. size_of line.0 >>= λ size. if_some size (λ n. cond (ltb most n) (Err (Faulty TooMany)) (values_at longer n line.1 >>= λ list. Ok (items list.0, list.1)))
+    (Ok (null_items, line.1)))
     (line_stays p bytes)
     (λ line rest. stays_after p (size_of line)
     (λ size. if_some size (λ n. cond (ltb most n) (Err (Faulty TooMany)) (values_at inner n rest >>= λ list. Ok (items list.0, list.1))) (Ok (null_items, rest)))
@@ -73,7 +87,8 @@ items_stay p most inner longer h bytes =
     (Ok (null_items, rest)) (Ok (null_items, rest ++ p))
     (λ n. stays_cond p (ltb most n) (Err (Faulty TooMany)) (Err (Faulty TooMany))
     (values_at inner n rest >>= λ list. Ok (items list.0, list.1)) (values_at longer n (rest ++ p) >>= λ list. Ok (items list.0, list.1)) refl
-    (stays_then p (values_at inner n rest) (values_at longer n (rest ++ p)) (λ list. Ok (items list.0, list.1)) (λ list. Ok (items list.0, list.1)) (values_stay p inner longer h n rest) (λ fs after. refl)))
+    (stays_then p (values_at inner n rest) (values_at longer n (rest ++ p)) (λ list. Ok (items list.0, list.1)) (λ list. Ok (items list.0, list.1))
+    (values_stay p inner longer h n rest) (λ fs after. refl)))
     refl))
 
 kind_stays : (p : List ℕ) (most more : ℕ) (inner longer : List ℕ → Result (Frame × List ℕ) Unread) → StaysEach p inner longer → (kind : ℕ) (bytes : List ℕ)

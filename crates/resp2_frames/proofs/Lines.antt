@@ -30,14 +30,16 @@ end_takes bytes rest e =
 -- the end of a line or of a bulk stays where it is
 pub end_stays : {A : Type 0} (p : List ℕ) (x : A) (bytes : List ℕ) → Stays p (end_at bytes >>= λ rest. Ok (x, rest)) (end_at (bytes ++ p) >>= λ rest. Ok (x, rest))
 end_stays p x [] = tt
-end_stays p x (b ∷ bs) = elim (eqb b 13) as (λ v. Stays p ((cond v (Ok bs) (Err (Faulty MissingEnd)) >>= expect 10) >>= λ rest. Ok (x, rest)) ((cond v (Ok (bs ++ p)) (Err (Faulty MissingEnd)) >>= expect 10) >>= λ rest. Ok (x, rest))) [
-  | true ↦ second bs
-  | false ↦ refl
-]
+end_stays p x (b ∷ bs) = elim (eqb b 13) as (λ v. Stays p ((cond v (Ok bs) (Err (Faulty MissingEnd)) >>= expect 10) >>= λ rest. Ok (x, rest))
+    ((cond v (Ok (bs ++ p)) (Err (Faulty MissingEnd)) >>= expect 10) >>= λ rest. Ok (x, rest))) [
+      | true ↦ second bs
+      | false ↦ refl
+    ]
   where
     second : (cs : List ℕ) → Stays p (expect 10 cs >>= λ rest. Ok (x, rest)) (expect 10 (cs ++ p) >>= λ rest. Ok (x, rest))
     second [] = tt
-    second (c ∷ cs) = elim (eqb c 10) as (λ v. Stays p (cond v (Ok cs) (Err (Faulty MissingEnd)) >>= λ rest. Ok (x, rest)) (cond v (Ok (cs ++ p)) (Err (Faulty MissingEnd)) >>= λ rest. Ok (x, rest))) [ true ↦ refl | false ↦ refl ]
+    second (c ∷ cs) = elim (eqb c 10) as (λ v. Stays p (cond v (Ok cs) (Err (Faulty MissingEnd)) >>= λ rest. Ok (x, rest))
+        (cond v (Ok (cs ++ p)) (Err (Faulty MissingEnd)) >>= λ rest. Ok (x, rest))) [ true ↦ refl | false ↦ refl ]
 
 -- what answers PING is a line
 pub pong_line : IsLine (codes "PONG")
@@ -56,7 +58,8 @@ line_front (b ∷ bs) = at_test (line_front bs) (eqb b 13) (eqb b 10) refl refl
 
 pub line_length_le : (bytes : List ℕ) → line_length bytes ≤ length bytes
 line_length_le [] = omega arith
-line_length_le (b ∷ bs) = elim (eqb b 13 || eqb b 10) as (λ v. cond v 0 (suc (line_length bs)) ≤ suc (length bs)) [ true ↦ omega arith | false ↦ let h = line_length_le bs in omega arith ]
+line_length_le (b ∷ bs) = elim (eqb b 13 || eqb b 10) as (λ v. cond v 0 (suc (line_length bs)) ≤ suc (length bs))
+    [ true ↦ omega arith | false ↦ let h = line_length_le bs in omega arith ]
 
 -- a line that is followed by its end
 pub line_length_at : (line rest : List ℕ) → IsLine line → line_length (line ++ (13 ∷ rest)) ≡ length line

@@ -41,10 +41,12 @@ module _ (inner : List ℕ → Result (Frame × List ℕ) Unread) (front : List 
   unfolding values_at
   goes_on f after total lt h so_far =
       let k : count - i ≡ suc (count - (i + 1)) = omega arith in
-      let one : with_front front (values_at inner (count - i) bytes) ≡ with_front (front ++ f ∷ []) (values_at inner (count - (i + 1)) after) = rw (k, h) (regroup front f (values_at inner (count - (i + 1)) after)) in
+      let one : with_front front (values_at inner (count - i) bytes) ≡ with_front (front ++ f ∷ []) (values_at inner (count - (i + 1)) after) =
+      rw (k, h) (regroup front f (values_at inner (count - (i + 1)) after)) in
       sym one ∙ so_far
 
-  pub ends : (e : Stopped) (total : Result (FrameList × List ℕ) Unread) → i < count → Fails e (inner bytes) → with_front front (values_at inner (count - i) bytes) ≡ total → Fails e total
+  pub ends : (e : Stopped) (total : Result (FrameList × List ℕ) Unread) → i < count → Fails e (inner bytes) → with_front front (values_at inner (count - i) bytes) ≡ total →
+      Fails e total
   unfolding values_at
   ends Memory total lt h so_far = tt
   ends (At u) total lt h so_far =

@@ -41,11 +41,13 @@ named_end bytes = named_then (expect 13 bytes) (expect 10) (named_expect 13 byte
 
 named_line : (bytes : List ℕ) → Named (line_at bytes)
 unfolding line_at
-named_line bytes = named_then (end_at (drop (line_length bytes) bytes)) (λ rest. Ok (take (line_length bytes) bytes, rest)) (named_end (drop (line_length bytes) bytes)) (λ rest. tt)
+named_line bytes = named_then (end_at (drop (line_length bytes) bytes)) (λ rest. Ok (take (line_length bytes) bytes, rest)) (named_end (drop (line_length bytes) bytes))
+    (λ rest. tt)
 
 named_size : (line : List ℕ) → Named (size_of line)
 unfolding size_of
-named_size line = named_some (number_of line) (λ n. Ok (Some n)) (cond (bytes_eq line (45 ∷ 49 ∷ [])) (Ok None) (Err (Faulty BadLength))) (λ n. tt) (named_cond (bytes_eq line (45 ∷ 49 ∷ [])) (Ok None) (Err (Faulty BadLength)) tt tt)
+named_size line = named_some (number_of line) (λ n. Ok (Some n)) (cond (bytes_eq line (45 ∷ 49 ∷ [])) (Ok None) (Err (Faulty BadLength))) (λ n. tt)
+    (named_cond (bytes_eq line (45 ∷ 49 ∷ [])) (Ok None) (Err (Faulty BadLength)) tt tt)
 
 named_text : (kind : List ℕ → Frame) (bytes : List ℕ) → Named (text_at kind bytes)
 unfolding text_at
@@ -61,7 +63,8 @@ unfolding block_at
 named_block more n bytes =
     let last : Result (Frame × List ℕ) Unread = end_at (drop n bytes) >>= λ rest. Ok (bulk (take n bytes), rest) in
     named_cond (ltb (length bytes + more) (n + 2)) (Err (Faulty TooLong)) (cond (ltb (length bytes) n) (Err NeedsMore) last) tt
-    (named_cond (ltb (length bytes) n) (Err NeedsMore) last tt (named_then (end_at (drop n bytes)) (λ rest. Ok (bulk (take n bytes), rest)) (named_end (drop n bytes)) (λ rest. tt)))
+    (named_cond (ltb (length bytes) n) (Err NeedsMore) last tt
+    (named_then (end_at (drop n bytes)) (λ rest. Ok (bulk (take n bytes), rest)) (named_end (drop n bytes)) (λ rest. tt)))
 
 named_bulk : (more : ℕ) (bytes : List ℕ) → Named (bulk_at more bytes)
 unfolding bulk_at
@@ -78,14 +81,17 @@ named_values inner h (suc n) bytes = named_then (inner bytes) (λ first. values_
 named_items : (most : ℕ) (inner : List ℕ → Result (Frame × List ℕ) Unread) → ((bytes : List ℕ) → Named (inner bytes)) → (bytes : List ℕ) → Named (items_at most inner bytes)
 unfolding items_at
 named_items most inner h bytes =
-    named_then (line_at bytes) (λ line. size_of line.0 >>= λ size. if_some size (λ n. cond (ltb most n) (Err (Faulty TooMany)) (values_at inner n line.1 >>= λ list. Ok (items list.0, list.1))) (Ok (null_items, line.1))) (named_line bytes)
-    (λ line. named_then (size_of line.0) (λ size. if_some size (λ n. cond (ltb most n) (Err (Faulty TooMany)) (values_at inner n line.1 >>= λ list. Ok (items list.0, list.1))) (Ok (null_items, line.1))) (named_size line.0)
+    named_then (line_at bytes) (λ line. size_of line.0 >>= λ size. if_some size
+    (λ n. cond (ltb most n) (Err (Faulty TooMany)) (values_at inner n line.1 >>= λ list. Ok (items list.0, list.1))) (Ok (null_items, line.1))) (named_line bytes)
+    (λ line. named_then (size_of line.0) (λ size. if_some size (λ n. cond (ltb most n) (Err (Faulty TooMany)) (values_at inner n line.1 >>= λ list. Ok (items list.0, list.1)))
+    (Ok (null_items, line.1))) (named_size line.0)
     (λ size. named_some size (λ n. cond (ltb most n) (Err (Faulty TooMany)) (values_at inner n line.1 >>= λ list. Ok (items list.0, list.1))) (Ok (null_items, line.1))
     (λ n. named_cond (ltb most n) (Err (Faulty TooMany)) (values_at inner n line.1 >>= λ list. Ok (items list.0, list.1)) tt
     (named_then (values_at inner n line.1) (λ list. Ok (items list.0, list.1)) (named_values inner h n line.1) (λ list. tt)))
     tt))
 
-named_kind : (most more : ℕ) (inner : List ℕ → Result (Frame × List ℕ) Unread) → ((bytes : List ℕ) → Named (inner bytes)) → (kind : ℕ) (bytes : List ℕ) → Named (kind_at most more inner kind bytes)
+named_kind : (most more : ℕ) (inner : List ℕ → Result (Frame × List ℕ) Unread) → ((bytes : List ℕ) → Named (inner bytes)) → (kind : ℕ) (bytes : List ℕ) →
+    Named (kind_at most more inner kind bytes)
 unfolding kind_at
 named_kind most more inner h kind bytes =
     let bad : Result (Frame × List ℕ) Unread = Err (Faulty BadKind) in
@@ -114,7 +120,8 @@ named_window bytes (Err (Faulty f)) h = h
 pub named_frame : (bytes : List ℕ) → frame_at bytes ≡ Err (Faulty NoMemory) → ⊥
 unfolding frame_at
 named_frame bytes e =
-    let whole : Named (frame_at bytes) = named_window bytes (value_at 1024 (65536 - length bytes) 8 (take 65536 bytes)) (named_value 1024 (65536 - length bytes) 8 (take 65536 bytes)) in
+    let whole : Named (frame_at bytes) = named_window bytes (value_at 1024 (65536 - length bytes) 8 (take 65536 bytes))
+    (named_value 1024 (65536 - length bytes) 8 (take 65536 bytes)) in
     subst (λ (r : Result (Frame × List ℕ) Unread). Named r) e whole
 
 -- the fault that shows is what is answered

@@ -43,7 +43,8 @@ number_takes (b ∷ bs) n lt e =
 
 is_decimal_from : (ds : List ℕ) → all_ascii_digits ds ≡ true → 0 < length ds → (get_or ds 0 0 ≡ 48 → length ds ≡ 1) → is_decimal ds ≡ true
 is_decimal_from ds all some lead =
-    and_from (are_digits ds) (not (has_leading_zero ds)) (and_from (ltb 0 (length ds)) (all_ascii_digits ds) (lt-ltb 0 (length ds) some) all) (at_tests (ltb 1 (length ds)) (eqb (get_or ds 0 0) 48) refl refl)
+    and_from (are_digits ds) (not (has_leading_zero ds)) (and_from (ltb 0 (length ds)) (all_ascii_digits ds) (lt-ltb 0 (length ds) some) all)
+    (at_tests (ltb 1 (length ds)) (eqb (get_or ds 0 0) 48) refl refl)
   where
     at_tests : (u v : Bool) → ltb 1 (length ds) ≡ u → eqb (get_or ds 0 0) 48 ≡ v → not (u && v) ≡ true
     at_tests true true long zero_first = absurd (let one = lead (eqb-true (get_or ds 0 0) 48 zero_first) in let more = ltb-true 1 (length ds) long in omega arith)
@@ -75,7 +76,8 @@ decimal_line n lt = digits_line (decimal n) (digits_decimal own n lt)
 abbrev minus_one : List ℕ
 minus_one = 45 ∷ 49 ∷ []
 
-size_cases : (o : Option ℕ) (line : List ℕ) (size : Option ℕ) → number_of line ≡ o → if_some o (λ n. Ok (Some n)) (cond (bytes_eq line minus_one) (Ok None) (Err (Faulty BadLength))) ≡ Ok size
+size_cases : (o : Option ℕ) (line : List ℕ) (size : Option ℕ) → number_of line ≡ o →
+    if_some o (λ n. Ok (Some n)) (cond (bytes_eq line minus_one) (Ok None) (Err (Faulty BadLength))) ≡ Ok size
     → ((n : ℕ) × (size ≡ Some n) × (number_of line ≡ Some n)) ⊎ ((size ≡ None) × (line ≡ minus_one))
 size_cases (Some n) line size e h = inl (n, cc, e)
 size_cases None line size e h = elim (chosen (bytes_eq line minus_one) (Ok None) (Err (Faulty BadLength)) (Ok size) h) [
@@ -107,7 +109,8 @@ negative_takes (b ∷ bs) n e = elim (chosen (eqb b 45) (if_some (number_of bs) 
   | inr w ↦ absurd cc
 ]
   where
-    below : b ≡ 45 → (o : Option ℕ) → number_of bs ≡ o → if_some o (λ k. cond (ltb 0 k && leb k (2 ^ 63)) (Some (negsuc (k - 1))) None) None ≡ Some n → (b ∷ bs ≡ signed_decimal n) × IsLong n
+    below : b ≡ 45 → (o : Option ℕ) → number_of bs ≡ o → if_some o (λ k. cond (ltb 0 k && leb k (2 ^ 63)) (Some (negsuc (k - 1))) None) None ≡ Some n →
+        (b ∷ bs ≡ signed_decimal n) × IsLong n
     below sign (Some k) d h =
         elim (chosen (ltb 0 k && leb k (2 ^ 63)) (Some (negsuc (k - 1))) None (Some n) h) [
           | inl w ↦
@@ -123,7 +126,8 @@ negative_takes (b ∷ bs) n e = elim (chosen (eqb b 45) (if_some (number_of bs) 
         ]
     below sign None d h = absurd cc
 
-integer_cases : (o : Option ℕ) (line : List ℕ) (n : ℤ) → number_of line ≡ o → if_some o (λ k. cond (ltb k (2 ^ 63)) (Some (pos k)) None) (negative_of line) ≡ Some n → (line ≡ signed_decimal n) × IsLong n
+integer_cases : (o : Option ℕ) (line : List ℕ) (n : ℤ) → number_of line ≡ o → if_some o (λ k. cond (ltb k (2 ^ 63)) (Some (pos k)) None) (negative_of line) ≡ Some n →
+    (line ≡ signed_decimal n) × IsLong n
 integer_cases (Some k) line n d h =
     elim (chosen (ltb k (2 ^ 63)) (Some (pos k)) None (Some n) h) [
       | inl w ↦
@@ -141,7 +145,8 @@ integer_takes line n e = integer_cases (number_of line) line n refl e
 
 signed_none : (ds : List ℕ) → number_of (45 ∷ ds) ≡ None
 unfolding number_of
-signed_none ds = ap (λ (t : Bool). cond ((t && all_ascii_digits (45 ∷ ds)) && not (has_leading_zero (45 ∷ ds))) (Some (min (number_on 0 (45 ∷ ds)) (2 ^ 64 - 1))) None) (lt-ltb 0 (length (45 ∷ ds)) (omega arith))
+signed_none ds = ap (λ (t : Bool). cond ((t && all_ascii_digits (45 ∷ ds)) && not (has_leading_zero (45 ∷ ds))) (Some (min (number_on 0 (45 ∷ ds)) (2 ^ 64 - 1))) None)
+    (lt-ltb 0 (length (45 ∷ ds)) (omega arith))
 
 pub integer_again : (n : ℤ) → IsLong n → integer_of (signed_decimal n) ≡ Some n
 unfolding integer_of

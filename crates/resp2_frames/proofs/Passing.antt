@@ -55,7 +55,8 @@ in_front f list = Ok (frame f list.0, list.1)
 abbrev whole_array : FrameList × List ℕ → Result (Frame × List ℕ) Unread
 whole_array list = Ok (items list.0, list.1)
 
-first_then : (inner : List ℕ → Result (Frame × List ℕ) Unread) (n : ℕ) (r : Result (Frame × List ℕ) Unread) → ((bytes : List ℕ) → (values_at inner n bytes >>= λ list. Ok list.1) ≡ skip inner n bytes)
+first_then : (inner : List ℕ → Result (Frame × List ℕ) Unread) (n : ℕ) (r : Result (Frame × List ℕ) Unread) →
+    ((bytes : List ℕ) → (values_at inner n bytes >>= λ list. Ok list.1) ≡ skip inner n bytes)
     → ((r >>= λ first. values_at inner n first.1 >>= in_front first.0) >>= λ list. Ok list.1) ≡ (r >>= λ first. skip inner n first.1)
 first_then inner n (Ok x) same = then_both (values_at inner n x.1) (in_front x.0) (λ list. Ok list.1) ∙ same x.1
 first_then inner n (Err e) same = refl
@@ -96,17 +97,20 @@ passed_header front head outer n count room opens passed = λ more rest.
     ∙ ap (λ (r : Result (Frame × List ℕ) Unread). (r >>= λ first. skip outside n first.1) >>= behind_open more 8 outer) reads
     ∙ items_then list (skip outside n) (behind_open more 8 outer)
     ∙ ap (λ (r : Result (List ℕ) Unread). r >>= λ rest. (skip outside n rest >>= behind_open more 8 outer)) (skip_values (value_at 1024 more depth) count rest)
-    ∙ then_same (skip (value_at 1024 more depth) count rest) (λ rest. skip outside n rest >>= behind_open more 8 outer) (behind_open more 8 (outer ++ n ∷ [])) (λ rest. sym (behind_pushed more 8 outer n rest))
+    ∙ then_same (skip (value_at 1024 more depth) count rest) (λ rest. skip outside n rest >>= behind_open more 8 outer) (behind_open more 8 (outer ++ n ∷ []))
+    (λ rest. sym (behind_pushed more 8 outer n rest))
 
 pub passed_end : (front outer : List ℕ) (n : ℕ) → Passed front (outer ++ n ∷ []) 0 → Passed front outer n
 unfolding skip
 passed_end front outer n passed = λ more rest. passed more rest ∙ behind_pushed more 8 outer n rest
 
-passed_waits : (front outer : List ℕ) (n more : ℕ) (rest : List ℕ) (u : Unread) → Passed front outer (suc n) → value_at 1024 more (8 - length outer) rest ≡ Err u → value_at 1024 more 8 (front ++ rest) ≡ Err u
+passed_waits : (front outer : List ℕ) (n more : ℕ) (rest : List ℕ) (u : Unread) → Passed front outer (suc n) → value_at 1024 more (8 - length outer) rest ≡ Err u →
+    value_at 1024 more 8 (front ++ rest) ≡ Err u
 unfolding skip
 passed_waits front outer n more rest u passed stops =
     let inner = value_at 1024 more (8 - length outer) in
-    err_of_rest (value_at 1024 more 8 (front ++ rest)) u (passed more rest ∙ ap (λ (r : Result (Frame × List ℕ) Unread). (r >>= λ first. skip inner n first.1) >>= behind_open more 8 outer) stops)
+    err_of_rest (value_at 1024 more 8 (front ++ rest)) u (passed more rest ∙
+    ap (λ (r : Result (Frame × List ℕ) Unread). (r >>= λ first. skip inner n first.1) >>= behind_open more 8 outer) stops)
 
 -- ---- what an item and a header are made of
 
@@ -155,13 +159,15 @@ stands_start bytes outer none = rw none (omega arith, passed_start)
 pub stands_left : (bytes outer outside : List ℕ) (left n at : ℕ) → outer ≡ outside ++ n ∷ [] → left ≡ 0 → Stands bytes outer left at → Stands bytes outside n at
 stands_left bytes outer outside left n at is none stands = (stands.0, passed_end (take at bytes) outside n (rw (is, none) at stands.1))
 
-pub stands_inside : (bytes head after outer : List ℕ) (left n at count : ℕ) → left ≡ suc n → drop at bytes ≡ head ++ after → length outer < 8 → Opens head count → Stands bytes outer left at
+pub stands_inside : (bytes head after outer : List ℕ) (left n at count : ℕ) → left ≡ suc n → drop at bytes ≡ head ++ after → length outer < 8 → Opens head count →
+    Stands bytes outer left at
     → Stands bytes (outer ++ n ∷ []) count (length bytes - length after)
 stands_inside bytes head after outer left n at count is parts room opens stands =
     let moved = front_moves bytes at head after parts in
     (omega arith, rw moved (passed_header (take at bytes) head outer n count room opens (rw is at stands.1)))
 
-pub stands_behind : (bytes after outer : List ℕ) (left n at more : ℕ) (f : Frame) → left ≡ suc n → length bytes + more ≤ 65536 → value_at 1024 more (8 - length outer) (drop at bytes) ≡ Ok (f, after) → Stands bytes outer left at
+pub stands_behind : (bytes after outer : List ℕ) (left n at more : ℕ) (f : Frame) → left ≡ suc n → length bytes + more ≤ 65536 →
+    value_at 1024 more (8 - length outer) (drop at bytes) ≡ Ok (f, after) → Stands bytes outer left at
     → Stands bytes outer n (length bytes - length after)
 stands_behind bytes after outer left n at more f is room reads stands =
     let item = item_at more (8 - length outer) (drop at bytes) f after (omega (arith, length-drop at bytes, stands.0)) reads in
@@ -172,12 +178,14 @@ stands_behind bytes after outer left n at more f is room reads stands =
 pub gets_on : (bytes head after outer : List ℕ) (at : ℕ) → drop at bytes ≡ head ++ after → 0 < length head → at ≤ length bytes → length after < length bytes - at
 gets_on bytes head after outer at parts some le = omega (arith, ap length parts, length-append head after, length-drop at bytes, some, le)
 
-pub item_gets_on : (bytes after : List ℕ) (depth at more : ℕ) (f : Frame) → length bytes + more ≤ 65536 → value_at 1024 more depth (drop at bytes) ≡ Ok (f, after) → at ≤ length bytes → length after < length bytes - at
+pub item_gets_on : (bytes after : List ℕ) (depth at more : ℕ) (f : Frame) → length bytes + more ≤ 65536 → value_at 1024 more depth (drop at bytes) ≡ Ok (f, after) →
+    at ≤ length bytes → length after < length bytes - at
 item_gets_on bytes after depth at more f room reads le =
     let item = item_at more depth (drop at bytes) f after (omega (arith, length-drop at bytes, le)) reads in
     gets_on bytes item.0 after [] at item.1 item.2 le
 
-pub stands_waits : (bytes outer : List ℕ) (left n at more : ℕ) (u : Unread) → left ≡ suc n → value_at 1024 more (8 - length outer) (drop at bytes) ≡ Err u → Stands bytes outer left at → value_at 1024 more 8 bytes ≡ Err u
+pub stands_waits : (bytes outer : List ℕ) (left n at more : ℕ) (u : Unread) → left ≡ suc n → value_at 1024 more (8 - length outer) (drop at bytes) ≡ Err u →
+    Stands bytes outer left at → value_at 1024 more 8 bytes ≡ Err u
 stands_waits bytes outer left n at more u is stops stands =
     ap (λ (t : List ℕ). value_at 1024 more 8 t) (sym (take-append-drop at bytes)) ∙ passed_waits (take at bytes) outer n more (drop at bytes) u (rw is at stands.1) stops
 
@@ -193,7 +201,8 @@ open_line_waits more depth (kind ∷ line) pos h =
     let none : line_at line ≡ Err NeedsMore = ap line_at (sym (append-nil line)) ∙ line_fails line [] NeedsMore h.1 tt refl in
     value_kind more depth kind line NeedsMore pos (λ inner. kind_line more inner kind line NeedsMore h.0 none)
 
-pub stands_in_line : (bytes outer : List ℕ) (left n at more : ℕ) → left ≡ suc n → length outer < 8 → IsOpenLine (drop at bytes) → Stands bytes outer left at → value_at 1024 more 8 bytes ≡ Err NeedsMore
+pub stands_in_line : (bytes outer : List ℕ) (left n at more : ℕ) → left ≡ suc n → length outer < 8 → IsOpenLine (drop at bytes) → Stands bytes outer left at →
+    value_at 1024 more 8 bytes ≡ Err NeedsMore
 stands_in_line bytes outer left n at more is room line stands =
     stands_waits bytes outer left n at more NeedsMore is (open_line_waits more (8 - length outer) (drop at bytes) (omega arith) line) stands
 

@@ -52,7 +52,8 @@ pub stays_cond : {A : Type 0} (p : List ℕ) (b : Bool) (r s u v : Result (A × 
 stays_cond p true r s u v = λ h k. h
 stays_cond p false r s u v = λ h k. k
 
-pub stays_some : {A B : Type 0} (p : List ℕ) (o : Option A) (f g : A → Result (B × List ℕ) Unread) (r s : Result (B × List ℕ) Unread) → ((x : A) → Stays p (f x) (g x)) → Stays p r s → Stays p (if_some o f r) (if_some o g s)
+pub stays_some : {A B : Type 0} (p : List ℕ) (o : Option A) (f g : A → Result (B × List ℕ) Unread) (r s : Result (B × List ℕ) Unread) → ((x : A) → Stays p (f x) (g x)) →
+    Stays p r s → Stays p (if_some o f r) (if_some o g s)
 stays_some p (Some x) f g r s = λ h k. h x
 stays_some p None f g r s = λ h k. k
 

@@ -84,7 +84,15 @@ unfolding line_at
 line_stops bytes u e =
     let n = line_length bytes in
     elim (bind_err (end_at (drop n bytes)) (λ rest. Ok (take n bytes, rest)) u e) [
-      | inl h ↦ record { line = take n bytes; end = drop n bytes; is = sym (take-append-drop n bytes); is_line = line_front bytes; behind = behind_line bytes; says = end_stops (drop n bytes) u h }
+      | inl h ↦ record {
+        line = take n bytes;
+        end = drop n bytes;
+        is = sym (take-append-drop n bytes);
+        is_line = line_front bytes;
+        behind = behind_line bytes;
+        says =
+            end_stops (drop n bytes) u h;
+      }
       | inr h ↦ absurd (ok_err (take n bytes, h.0) u h.2)
     ]
 
@@ -113,7 +121,8 @@ record BadSize (u : Unread) (line : List ℕ) : Type 0 where
   form : is_decimal line ≡ false
   other : line ≢ minus_one
 
-size_by : (line : List ℕ) (u : Unread) (n : ℕ) (t : Bool) → is_decimal line ≡ t → if_some (cond t (Some n) None) (λ n. Ok (Some n)) (cond (bytes_eq line minus_one) (Ok None) (Err (Faulty BadLength))) ≡ Err u → BadSize u line
+size_by : (line : List ℕ) (u : Unread) (n : ℕ) (t : Bool) → is_decimal line ≡ t →
+    if_some (cond t (Some n) None) (λ n. Ok (Some n)) (cond (bytes_eq line minus_one) (Ok None) (Err (Faulty BadLength))) ≡ Err u → BadSize u line
 size_by line u n true d e = absurd (ok_err (Some n) u e)
 size_by line u n false d e = elim (chosen (bytes_eq line minus_one) (Ok None) (Err (Faulty BadLength)) (Err u) e) [
   | inl w ↦ absurd (ok_err {A = Option ℕ} None u w.1)
@@ -153,15 +162,24 @@ module _ (levels before : ℕ) (some : 0 < levels) where
 
   -- ---- bulk strings
 
-  block_says : (digits block rest end : List ℕ) (u : Unread) → is_decimal digits ≡ true → with_bulk before digits ≤ 65536 → length block ≡ number_on 0 digits → rest ≡ block ++ end → EndSays u end
+  block_says : (digits block rest end : List ℕ) (u : Unread) → is_decimal digits ≡ true → with_bulk before digits ≤ 65536 → length block ≡ number_on 0 digits →
+      rest ≡ block ++ end → EndSays u end
       → Says u levels before (36 ∷ (digits ++ (line_end ++ rest)))
   block_says digits block rest end NeedsMore form fits all is says =
-      inr (some, inr (record { digits = digits; block = block; end = end; is = ap (λ (t : List ℕ). 36 ∷ (digits ++ (line_end ++ t))) is; is_length = form; fits = fits }, inr (all, says)))
+      inr (
+        some,
+        inr (
+          record { digits = digits; block = block; end = end; is = ap (λ (t : List ℕ). 36 ∷ (digits ++ (line_end ++ t))) is; is_length = form; fits = fits },
+          inr
+              (all, says),
+        ),
+      )
   block_says digits block rest end (Faulty f) form fits all is says =
       subst (λ (g : FrameFault). Shows g levels before (36 ∷ (digits ++ (line_end ++ rest)))) (sym says.0)
       (some, inr (record { digits = digits; block = block; end = end; is = ap (λ (t : List ℕ). 36 ∷ (digits ++ (line_end ++ t))) is; is_length = form; fits = fits }, all, says.1))
 
-  block_stops : (more n : ℕ) (digits rest : List ℕ) (u : Unread) → is_decimal digits ≡ true → min (number_on 0 digits) (2 ^ 64 - 1) ≡ n → before + 1 + length digits + 2 + length rest + more ≡ 65536
+  block_stops : (more n : ℕ) (digits rest : List ℕ) (u : Unread) → is_decimal digits ≡ true → min (number_on 0 digits) (2 ^ 64 - 1) ≡ n →
+      before + 1 + length digits + 2 + length rest + more ≡ 65536
       → block_at more n rest ≡ Err u → Says u levels before (36 ∷ (digits ++ (line_end ++ rest)))
   unfolding block_at
   block_stops more n digits rest u form value room e =
@@ -179,7 +197,21 @@ module _ (levels before : ℕ) (some : 0 < levels) where
                   let less = ltb-true (length rest) n w.0 in
                   let short : length rest < number_on 0 digits = omega arith in
                   subst at (err_is {A = Frame × List ℕ} NeedsMore u w.1)
-                  (inr (some, inr (record { digits = digits; block = rest; end = []; is = ap (λ (t : List ℕ). 36 ∷ (digits ++ (line_end ++ t))) (sym (append-nil rest)); is_length = form; fits = fits }, inl (short, refl))))
+                  (inr (
+                    some,
+                    inr (
+                      record {
+                        digits = digits;
+                        block = rest;
+                        end = [];
+                        is =
+                            ap (λ (t : List ℕ). 36 ∷ (digits ++ (line_end ++ t))) (sym (append-nil rest));
+                        is_length = form;
+                        fits = fits;
+                      },
+                      inl (short, refl),
+                    ),
+                  ))
               | inr w ↦
                   let enough = ltb-false (length rest) n w.0 in
                   let all : length (take n rest) ≡ number_on 0 digits = omega (arith, length-take n rest) in
@@ -255,18 +287,22 @@ module _ (levels more : ℕ) (inner : List ℕ → Result (Frame × List ℕ) Un
         ]
   ]
 
-  items_stop : Stops levels more inner → (before : ℕ) (bytes : List ℕ) (u : Unread) → before + length (42 ∷ bytes) + more ≡ 65536 → items_at 1024 inner bytes ≡ Err u → Within (Says u) (suc levels) before (42 ∷ bytes)
+  items_stop : Stops levels more inner → (before : ℕ) (bytes : List ℕ) (u : Unread) → before + length (42 ∷ bytes) + more ≡ 65536 → items_at 1024 inner bytes ≡ Err u →
+      Within (Says u) (suc levels) before (42 ∷ bytes)
   unfolding items_at
   items_stop stops before bytes u room e =
       let some : 0 < suc levels = omega arith in
-      elim (bind_err (line_at bytes) (λ line. size_of line.0 >>= λ size. if_some size (λ n. cond (ltb 1024 n) (Err (Faulty TooMany)) (values_at inner n line.1 >>= λ list. Ok (items list.0, list.1))) (Ok (null_items, line.1))) u e) [
+      elim (bind_err (line_at bytes) (λ line. size_of line.0 >>= λ size. if_some size
+      (λ n. cond (ltb 1024 n) (Err (Faulty TooMany)) (values_at inner n line.1 >>= λ list. Ok (items list.0, list.1))) (Ok (null_items, line.1))) u e) [
         | inl h ↦ inl (line_says (suc levels) before some 42 bytes u (inr (inr (inr (inr refl)))) (line_stops bytes u h))
         | inr h ↦
             let t = line_takes bytes h.0.0 h.0.1 h.1 in
-            elim (bind_err (size_of h.0.0) (λ size. if_some size (λ n. cond (ltb 1024 n) (Err (Faulty TooMany)) (values_at inner n h.0.1 >>= λ list. Ok (items list.0, list.1))) (Ok (null_items, h.0.1))) u h.2) [
+            elim (bind_err (size_of h.0.0) (λ size. if_some size (λ n. cond (ltb 1024 n) (Err (Faulty TooMany)) (values_at inner n h.0.1 >>= λ list. Ok (items list.0, list.1)))
+            (Ok (null_items, h.0.1))) u h.2) [
               | inl g ↦
                   let bad = size_stops h.0.0 u g in
-                  inl (subst (λ (v : Unread). Says v (suc levels) before (42 ∷ bytes)) bad.is (42, h.0.0, h.0.1, some, ap (λ (t : List ℕ). 42 ∷ t) t.0, inr refl, t.1, bad.form, bad.other))
+                  inl (subst (λ (v : Unread). Says v (suc levels) before (42 ∷ bytes)) bad.is
+                  (42, h.0.0, h.0.1, some, ap (λ (t : List ℕ). 42 ∷ t) t.0, inr refl, t.1, bad.form, bad.other))
               | inr g ↦ elim (size_takes h.0.0 g.0 g.1) [
                 | inl w ↦
                     let n = w.0 in
@@ -277,7 +313,8 @@ module _ (levels more : ℕ) (inner : List ℕ → Result (Frame × List ℕ) Un
                           let over = ltb-true 1024 n v.0 in
                           let value = number.1 in
                           let many : 1024 < number_on 0 h.0.0 = omega arith in
-                          inl (subst (λ (v : Unread). Says v (suc levels) before (42 ∷ bytes)) (err_is {A = Frame × List ℕ} (Faulty TooMany) u v.1) (h.0.0, h.0.1, some, ap (λ (t : List ℕ). 42 ∷ t) t.0, number.0, many))
+                          inl (subst (λ (v : Unread). Says v (suc levels) before (42 ∷ bytes)) (err_is {A = Frame × List ℕ} (Faulty TooMany) u v.1)
+                          (h.0.0, h.0.1, some, ap (λ (t : List ℕ). 42 ∷ t) t.0, number.0, many))
                       | inr v ↦
                           let within : n ≤ 1024 = ltb-false 1024 n v.0 in
                           elim (bind_err (values_at inner n h.0.1) (λ list. Ok (items list.0, list.1)) u v.1) [
@@ -288,10 +325,19 @@ module _ (levels more : ℕ) (inner : List ℕ → Result (Frame × List ℕ) Un
                                 let array : OpenArray = record { size = n; whole = at.whole } in
                                 let text : bytes ≡ ((decimal n ++ line_end) ++ spellings at.whole) ++ at.rest =
                                 t.0 ∙ ap (λ (s : List ℕ). s ++ (line_end ++ h.0.1)) header ∙ ap (λ (s : List ℕ). decimal n ++ (line_end ++ s)) at.is
-                                ∙ sym (append_assoc (decimal n) line_end (spellings at.whole ++ at.rest)) ∙ sym (append_assoc (decimal n ++ line_end) (spellings at.whole) at.rest) in
+                                ∙ sym (append_assoc (decimal n) line_end (spellings at.whole ++ at.rest)) ∙
+                                sym (append_assoc (decimal n ++ line_end) (spellings at.whole) at.rest) in
                                 let whole : 42 ∷ bytes ≡ opening array ++ at.rest = ap (λ (s : List ℕ). 42 ∷ s) text in
-                                let space : (before + length (opening array)) + length at.rest + more ≡ 65536 = omega (arith, ap length whole, length-append (opening array) at.rest) in
-                                inr (array, at.rest, whole, record { few = within; more = at.more; plain = at.plain; deep = at.deep; wide = at.wide }, stops (before + length (opening array)) at.rest u space at.stops)
+                                let space : (before + length (opening array)) + length at.rest + more ≡ 65536 =
+                                omega (arith, ap length whole, length-append (opening array) at.rest) in
+                                inr (
+                                  array,
+                                  at.rest,
+                                  whole,
+                                  record { few = within; more = at.more; plain = at.plain; deep = at.deep; wide = at.wide },
+                                  stops
+                                      (before + length (opening array)) at.rest u space at.stops,
+                                )
                             | inr k ↦ absurd (ok_err (items k.0.0, k.0.1) u k.2)
                           ]
                     ]
@@ -302,7 +348,8 @@ module _ (levels more : ℕ) (inner : List ℕ → Result (Frame × List ℕ) Un
 
   -- ---- values
 
-  kind_stops : Stops levels more inner → (before kind : ℕ) (bytes : List ℕ) (u : Unread) → before + length (kind ∷ bytes) + more ≡ 65536 → kind_at 1024 more inner kind bytes ≡ Err u → Within (Says u) (suc levels) before (kind ∷ bytes)
+  kind_stops : Stops levels more inner → (before kind : ℕ) (bytes : List ℕ) (u : Unread) → before + length (kind ∷ bytes) + more ≡ 65536 →
+      kind_at 1024 more inner kind bytes ≡ Err u → Within (Says u) (suc levels) before (kind ∷ bytes)
   unfolding kind_at
   kind_stops stops before kind bytes u room e =
       let some : 0 < suc levels = omega arith in

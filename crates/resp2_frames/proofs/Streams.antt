@@ -46,8 +46,10 @@ first_of_parts stream f fs rest p = ap frame_at (p.0 ∙ append_assoc (spelling 
 
 one_split_at : (stream : List ℕ) (fs gs : List Frame) (a b : List ℕ) (h k : Held) → Parts stream fs a → Ends a h → Parts stream gs b → Ends b k → (fs ≡ gs) × (h ≡ k)
 one_split_at stream [] [] a b h k p x q y = (refl, ends_same stream h k (subst (λ (t : List ℕ). Ends t h) (sym p.0) x) (subst (λ (t : List ℕ). Ends t k) (sym q.0) y))
-one_split_at stream [] (g ∷ gs) a b h k p x q y = absurd (not_ok stream h (g, flat_map spelling gs ++ b) (subst (λ (t : List ℕ). Ends t h) (sym p.0) x) (first_of_parts stream g gs b q))
-one_split_at stream (f ∷ fs) [] a b h k p x q y = absurd (not_ok stream k (f, flat_map spelling fs ++ a) (subst (λ (t : List ℕ). Ends t k) (sym q.0) y) (first_of_parts stream f fs a p))
+one_split_at stream [] (g ∷ gs) a b h k p x q y = absurd (not_ok stream h (g, flat_map spelling gs ++ b) (subst (λ (t : List ℕ). Ends t h) (sym p.0) x)
+    (first_of_parts stream g gs b q))
+one_split_at stream (f ∷ fs) [] a b h k p x q y = absurd (not_ok stream k (f, flat_map spelling fs ++ a) (subst (λ (t : List ℕ). Ends t k) (sym q.0) y)
+    (first_of_parts stream f fs a p))
 one_split_at stream (f ∷ fs) (g ∷ gs) a b h k p x q y =
     let rest = flat_map spelling fs ++ a in
     let same = ok_is (f, rest) (g, flat_map spelling gs ++ b) (sym (first_of_parts stream f fs a p) ∙ first_of_parts stream g gs b q) in
@@ -62,7 +64,8 @@ one_split stream fs gs h k a b = one_split_at stream fs gs a.0 b.0 h k a.1 a.2 b
 -- ---- pieces
 
 -- one value more
-pub parts_next : (stream : List ℕ) (fs : List Frame) (bytes : List ℕ) (f : Frame) (rest : List ℕ) → Parts stream fs bytes → frame_at bytes ≡ Ok (f, rest) → Parts stream (fs ++ f ∷ []) rest
+pub parts_next : (stream : List ℕ) (fs : List Frame) (bytes : List ℕ) (f : Frame) (rest : List ℕ) → Parts stream fs bytes → frame_at bytes ≡ Ok (f, rest) →
+    Parts stream (fs ++ f ∷ []) rest
 parts_next stream [] bytes f rest p e =
     let a = frame_found bytes (f, rest) e in
     (p.0 ∙ a.parts ∙ ap (λ (t : List ℕ). t ++ rest) (sym (append-nil (spelling f))), (a.frame, tt))
@@ -75,14 +78,20 @@ parts_next stream (g ∷ gs) bytes f rest p e =
 pub parts_longer : (stream : List ℕ) (fs : List Frame) (bytes piece : List ℕ) → Parts stream fs bytes → Parts (stream ++ piece) fs (bytes ++ piece)
 parts_longer stream fs bytes piece p = (ap (λ (t : List ℕ). t ++ piece) p.0 ∙ append_assoc (flat_map spelling fs) bytes piece, p.1)
 
-fault_stays : (piece : List ℕ) (fault : FrameFault) (read longer : Result (Frame × List ℕ) Unread) → Stays piece read longer → read ≡ Err (Faulty fault) → longer ≡ Err (Faulty fault)
+fault_stays : (piece : List ℕ) (fault : FrameFault) (read longer : Result (Frame × List ℕ) Unread) → Stays piece read longer → read ≡ Err (Faulty fault) →
+    longer ≡ Err (Faulty fault)
 fault_stays piece fault (Ok x) longer h e = absurd cc
 fault_stays piece fault (Err NeedsMore) longer h e = absurd cc
 fault_stays piece fault (Err (Faulty f)) longer h e = h ∙ e
 
 -- what comes after a fault changes nothing
 pub ended_longer : (stream : List ℕ) (fs : List Frame) (fault : FrameFault) (piece : List ℕ) → Splits stream fs (ended fault) → Splits (stream ++ piece) fs (ended fault)
-ended_longer stream fs fault piece s = (s.0 ++ piece, parts_longer stream fs s.0 piece s.1, fault_stays piece fault (frame_at s.0) (frame_at (s.0 ++ piece)) (frame_stays piece s.0) s.2)
+ended_longer stream fs fault piece s = (
+  s.0 ++ piece,
+  parts_longer stream fs s.0 piece s.1,
+  fault_stays piece fault (frame_at s.0) (frame_at (s.0 ++ piece))
+      (frame_stays piece s.0) s.2,
+)
 
 -- no value follows a fault
 pub no_value_behind : (bytes more rest : List ℕ) (fault : FrameFault) (f : Frame) → frame_at bytes ≡ Err (Faulty fault) → IsFrame f → bytes ++ more ≡ spelling f ++ rest → ⊥

@@ -47,7 +47,8 @@ integer_reads most d bytes x e =
     let b = some_ok (integer_of a.0.0) (λ n. Ok (int n, a.0.1)) (Faulty BadNumber) x a.2 in
     let n = integer_takes a.0.0 b.0 b.1 in
     let text : bytes ≡ signed_decimal b.0 ++ (line_end ++ a.0.1) = t.0 ∙ ap (λ (s : List ℕ). s ++ (line_end ++ a.0.1)) n.0 in
-    let made : Taken most (suc d) (58 ∷ bytes) (int b.0) a.0.1 = record { parts = behind 58 bytes (signed_decimal b.0) a.0.1 text; plain = n.1; deep = omega arith; wide = omega arith } in
+    let made : Taken most (suc d) (58 ∷ bytes) (int b.0) a.0.1 =
+    record { parts = behind 58 bytes (signed_decimal b.0) a.0.1 text; plain = n.1; deep = omega arith; wide = omega arith } in
     subst (λ (y : Frame × List ℕ). Taken most (suc d) (58 ∷ bytes) y.0 y.1) (ok_is (int b.0, a.0.1) x b.2) made
 
 -- ---- bulk strings
@@ -97,7 +98,8 @@ bulk_takes most d more bytes x room e =
           let text : bytes ≡ (decimal (length c.block) ++ line_end) ++ ((c.block ++ line_end) ++ x.1) =
           t.0 ∙ ap (λ (s : List ℕ). s ++ (line_end ++ a.0.1)) header ∙ sym (append_assoc (decimal (length c.block)) line_end a.0.1)
           ∙ ap (λ (s : List ℕ). (decimal (length c.block) ++ line_end) ++ s) (c.parts ∙ sym (append_assoc c.block line_end x.1)) in
-          let whole : 36 ∷ bytes ≡ spelling (bulk c.block) ++ x.1 = ap (λ (s : List ℕ). 36 ∷ s) (text ∙ sym (append_assoc (decimal (length c.block) ++ line_end) (c.block ++ line_end) x.1)) in
+          let whole : 36 ∷ bytes ≡ spelling (bulk c.block) ++ x.1 =
+          ap (λ (s : List ℕ). 36 ∷ s) (text ∙ sym (append_assoc (decimal (length c.block) ++ line_end) (c.block ++ line_end) x.1)) in
           let made : Taken most (suc d) (36 ∷ bytes) (bulk c.block) x.1 = record { parts = whole; plain = omega (arith, c.long); deep = omega arith; wide = omega arith } in
           subst (λ (f : Frame). Taken most (suc d) (36 ∷ bytes) f x.1) (sym c.is) made
       | inr w ↦
@@ -146,8 +148,10 @@ items_take : (most d more : ℕ) (inner : List ℕ → Result (Frame × List ℕ
     → (bytes : List ℕ) (x : Frame × List ℕ) → length bytes + more < 2 ^ 64 → items_at most inner bytes ≡ Ok x → Taken most (suc d) (42 ∷ bytes) x.0 x.1
 unfolding items_at
 items_take most d more inner h few bytes x room e =
-    let a = bind_ok (line_at bytes) (λ line. size_of line.0 >>= λ size. if_some size (λ n. cond (ltb most n) (Err (Faulty TooMany)) (values_at inner n line.1 >>= λ list. Ok (items list.0, list.1))) (Ok (null_items, line.1))) x e in
-    let b = bind_ok (size_of a.0.0) (λ size. if_some size (λ n. cond (ltb most n) (Err (Faulty TooMany)) (values_at inner n a.0.1 >>= λ list. Ok (items list.0, list.1))) (Ok (null_items, a.0.1))) x a.2 in
+    let a = bind_ok (line_at bytes) (λ line. size_of line.0 >>= λ size. if_some size
+    (λ n. cond (ltb most n) (Err (Faulty TooMany)) (values_at inner n line.1 >>= λ list. Ok (items list.0, list.1))) (Ok (null_items, line.1))) x e in
+    let b = bind_ok (size_of a.0.0) (λ size. if_some size (λ n. cond (ltb most n) (Err (Faulty TooMany)) (values_at inner n a.0.1 >>= λ list. Ok (items list.0, list.1)))
+    (Ok (null_items, a.0.1))) x a.2 in
     let t = line_takes bytes a.0.0 a.0.1 a.1 in
     elim (size_takes a.0.0 b.0 b.1) [
       | inl w ↦
@@ -163,7 +167,8 @@ items_take most d more inner h few bytes x room e =
           let text : bytes ≡ (decimal (count c.0.0) ++ line_end) ++ (spellings c.0.0 ++ c.0.1) =
           t.0 ∙ ap (λ (s : List ℕ). s ++ (line_end ++ a.0.1)) header ∙ sym (append_assoc (decimal (count c.0.0)) line_end a.0.1)
           ∙ ap (λ (s : List ℕ). (decimal (count c.0.0) ++ line_end) ++ s) all.parts in
-          let whole : 42 ∷ bytes ≡ spelling (items c.0.0) ++ c.0.1 = ap (λ (s : List ℕ). 42 ∷ s) (text ∙ sym (append_assoc (decimal (count c.0.0) ++ line_end) (spellings c.0.0) c.0.1)) in
+          let whole : 42 ∷ bytes ≡ spelling (items c.0.0) ++ c.0.1 =
+          ap (λ (s : List ℕ). 42 ∷ s) (text ∙ sym (append_assoc (decimal (count c.0.0) ++ line_end) (spellings c.0.0) c.0.1)) in
           let made : Taken most (suc d) (42 ∷ bytes) (items c.0.0) c.0.1 = record {
             parts = whole;
             plain = (omega (arith, all.many), all.plain);
@@ -207,7 +212,8 @@ kind_takes most d more inner h few kind bytes x room e =
       ]
     ]
 
-pub value_takes : (most more depth : ℕ) → most < 2 ^ 64 - 1 → (bytes : List ℕ) (x : Frame × List ℕ) → length bytes + more < 2 ^ 64 → value_at most more depth bytes ≡ Ok x → Taken most depth bytes x.0 x.1
+pub value_takes : (most more depth : ℕ) → most < 2 ^ 64 - 1 → (bytes : List ℕ) (x : Frame × List ℕ) → length bytes + more < 2 ^ 64 → value_at most more depth bytes ≡ Ok x →
+    Taken most depth bytes x.0 x.1
 unfolding value_at
 value_takes most more zero few [] x room e = absurd cc
 value_takes most more zero few (b ∷ bs) x room e = absurd cc

@@ -64,7 +64,8 @@ items_fail : (inner : List ℕ → Result (Frame × List ℕ) Unread) (bytes : L
 unfolding items_at
 items_fail inner bytes u e = rw e refl
 
-pub kind_line : (more : ℕ) (inner : List ℕ → Result (Frame × List ℕ) Unread) (kind : ℕ) (bytes : List ℕ) (u : Unread) → IsKind kind → line_at bytes ≡ Err u → kind_at 1024 more inner kind bytes ≡ Err u
+pub kind_line : (more : ℕ) (inner : List ℕ → Result (Frame × List ℕ) Unread) (kind : ℕ) (bytes : List ℕ) (u : Unread) → IsKind kind → line_at bytes ≡ Err u →
+    kind_at 1024 more inner kind bytes ≡ Err u
 unfolding kind_at
 kind_line more inner kind bytes u (inl k) e = subst (λ (c : ℕ). kind_at 1024 more inner c bytes ≡ Err u) (sym k) (text_fails simple bytes u e)
 kind_line more inner kind bytes u (inr (inl k)) e = subst (λ (c : ℕ). kind_at 1024 more inner c bytes ≡ Err u) (sym k) (text_fails fault bytes u e)
@@ -112,11 +113,13 @@ bulk_bad : (more : ℕ) (line later : List ℕ) → IsLine line → is_decimal l
 unfolding bulk_at
 bulk_bad more line later h form other = rw (line_again line later h, size_bad line form other) refl
 
-items_bad : (inner : List ℕ → Result (Frame × List ℕ) Unread) (line later : List ℕ) → IsLine line → is_decimal line ≡ false → line ≢ minus_one → items_at 1024 inner (line ++ (line_end ++ later)) ≡ Err (Faulty BadLength)
+items_bad : (inner : List ℕ → Result (Frame × List ℕ) Unread) (line later : List ℕ) → IsLine line → is_decimal line ≡ false → line ≢ minus_one →
+    items_at 1024 inner (line ++ (line_end ++ later)) ≡ Err (Faulty BadLength)
 unfolding items_at
 items_bad inner line later h form other = rw (line_again line later h, size_bad line form other) refl
 
-items_too_many : (inner : List ℕ → Result (Frame × List ℕ) Unread) (digits later : List ℕ) → is_decimal digits ≡ true → 1024 < number_on 0 digits → items_at 1024 inner (digits ++ (line_end ++ later)) ≡ Err (Faulty TooMany)
+items_too_many : (inner : List ℕ → Result (Frame × List ℕ) Unread) (digits later : List ℕ) → is_decimal digits ≡ true → 1024 < number_on 0 digits →
+    items_at 1024 inner (digits ++ (line_end ++ later)) ≡ Err (Faulty TooMany)
 unfolding items_at
 items_too_many inner digits later form many =
     let over : ltb 1024 (kept digits) ≡ true = lt-ltb 1024 (kept digits) (omega arith) in
@@ -124,7 +127,8 @@ items_too_many inner digits later form many =
 
 -- ---- bulk strings
 
-bulk_header : (more : ℕ) (digits rest : List ℕ) (u : Unread) → is_decimal digits ≡ true → block_at more (kept digits) rest ≡ Err u → bulk_at more (digits ++ (line_end ++ rest)) ≡ Err u
+bulk_header : (more : ℕ) (digits rest : List ℕ) (u : Unread) → is_decimal digits ≡ true → block_at more (kept digits) rest ≡ Err u →
+    bulk_at more (digits ++ (line_end ++ rest)) ≡ Err u
 unfolding bulk_at
 bulk_header more digits rest u form e = rw (line_again digits rest (digits_are_line digits form), size_is digits form, e) refl
 
@@ -151,7 +155,8 @@ unfolding value_at
 value_empty more zero = refl
 value_empty more (suc levels) = refl
 
-pub value_kind : (more levels kind : ℕ) (rest : List ℕ) (u : Unread) → 0 < levels → ((inner : List ℕ → Result (Frame × List ℕ) Unread) → kind_at 1024 more inner kind rest ≡ Err u) → value_at 1024 more levels (kind ∷ rest) ≡ Err u
+pub value_kind : (more levels kind : ℕ) (rest : List ℕ) (u : Unread) → 0 < levels →
+    ((inner : List ℕ → Result (Frame × List ℕ) Unread) → kind_at 1024 more inner kind rest ≡ Err u) → value_at 1024 more levels (kind ∷ rest) ≡ Err u
 unfolding value_at
 value_kind more zero kind rest u some h = absurd (omega arith)
 value_kind more (suc levels) kind rest u some h = h (value_at 1024 more levels)
@@ -164,7 +169,14 @@ value_deep more (suc levels) b later e = absurd (omega arith)
 kind_bad : (more : ℕ) (inner : List ℕ → Result (Frame × List ℕ) Unread) (kind : ℕ) (later : List ℕ) → ¬ IsKind kind → kind_at 1024 more inner kind later ≡ Err (Faulty BadKind)
 unfolding kind_at
 kind_bad more inner kind later none =
-    rw (ne_eqb kind 43 (λ e. none (inl e)), ne_eqb kind 45 (λ e. none (inr (inl e))), ne_eqb kind 58 (λ e. none (inr (inr (inl e)))), ne_eqb kind 36 (λ e. none (inr (inr (inr (inl e))))), ne_eqb kind 42 (λ e. none (inr (inr (inr (inr e)))))) refl
+    rw (
+      ne_eqb kind 43 (λ e. none (inl e)),
+      ne_eqb kind 45 (λ e. none (inr (inl e))),
+      ne_eqb kind 58 (λ e. none (inr (inr (inl e)))),
+      ne_eqb kind 36
+          (λ e. none (inr (inr (inr (inl e))))),
+      ne_eqb kind 42 (λ e. none (inr (inr (inr (inr e))))),
+    ) refl
 
 module _ (more levels before : ℕ) (bytes : List ℕ) (room : before + length bytes + more ≡ 65536) where
   abbrev Fails : Unread → List ℕ → Type 0
@@ -178,7 +190,9 @@ module _ (more levels before : ℕ) (bytes : List ℕ) (room : before + length b
   begins_waits (inl none) = subst (Fails NeedsMore) (sym none) (value_empty more levels)
   begins_waits (inr (some, inl (b, begins))) =
       subst (Fails NeedsMore) (sym b.is)
-      (value_kind more levels b.kind (b.line ++ b.end) NeedsMore some (λ inner. kind_line more inner b.kind (b.line ++ b.end) NeedsMore b.is_kind (line_fails b.line b.end NeedsMore b.is_line (begins_behind b.end begins) (begins_end b.end begins))))
+      (value_kind more levels b.kind (b.line ++ b.end) NeedsMore some
+      (λ inner. kind_line more inner b.kind (b.line ++ b.end) NeedsMore b.is_kind
+      (line_fails b.line b.end NeedsMore b.is_line (begins_behind b.end begins) (begins_end b.end begins))))
   begins_waits (inr (some, inr (b, begins))) =
       let rest = b.block ++ b.end in
       let room_left = space b.digits rest b.is in
@@ -205,23 +219,28 @@ module _ (more levels before : ℕ) (bytes : List ℕ) (room : before + length b
       subst (Fails (Faulty BadNumber)) (sym is) (value_kind more levels 58 (line ++ (line_end ++ later)) (Faulty BadNumber) some (λ inner. integer_bad line later is_line never))
   shows_fails MissingEnd (some, inl (b, behind, breaks)) =
       subst (Fails (Faulty MissingEnd)) (sym b.is)
-      (value_kind more levels b.kind (b.line ++ b.end) (Faulty MissingEnd) some (λ inner. kind_line more inner b.kind (b.line ++ b.end) (Faulty MissingEnd) b.is_kind (line_fails b.line b.end (Faulty MissingEnd) b.is_line behind (breaks_end b.end breaks))))
+      (value_kind more levels b.kind (b.line ++ b.end) (Faulty MissingEnd) some
+      (λ inner. kind_line more inner b.kind (b.line ++ b.end) (Faulty MissingEnd) b.is_kind
+      (line_fails b.line b.end (Faulty MissingEnd) b.is_line behind (breaks_end b.end breaks))))
   shows_fails MissingEnd (some, inr (b, all, breaks)) =
       let rest = b.block ++ b.end in
       let room_left = space b.digits rest b.is in
       let fits : with_bulk before b.digits ≤ 65536 = b.fits in
       let value : kept b.digits ≡ number_on 0 b.digits = omega arith in
-      let stops : block_at more (kept b.digits) rest ≡ Err (Faulty MissingEnd) = block_ends more (kept b.digits) b.block b.end (Faulty MissingEnd) (value ∙ sym all) (omega arith) (breaks_end b.end breaks) in
+      let stops : block_at more (kept b.digits) rest ≡ Err (Faulty MissingEnd) =
+      block_ends more (kept b.digits) b.block b.end (Faulty MissingEnd) (value ∙ sym all) (omega arith) (breaks_end b.end breaks) in
       subst (Fails (Faulty MissingEnd)) (sym b.is)
       (value_kind more levels 36 (b.digits ++ (line_end ++ rest)) (Faulty MissingEnd) some (λ inner. bulk_header more b.digits rest (Faulty MissingEnd) b.is_length stops))
   shows_fails TooLong (digits, later, some, is, form, over) =
       let room_left = space digits later is in
       let long : length later + more < kept digits + 2 = omega arith in
       subst (Fails (Faulty TooLong)) (sym is)
-      (value_kind more levels 36 (digits ++ (line_end ++ later)) (Faulty TooLong) some (λ inner. bulk_header more digits later (Faulty TooLong) form (block_too_long more (kept digits) later long)))
+      (value_kind more levels 36 (digits ++ (line_end ++ later)) (Faulty TooLong) some
+      (λ inner. bulk_header more digits later (Faulty TooLong) form (block_too_long more (kept digits) later long)))
   shows_fails TooDeep (b, later, none, is) = subst (Fails (Faulty TooDeep)) (sym is) (value_deep more levels b later none)
   shows_fails TooMany (digits, later, some, is, form, many) =
-      subst (Fails (Faulty TooMany)) (sym is) (value_kind more levels 42 (digits ++ (line_end ++ later)) (Faulty TooMany) some (λ inner. items_too_many inner digits later form many))
+      subst (Fails (Faulty TooMany)) (sym is) (value_kind more levels 42 (digits ++ (line_end ++ later)) (Faulty TooMany) some
+      (λ inner. items_too_many inner digits later form many))
   shows_fails NoMemory h = absurd h
 
   pub here_fails : (u : Unread) → Says u levels before bytes → Fails u bytes
@@ -230,7 +249,8 @@ module _ (more levels before : ℕ) (bytes : List ℕ) (room : before + length b
 
 -- ---- arrays
 
-values_fail : (fs : FrameList) (more d n : ℕ) (rest : List ℕ) (u : Unread) → ArePlain fs → deepest_of fs ≤ d → widest_of fs ≤ 1024 → count fs < n → value_at 1024 more d rest ≡ Err u
+values_fail : (fs : FrameList) (more d n : ℕ) (rest : List ℕ) (u : Unread) → ArePlain fs → deepest_of fs ≤ d → widest_of fs ≤ 1024 → count fs < n →
+    value_at 1024 more d rest ≡ Err u
     → values_at (value_at 1024 more d) n (spellings fs ++ rest) ≡ Err u
 unfolding values_at
 values_fail fs more d zero rest u plain deep wide few e = absurd (omega arith)
@@ -255,7 +275,8 @@ array_fails more levels array rest u is_open e =
     let stops = values_fail array.whole more levels n rest u is_open.plain is_open.deep is_open.wide is_open.more e in
     rw (regrouped, line_again (decimal n) (spellings array.whole ++ rest) (decimal_line n lt), size_again n lt, within, stops) refl
 
-within_fails : (more levels before : ℕ) (bytes : List ℕ) (u : Unread) → before + length bytes + more ≡ 65536 → Within (Says u) levels before bytes → value_at 1024 more levels bytes ≡ Err u
+within_fails : (more levels before : ℕ) (bytes : List ℕ) (u : Unread) → before + length bytes + more ≡ 65536 → Within (Says u) levels before bytes →
+    value_at 1024 more levels bytes ≡ Err u
 unfolding value_at kind_at
 within_fails more zero before bytes u room h = here_fails more zero before bytes room u h
 within_fails more (suc levels) before bytes u room (inl h) = here_fails more (suc levels) before bytes room u h
@@ -288,7 +309,8 @@ module _ (bytes : List ℕ) where
   says_read : (u : Unread) → Within (Says u) 8 0 window → read ≡ Err u
   says_read u h = within_fails (65536 - length bytes) 8 0 window u window_room h
 
-  fault_from : (r : Result (Frame × List ℕ) Unread) (f : FrameFault) → ((u : Unread) → r ≡ Err u → Within (Says u) 8 0 window) → in_window bytes r ≡ Err (Faulty f) → IsFaulted f bytes
+  fault_from : (r : Result (Frame × List ℕ) Unread) (f : FrameFault) → ((u : Unread) → r ≡ Err u → Within (Says u) 8 0 window) → in_window bytes r ≡ Err (Faulty f) →
+      IsFaulted f bytes
   fault_from (Ok x) f says e = absurd (ok_err (x.0, x.1 ++ drop 65536 bytes) (Faulty f) e)
   fault_from (Err NeedsMore) f says e = elim (chosen (ltb 65536 (length bytes)) (Err (Faulty TooLong)) (Err NeedsMore) (Err (Faulty f)) e) [
     | inl w ↦ inr (fault_is TooLong f w.1, ltb-true 65536 (length bytes) w.0, says NeedsMore refl)

@@ -69,11 +69,13 @@ frame_again f rest fits =
 
 -- ---- what was read stays
 
-window_stays : (bytes p q : List ℕ) (r s : Result (Frame × List ℕ) Unread) → length bytes ≤ 65536 → p ≡ q ++ drop 65536 (bytes ++ p) → Stays q r s → Stays p (in_window bytes r) (in_window (bytes ++ p) s)
+window_stays : (bytes p q : List ℕ) (r s : Result (Frame × List ℕ) Unread) → length bytes ≤ 65536 → p ≡ q ++ drop 65536 (bytes ++ p) → Stays q r s →
+    Stays p (in_window bytes r) (in_window (bytes ++ p) s)
 window_stays bytes p q (Ok x) s le split h =
     let none : drop 65536 bytes ≡ [] = drop_all 65536 bytes le in
     let same : (x.1 ++ q) ++ drop 65536 (bytes ++ p) ≡ (x.1 ++ drop 65536 bytes) ++ p =
-    append_assoc x.1 q (drop 65536 (bytes ++ p)) ∙ ap (λ (t : List ℕ). x.1 ++ t) (sym split) ∙ ap (λ (t : List ℕ). t ++ p) (sym (append-nil x.1) ∙ ap (λ (t : List ℕ). x.1 ++ t) (sym none)) in
+    append_assoc x.1 q (drop 65536 (bytes ++ p)) ∙ ap (λ (t : List ℕ). x.1 ++ t) (sym split) ∙
+    ap (λ (t : List ℕ). t ++ p) (sym (append-nil x.1) ∙ ap (λ (t : List ℕ). x.1 ++ t) (sym none)) in
     rw h (ap (λ (t : List ℕ). Ok (x.0, t)) same)
 window_stays bytes p q (Err NeedsMore) s le split h = rw (le-ltb 65536 (length bytes) le) tt
 window_stays bytes p q (Err (Faulty f)) s le split h = rw h refl
@@ -101,7 +103,8 @@ frame_stays p bytes =
           let split : p ≡ q ++ drop 65536 (bytes ++ p) = sym (ap (λ (t : List ℕ). q ++ t) (drop_over 65536 bytes p le) ∙ take-append-drop (65536 - length bytes) p) in
           let more : 65536 - length bytes ≡ (65536 - length (bytes ++ p)) + length q = omega (arith, length-append bytes p, length-take (65536 - length bytes) p) in
           let stays = rw (← more) at (value_stays q 1024 (65536 - length (bytes ++ p)) 8 bytes) in
-          window_stays bytes p q (value_at 1024 (65536 - length bytes) 8 (take 65536 bytes)) (value_at 1024 (65536 - length (bytes ++ p)) 8 (take 65536 (bytes ++ p))) le split (rw (short, window) stays)
+          window_stays bytes p q (value_at 1024 (65536 - length bytes) 8 (take 65536 bytes)) (value_at 1024 (65536 - length (bytes ++ p)) 8 (take 65536 (bytes ++ p))) le split
+          (rw (short, window) stays)
     ]
 
 -- ---- the bytes that a value took
@@ -120,7 +123,8 @@ module _ (bytes window : List ℕ) where
   unfolding frame_at
   frame_is r w e =
       let more : 65536 - length bytes ≡ 65536 - length (take 65536 bytes) = omega (arith, length-take 65536 bytes) in
-      ap (λ (k : ℕ). in_window bytes (value_at 1024 k 8 (take 65536 bytes))) more ∙ ap (λ (t : List ℕ). in_window bytes (value_at 1024 (65536 - length t) 8 t)) (sym w) ∙ ap (in_window bytes) e
+      ap (λ (k : ℕ). in_window bytes (value_at 1024 k 8 (take 65536 bytes))) more ∙ ap (λ (t : List ℕ). in_window bytes (value_at 1024 (65536 - length t) 8 t)) (sym w) ∙
+      ap (in_window bytes) e
 
   taken_of : (f : Frame) (rest : List ℕ) → window ≡ take 65536 bytes → value_at 1024 (65536 - length window) 8 window ≡ Ok (f, rest) → Taken 1024 8 window f rest
   taken_of f rest w e = value_takes 1024 (65536 - length window) 8 (omega arith) window (f, rest) (omega (arith, length-take 65536 bytes, ap length w)) e
@@ -128,7 +132,8 @@ module _ (bytes window : List ℕ) where
   pub rest_within : (f : Frame) (rest : List ℕ) → window ≡ take 65536 bytes → value_at 1024 (65536 - length window) 8 window ≡ Ok (f, rest) → length rest ≤ length window
   rest_within f rest w e = let taken = taken_of f rest w e in omega (arith, ap length taken.parts, length-append (spelling f) rest)
 
-  pub frame_ok : (f : Frame) (rest : List ℕ) → window ≡ take 65536 bytes → value_at 1024 (65536 - length window) 8 window ≡ Ok (f, rest) → frame_at bytes ≡ Ok (f, drop (length window - length rest) bytes)
+  pub frame_ok : (f : Frame) (rest : List ℕ) → window ≡ take 65536 bytes → value_at 1024 (65536 - length window) 8 window ≡ Ok (f, rest) →
+      frame_at bytes ≡ Ok (f, drop (length window - length rest) bytes)
   frame_ok f rest w e =
       let taken = taken_of f rest w e in
       let behind = cut bytes (spelling f) rest (sym w ∙ taken.parts) in

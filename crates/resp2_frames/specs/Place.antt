@@ -38,7 +38,8 @@ IsOpenLine (kind ∷ line) = IsKind kind × IsLine line
 
 -- an array of so many items begins with these bytes
 abbrev pub Opens : List ℕ → ℕ → Type 0
-Opens head n = (more depth : ℕ) (rest : List ℕ) → value_at 1024 more (suc depth) (head ++ rest) ≡ (values_at (value_at 1024 more depth) n rest >>= λ list. Ok (items list.0, list.1))
+Opens head n = (more depth : ℕ) (rest : List ℕ) → value_at 1024 more (suc depth)
+    (head ++ rest) ≡ (values_at (value_at 1024 more depth) n rest >>= λ list. Ok (items list.0, list.1))
 
 -- the header of an array of so many items, and what stands behind it
 abbrev pub OpensAt : List ℕ → ℕ → List ℕ → Type 0

@@ -69,7 +69,8 @@ integer_at bytes = line_at bytes >>= λ line. if_some (integer_of line.0) (λ n.
 
 -- `more` bytes may come after these before the frame is too long
 unfoldable pub block_at : ℕ → ℕ → List ℕ → Result (Frame × List ℕ) Unread
-block_at more n bytes = if nat_lt (length bytes + more) (n + 2) then Err (Faulty TooLong) else if nat_lt (length bytes) n then Err NeedsMore else end_at (drop n bytes) >>= λ rest. Ok (bulk (take n bytes), rest)
+block_at more n bytes = if nat_lt (length bytes + more) (n + 2) then Err (Faulty TooLong) else if nat_lt (length bytes) n then Err NeedsMore else end_at (drop n bytes) >>= λ rest.
+    Ok (bulk (take n bytes), rest)
 
 unfoldable pub bulk_at : ℕ → List ℕ → Result (Frame × List ℕ) Unread
 bulk_at more bytes = line_at bytes >>= λ line. size_of line.0 >>= λ size. if_some size (λ n. block_at more n line.1) (Ok (null_bulk, line.1))
@@ -85,7 +86,8 @@ items_at most inner bytes = line_at bytes >>= λ line. size_of line.0 >>= λ siz
 
 unfoldable pub kind_at : ℕ → ℕ → (List ℕ → Result (Frame × List ℕ) Unread) → ℕ → List ℕ → Result (Frame × List ℕ) Unread
 kind_at most more inner kind bytes =
-    if kind == 43 then text_at simple bytes else if kind == 45 then text_at fault bytes else if kind == 58 then integer_at bytes else if kind == 36 then bulk_at more bytes else if kind == 42 then items_at most inner bytes else Err (Faulty BadKind)
+    if kind == 43 then text_at simple bytes else if kind == 45 then text_at fault bytes else if kind == 58 then integer_at bytes else if kind == 36 then bulk_at more bytes
+    else if kind == 42 then items_at most inner bytes else Err (Faulty BadKind)
 
 -- a value of at most this depth
 unfoldable pub value_at : ℕ → ℕ → ℕ → List ℕ → Result (Frame × List ℕ) Unread

@@ -11,10 +11,12 @@ use Rattle.fault_world.specs.Laws.{HasBegun, HasRun}
 use Rattle.fault_world.specs.Standing.{IsShown, IsReached, Stands}
 use Rattle.fault_world.specs.declared.entry.Entry.{Entry}
 
-pub stands_in : {M : Type 0} (old new : Roster) (members : List M) (messages : List Message) → new ≡ old → (name : M → NodeName) (seat : M → Roster → Image → Type 0) → Stands old (IsShown name seat old members messages) → Stands new (IsShown name seat new members messages)
+pub stands_in : {M : Type 0} (old new : Roster) (members : List M) (messages : List Message) → new ≡ old → (name : M → NodeName) (seat : M → Roster → Image → Type 0) →
+    Stands old (IsShown name seat old members messages) → Stands new (IsShown name seat new members messages)
 stands_in old new members messages same name seat stands = subst (λ r. Stands r (IsShown name seat r members messages)) (sym same) stands
 
-pub begun_in : {M : Type 0} (old new : Roster) (members : List M) (messages : List Message) → new ≡ old → (name : M → NodeName) (seat : M → Roster → Image → Type 0) → HasBegun old (IsShown name seat old members messages) → HasBegun new (IsShown name seat new members messages)
+pub begun_in : {M : Type 0} (old new : Roster) (members : List M) (messages : List Message) → new ≡ old → (name : M → NodeName) (seat : M → Roster → Image → Type 0) →
+    HasBegun old (IsShown name seat old members messages) → HasBegun new (IsShown name seat new members messages)
 begun_in old new members messages same name seat begun = subst (λ r. HasBegun r (IsShown name seat r members messages)) (sym same) begun
 
 run_along : (roster : Roster) (steps : List Step) (w last : World) → JoinedBy IsSafeStep roster (map StepOf steps) w last → Run roster steps w last
@@ -22,7 +24,8 @@ run_along roster [] w last safe = safe
 run_along roster (s ∷ steps) w last safe = (safe.0, safe.1, run_along roster steps safe.0 last safe.3)
 
 -- a group that has run stands for the world that it came to
-pub stands_after : (roster : Roster) (start : World) (steps : List Step) (entries : List Entry) (shown : World → Type 0) → HasRun roster start steps entries shown → Stands roster shown
+pub stands_after : (roster : Roster) (start : World) (steps : List Step) (entries : List Entry) (shown : World → Type 0) → HasRun roster start steps entries shown →
+    Stands roster shown
 stands_after roster start steps entries shown h =
     record {
       world = h.last;

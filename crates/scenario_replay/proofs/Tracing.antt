@@ -43,11 +43,13 @@ plain b bs e more = ap (λ ends. cut ends b (lines bs)) e ∙ ap (with_first b) 
 abbrev IsLine : List ℕ → Type 0
 IsLine line = lines line ≡ as_one line
 
-line_first : (b : ℕ) (line : List ℕ) (rest : List (List ℕ)) (bs : List ℕ) (more : List (List ℕ)) → lines bs ≡ more → ((part : List ℕ) (parts : List (List ℕ)) → lines bs ≡ part ∷ parts → IsLine part) → (b == 10) ≡ false → with_first b more ≡ line ∷ rest → IsLine line
+line_first : (b : ℕ) (line : List ℕ) (rest : List (List ℕ)) (bs : List ℕ) (more : List (List ℕ)) → lines bs ≡ more →
+    ((part : List ℕ) (parts : List (List ℕ)) → lines bs ≡ part ∷ parts → IsLine part) → (b == 10) ≡ false → with_first b more ≡ line ∷ rest → IsLine line
 line_first b line rest bs [] m below e is = subst IsLine (first_same is) (plain b [] e refl)
 line_first b line rest bs (part ∷ parts) m below e is = subst IsLine (first_same is) (plain b part e (below part parts m))
 
-line_at : (b : ℕ) (line : List ℕ) (rest : List (List ℕ)) (bs : List ℕ) (ends : Bool) → (b == 10) ≡ ends → ((part : List ℕ) (parts : List (List ℕ)) → lines bs ≡ part ∷ parts → IsLine part) → cut ends b (lines bs) ≡ line ∷ rest → IsLine line
+line_at : (b : ℕ) (line : List ℕ) (rest : List (List ℕ)) (bs : List ℕ) (ends : Bool) → (b == 10) ≡ ends →
+    ((part : List ℕ) (parts : List (List ℕ)) → lines bs ≡ part ∷ parts → IsLine part) → cut ends b (lines bs) ≡ line ∷ rest → IsLine line
 line_at b line rest bs true e below is = subst IsLine (first_same is) refl
 line_at b line rest bs false e below is = line_first b line rest bs (lines bs) refl below e is
 
@@ -89,7 +91,8 @@ behind_both : (xs ys : List Step) (told : Told) → behind xs (behind ys told) �
 behind_both xs ys (Ok steps) = ap (λ zs. let r : Told = Ok zs in r) (sym (append_assoc xs ys steps))
 behind_both xs ys (Err fault) = refl
 
-one_more : (n : ℕ) (line : List ℕ) (rest : List (List ℕ)) (xs ys : List Step) → line_of line ≡ Ok ys → behind xs (steps_from n (line ∷ rest)) ≡ behind (xs ++ ys) (steps_from (n + 1) rest)
+one_more : (n : ℕ) (line : List ℕ) (rest : List (List ℕ)) (xs ys : List Step) → line_of line ≡ Ok ys →
+    behind xs (steps_from n (line ∷ rest)) ≡ behind (xs ++ ys) (steps_from (n + 1) rest)
 one_more n line rest xs ys told = ap (λ l. behind xs (at_line n l >>= λ steps. behind steps (steps_from (n + 1) rest))) told ∙ behind_both xs ys (steps_from (n + 1) rest)
 
 -- The run so far
@@ -109,15 +112,18 @@ none_before (Err fault) = refl
 pub traced_begin : (roster : Roster) (story : List ℕ) (shown : World → Type 0) → HasBegun roster shown → TracedTo roster story story shown
 traced_begin roster story shown begun = record { steps = []; number = 1; read = none_before (steps_from 1 (lines story)); start = begun.0; entries = []; run = begun.1 }
 
-pub traced_more : {M : Type 0} (old new : Roster) (story rest line more : List ℕ) (steps : List Step) (news : List Entry) (members members2 : List M) (messages messages2 : List Message) → new ≡ old → lines rest ≡ line ∷ lines more → scenario line ≡ Ok steps →
-    (name : M → NodeName) (seat : M → Roster → Image → Type 0) → TracedTo old story rest (IsShown name seat old members messages) → GoesOn old steps news (IsShown name seat old members messages) (IsShown name seat old members2 messages2) →
+pub traced_more : {M : Type 0} (old new : Roster) (story rest line more : List ℕ) (steps : List Step) (news : List Entry) (members members2 : List M)
+    (messages messages2 : List Message) → new ≡ old → lines rest ≡ line ∷ lines more → scenario line ≡ Ok steps →
+    (name : M → NodeName) (seat : M → Roster → Image → Type 0) → TracedTo old story rest (IsShown name seat old members messages) →
+    GoesOn old steps news (IsShown name seat old members messages) (IsShown name seat old members2 messages2) →
     TracedTo new story more (IsShown name seat new members2 messages2)
 traced_more old new story rest line more steps news members members2 messages messages2 same first told name seat before next =
     subst (λ r. TracedTo r story more (IsShown name seat r members2 messages2)) (sym same)
     (record {
       steps = before.steps ++ steps;
       number = before.number + 1;
-      read = before.read ∙ ap (λ ls. behind before.steps (steps_from before.number ls)) first ∙ one_more before.number line (lines more) before.steps steps (line_told rest line (lines more) steps first told);
+      read = before.read ∙ ap (λ ls. behind before.steps (steps_from before.number ls)) first ∙
+          one_more before.number line (lines more) before.steps steps (line_told rest line (lines more) steps first told);
       start = before.start;
       entries = before.entries ++ news;
       run = next before.start before.steps before.entries before.run;
@@ -128,7 +134,8 @@ nothing [] none = refl
 nothing (b ∷ bs) none = absurd (omega (arith, none))
 
 pub traced_end : {M : Type 0} (old new : Roster) (story rest : List ℕ) (members : List M) (messages : List Message) → new ≡ old → length rest ≡ 0 →
-    (name : M → NodeName) (seat : M → Roster → Image → Type 0) → TracedTo new story rest (IsShown name seat new members messages) → IsTraced old story (IsShown name seat old members messages)
+    (name : M → NodeName) (seat : M → Roster → Image → Type 0) → TracedTo new story rest (IsShown name seat new members messages) →
+    IsTraced old story (IsShown name seat old members messages)
 traced_end old new story rest members messages same empty name seat traced =
     let t = subst (λ r. TracedTo r story rest (IsShown name seat r members messages)) same traced in
     record {

@@ -17,5 +17,6 @@ behind_both xs ys (Err fault) = refl
 abbrev from_line : ℕ → List (List ℕ) → List Step → Result (List Step) ScenarioKind → Told
 from_line n lines xs told = behind xs (at_line n told >>= λ steps. behind steps (steps_from (n + 1) lines))
 
-pub one_more : (n : ℕ) (line : List ℕ) (lines : List (List ℕ)) (xs ys : List Step) → line_of line ≡ Ok ys → behind xs (steps_from n (line ∷ lines)) ≡ behind (xs ++ ys) (steps_from (n + 1) lines)
+pub one_more : (n : ℕ) (line : List ℕ) (lines : List (List ℕ)) (xs ys : List Step) → line_of line ≡ Ok ys →
+    behind xs (steps_from n (line ∷ lines)) ≡ behind (xs ++ ys) (steps_from (n + 1) lines)
 one_more n line lines xs ys told = ap (from_line n lines xs) told ∙ behind_both xs ys (steps_from (n + 1) lines)

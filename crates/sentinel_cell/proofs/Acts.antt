@@ -40,7 +40,8 @@ legal-append w (e ∷ es) ys a b = (a.0, legal-append (after w e) es ys a.1 b)
 pub legal_step : (w : World) (history : List Entry) (e : Entry) → IsLegal w history → IsStep (replay w history) e → IsLegal w (history ++ e ∷ [])
 legal_step w history e a b = (a.0, legal-append w history (e ∷ []) a.1 (b, tt))
 
-pub fits_step : {S : Type 0} (text : S → Option (List ℕ)) (failures : S → ℕ) (w : World) (history : List Entry) (e : Entry) (k : Keeper S) → IsLeft text failures (after (replay w history) e) k → Fits text failures w (history ++ e ∷ []) (Some k)
+pub fits_step : {S : Type 0} (text : S → Option (List ℕ)) (failures : S → ℕ) (w : World) (history : List Entry) (e : Entry) (k : Keeper S) →
+    IsLeft text failures (after (replay w history) e) k → Fits text failures w (history ++ e ∷ []) (Some k)
 fits_step text failures w history e k left = (k, refl, subst (λ (x : World). IsLeft text failures x k) (sym (replay-append w history (e ∷ []))) left)
 
 -- the views of one turn
@@ -49,14 +50,16 @@ turned v r t history given = serving (drawn (looked v r) t) t history given
 
 pub adds : (start : World) (v w : View) (input : Input) (outcome : Outcome) (outputs : List Output) (r t : ℕ) (history : List Entry) (given : ℕ) (e : Entry)
     → w ≡ passed (raised (turned v r t history given) e) → v.given ≤ given → IsLegal start (history ++ e ∷ []) → Follows v history
-    → e.number ≡ first_number v.numbers → e.input ≡ input → e.outcome ≡ outcome → e.outputs ≡ outputs → AreOf (stored_at start) w.answers w.front → AreGiven w.given w.front → Adds start v input outcome outputs w
+    → e.number ≡ first_number v.numbers → e.input ≡ input → e.outcome ≡ outcome → e.outputs ≡ outputs → AreOf (stored_at start) w.answers w.front → AreGiven w.given w.front →
+    Adds start v input outcome outputs w
 adds start v w input outcome outputs r t history given e is more legal follows number asked came out known calls =
     subst (λ (x : View). Adds start v input outcome outputs x) (sym is) (
       follows.0.0,
       e,
       ap (λ (l : List Entry). l ++ e ∷ []) follows.0.1,
       legal,
-      λ n has. none_after (calls_by n v.front) (calls_by n follows.0.0) [] (append-nil (calls_by n v.front ++ calls_by n follows.0.0) ∙ (sym (calls-append n v.front follows.0.0) ∙ (ap (calls_by n) (sym follows.0.1) ∙ follows.1 n has))),
+      λ n has. none_after (calls_by n v.front) (calls_by n follows.0.0) []
+          (append-nil (calls_by n v.front ++ calls_by n follows.0.0) ∙ (sym (calls-append n v.front follows.0.0) ∙ (ap (calls_by n) (sym follows.0.1) ∙ follows.1 n has))),
       number,
       asked,
       came,
@@ -73,7 +76,8 @@ pub looks_low : (v : View) (r : ℕ) → r < 9223372036854775808 → (looked v r
 looks_low v r h = ap (λ (b : Bool). cond b Looked Idle) (lt-ltb r 9223372036854775808 h)
 
 module _ {C : Type 0} where
-  pub in_turn : (m0 m1 m2 m3 : Me C View) (r t : ℕ) (history : List Entry) (given : ℕ) (c : C) → m1.0 ≡ looked m0.0 r → m2.0 ≡ drawn m1.0 t → m3 ≡ (serving m2.0 t history given, (0, c) ∷ m2.1) → m3.0 ≡ turned m0.0 r t history given
+  pub in_turn : (m0 m1 m2 m3 : Me C View) (r t : ℕ) (history : List Entry) (given : ℕ) (c : C) → m1.0 ≡ looked m0.0 r → m2.0 ≡ drawn m1.0 t →
+      m3 ≡ (serving m2.0 t history given, (0, c) ∷ m2.1) → m3.0 ≡ turned m0.0 r t history given
   in_turn m0 m1 m2 m3 r t history given c a b d = ap (λ (x : Me C View). x.0) d ∙ ap (λ (v : View). serving v t history given) (b ∙ ap (λ (v : View). drawn v t) a)
 
   pub follows_first : (m0 m1 m2 : Me C View) (r t : ℕ) (history : List Entry) → m1.0 ≡ looked m0.0 r → m2.0 ≡ drawn m1.0 t → Follows m2.0 history → Follows m0.0 history
@@ -85,7 +89,8 @@ module _ {C : Type 0} where
   pub kept_view : (m3 m4 m5 : Me C View) (v : View) (l l' : List (ℕ × C)) → m3.0 ≡ v → m4 ≡ (m3.0, l) → m5 ≡ (m4.0, l') → m5.0 ≡ v
   kept_view m3 m4 m5 v l l' a b d = ap (λ (x : Me C View). x.0) d ∙ (ap (λ (x : Me C View). x.0) b ∙ a)
 
-  pub filling_view : (a b d : Me C View) (l l' : List (ℕ × C)) (seats : ℕ) → a ≡ (first_view_at Opening seats, l) → b.0 ≡ record a.0 { stage = Filling } → d ≡ (b.0, l') → d.0 ≡ first_view_at Filling seats
+  pub filling_view : (a b d : Me C View) (l l' : List (ℕ × C)) (seats : ℕ) → a ≡ (first_view_at Opening seats, l) → b.0 ≡ record a.0 { stage = Filling } → d ≡ (b.0, l') →
+      d.0 ≡ first_view_at Filling seats
   filling_view a b d l l' seats e f h = ap (λ (x : Me C View). x.0) h ∙ (f ∙ ap (λ (x : Me C View). let v : View = record x.0 { stage = Filling } in v) e)
 
   pub slots_of : (m : Me C View) (v : View) (l : List (ℕ × C)) → m ≡ (v, l) → m.1 ≡ l
@@ -110,7 +115,8 @@ module _ {S : Type 0} (text : S → Option (List ℕ)) (failures : S → ℕ) wh
   same_keeper : (k k' : Keeper S) (l : List (ℕ × Option (Keeper S))) → l ≡ (0, Some k) ∷ [] → l ≡ (0, Some k') ∷ [] → k' ≡ k
   same_keeper k k' l a b = ap (keeper_in k) (sym b ∙ a)
 
-  pub left_out : (start : World) (history : List Entry) (c : Option (Keeper S)) (f : Fits text failures start history c) (k : Keeper S) (l : List (ℕ × Option (Keeper S))) → l ≡ (0, Some f.0) ∷ [] → l ≡ (0, Some k) ∷ []
+  pub left_out : (start : World) (history : List Entry) (c : Option (Keeper S)) (f : Fits text failures start history c) (k : Keeper S) (l : List (ℕ × Option (Keeper S))) →
+      l ≡ (0, Some f.0) ∷ [] → l ≡ (0, Some k) ∷ []
       → IsLeft text failures (replay start history) k
   left_out start history c f k l a b = subst (IsLeft text failures (replay start history)) (sym (same_keeper f.0 k l a b)) f.2
 
@@ -118,15 +124,18 @@ module _ {S : Type 0} (text : S → Option (List ℕ)) (failures : S → ℕ) wh
   left_plan start history e k left = left.plan ∙ (sym (ap (λ (u : World). u.plan) (replay-append start history (e ∷ []))) ∙ same_plan start (history ++ e ∷ []))
 
   -- what is announced
-  pub announced : (start : World) (history : List Entry) (m5 : Me (Option (Keeper S)) View) (w : View) (e : Entry) (old k : Keeper S) (master word : ℕ) → m5.0 ≡ w → w.front ≡ history → IsLegal start history
+  pub announced : (start : World) (history : List Entry) (m5 : Me (Option (Keeper S)) View) (w : View) (e : Entry) (old k : Keeper S) (master word : ℕ) → m5.0 ≡ w →
+      w.front ≡ history → IsLegal start history
       → IsLeft text failures (replay start history) old → IsStep (replay start history) e × IsLeft text failures (after (replay start history) e) k
       → unpacked (addr_at k.sentinel.plan) master word ≡ card_of k.sentinel.stored master
-      → ((x : ℕ) → IsSameOrNewer (card_of old.sentinel.stored x) (card_of k.sentinel.stored x)) → ((x : ℕ) → x ≢ master → card_of k.sentinel.stored x ≡ card_of old.sentinel.stored x)
+      → ((x : ℕ) → IsSameOrNewer (card_of old.sentinel.stored x) (card_of k.sentinel.stored x)) →
+      ((x : ℕ) → x ≢ master → card_of k.sentinel.stored x ≡ card_of old.sentinel.stored x)
       → IsLegal start (m5.0.front ++ e ∷ []) × Announces start m5.0.front e master word
   announced start history m5 w e old k master word is front legal left step packed_is newer others =
       let there : history ≡ m5.0.front = sym (ap (λ (x : View). x.front) is ∙ front) in
       let was : (x : ℕ) → card_of old.sentinel.stored x ≡ stored_at start history x = λ x. ap (λ (u : Kept). card_of u x) left.stored in
-      let on : (x : ℕ) → card_of k.sentinel.stored x ≡ stored_at start (history ++ e ∷ []) x = λ x. ap (λ (u : Kept). card_of u x) step.1.stored ∙ sym (ap (λ (u : World). card_of u.stored x) (replay-append start history (e ∷ []))) in
+      let on : (x : ℕ) → card_of k.sentinel.stored x ≡ stored_at start (history ++ e ∷ []) x =
+      λ x. ap (λ (u : Kept). card_of u x) step.1.stored ∙ sym (ap (λ (u : World). card_of u.stored x) (replay-append start history (e ∷ []))) in
       let plan : k.sentinel.plan ≡ start.plan = left_plan start history e k step.1 in
       let P : List Entry → Type 0 = λ l. IsLegal start (l ++ e ∷ []) × Announces start l e master word in
       let at : P history = (
@@ -139,12 +148,14 @@ module _ {S : Type 0} (text : S → Option (List ℕ)) (failures : S → ℕ) wh
       ) in
       subst P there at
 
-  pub passes_on : (start : World) (history : List Entry) (m5 m6 : Me (Option (Keeper S)) View) (v w : View) (e : Entry) (k : Keeper S) → m5 ≡ (v, (0, Some k) ∷ []) → m6 ≡ (raised m5.0 e, m5.1) → m5.0 ≡ w → w.front ≡ history → Has e.number m5.0.numbers
+  pub passes_on : (start : World) (history : List Entry) (m5 m6 : Me (Option (Keeper S)) View) (v w : View) (e : Entry) (k : Keeper S) → m5 ≡ (v, (0, Some k) ∷ []) →
+      m6 ≡ (raised m5.0 e, m5.1) → m5.0 ≡ w → w.front ≡ history → Has e.number m5.0.numbers
       → IsLeft text failures (after (replay start history) e) k
       → (x : Entry) × (c : Option (Keeper S)) × (m6.0.flight ≡ x ∷ []) × Has x.number m6.0.numbers × (m6.1 ≡ (0, c) ∷ []) × Fits text failures start (m6.0.front ++ x ∷ []) c
   passes_on start history m5 m6 v w e k slot up is front has left =
       let view : m6.0 ≡ raised m5.0 e = ap (λ (x : Me (Option (Keeper S)) View). x.0) up in
-      let there : history ++ e ∷ [] ≡ m6.0.front ++ e ∷ [] = ap (λ (l : List Entry). l ++ e ∷ []) (sym (ap (λ (x : View). x.front) view ∙ (ap (λ (x : View). x.front) is ∙ front))) in (
+      let there : history ++ e ∷ [] ≡ m6.0.front ++ e ∷ [] =
+      ap (λ (l : List Entry). l ++ e ∷ []) (sym (ap (λ (x : View). x.front) view ∙ (ap (λ (x : View). x.front) is ∙ front))) in (
         e,
         Some k,
         ap (λ (x : View). x.flight) view,
@@ -154,23 +165,27 @@ module _ {S : Type 0} (text : S → Option (List ℕ)) (failures : S → ℕ) wh
       )
 
   -- the entry, with the numbers that the call read
-  pub same_step : (w : World) (number : ℕ) (input : Input) (outcome : Outcome) (first first' : ℕ) (shown : List Output) (count count' : ℕ) (k : Keeper S) → first ≡ first' → count ≡ count'
+  pub same_step : (w : World) (number : ℕ) (input : Input) (outcome : Outcome) (first first' : ℕ) (shown : List Output) (count count' : ℕ) (k : Keeper S) → first ≡ first' →
+      count ≡ count'
       → IsStep w (entry_of number input outcome first shown count) × IsLeft text failures (after w (entry_of number input outcome first shown count)) k
       → IsStep w (entry_of number input outcome first' shown count') × IsLeft text failures (after w (entry_of number input outcome first' shown count')) k
   same_step w number input outcome first first' shown count count' k a b step =
-      subst (λ (x : ℕ × ℕ). IsStep w (entry_of number input outcome x.0 shown x.1) × IsLeft text failures (after w (entry_of number input outcome x.0 shown x.1)) k) (λ i. (a i, b i)) step
+      subst (λ (x : ℕ × ℕ). IsStep w (entry_of number input outcome x.0 shown x.1) × IsLeft text failures (after w (entry_of number input outcome x.0 shown x.1)) k)
+      (λ i. (a i, b i)) step
 
 pub passed_at : {C : Type 0} (m5 m6 m7 : Me C View) (v : View) (e : Entry) → m5.0 ≡ v → m6 ≡ (raised m5.0 e, m5.1) → m7 ≡ (passed m6.0, []) → m7.0 ≡ passed (raised v e)
 passed_at {C} m5 m6 m7 v e a b d = ap (λ (x : Me C View). x.0) d ∙ ap (λ (x : View). passed x) (ap (λ (x : Me C View). x.0) b ∙ ap (λ (x : View). raised x e) a)
 
-pub still_answers : {C : Type 0} (start : World) (m6 m7 : Me C View) → m7 ≡ (passed m6.0, []) → AreOf (stored_at start) m6.0.answers m7.0.front → AreOf (stored_at start) m7.0.answers m7.0.front
+pub still_answers : {C : Type 0} (start : World) (m6 m7 : Me C View) → m7 ≡ (passed m6.0, []) → AreOf (stored_at start) m6.0.answers m7.0.front →
+    AreOf (stored_at start) m7.0.answers m7.0.front
 still_answers {C} start m6 m7 d a = subst (λ (l : List (ℕ × Card)). AreOf (stored_at start) l m7.0.front) (sym (ap (λ (x : Me C View). x.0.answers) d)) a
 
 pub first_has : (v w : View) → v ≡ w → Has (first_number w.numbers) w.numbers → Has (first_number v.numbers) v.numbers
 first_has v w e h = subst (λ (x : View). Has (first_number x.numbers) x.numbers) (sym e) h
 
 module _ {C : Type 0} where
-  pub halves : (m m1 m2 m3 : Me C View) (n : ℕ) → m1.0 ≡ numbered m.0 n → m1.1 ≡ m.1 → m.1 ≡ [] → m2 ≡ (left_half m1.0, m1.1) → m3 ≡ (right_half m1.0, []) → m.0.given ≤ n → ¬ Has n m.0.numbers → calls_by n m.0.front ≡ []
+  pub halves : (m m1 m2 m3 : Me C View) (n : ℕ) → m1.0 ≡ numbered m.0 n → m1.1 ≡ m.1 → m.1 ≡ [] → m2 ≡ (left_half m1.0, m1.1) → m3 ≡ (right_half m1.0, []) → m.0.given ≤ n →
+      ¬ Has n m.0.numbers → calls_by n m.0.front ≡ []
       → (x : ℕ) × (m2 ≡ (left_half (numbered m.0 x), [])) × (m3 ≡ (right_half (numbered m.0 x), [])) × (m.0.given ≤ x) × (¬ Has x m.0.numbers) × (calls_by x m.0.front ≡ [])
   halves m m1 m2 m3 n a b d e f low g h = (n, e ∙ (λ i. (left_half (a i), (b ∙ d) i)), f ∙ (λ i. (right_half (a i), [])), low, g, h)
 
@@ -189,19 +204,22 @@ module _ (start : World) (v : View) (input : Input) (outputs : List Output) (w :
       let step = last_step start (v.front ++ a.0) e (subst (IsLegal start) a.2 a.3).1 in
       sym a.8 ∙ none (replay start (v.front ++ a.0)) e.input e.outputs e.failures (subst (IsOutcome (replay start (v.front ++ a.0)) e.input e.outputs e.failures) a.7 step)
 
-  pub as_told : (acted : Result (Outcome × ℕ) TicketsSpent) (first end : ℕ) → IfOk acted (λ turn. Adds start v input turn.0 outputs w) → OnErr acted ((9223372036854775808 ≤ w.tickets) × IsSame v w × (outputs ≡ [])) → Acted start v input outputs w (answer_of acted first end)
+  pub as_told : (acted : Result (Outcome × ℕ) TicketsSpent) (first end : ℕ) → IfOk acted (λ turn. Adds start v input turn.0 outputs w) →
+      OnErr acted ((9223372036854775808 ≤ w.tickets) × IsSame v w × (outputs ≡ [])) → Acted start v input outputs w (answer_of acted first end)
   as_told (Ok (Stored, _)) first end a s = a
   as_told (Ok (Refused, _)) first end a s = (no_outputs Refused (λ u i o n h. h.1) a, a)
   as_told (Ok (Halted, _)) first end a s = (no_outputs Halted (λ u i o n h. h.1) a, a)
   as_told (Err _) first end a s = (s.2, s.1, s.0)
 
 -- the ticket of a turn is its entry's place in the history
-pub counted_entry : (v w : View) (r t : ℕ) (history : List Entry) (given : ℕ) (e : Entry) → w ≡ passed (raised (turned v r t history given) e) → t ≡ length history → t + 1 ≡ length w.front
+pub counted_entry : (v w : View) (r t : ℕ) (history : List Entry) (given : ℕ) (e : Entry) → w ≡ passed (raised (turned v r t history given) e) → t ≡ length history →
+    t + 1 ≡ length w.front
 counted_entry v w r t history given e is here = ap (λ (n : ℕ). n + 1) here ∙ (sym (length-append history (e ∷ [])) ∙ ap (λ (x : View). length x.front) (sym is))
 
 -- the views that the seat had before and has after
 module _ (start : World) (input : Input) (outputs : List Output) (result : Result Reply ActFault) where
-  pub acted_between : (x x' : View) (seat : Standing) (t : TableId) (before after' : List View) → standing t (head_view before) ≡ seat → before ≡ x ∷ [] → after' ≡ x' ∷ [] → Acted start x input outputs x' result
+  pub acted_between : (x x' : View) (seat : Standing) (t : TableId) (before after' : List View) → standing t (head_view before) ≡ seat → before ≡ x ∷ [] → after' ≡ x' ∷ [] →
+      Acted start x input outputs x' result
       → Acted start seat.view input outputs (head_view after') result
   acted_between x x' seat t before after' a b d acted =
       subst (λ (y : View × View). Acted start y.0 input outputs y.1 result) (λ i. ((sym (ap head_view b) ∙ ap (λ (s : Standing). s.view) a) i, sym (ap head_view d) i)) acted
@@ -223,10 +241,12 @@ told_seat {C} start seat t before after' m m' n told card a b d e f fresh =
       subst (λ (x : View × Card). IsFresh (IsLegal start) (stored_at start) x.0 n x.1) (λ i. (view i, sym f i)) fresh,
     )
 
-adds_same : (start : World) (v w : View) (input : Input) (outputs : List Output) (outcome : Outcome) → Adds start v input outcome outputs w → (w.numbers ≡ v.numbers) × (w.answers ≡ v.answers) × (w.share ≡ v.share)
+adds_same : (start : World) (v w : View) (input : Input) (outputs : List Output) (outcome : Outcome) → Adds start v input outcome outputs w →
+    (w.numbers ≡ v.numbers) × (w.answers ≡ v.answers) × (w.share ≡ v.share)
 adds_same start v w input outputs outcome a = (a.9, a.10, a.11)
 
-pub acted_same : (start : World) (v w : View) (input : Input) (outputs : List Output) (result : Result Reply ActFault) → Acted start v input outputs w result → (w.numbers ≡ v.numbers) × (w.answers ≡ v.answers) × (w.share ≡ v.share)
+pub acted_same : (start : World) (v w : View) (input : Input) (outputs : List Output) (result : Result Reply ActFault) → Acted start v input outputs w result →
+    (w.numbers ≡ v.numbers) × (w.answers ≡ v.answers) × (w.share ≡ v.share)
 acted_same start v w input outputs (Ok reply) a = adds_same start v w input outputs Stored a
 acted_same start v w input outputs (Err Spent) a = (a.1.1, a.1.2, a.1.3)
 acted_same start v w input outputs (Err ActHalted) a = adds_same start v w input outputs Halted a.1

@@ -20,22 +20,27 @@ module _ {S : Type 0} (text : S → Option (List ℕ)) (failures : S → ℕ) wh
       subst (λ (x : World). Allows (Keeps text failures w seats) slots id me 0 (λ n. n) (Turns (IsLegal x) (Fits text failures x) (step slots 0 0 0 maybe.none) me)) (sym e)
       (turns_all (IsLegal w) (stored_at w) (Fits text failures w) (addr_at w.plan) (master_count w.plan) seats None slots id me t is)
 
-  pub passes_from : (start w : World) (seats slots id : ℕ) (me : Me (Option (Keeper S)) View) (t : ℕ) (e : Entry) (c : Option (Keeper S)) → start ≡ w → seats ≤ 4294967296 → me.0.stage ≡ Serving t → me.1 ≡ (0, c) ∷ []
+  pub passes_from : (start w : World) (seats slots id : ℕ) (me : Me (Option (Keeper S)) View) (t : ℕ) (e : Entry) (c : Option (Keeper S)) → start ≡ w → seats ≤ 4294967296 →
+      me.0.stage ≡ Serving t → me.1 ≡ (0, c) ∷ []
       → me.0.flight ≡ e ∷ [] → Has e.number me.0.numbers → Fits text failures w (me.0.front ++ e ∷ []) c
       → Allows (Keeps text failures w seats) slots id me 0 (λ n. (n + 1) % 18446744073709551616) (Passes (stored_at start) (step slots 0 1 0 maybe.none) me)
   passes_from start w seats slots id me t e c same few is slot flight has fits =
-      subst (λ (x : World). Allows (Keeps text failures w seats) slots id me 0 (λ n. (n + 1) % 18446744073709551616) (Passes (stored_at x) (step slots 0 1 0 maybe.none) me)) (sym same)
+      subst (λ (x : World). Allows (Keeps text failures w seats) slots id me 0 (λ n. (n + 1) % 18446744073709551616) (Passes (stored_at x) (step slots 0 1 0 maybe.none) me))
+      (sym same)
       (passes_all (IsLegal w) (stored_at w) (Fits text failures w) (addr_at w.plan) (master_count w.plan) seats None slots id me t e c few is slot flight has fits)
 
   pub tells_from : (start w : World) (seats slots id : ℕ) (me : Me (Option (Keeper S)) View) (m : ℕ) → start ≡ w → m < master_count w.plan → me.0.stage ≡ Idle
       → Allows (Keeps text failures w seats) slots id me (m + 2) (λ n. n) (Tells (IsLegal start) (stored_at start) (addr_at start.plan) (step slots (m + 2) 0 0 maybe.none) me)
   tells_from start w seats slots id me m same low is =
-      subst (λ (x : World). Allows (Keeps text failures w seats) slots id me (m + 2) (λ n. n) (Tells (IsLegal x) (stored_at x) (addr_at x.plan) (step slots (m + 2) 0 0 maybe.none) me)) (sym same)
-      (tells_all (IsLegal w) (stored_at w) (Fits text failures w) (addr_at w.plan) (master_count w.plan) seats None slots id me m low is (λ x part whole b legal. rises w x part whole b legal))
+      subst (λ (x : World). Allows (Keeps text failures w seats) slots id me (m + 2) (λ n. n)
+      (Tells (IsLegal x) (stored_at x) (addr_at x.plan) (step slots (m + 2) 0 0 maybe.none) me)) (sym same)
+      (tells_all (IsLegal w) (stored_at w) (Fits text failures w) (addr_at w.plan) (master_count w.plan) seats None slots id me m low is
+      (λ x part whole b legal. rises w x part whole b legal))
 
 module _ {C : Type 0} (Legal : List Entry → Type 0) (Fit : List Entry → C → Type 0) where
   abbrev pub HasTurn : Me C View → ℕ → Me C View → Type 0
-  HasTurn m t m' = (history : List Entry) × (c : C) × ((given : ℕ) × (m' ≡ (serving m.0 t history given, (0, c) ∷ m.1)) × (m.0.given ≤ given)) × Legal history × Fit history c × Follows m.0 history
+  HasTurn m t m' = (history : List Entry) × (c : C) × ((given : ℕ) × (m' ≡ (serving m.0 t history given, (0, c) ∷ m.1)) × (m.0.given ≤ given)) × Legal history × Fit history c ×
+      Follows m.0 history
 
   got_turn : (m : Me C View) (t : ℕ) (m' : Me C View) → m.0.stage ≡ Waiting t → Turns Legal Fit (step 0 0 0 0 maybe.none) m t m' → HasTurn m t m'
   got_turn m t m' is h = let g = h.0 is in (g.0, g.1, (g.2.0, (λ i. (g.2.1 i, g.3 i)), g.2.2), g.4, g.5, g.6)

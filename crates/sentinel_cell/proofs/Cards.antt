@@ -16,7 +16,8 @@ use Rattle.sentinel_cell.specs.Calls.{Begins}
 use Rattle.sentinel_cell.specs.Histories.{World, IsGood, IsOutcome, IsStep, AreSteps, IsLegal, next_of, after_outcome, after, replay, stored_at}
 
 -- one input keeps a world good
-good_input : (w : World) (i : Input) → IsGood w → IsWithinEvent i.event → (halted : Bool) (stored : Kept) (change text refused : _) (failures : ℕ) → (halted ≡ false → (next_of w i).core.kept ≡ stored)
+good_input : (w : World) (i : Input) → IsGood w → IsWithinEvent i.event → (halted : Bool) (stored : Kept) (change text refused : _) (failures : ℕ) →
+    (halted ≡ false → (next_of w i).core.kept ≡ stored)
     → IsGood (record { plan = w.plan; core = (next_of w i).core; stored = stored; halted = halted; change = change; text = text; refused = refused; failures = failures })
 good_input w i g within halted stored change text refused failures settled =
     record {
@@ -49,7 +50,8 @@ same_plan w (e ∷ es) = same_plan (after w e) es ∙ plan_after w e.input e.fai
     plan_after w i n Halted = refl
 
 -- what one entry does to the stored cards
-newer_outcome : (w : World) (i : Input) (outputs : List Output) (n : ℕ) (o : Outcome) (x : ℕ) → IsGood w → IsOutcome w i outputs n o → IsSameOrNewer (card_of w.stored x) (card_of (after_outcome w i n o).stored x)
+newer_outcome : (w : World) (i : Input) (outputs : List Output) (n : ℕ) (o : Outcome) (x : ℕ) → IsGood w → IsOutcome w i outputs n o →
+    IsSameOrNewer (card_of w.stored x) (card_of (after_outcome w i n o).stored x)
 newer_outcome w i outputs n Stored x g h =
     subst (λ (kept : Kept). IsSameOrNewer (card_of kept x) (card_of (next_of w i).core.kept x)) (g.settled h.0)
     ((inputs_raise_cards w.plan w.core i.now i.event g.plan g.core h.3 g.ahead).1 x)

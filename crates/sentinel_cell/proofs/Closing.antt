@@ -22,7 +22,8 @@ module _ {S : Type 0} (text : S → Option (List ℕ)) (failures : S → ℕ) (s
   abbrev pub Leaves : Option (Keeper S) → Type 0
   Leaves slot = (v.share ≡ seats) × ((k : Keeper S) × (slot ≡ Some k) × IsLeftBy text failures start v k) × AreUnder v.numbers v.front
 
-  pub leaves : (words : List ℕ) (slots : List (Option (Keeper S))) (slot : Option (Keeper S)) → Final (Seen (Keeps text failures start seats) id v) words slots → seats ≤ v.share → AtRest v
+  pub leaves : (words : List ℕ) (slots : List (Option (Keeper S))) (slot : Option (Keeper S)) → Final (Seen (Keeps text failures start seats) id v) words slots → seats ≤ v.share →
+      AtRest v
       → get_elem? slots 0 ≡ maybe.some slot → Leaves slot
   leaves words slots slot final most rest taken =
       let s = final.0 in
@@ -52,7 +53,8 @@ module _ {S : Type 0} (text : S → Option (List ℕ)) (failures : S → ℕ) (s
       )
 
 module _ {S : Type 0} (text : S → Option (List ℕ)) (failures : S → ℕ) (start : World) (seats id : ℕ) (seat : Standing) (t : TableId) (views : List View) (v : View) where
-  pub leaves_seat : (words : List ℕ) (slots : List (Option (Keeper S))) (slot : Option (Keeper S)) (made share : ℕ) → Final (Seen (Keeps text failures start seats) id v) words slots
+  pub leaves_seat : (words : List ℕ) (slots : List (Option (Keeper S))) (slot : Option (Keeper S)) (made share : ℕ) →
+      Final (Seen (Keeps text failures start seats) id v) words slots
       → standing t (head_view views) ≡ seat → views ≡ v ∷ [] → AtRest (head_view views) → (head_view views).share ≡ share → made ≡ seats → made ≤ share
       → get_elem? slots 0 ≡ maybe.some slot → Leaves text failures start seats id seat.view slot
   leaves_seat words slots slot made share final is only rest same counted most taken =

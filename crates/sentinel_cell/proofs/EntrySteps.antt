@@ -43,7 +43,8 @@ not_same : (a b : Kept) (s : Bool) → same_kept a b ≡ s → a ≢ b → not s
 not_same a b true e apart = absurd (apart (kept_true a b e))
 not_same a b false e apart = refl
 
-stores_something : (v : World) (input : Input) (kept was : Kept) → kept ≡ (next_of v input).core.kept → was ≡ v.core.kept → (must_store v input ≡ true) ↔ (IsFlush input.event ⊎ (kept ≢ was))
+stores_something : (v : World) (input : Input) (kept was : Kept) → kept ≡ (next_of v input).core.kept → was ≡ v.core.kept →
+    (must_store v input ≡ true) ↔ (IsFlush input.event ⊎ (kept ≢ was))
 stores_something v input kept was k w =
     let new : Kept = (next_of v input).core.kept in
     let old : Kept = v.core.kept in (
@@ -62,7 +63,8 @@ stores_something v input kept was k w =
 pub at_self : (group : Group) (i : ℕ) (node : Sentinel) → i < length group.sentinels → sentinel_at (with_sentinel group i node) i ≡ node
 at_self group i node lt = get_or-set_same group.sentinels i node no_sentinel lt
 
-pub still_alone : (group last : Group) (i : ℕ) (node : Sentinel) → last.sentinels ≡ slice_set group.sentinels i node → last.stores ≡ group.stores → last.clients ≡ group.clients → MovesAlone i group last
+pub still_alone : (group last : Group) (i : ℕ) (node : Sentinel) → last.sentinels ≡ slice_set group.sentinels i node → last.stores ≡ group.stores → last.clients ≡ group.clients →
+    MovesAlone i group last
 still_alone group last i node is stores clients = record {
   count = ap (λ (l : List Sentinel). length l) is ∙ length-set group.sentinels i node;
   others = λ j apart. ap (λ (l : List Sentinel). slice_index_or l j no_sentinel) is ∙ get_or-set_other group.sentinels i j node no_sentinel apart;
@@ -82,11 +84,13 @@ pub still_inside : (group : Group) (i : ℕ) (node : Sentinel) → i < length gr
 still_inside group i node lt = subst (λ (n : ℕ). i < n) (sym (length-set group.sentinels i node)) lt
 
 -- the first step is a take of the input
-taken_by : (roster : Roster) (i : ℕ) (input : Input) (group last : Group) (first : Step) → i < length group.sentinels → (sentinel_at group i).state ≡ Ready → Brings i input group first
+taken_by : (roster : Roster) (i : ℕ) (input : Input) (group last : Group) (first : Step) → i < length group.sentinels → (sentinel_at group i).state ≡ Ready →
+    Brings i input group first
     → Takes roster (SentinelAt i) input.event group last → Steps roster first group last
 taken_by roster i input group last first inside ready brings takes = ⊎_elim
     (λ (free : (first ≡ Take (SentinelAt i) input) × IsFree input.event). subst (λ (s : Step). Steps roster s group last) (sym free.0) (inl (((inside, ready), free.1), takes)))
-    (λ (came : (k : ℕ) × (message : Message) × (first ≡ Deliver k input.now) × (slice_get group.messages k ≡ Some message) × (message.target ≡ SentinelAt i) × IsFor message.target message.body × Delivers message input.event).
+    (λ (came : (k : ℕ) × (message : Message) × (first ≡ Deliver k input.now) × (slice_get group.messages k ≡ Some message) × (message.target ≡ SentinelAt i) ×
+    IsFor message.target message.body × Delivers message input.event).
     subst (λ (s : Step). Steps roster s group last) (sym came.2)
     (subst (λ (m : Option Message). Rattle.ballot_law.specs.Worlds.IsDelivered roster m group last) (sym came.3)
     (inl (
@@ -115,14 +119,17 @@ module _ (v : World) (e : Entry) (group : Group) (first : Step) (good : IsGood v
   abbrev pub AreRight : List Output → Type 0
   AreRight held = (t : Takes') → All (IsRightOutput (roster_of v.plan) place t.moved_to) held
 
-  chosen : (t : Takes') (must : Bool) (held : List Output) → AreRight held → must_store v e.input ≡ must → IsChoice (roster_of v.plan) place e.input.event node (choice_of t must held)
+  chosen : (t : Takes') (must : Bool) (held : List Output) → AreRight held → must_store v e.input ≡ must →
+      IsChoice (roster_of v.plan) place e.input.event node (choice_of t must held)
   chosen t must held right is_must =
       let both = stores_something v e.input t.moved_to.kept node.parts.kept t.parts_after.kept is.parts.kept in
       record { moved = t.moved; must_store = subst (λ (b : Bool). (b ≡ true) ↔ (IsFlush e.input.event ⊎ (t.moved_to.kept ≢ node.parts.kept))) is_must both; held = right t }
 
-  begins : (t : Takes') (must : Bool) (held : List Output) → AreRight held → must_store v e.input ≡ must → v.halted ≡ false → Steps (roster_of v.plan) first group (with_sentinel group place (taken node (choice_of t must held)))
+  begins : (t : Takes') (must : Bool) (held : List Output) → AreRight held → must_store v e.input ≡ must → v.halted ≡ false →
+      Steps (roster_of v.plan) first group (with_sentinel group place (taken node (choice_of t must held)))
   begins t must held right is_must running =
-      taken_by (roster_of v.plan) place e.input group (with_sentinel group place (taken node (choice_of t must held))) first is.inside (is.state ∙ ap (λ (b : Bool). cond b IsHalted Ready) running) brings
+      taken_by (roster_of v.plan) place e.input group (with_sentinel group place (taken node (choice_of t must held))) first is.inside
+      (is.state ∙ ap (λ (b : Bool). cond b IsHalted Ready) running) brings
       (choice_of t must held, chosen t must held right is_must, refl)
 
   -- an entry that is stored, where the Sentinel holds these outputs
@@ -162,7 +169,8 @@ module _ (v : World) (e : Entry) (group : Group) (first : Step) (good : IsGood v
           cards = (node.stored, ap (λ (n : Sentinel). n.stored) at3 ∙ ap (λ (k : Kept). node.stored ++ k ∷ []) t.parts_after.kept);
         },
         (refl, refl),
-        alone_through place group g2 g3 (alone_through place group g1 g2 (still_alone group g1 place n1 refl refl refl) (still_alone g1 g2 place n2 refl refl refl)) (still_alone g2 g3 place n3 refl refl refl),
+        alone_through place group g2 g3 (alone_through place group g1 g2 (still_alone group g1 place n1 refl refl refl) (still_alone g1 g2 place n2 refl refl refl))
+            (still_alone g2 g3 place n3 refl refl refl),
         ap (λ (wins : List Win). group.elected ++ elected_by place wins) t.parts_after.wins,
         (
           g2,
@@ -183,7 +191,8 @@ module _ (v : World) (e : Entry) (group : Group) (first : Step) (good : IsGood v
   pub stored_steps : (left : KeptText) → IsOutcome v e.input e.outputs e.failures Stored → IsDone (roster_of v.plan) place group first left v (record e { outcome = Stored }) Stored
   stored_steps left h = subst IsStoredWith (sym h.1) (stored_with (next_of v e.input).outputs (λ t. t.right) h.0 h.3)
 
-  refused_as : (t : Takes') (n2 : Sentinel) (last : Group) → place < length last.sentinels → sentinel_at last place ≡ n2 → n2.state ≡ IsHalted → n2.parts ≡ t.moved_to → n2.stored ≡ node.stored
+  refused_as : (t : Takes') (n2 : Sentinel) (last : Group) → place < length last.sentinels → sentinel_at last place ≡ n2 → n2.state ≡ IsHalted → n2.parts ≡ t.moved_to →
+      n2.stored ≡ node.stored
       → IsAsLeft place (after_outcome v e.input e.failures Refused) last
   refused_as t n2 last inside at halted parts stored =
       record {
@@ -194,7 +203,8 @@ module _ (v : World) (e : Entry) (group : Group) (first : Step) (good : IsGood v
         cards = (is.cards.0, ap (λ (n : Sentinel). n.stored) at ∙ (stored ∙ is.cards.1));
       }
 
-  pub refused_steps : (left : KeptText) → IsOutcome v e.input e.outputs e.failures Refused → IsDone (roster_of v.plan) place group first left v (record e { outcome = Refused }) Refused
+  pub refused_steps : (left : KeptText) → IsOutcome v e.input e.outputs e.failures Refused →
+      IsDone (roster_of v.plan) place group first left v (record e { outcome = Refused }) Refused
   refused_steps Old h =
       let t : Takes' = inputs_are_steps v.plan v.core node.parts e.input.now e.input.event good.plan good.core is.parts h.3 in
       let n1 : Sentinel = taken node (choice_of t true (next_of v e.input).outputs) in
@@ -204,7 +214,11 @@ module _ (v : World) (e : Entry) (group : Group) (first : Step) (good : IsGood v
       let n2 : Sentinel = ended n1 IsHalted in
       let g2 : Group = with_sentinel g1 place n2 in (
         g2,
-        (g1, begins t true (next_of v e.input).outputs (λ u. u.right) h.4 h.0, (g2, inl ((in1, ap (λ (n : Sentinel). n.state) at1), ap (λ (n : Sentinel). after_refused g1 place n n.must_store Old) (sym at1)), refl)),
+        (
+          g1,
+          begins t true (next_of v e.input).outputs (λ u. u.right) h.4 h.0,
+          (g2, inl ((in1, ap (λ (n : Sentinel). n.state) at1), ap (λ (n : Sentinel). after_refused g1 place n n.must_store Old) (sym at1)), refl),
+        ),
         refused_as t n2 g2 (still_inside g1 place n2 in1) (at_self g1 place n2 in1) refl refl refl,
         (refl, refl),
         alone_through place group g1 g2 (still_alone group g1 place n1 refl refl refl) (still_alone g1 g2 place n2 refl refl refl),
@@ -220,7 +234,11 @@ module _ (v : World) (e : Entry) (group : Group) (first : Step) (good : IsGood v
       let n2 : Sentinel = ended_new n1 IsHalted in
       let g2 : Group = filed g1 place n2 in (
         g2,
-        (g1, begins t true (next_of v e.input).outputs (λ u. u.right) h.4 h.0, (g2, inl ((in1, ap (λ (n : Sentinel). n.state) at1), ap (λ (n : Sentinel). after_refused g1 place n n.must_store New) (sym at1)), refl)),
+        (
+          g1,
+          begins t true (next_of v e.input).outputs (λ u. u.right) h.4 h.0,
+          (g2, inl ((in1, ap (λ (n : Sentinel). n.state) at1), ap (λ (n : Sentinel). after_refused g1 place n n.must_store New) (sym at1)), refl),
+        ),
         refused_as t n2 g2 (still_inside g1 place n2 in1) (at_self g1 place n2 in1) refl refl refl,
         (refl, refl),
         alone_through place group g1 g2 (still_alone group g1 place n1 refl refl refl) (still_alone g1 g2 place n2 refl refl refl),

@@ -77,13 +77,15 @@ entries_same : (xs : List KeptMaster) → same_entries xs xs ≡ true
 entries_same [] = refl
 entries_same (x ∷ xs) =
     and_from (same_entry x x) (same_entries xs xs)
-    (and_from (x.card.epoch == x.card.epoch) (same_addr x.card.addr x.card.addr && ((x.voted == x.voted) && same_candidate x.candidate x.candidate)) (eq-eqb x.card.epoch x.card.epoch refl)
+    (and_from (x.card.epoch == x.card.epoch) (same_addr x.card.addr x.card.addr && ((x.voted == x.voted) && same_candidate x.candidate x.candidate))
+    (eq-eqb x.card.epoch x.card.epoch refl)
     (and_from (same_addr x.card.addr x.card.addr) ((x.voted == x.voted) && same_candidate x.candidate x.candidate) (same_addr-same x.card.addr)
     (and_from (x.voted == x.voted) (same_candidate x.candidate x.candidate) (eq-eqb x.voted x.voted refl) (candidate_same x.candidate))))
     (entries_same xs)
 
 pub kept_same : (a b : Kept) → a ≡ b → same_kept a b ≡ true
-kept_same a b e = subst (λ (x : Kept). same_kept a x ≡ true) e (and_from (a.current == a.current) (same_entries a.masters a.masters) (eq-eqb a.current a.current refl) (entries_same a.masters))
+kept_same a b e = subst (λ (x : Kept). same_kept a x ≡ true) e
+    (and_from (a.current == a.current) (same_entries a.masters a.masters) (eq-eqb a.current a.current refl) (entries_same a.masters))
 
 must_case : (changed same : Bool) (a b : Kept) → same_kept a b ≡ same → (changed ≡ true ↔ (a ≢ b)) → changed ≡ not same
 must_case true true a b e h = absurd (h.0 refl (kept_true a b e))
@@ -122,7 +124,8 @@ one_changed base zero (x ∷ xs) (y ∷ ys) e low apart same =
     ∙ ap (λ (n : ℕ). Some n) (let is : base ≡ base + 0 = omega arith in is)
 one_changed base (suc k) (x ∷ xs) (y ∷ ys) e low apart same =
     ap (λ (b : Bool). cond b (changed_from (base + 1) xs ys) (Some base)) (same_card-true x.card y.card (sym (same 0 (omega arith))))
-    ∙ (one_changed (base + 1) k xs ys (omega arith) (omega arith) apart (λ m other. same (suc m) (omega arith)) ∙ ap (λ (n : ℕ). Some n) (let is : (base + 1) + k ≡ base + suc k = omega arith in is))
+    ∙ (one_changed (base + 1) k xs ys (omega arith) (omega arith) apart (λ m other. same (suc m) (omega arith)) ∙
+    ap (λ (n : ℕ). Some n) (let is : (base + 1) + k ≡ base + suc k = omega arith in is))
 
 -- a change is told where one configuration changed, and no other did
 change_is : (former now : Kept) (change : Option ℕ) → length former.masters ≡ length now.masters
@@ -160,7 +163,8 @@ module _ {S : Type 0} (text : S → Option (List ℕ)) (failures : S → ℕ) (w
   musts changed core e h =
       let kept : core.kept ≡ (next_of w i).core.kept = ap (λ (c : Core). c.kept) (e ∙ ap (λ (n : Next). n.core) same_next) in
       let was : k.sentinel.core.kept ≡ w.core.kept = ap (λ (c : Core). c.kept) left.core in
-      ap (λ (b : Bool). b || is_flush i.event) (must_case changed (same_kept core.kept k.sentinel.core.kept) core.kept k.sentinel.core.kept refl h ∙ (λ j. not (same_kept (kept j) (was j))))
+      ap (λ (b : Bool). b || is_flush i.event) (must_case changed (same_kept core.kept k.sentinel.core.kept) core.kept k.sentinel.core.kept refl h ∙
+      (λ j. not (same_kept (kept j) (was j))))
 
   -- a text that was written, or the one before
   written : (w2 : World) (must : Bool) (new : List ℕ) (before now : Option (List ℕ)) → w2.text ≡ cond must (Some new) w.text → w2.halted ≡ w.halted → w2.refused ≡ w.refused
@@ -173,7 +177,8 @@ module _ {S : Type 0} (text : S → Option (List ℕ)) (failures : S → ℕ) (w
 
   pub stored_turn : (number : ℕ) (k2 : Keeper S) (taken : Whole) (changed : Bool) (shown outputs shown2 : List Output) → w.halted ≡ false → IsWithinEvent i.event
       → taken.plan ≡ k.sentinel.plan → taken.core ≡ gives.core → (changed ≡ true ↔ (taken.core.kept ≢ k.sentinel.core.kept)) → IsKeptPart taken.plan.conf taken.core.kept
-      → taken.change ≡ changed_card k.sentinel.core.kept taken.core.kept → outputs ≡ gives.outputs → shown2 ≡ shown ++ outputs → k2.sentinel ≡ record taken { stored = taken.core.kept; phase = Ready }
+      → taken.change ≡ changed_card k.sentinel.core.kept taken.core.kept → outputs ≡ gives.outputs → shown2 ≡ shown ++ outputs →
+      k2.sentinel ≡ record taken { stored = taken.core.kept; phase = Ready }
       → ((changed || is_flush i.event) ≡ false → text k2.store ≡ text k.store)
       → ((changed || is_flush i.event) ≡ true → IfSome (text k2.store) (λ bytes. bytes ≡ rewritten taken.plan.conf taken.core.kept))
       → failures k2.store ≡ failures k.store
@@ -214,7 +219,8 @@ module _ {S : Type 0} (text : S → Option (List ℕ)) (failures : S → ℕ) (w
       either
 
   pub refused_turn : (number : ℕ) (k2 : Keeper S) (taken : Whole) (changed : Bool) (shown shown2 : List Output) → w.halted ≡ false → IsWithinEvent i.event
-      → taken.plan ≡ k.sentinel.plan → taken.core ≡ gives.core → taken.stored ≡ k.sentinel.stored → taken.change ≡ changed_card k.sentinel.core.kept taken.core.kept → (changed ≡ true ↔ (taken.core.kept ≢ k.sentinel.core.kept))
+      → taken.plan ≡ k.sentinel.plan → taken.core ≡ gives.core → taken.stored ≡ k.sentinel.stored → taken.change ≡ changed_card k.sentinel.core.kept taken.core.kept →
+      (changed ≡ true ↔ (taken.core.kept ≢ k.sentinel.core.kept))
       → shown2 ≡ shown → k2.sentinel ≡ record taken { phase = Halted } → (changed || is_flush i.event) ≡ true
       → (text k2.store ≡ text k.store) ⊎ IfSome (text k2.store) (λ bytes. bytes ≡ rewritten taken.plan.conf taken.core.kept)
       → failures k2.store ≡ failures k.store + 1

@@ -60,7 +60,8 @@ module _ {S : Type 0} (text : S → Option (List ℕ)) (failures : S → ℕ) wh
   starts_cell seats k words ws some_seats same wide none_served none_drawn cards =
       let start : World = opened text failures k in
       subst (λ (l : List ℕ). Keeps text failures start seats (opening l (None ∷ []) (first_view_at FirstStage seats))) (sym same)
-      (starts (IsLegal start) (stored_at start) (Fits text failures start) (addr_at start.plan) (master_count start.plan) seats None ws some_seats wide none_served none_drawn cards)
+      (starts (IsLegal start) (stored_at start) (Fits text failures start) (addr_at start.plan) (master_count start.plan) seats None ws some_seats wide none_served none_drawn
+      cards)
 
   -- the rule was told of the same Sentinel and store
   pub fits_first : (told k : Keeper S) → told ≡ k → IsWhole k.sentinel → k.sentinel.phase ≡ Ready → failures k.store < 2 ^ 64 - 1

@@ -86,12 +86,14 @@ has_at : (n : ℕ) (views : List View) (j id : ℕ) (v : View) → get_elem? vie
 has_at n views j id v at same h = subst (λ (u : View). Has n u.numbers) (some-injective h.0 v (sym h.1 ∙ (ap (get_elem? views) same ∙ at))) h.2
 
 -- a seat that changes and keeps the number
-held_after : (n : ℕ) (views : List View) (j id : ℕ) (v w : View) → get_elem? views id ≡ some v → (j ≡ id → Has n v.numbers → Has n w.numbers) → Holder n views j → Holder n (set views id w) j
+held_after : (n : ℕ) (views : List View) (j id : ℕ) (v w : View) → get_elem? views id ≡ some v → (j ≡ id → Has n v.numbers → Has n w.numbers) → Holder n views j →
+    Holder n (set views id w) j
 held_after n views j id v w at keeps h = dite (ℕ_discrete j id)
     (λ (same : j ≡ id). (w, ap (get_elem? (set views id w)) same ∙ in_place views id v w at, keeps same (has_at n views j id v at same h)))
     (λ (other : j ≢ id). (h.0, set_else views id j w other ∙ h.1, h.2))
 
-pub owned_after : (views : List View) (given : ℕ) (owner : ℕ → ℕ) (id : ℕ) (v w : View) → get_elem? views id ≡ some v → ((n : ℕ) → Has n v.numbers → Has n w.numbers) → Owned given owner views → Owned given owner (set views id w)
+pub owned_after : (views : List View) (given : ℕ) (owner : ℕ → ℕ) (id : ℕ) (v w : View) → get_elem? views id ≡ some v → ((n : ℕ) → Has n v.numbers → Has n w.numbers) →
+    Owned given owner views → Owned given owner (set views id w)
 owned_after views given owner id v w at keeps owned n low = held_after n views (owner n) id v w at (λ _ h. keeps n h) (owned n low)
 
 -- a new number
@@ -105,7 +107,8 @@ owned_named views given owner id v at owned n low = dite (ℕ_discrete n given)
     (held_after n views (owner n) id v (numbered v given) at (λ _ h. inr h) (owned n below)))
 
 -- a seat that is cut in two
-pub owned_split : (views : List View) (given : ℕ) (owner : ℕ → ℕ) (id : ℕ) (v : View) (n : ℕ) (ns : List ℕ) → get_elem? views id ≡ some v → v.numbers ≡ n ∷ ns → Owned given owner views
+pub owned_split : (views : List View) (given : ℕ) (owner : ℕ → ℕ) (id : ℕ) (v : View) (n : ℕ) (ns : List ℕ) → get_elem? views id ≡ some v → v.numbers ≡ n ∷ ns →
+    Owned given owner views
     → Owned given (λ (x : ℕ). cond (eqb x n) (length views) (owner x)) (set views id (left_half v) ++ right_half v ∷ [])
 owned_split views given owner id v n ns at numbers owned x low =
     let kept : List View = set views id (left_half v) in
@@ -115,12 +118,14 @@ owned_split views given owner id v n ns at numbers owned x low =
     (λ (same : x ≡ n). moved_to x all (length kept) to (ap (λ (b : Bool). cond b (length views) (owner x)) (eq-eqb x n same) ∙ sym (length-set views id (left_half v)))
     (right_half v, at_new kept (right_half v), subst (Has x) (sym (ap firsts numbers)) (inl same)))
     (λ (other : x ≢ n).
-    let rest : Has x v.numbers → Has x (rests v.numbers) = λ h. subst (Has x) (sym (ap rests numbers)) (⊎_elim (λ (e : x ≡ n). absurd (other e)) (λ (t : Has x ns). t) (subst (Has x) numbers h)) in
+    let rest : Has x v.numbers → Has x (rests v.numbers) = λ h. subst (Has x) (sym (ap rests numbers))
+    (⊎_elim (λ (e : x ≡ n). absurd (other e)) (λ (t : Has x ns). t) (subst (Has x) numbers h)) in
     let h : Holder x kept (owner x) = held_after x views (owner x) id v (left_half v) at (λ _ p. rest p) (owned x low) in
     moved_to x all (owner x) to (ap (λ (b : Bool). cond b (length views) (owner x)) (ne_eqb x n other)) (h.0, at_longer kept (right_half v ∷ []) (owner x) h.0 h.1, h.2))
 
 -- two seats that are joined
-pub owned_joined : (views : List View) (given : ℕ) (owner : ℕ → ℕ) (id : ℕ) (v : View) (other : ℕ) (w : View) → get_elem? views id ≡ some v → get_elem? views other ≡ some w → other ≢ id → Owned given owner views
+pub owned_joined : (views : List View) (given : ℕ) (owner : ℕ → ℕ) (id : ℕ) (v : View) (other : ℕ) (w : View) → get_elem? views id ≡ some v → get_elem? views other ≡ some w →
+    other ≢ id → Owned given owner views
     → Owned given (λ (x : ℕ). cond (eqb (owner x) other) id (owner x)) (set (set views id (merged v w)) other spent)
 owned_joined views given owner id v other w at there apart owned x low =
     let both : View = merged v w in
@@ -128,8 +133,12 @@ owned_joined views given owner id v other w at there apart owned x low =
     let all : List View = set one other spent in
     let to : ℕ = cond (eqb (owner x) other) id (owner x) in
     dite (ℕ_discrete (owner x) other)
-    (λ (theirs : owner x ≡ other). moved_to x all id to (ap (λ (b : Bool). cond b id (owner x)) (eq-eqb (owner x) other theirs))
-    (both, set_else one other id spent (λ (e : id ≡ other). apart (sym e)) ∙ in_place views id v both at, has_right x v.numbers w.numbers (has_at x views (owner x) other w there theirs (owned x low))))
+    (λ (theirs : owner x ≡ other). moved_to x all id to (ap (λ (b : Bool). cond b id (owner x)) (eq-eqb (owner x) other theirs)) (
+      both,
+      set_else one other id spent (λ (e : id ≡ other). apart (sym e)) ∙
+          in_place views id v both at,
+      has_right x v.numbers w.numbers (has_at x views (owner x) other w there theirs (owned x low)),
+    ))
     (λ (not : owner x ≢ other).
     let h : Holder x one (owner x) = held_after x views (owner x) id v both at (λ _ p. has_left x v.numbers w.numbers p) (owned x low) in
     moved_to x all (owner x) to (ap (λ (b : Bool). cond b id (owner x)) (ne_eqb (owner x) other not)) (h.0, set_else one other (owner x) spent not ∙ h.1, h.2))

@@ -49,13 +49,15 @@ module _ (stored : List Entry → ℕ → Card) where
     queued = queue v.stage k.queued;
   }
     where
-      queue : (st : Stage) → Queued history flight drawer served next seat v.share v.front v.flight st → Queued history' flight' drawer' served' next' seat v.share v.front v.flight st
+      queue : (st : Stage) → Queued history flight drawer served next seat v.share v.front v.flight st →
+          Queued history' flight' drawer' served' next' seat v.share v.front v.flight st
       queue Opening q = absurd q
       queue Filling q = absurd q
       queue Idle q = tt
       queue Looked q = q
       queue (Waiting t) q = let below : t < next = q.3 in (q.0, draws t q.3 ∙ q.1, waits t q.1 q.2, omega arith)
-      queue (Serving t) q = let below : t < next = q.3 in let here = serves (ap drawer (sym q.2) ∙ q.1) in (q.0, draws t q.3 ∙ q.1, q.2 ∙ sym here.0, omega arith, q.4 ∙ sym here.1, q.5 ∙ sym here.2)
+      queue (Serving t) q = let below : t < next = q.3 in let here = serves (ap drawer (sym q.2) ∙ q.1) in
+          (q.0, draws t q.3 ∙ q.1, q.2 ∙ sym here.0, omega arith, q.4 ∙ sym here.1, q.5 ∙ sym here.2)
 
 module _ {C : Type 0} (Legal : List Entry → Type 0) (stored : List Entry → ℕ → Card) (Fits : List Entry → C → Type 0) (at_place : ℕ → ℕ → Addr) (masters seats : ℕ) where
   abbrev St : Type 0
@@ -79,7 +81,8 @@ module _ {C : Type 0} (Legal : List Entry → Type 0) (stored : List Entry → �
       (λ (t : (j ≢ me) × (get_elem? vs j ≡ some u)). others j u t.0 t.1) (at_set vs me j w u e)
 
   -- the slot stays out where a seat moves that does not serve
-  out_stays : (homes : List (Option C)) (views : List View) (id : ℕ) (v w : View) → get_elem? views id ≡ some v → ((t : ℕ) → v.stage ≡ Serving t → ⊥) → Out homes views → Out homes (set views id w)
+  out_stays : (homes : List (Option C)) (views : List View) (id : ℕ) (v w : View) → get_elem? views id ≡ some v → ((t : ℕ) → v.stage ≡ Serving t → ⊥) → Out homes views →
+      Out homes (set views id w)
   out_stays homes views id v w at idle out = (out.0, (out.1.0, out.1.1, out.1.2, set_else views id out.1.0 w apart ∙ out.1.3, out.1.4))
     where
       same : out.1.0 ≡ id → out.1.1 ≡ v
@@ -90,7 +93,8 @@ module _ {C : Type 0} (Legal : List Entry → Type 0) (stored : List Entry → �
 
   slot_stays : (history flight : List Entry) (homes : List (Option C)) (views : List View) (id : ℕ) (v w : View) → get_elem? views id ≡ some v → ((t : ℕ) → v.stage ≡ Serving t → ⊥)
       → AtHome Fits history flight homes ⊎ Out homes views → AtHome Fits history flight homes ⊎ Out homes (set views id w)
-  slot_stays history flight homes views id v w at idle slot = ⊎_elim (λ (a : AtHome Fits history flight homes). inl a) (λ (o : Out homes views). inr (out_stays homes views id v w at idle o)) slot
+  slot_stays history flight homes views id v w at idle slot =
+      ⊎_elim (λ (a : AtHome Fits history flight homes). inl a) (λ (o : Out homes views). inr (out_stays homes views id v w at idle o)) slot
 
   -- a seat that moves keeps its numbers
   stays_owned : (s : St) (r : Rule s) (id : ℕ) (v w : View) → get_elem? s.views id ≡ some v → w.numbers ≡ v.numbers → Owned r.given r.owner (set s.views id w)
@@ -98,7 +102,8 @@ module _ {C : Type 0} (Legal : List Entry → Type 0) (stored : List Entry → �
 
   -- a step that leaves the history and the served count
   moved : (s : St) (r : Rule s) (id : ℕ) (v w : View) → get_elem? s.views id ≡ some v
-      → (words : List ℕ) → length words ≡ masters + 2 → ((m : ℕ) → m < masters → get_or words (m + 2) 0 ≡ get_or s.words (m + 2) 0) → get_or words 0 0 ≡ served s → next s ≤ get_or words 1 0
+      → (words : List ℕ) → length words ≡ masters + 2 → ((m : ℕ) → m < masters → get_or words (m + 2) 0 ≡ get_or s.words (m + 2) 0) → get_or words 0 0 ≡ served s →
+      next s ≤ get_or words 1 0
       → get_or words 1 0 + total looks_of (set s.views id w) ≤ 9223372036854775808 + seats → w.share ≡ v.share
       → (given : ℕ) → r.given ≤ given → (owner drawer : ℕ → ℕ) → ((n : ℕ) → n < r.given → owner n ≡ r.owner n) → ((t : ℕ) → t < next s → drawer t ≡ r.drawer t)
       → Knows stored r.history r.flight given owner drawer (served s) (get_or words 1 0) id w → Owned given owner (set s.views id w)
@@ -122,7 +127,8 @@ module _ {C : Type 0} (Legal : List Entry → Type 0) (stored : List Entry → �
     each = subst (λ (z : ℕ). (j : ℕ) (u : View) → get_elem? (set s.views id w) j ≡ some u → Knows stored r.history r.flight given owner drawer z (get_or words 1 0) j u) (sym same)
         (seats_stay (Knows stored r.history r.flight given owner drawer (served s) (get_or words 1 0)) s.views id w mine
         (λ j u apart e. later stored r.history r.flight r.history r.flight r.given given r.owner owner r.drawer drawer (served s) (served s) (next s) (get_or words 1 0) j u
-        (begins_self r.history) (begins_self (r.history ++ r.flight)) (λ n below own. (owns n below ∙ own, refl)) more draws on (λ t d l. l) (λ d. (refl, refl, refl)) (r.each j u e)));
+        (begins_self r.history) (begins_self (r.history ++ r.flight)) (λ n below own. (owns n below ∙ own, refl)) more draws on (λ t d l. l) (λ d. (refl, refl, refl))
+        (r.each j u e)));
     slot = slot;
   }
 
@@ -132,12 +138,15 @@ module _ {C : Type 0} (Legal : List Entry → Type 0) (stored : List Entry → �
       → (given : ℕ) → r.given ≤ given → (owner : ℕ → ℕ) → ((n : ℕ) → n < r.given → owner n ≡ r.owner n)
       → Knows stored r.history r.flight given owner r.drawer (served s) (next s) id w → Owned given owner (set s.views id w)
       → Rule (stepped s i (get_or s.words i 0) id cs w keeps)
-  unmoved s r id v w i cs at idle room share given more owner owns mine owned = subst (λ (ws : List ℕ). Rule record { words = ws; homes = s.homes; views = set s.views id w }) (sym (set-get_or s.words i 0))
-      (moved s r id v w at s.words r.wide (λ m low. refl) refl (omega arith) room share given more owner r.drawer owns (λ t h. refl) mine owned s.homes (slot_stays r.history r.flight s.homes s.views id v w at idle r.slot))
+  unmoved s r id v w i cs at idle room share given more owner owns mine owned =
+      subst (λ (ws : List ℕ). Rule record { words = ws; homes = s.homes; views = set s.views id w }) (sym (set-get_or s.words i 0))
+      (moved s r id v w at s.words r.wide (λ m low. refl) refl (omega arith) room share given more owner r.drawer owns (λ t h. refl) mine owned s.homes
+      (slot_stays r.history r.flight s.homes s.views id v w at idle r.slot))
 
   -- a step that changes nothing
   still : (s : St) (r : Rule s) (id : ℕ) (v : View) (i : ℕ) (cs : List (ℕ × C)) → get_elem? s.views id ≡ some v → Rule (stepped s i (get_or s.words i 0) id cs v keeps)
-  still s r id v i cs at = subst (λ (x : List ℕ × List View). Rule record { words = x.0; homes = s.homes; views = x.1 }) (λ k. (sym (set-get_or s.words i 0) k, sym (set_again s.views id v at) k)) r
+  still s r id v i cs at = subst (λ (x : List ℕ × List View). Rule record { words = x.0; homes = s.homes; views = x.1 })
+      (λ k. (sym (set-get_or s.words i 0) k, sym (set_again s.views id v at) k)) r
 
   idle_serves : (st : Stage) → st ≡ Idle → (t : ℕ) → st ≡ Serving t → ⊥
   idle_serves st a t b = let e : Idle ≡ Serving t = sym a ∙ b in cc
@@ -147,7 +156,8 @@ module _ {C : Type 0} (Legal : List Entry → Type 0) (stored : List Entry → �
   looks_set vs id v w at less = let t = total_set looks_of vs id v w at in omega arith
 
   -- each seat that looks has a part of the share
-  looks_share : (history flight : List Entry) (drawer : ℕ → ℕ) (a b c sh : ℕ) (front mine : List Entry) (st : Stage) → Queued history flight drawer a b c sh front mine st → looks st ≤ sh
+  looks_share : (history flight : List Entry) (drawer : ℕ → ℕ) (a b c sh : ℕ) (front mine : List Entry) (st : Stage) → Queued history flight drawer a b c sh front mine st →
+      looks st ≤ sh
   looks_share history flight drawer a b c sh front mine Opening q = absurd q
   looks_share history flight drawer a b c sh front mine Filling q = absurd q
   looks_share history flight drawer a b c sh front mine Idle q = omega arith
@@ -155,7 +165,8 @@ module _ {C : Type 0} (Legal : List Entry → Type 0) (stored : List Entry → �
   looks_share history flight drawer a b c sh front mine (Waiting t) q = omega arith
   looks_share history flight drawer a b c sh front mine (Serving t) q = omega arith
 
-  looks_all : (s : St) (r : Rule s) (id : ℕ) (v w : View) → get_elem? s.views id ≡ some v → looks w.stage ≤ 1 → 0 < v.share → w.share ≡ v.share → total looks_of (set s.views id w) ≤ seats
+  looks_all : (s : St) (r : Rule s) (id : ℕ) (v w : View) → get_elem? s.views id ≡ some v → looks w.stage ≤ 1 → 0 < v.share → w.share ≡ v.share →
+      total looks_of (set s.views id w) ≤ seats
   looks_all s r id v w at one some_share same =
       let sum = total_set share_of s.views id v w at in
       let h = r.shares in
@@ -164,7 +175,8 @@ module _ {C : Type 0} (Legal : List Entry → Type 0) (stored : List Entry → �
       (λ j u apart e. looks_share r.history r.flight r.drawer (served s) (next s) j u.share u.front u.flight u.stage (r.each j u e).queued)) in
       omega arith
 
-  looked_stage : (share : ℕ) (b : Bool) (history flight : List Entry) (drawer : ℕ → ℕ) (a c j : ℕ) (front mine : List Entry) → 0 < share → (looks (cond b Looked Idle) ≤ 1) × Queued history flight drawer a c j share front mine (cond b Looked Idle)
+  looked_stage : (share : ℕ) (b : Bool) (history flight : List Entry) (drawer : ℕ → ℕ) (a c j : ℕ) (front mine : List Entry) → 0 < share →
+      (looks (cond b Looked Idle) ≤ 1) × Queued history flight drawer a c j share front mine (cond b Looked Idle)
   looked_stage share true history flight drawer a c j front mine h = (omega arith, h)
   looked_stage share false history flight drawer a c j front mine h = (omega arith, tt)
 
@@ -177,9 +189,22 @@ module _ {C : Type 0} (Legal : List Entry → Type 0) (stored : List Entry → �
         w,
         keeps,
         tt,
-        unmoved s r id me.0 w 1 me.1 at (idle_serves me.0.stage idle) (sits_room n (total looks_of (set s.views id w)) (total looks_of s.views) (ltb n 9223372036854775808) refl (looks_all s r id me.0 w at l.0 some_share refl)
+        unmoved s r id me.0 w 1 me.1 at (idle_serves me.0.stage idle)
+            (sits_room n (total looks_of (set s.views id w)) (total looks_of s.views) (ltb n 9223372036854775808) refl (looks_all s r id me.0 w at l.0 some_share refl)
             (λ e. looks_set s.views id me.0 w at (e_looks (ltb n 9223372036854775808) e)) r.room) refl r.given (omega arith) r.owner (λ m h. refl)
-            record { front = k.front; told = k.told; told_calls = k.told_calls; mine = k.mine; apart = k.apart; armed = k.armed; answers = k.answers; tickets = omega arith; numbers = k.numbers; queued = l.1 }
+            record {
+              front = k.front;
+              told = k.told;
+              told_calls = k.told_calls;
+              mine = k.mine;
+              apart = k.apart;
+              armed = k.armed;
+              answers = k.answers;
+              tickets =
+                  omega arith;
+              numbers = k.numbers;
+              queued = l.1;
+            }
             (stays_owned s r id me.0 w at refl),
         (refl, refl),
       )
@@ -188,12 +213,15 @@ module _ {C : Type 0} (Legal : List Entry → Type 0) (stored : List Entry → �
       e_looks true e = absurd (cc)
       e_looks false e = omega arith
 
-      sits_room : (n x y : ℕ) (b : Bool) → ltb n 9223372036854775808 ≡ b → x ≤ seats → (b ≡ false → x ≤ y) → n + y ≤ 9223372036854775808 + seats → n + x ≤ 9223372036854775808 + seats
+      sits_room : (n x y : ℕ) (b : Bool) → ltb n 9223372036854775808 ≡ b → x ≤ seats → (b ≡ false → x ≤ y) → n + y ≤ 9223372036854775808 + seats →
+          n + x ≤ 9223372036854775808 + seats
       sits_room n x y true e a f room = grind (arith, nat_tests)
       sits_room n x y false e a f room = let h = f refl in omega arith
 
-  looked_has : (history flight : List Entry) (drawer : ℕ → ℕ) (a b c share : ℕ) (front mine : List Entry) (st : Stage) → st ≡ Looked → Queued history flight drawer a b c share front mine st → 0 < share
-  looked_has history flight drawer a b c share front mine st e q = let h : Queued history flight drawer a b c share front mine Looked = subst (Queued history flight drawer a b c share front mine) e q in h
+  looked_has : (history flight : List Entry) (drawer : ℕ → ℕ) (a b c share : ℕ) (front mine : List Entry) (st : Stage) → st ≡ Looked →
+      Queued history flight drawer a b c share front mine st → 0 < share
+  looked_has history flight drawer a b c share front mine st e q =
+      let h : Queued history flight drawer a b c share front mine Looked = subst (Queued history flight drawer a b c share front mine) e q in h
 
   looked_serves : (st : Stage) → st ≡ Looked → (t : ℕ) → st ≡ Serving t → ⊥
   looked_serves st a t b = let e : Looked ≡ Serving t = sym a ∙ b in cc
@@ -221,7 +249,9 @@ module _ {C : Type 0} (Legal : List Entry → Type 0) (stored : List Entry → �
         w,
         keeps,
         tt,
-        moved s r id me.0 w at words (length-set s.words 1 ((n + 1) % 18446744073709551616) ∙ wide) (λ m low. get_or-set_other s.words 1 (m + 2) ((n + 1) % 18446744073709551616) 0 (λ e. omega arith)) still_served (omega arith) (omega arith) refl r.given (omega arith) r.owner drawer (λ m h. refl)
+        moved s r id me.0 w at words (length-set s.words 1 ((n + 1) % 18446744073709551616) ∙ wide)
+            (λ m low. get_or-set_other s.words 1 (m + 2) ((n + 1) % 18446744073709551616) 0 (λ e. omega arith)) still_served (omega arith) (omega arith) refl r.given (omega arith)
+            r.owner drawer (λ m h. refl)
             (λ t h. ap (λ (b : Bool). cond b id (r.drawer t)) (ne_eqb t n (λ e. omega arith)))
             record {
               front = k.front;
@@ -264,13 +294,16 @@ module _ {C : Type 0} (Legal : List Entry → Type 0) (stored : List Entry → �
       let now : me.0.stage ≡ Waiting (served s) = is ∙ ap Waiting (sym hit) in
       let h = at_home s r id me.0 at now in
       let k = r.each id me.0 at in
-      let q : Queued r.history r.flight r.drawer (served s) (next s) id me.0.share me.0.front me.0.flight (Waiting (served s)) = subst (Queued r.history r.flight r.drawer (served s) (next s) id me.0.share me.0.front me.0.flight) now k.queued in
+      let q : Queued r.history r.flight r.drawer (served s) (next s) id me.0.share me.0.front me.0.flight (Waiting (served s)) =
+      subst (Queued r.history r.flight r.drawer (served s) (next s) id me.0.share me.0.front me.0.flight) now k.queued in
       let w : View = serving me.0 (served s) r.history r.given in (
         w,
         takes 0 h.0,
         subst (λ (l : List (Option C)). get_elem? l 0 ≡ some (some h.0)) (sym h.1) refl,
-        subst (λ (x : List ℕ × List (Option C)). Rule record { words = x.0; homes = x.1; views = set s.views id w }) (λ i. (sym (set-get_or s.words 0 0) i, ap (λ (l : List (Option C)). set l 0 none) (sym h.1) i))
-            (moved s r id me.0 w at s.words r.wide (λ m low. refl) refl (omega arith) (let less = looks_set s.views id me.0 w at (omega arith) in let room = r.room in omega arith) refl r.given (omega arith) r.owner r.drawer (λ m l. refl) (λ m l. refl)
+        subst (λ (x : List ℕ × List (Option C)). Rule record { words = x.0; homes = x.1; views = set s.views id w })
+            (λ i. (sym (set-get_or s.words 0 0) i, ap (λ (l : List (Option C)). set l 0 none) (sym h.1) i))
+            (moved s r id me.0 w at s.words r.wide (λ m low. refl) refl (omega arith) (let less = looks_set s.views id me.0 w at (omega arith) in let room = r.room in omega arith)
+            refl r.given (omega arith) r.owner r.drawer (λ m l. refl) (λ m l. refl)
             record {
               front = begins_self r.history;
               told = begins_empty r.history;
@@ -285,7 +318,19 @@ module _ {C : Type 0} (Legal : List Entry → Type 0) (stored : List Entry → �
             }
             (stays_owned s r id me.0 w at refl)
             (none ∷ []) (inr (refl, (id, w, served s, in_place s.views id me.0 w at, refl)))),
-        ((λ _. (r.history, h.0, (r.given, refl, k.numbers.upto), refl, subst Legal (ap (λ (l : List Entry). r.history ++ l) h.3 ∙ append-nil r.history) r.legal, h.2, (k.front, λ n has. (k.mine n has).2), sym r.counted)), (λ not. absurd (not now))),
+        (
+          (λ _. (
+            r.history,
+            h.0,
+            (r.given, refl, k.numbers.upto),
+            refl,
+            subst Legal (ap (λ (l : List Entry). r.history ++ l) h.3 ∙ append-nil r.history) r.legal,
+            h.2,
+            (k.front, λ n has. (k.mine n has).2),
+            sym r.counted,
+          )),
+          (λ not. absurd (not now)),
+        ),
       ))
       (λ miss. (
         me.0,
@@ -298,8 +343,10 @@ module _ {C : Type 0} (Legal : List Entry → Type 0) (stored : List Entry → �
   other_number : (n m : ℕ) (e : Entry) → n ≢ e.number → (xs : List Entry) → calls_by n (xs ++ e ∷ []) ≡ calls_by n xs
   other_number n m e apart xs = calls-append n xs (e ∷ []) ∙ (ap (λ (b : Bool). calls_by n xs ++ cond b (e ∷ []) []) (ne_eqb n e.number apart) ∙ append-nil (calls_by n xs))
 
-  filled : (homes : List (Option C)) (views : List View) (history flight : List Entry) (c : C) → AtHome Fits history flight homes ⊎ Out homes views → set homes 0 (some c) ≡ some c ∷ []
-  filled homes views history flight c slot = ⊎_elim (λ (a : AtHome Fits history flight homes). ap (λ (l : List (Option C)). set l 0 (some c)) a.1) (λ (o : Out homes views). ap (λ (l : List (Option C)). set l 0 (some c)) o.0) slot
+  filled : (homes : List (Option C)) (views : List View) (history flight : List Entry) (c : C) → AtHome Fits history flight homes ⊎ Out homes views →
+      set homes 0 (some c) ≡ some c ∷ []
+  filled homes views history flight c slot = ⊎_elim (λ (a : AtHome Fits history flight homes). ap (λ (l : List (Option C)). set l 0 (some c)) a.1)
+      (λ (o : Out homes views). ap (λ (l : List (Option C)). set l 0 (some c)) o.0) slot
 
   past : (x n : ℕ) → x ≢ n → n ≤ x → n + 1 ≤ x
   past x n a b = omega arith
@@ -311,7 +358,8 @@ module _ {C : Type 0} (Legal : List Entry → Type 0) (stored : List Entry → �
       let n : ℕ = served s in
       let m : ℕ = next s in
       let k = r.each id me.0 at in
-      let q : Queued r.history r.flight r.drawer n m id me.0.share me.0.front me.0.flight (Serving t) = subst (Queued r.history r.flight r.drawer n m id me.0.share me.0.front me.0.flight) is k.queued in
+      let q : Queued r.history r.flight r.drawer n m id me.0.share me.0.front me.0.flight (Serving t) =
+      subst (Queued r.history r.flight r.drawer n m id me.0.share me.0.front me.0.flight) is k.queued in
       let w : View = passed me.0 in
       let history : List Entry = r.history ++ e ∷ [] in
       let flying : r.flight ≡ e ∷ [] = sym q.5 ∙ announced in
@@ -344,14 +392,16 @@ module _ {C : Type 0} (Legal : List Entry → Type 0) (stored : List Entry → �
           drawer = r.drawer;
           legal = subst Legal all r.legal;
           wide = length-set s.words 0 ((n + 1) % 18446744073709551616) ∙ wide;
-          cards = λ x low. ap (unpacked at_place x) (get_or-set_other s.words 0 (x + 2) ((n + 1) % 18446744073709551616) 0 (λ y. omega arith)) ∙ (r.cards x low ∙ ap (λ (l : List Entry). stored l x) all);
+          cards = λ x low. ap (unpacked at_place x) (get_or-set_other s.words 0 (x + 2) ((n + 1) % 18446744073709551616) 0 (λ y. omega arith)) ∙
+              (r.cards x low ∙ ap (λ (l : List Entry). stored l x) all);
           counted = length-append r.history (e ∷ []) ∙ (ap (λ (x : ℕ). x + 1) r.counted ∙ sym now);
           ordered = omega arith;
           room = omega arith;
           shares = let sum = total_set share_of s.views id me.0 w at in let h = r.shares in omega arith;
           numbered = λ x h. other_number x x e (λ same. omega arith) r.history ∙ r.numbered x h;
           owned = stays_owned s r id me.0 w at refl;
-          each = subst (λ (z : ℕ × ℕ). (j : ℕ) (u : View) → get_elem? (set s.views id w) j ≡ some u → Knows stored history [] r.given r.owner r.drawer z.0 z.1 j u) (λ i. (sym now i, sym still_next i))
+          each = subst (λ (z : ℕ × ℕ). (j : ℕ) (u : View) → get_elem? (set s.views id w) j ≡ some u → Knows stored history [] r.given r.owner r.drawer z.0 z.1 j u)
+              (λ i. (sym now i, sym still_next i))
               (seats_stay (Knows stored history [] r.given r.owner r.drawer (n + 1) m) s.views id w
               record {
                 front = ([], sym (append-nil (me.0.front ++ me.0.flight) ∙ front));
@@ -381,7 +431,8 @@ module _ {C : Type 0} (Legal : List Entry → Type 0) (stored : List Entry → �
   newer_word : (m n k : ℕ) (a b : Card) → unpacked at_place m n ≡ a → unpacked at_place m k ≡ b → (a ≡ b) ⊎ (a.epoch < b.epoch) → unpacked at_place m (max n k) ≡ b
   newer_word m n k a b e f order = ⊎_elim
       (λ (same : a ≡ b). ⊎_elim (λ (x : max n k ≡ n). ap (unpacked at_place m) x ∙ (e ∙ same)) (λ (x : max n k ≡ k). ap (unpacked at_place m) x ∙ f) (either_one n k))
-      (λ (less : a.epoch < b.epoch). let x : n / 65536 ≡ a.epoch = ap (λ (z : Card). z.epoch) e in let y : k / 65536 ≡ b.epoch = ap (λ (z : Card). z.epoch) f in let up : max n k ≡ k = omega arith in ap (unpacked at_place m) up ∙ f)
+      (λ (less : a.epoch < b.epoch). let x : n / 65536 ≡ a.epoch = ap (λ (z : Card). z.epoch) e in let y : k / 65536 ≡ b.epoch = ap (λ (z : Card). z.epoch) f in
+      let up : max n k ≡ k = omega arith in ap (unpacked at_place m) up ∙ f)
       order
     where
       either_one : (n k : ℕ) → (max n k ≡ n) ⊎ (max n k ≡ k)
@@ -389,12 +440,14 @@ module _ {C : Type 0} (Legal : List Entry → Type 0) (stored : List Entry → �
 
   -- the seat that serves announces its entry, by the word of the master whose card it may have changed. It gives the slot back and takes it at once
   raises : (slots id : ℕ) (me : M) (t : ℕ) (e : Entry) (c : C) (m k : ℕ) → me.0.stage ≡ Serving t → me.1 ≡ (0, c) ∷ [] → me.0.flight ≡ [] → Legal (me.0.front ++ e ∷ [])
-      → m < masters → unpacked at_place m k ≡ stored (me.0.front ++ e ∷ []) m → (stored me.0.front m ≡ stored (me.0.front ++ e ∷ []) m) ⊎ ((stored me.0.front m).epoch < (stored (me.0.front ++ e ∷ []) m).epoch)
+      → m < masters → unpacked at_place m k ≡ stored (me.0.front ++ e ∷ []) m →
+      (stored me.0.front m ≡ stored (me.0.front ++ e ∷ []) m) ⊎ ((stored me.0.front m).epoch < (stored (me.0.front ++ e ∷ []) m).epoch)
       → ((x : ℕ) → x ≢ m → stored (me.0.front ++ e ∷ []) x ≡ stored me.0.front x)
       → Allows Rule slots id me (m + 2) (λ n. max n k) (Raises e (step slots (m + 2) k 0 none) me)
   raises slots id me t e c m k is holds_it empty legal low told newer others s r _ at _ =
       let kn = r.each id me.0 at in
-      let q : Queued r.history r.flight r.drawer (served s) (next s) id me.0.share me.0.front me.0.flight (Serving t) = subst (Queued r.history r.flight r.drawer (served s) (next s) id me.0.share me.0.front me.0.flight) is kn.queued in
+      let q : Queued r.history r.flight r.drawer (served s) (next s) id me.0.share me.0.front me.0.flight (Serving t) =
+      subst (Queued r.history r.flight r.drawer (served s) (next s) id me.0.share me.0.front me.0.flight) is kn.queued in
       let w : View = raised me.0 e in
       let n : ℕ = get_or s.words (m + 2) 0 in
       let wide = r.wide in
@@ -424,15 +477,18 @@ module _ {C : Type 0} (Legal : List Entry → Type 0) (stored : List Entry → �
           legal = subst Legal longer legal;
           wide = length-set s.words (m + 2) (max n k) ∙ wide;
           cards = λ x small. dite (ℕ_discrete x m)
-              (λ same. subst (λ (y : ℕ). unpacked at_place y (get_or words (y + 2) 0) ≡ stored (r.history ++ e ∷ []) y) (sym same) (ap (unpacked at_place m) now ∙ (up ∙ ap (λ (l : List Entry). stored l m) longer)))
-              (λ other. ap (unpacked at_place x) (get_or-set_other s.words (m + 2) (x + 2) (max n k) 0 (λ y. other (omega arith))) ∙ (r.cards x small ∙ (ap (λ (l : List Entry). stored l x) all ∙ (sym (others x other) ∙ ap (λ (l : List Entry). stored l x) longer))));
+              (λ same. subst (λ (y : ℕ). unpacked at_place y (get_or words (y + 2) 0) ≡ stored (r.history ++ e ∷ []) y) (sym same)
+              (ap (unpacked at_place m) now ∙ (up ∙ ap (λ (l : List Entry). stored l m) longer)))
+              (λ other. ap (unpacked at_place x) (get_or-set_other s.words (m + 2) (x + 2) (max n k) 0 (λ y. other (omega arith))) ∙
+              (r.cards x small ∙ (ap (λ (l : List Entry). stored l x) all ∙ (sym (others x other) ∙ ap (λ (l : List Entry). stored l x) longer))));
           counted = r.counted ∙ sym still_served;
           ordered = omega arith;
           room = omega arith;
           shares = let sum = total_set share_of s.views id me.0 w at in let h = r.shares in omega arith;
           numbered = r.numbered;
           owned = stays_owned s r id me.0 w at refl;
-          each = subst (λ (z : ℕ × ℕ). (j : ℕ) (u : View) → get_elem? (set s.views id w) j ≡ some u → Knows stored r.history (e ∷ []) r.given r.owner r.drawer z.0 z.1 j u) (λ i. (sym still_served i, sym still_next i))
+          each = subst (λ (z : ℕ × ℕ). (j : ℕ) (u : View) → get_elem? (set s.views id w) j ≡ some u → Knows stored r.history (e ∷ []) r.given r.owner r.drawer z.0 z.1 j u)
+              (λ i. (sym still_served i, sym still_next i))
               (seats_stay (Knows stored r.history (e ∷ []) r.given r.owner r.drawer (served s) (next s)) s.views id w
               record {
                 front = kn.front;
@@ -441,13 +497,15 @@ module _ {C : Type 0} (Legal : List Entry → Type 0) (stored : List Entry → �
                 mine = kn.mine;
                 apart = kn.apart;
                 armed = kn.armed;
-                answers = λ x d a. of_longer stored (r.history ++ r.flight) (r.history ++ e ∷ []) x d (e ∷ [], sym longer ∙ ap (λ (l : List Entry). l ++ e ∷ []) (sym all)) (kn.answers x d a);
+                answers = λ x d a. of_longer stored (r.history ++ r.flight) (r.history ++ e ∷ []) x d (e ∷ [], sym longer ∙ ap (λ (l : List Entry). l ++ e ∷ []) (sym all))
+                    (kn.answers x d a);
                 tickets = kn.tickets;
                 numbers = kn.numbers;
                 queued = subst (Queued r.history (e ∷ []) r.drawer (served s) (next s) id w.share w.front w.flight) (sym is) (q.0, q.1, q.2, q.3, q.4, refl);
               }
               (λ j u apart there. later stored r.history r.flight r.history (e ∷ []) r.given r.given r.owner r.owner r.drawer r.drawer (served s) (served s) (next s) (next s) j u
-              (begins_self r.history) (e ∷ [], sym longer ∙ ap (λ (l : List Entry). l ++ e ∷ []) (sym all)) (λ x h own. (own, refl)) (omega arith) (λ x l. refl) (omega arith) (λ x d l. l)
+              (begins_self r.history) (e ∷ [], sym longer ∙ ap (λ (l : List Entry). l ++ e ∷ []) (sym all)) (λ x h own. (own, refl)) (omega arith) (λ x l. refl) (omega arith)
+              (λ x d l. l)
               (λ d. absurd (apart (sym d ∙ drew))) (r.each j u there)));
           slot = inr (ap (λ (l : List (Option C)). set l 0 none) full, (id, w, t, in_place s.views id me.0 w at, is));
         },
@@ -456,10 +514,12 @@ module _ {C : Type 0} (Legal : List Entry → Type 0) (stored : List Entry → �
 
   answered_either : (m : ℕ) (c : Card) (xs ys : List (ℕ × Card)) → Answered m c (xs ++ ys) → Answered m c xs ⊎ Answered m c ys
   answered_either m c [] ys h = inr h
-  answered_either m c (x ∷ xs) ys h = ⊎_elim (λ (e : (m ≡ x.0) × (c ≡ x.1)). inl (inl e)) (λ (t : Answered m c (xs ++ ys)). ⊎_elim (λ (p : Answered m c xs). inl (inr p)) (λ (p : Answered m c ys). inr p) (answered_either m c xs ys t)) h
+  answered_either m c (x ∷ xs) ys h = ⊎_elim (λ (e : (m ≡ x.0) × (c ≡ x.1)). inl (inl e))
+      (λ (t : Answered m c (xs ++ ys)). ⊎_elim (λ (p : Answered m c xs). inl (inr p)) (λ (p : Answered m c ys). inr p) (answered_either m c xs ys t)) h
 
   -- a word tells what is stored, and no card of a legal history has a later epoch than one after it
-  tells : (slots id : ℕ) (me : M) (m : ℕ) → m < masters → me.0.stage ≡ Idle → ((x : ℕ) (part whole : List Entry) → Begins part whole → Legal whole → (stored part x).epoch ≤ (stored whole x).epoch)
+  tells : (slots id : ℕ) (me : M) (m : ℕ) → m < masters → me.0.stage ≡ Idle →
+      ((x : ℕ) (part whole : List Entry) → Begins part whole → Legal whole → (stored part x).epoch ≤ (stored whole x).epoch)
       → Allows Rule slots id me (m + 2) (λ n. n) (Tells Legal stored at_place (step slots (m + 2) 0 0 none) me)
   tells slots id me m low is rises s r _ at _ =
       let k = r.each id me.0 at in
@@ -471,8 +531,17 @@ module _ {C : Type 0} (Legal : List Entry → Type 0) (stored : List Entry → �
       let less = looks_set s.views id me.0 w at (omega arith) in
       let room = r.room in
       let begins : Begins me.0.front all = begins_longer me.0.front r.history r.flight k.front in
-      let below : (part : List Entry) → Begins part all → (stored part m).epoch ≤ card.epoch = λ part b. let h = rises m part all b r.legal in let same : card.epoch ≡ (stored all m).epoch = ap (λ (z : Card). z.epoch) there in omega arith in
-      let fresh : IsFresh Legal stored me.0 m card = (all, r.legal, begins, there, below me.0.front begins, λ c a. let o = k.answers m c a in let h = below o.0 o.1 in let same : c.epoch ≡ (stored o.0 m).epoch = ap (λ (z : Card). z.epoch) o.2 in omega arith) in (
+      let below : (part : List Entry) → Begins part all → (stored part m).epoch ≤ card.epoch =
+      λ part b. let h = rises m part all b r.legal in let same : card.epoch ≡ (stored all m).epoch = ap (λ (z : Card). z.epoch) there in omega arith in
+      let fresh : IsFresh Legal stored me.0 m card = (
+        all,
+        r.legal,
+        begins,
+        there,
+        below me.0.front begins,
+        λ c a. let o = k.answers m c a in let h = below o.0 o.1 in
+            let same : c.epoch ≡ (stored o.0 m).epoch = ap (λ (z : Card). z.epoch) o.2 in omega arith,
+      ) in (
         w,
         keeps,
         tt,
@@ -485,14 +554,16 @@ module _ {C : Type 0} (Legal : List Entry → Type 0) (stored : List Entry → �
               apart = k.apart;
               armed = k.armed;
               answers = λ x c a. ⊎_elim (λ (old : Answered x c me.0.answers). k.answers x c old)
-                  (λ (new : Answered x c ((m, card) ∷ [])). ⊎_elim (λ (e : (x ≡ m) × (c ≡ card)). (all, begins_self all, e.1 ∙ (there ∙ ap (stored all) (sym e.0)))) (λ (none : ⊥). absurd none) new)
+                  (λ (new : Answered x c ((m, card) ∷ [])). ⊎_elim (λ (e : (x ≡ m) × (c ≡ card)). (all, begins_self all, e.1 ∙ (there ∙ ap (stored all) (sym e.0))))
+                  (λ (none : ⊥). absurd none) new)
                   (answered_either x c me.0.answers ((m, card) ∷ []) a);
               tickets = k.tickets;
               numbers = k.numbers;
               queued = subst (Queued r.history r.flight r.drawer (served s) (next s) id me.0.share me.0.front me.0.flight) (sym is) tt;
             }
             (stays_owned s r id me.0 w at refl),
-        (λ x e. let same : m ≡ x = omega arith in subst (λ (y : ℕ). (answered me.0 m card ≡ answered me.0 y (unpacked at_place y n)) × (me.1 ≡ me.1) × IsFresh Legal stored me.0 y (unpacked at_place y n)) same (refl, refl, fresh)),
+        (λ x e. let same : m ≡ x = omega arith in subst (λ (y : ℕ). (answered me.0 m card ≡ answered me.0 y (unpacked at_place y n)) × (me.1 ≡ me.1) ×
+            IsFresh Legal stored me.0 y (unpacked at_place y n)) same (refl, refl, fresh)),
       )
 
   names : (slots id : ℕ) (me : M) → me.0.stage ≡ Idle → 0 < me.0.share → Allows Rule slots id me 0 (λ n. n) (Names (step slots 0 0 0 none) me)
@@ -515,7 +586,12 @@ module _ {C : Type 0} (Legal : List Entry → Type 0) (stored : List Entry → �
               told = k.told;
               told_calls = k.told_calls;
               mine = λ x has. ⊎_elim
-                  (λ (e : x ≡ n). (omega arith, ap (λ (b : Bool). cond b id (r.owner x)) (eq-eqb x n e), ap (λ (y : ℕ). calls_by y r.history) e ∙ (r.numbered n (omega arith) ∙ (sym quiet ∙ ap (λ (y : ℕ). calls_by y me.0.front) (sym e)))))
+                  (λ (e : x ≡ n). (
+                    omega arith,
+                    ap (λ (b : Bool). cond b id (r.owner x)) (eq-eqb x n e),
+                    ap (λ (y : ℕ). calls_by y r.history) e ∙
+                        (r.numbered n (omega arith) ∙ (sym quiet ∙ ap (λ (y : ℕ). calls_by y me.0.front) (sym e))),
+                  ))
                   (λ (h : Has x me.0.numbers). let m = k.mine x h in let low : x < n = m.0 in (omega arith, as_before x low ∙ m.1, m.2)) has;
               apart = (new, k.apart);
               armed = λ _ _. some_share;
@@ -604,8 +680,12 @@ module _ {C : Type 0} (Legal : List Entry → Type 0) (stored : List Entry → �
         front = k.front;
         told = begins_empty v.front;
         told_calls = λ x h. absurd h;
-        mine = λ x has. let h : Has x (n ∷ []) = subst (Has x) firsts_are has in let e : x ≡ n = ⊎_elim (λ (p : x ≡ n). p) (λ (none : ⊥). absurd none) h in
-            (subst (λ (y : ℕ). y < r.given) (sym e) mine.0, ap (λ (b : Bool). cond b new (r.owner x)) (eq-eqb x n e), subst (λ (y : ℕ). calls_by y r.history ≡ calls_by y v.front) (sym e) mine.2);
+        mine = λ x has. let h : Has x (n ∷ []) = subst (Has x) firsts_are has in let e : x ≡ n = ⊎_elim (λ (p : x ≡ n). p) (λ (none : ⊥). absurd none) h in (
+          subst (λ (y : ℕ). y < r.given) (sym e) mine.0,
+          ap (λ (b : Bool). cond b new (r.owner x)) (eq-eqb x n e),
+          subst (λ (y : ℕ). calls_by y r.history ≡ calls_by y v.front)
+              (sym e) mine.2,
+        );
         apart = subst AreApart (sym firsts_are) ((λ (none : ⊥). none), tt);
         armed = λ _ _. omega arith;
         answers = k.answers;
@@ -620,8 +700,10 @@ module _ {C : Type 0} (Legal : List Entry → Type 0) (stored : List Entry → �
       reseated s r (set s.views id left ++ right ∷ []) owner (omega arith) (omega arith)
       (λ j u e. ⊎_elim
       (λ (there : get_elem? (set s.views id left) j ≡ some u). seats_stay K s.views id left mine_left
-      (λ i x apart was. later stored r.history r.flight r.history r.flight r.given r.given r.owner owner r.drawer r.drawer (served s) (served s) (next s) (next s) i x (begins_self r.history) (begins_self (r.history ++ r.flight))
-      (λ y low own. (else_owner y (λ same. apart (sym own ∙ (ap r.owner same ∙ mine.1))) ∙ own, refl)) (omega arith) (λ t l. refl) (omega arith) (λ t d l. l) (λ d. (refl, refl, refl)) (r.each i x was)) j u there)
+      (λ i x apart was. later stored r.history r.flight r.history r.flight r.given r.given r.owner owner r.drawer r.drawer (served s) (served s) (next s) (next s) i x
+      (begins_self r.history) (begins_self (r.history ++ r.flight))
+      (λ y low own. (else_owner y (λ same. apart (sym own ∙ (ap r.owner same ∙ mine.1))) ∙ own, refl)) (omega arith) (λ t l. refl) (omega arith) (λ t d l. l)
+      (λ d. (refl, refl, refl)) (r.each i x was)) j u there)
       (λ (last : (j ≡ length (set s.views id left)) × (right ≡ u)). subst (λ (x : ℕ × View). K x.0 x.1) (λ i. (sym (last.0 ∙ length-set s.views id left) i, last.1 i)) mine_right)
       (at_end (set s.views id left) right u j e))
       (owned_split s.views r.given r.owner id v n ns at numbers r.owned)
@@ -712,16 +794,20 @@ module _ {C : Type 0} (Legal : List Entry → Type 0) (stored : List Entry → �
         queued = tt;
       }
       (λ j u off e. seats_stay (λ i x. i ≢ other → K i x) s.views id both (λ _. mine_both)
-      (λ i x not was away. later stored r.history r.flight r.history r.flight r.given r.given r.owner owner r.drawer r.drawer (served s) (served s) (next s) (next s) i x (begins_self r.history) (begins_self (r.history ++ r.flight))
-      (λ y low own. (else_owner y (λ same. away (sym own ∙ same)) ∙ own, refl)) (omega arith) (λ t h. refl) (omega arith) (λ t d h. h) (λ d. (refl, refl, refl)) (r.each i x was)) j u e off))
+      (λ i x not was away. later stored r.history r.flight r.history r.flight r.given r.given r.owner owner r.drawer r.drawer (served s) (served s) (next s) (next s) i x
+      (begins_self r.history) (begins_self (r.history ++ r.flight))
+      (λ y low own. (else_owner y (λ same. away (sym own ∙ same)) ∙ own, refl)) (omega arith) (λ t h. refl) (omega arith) (λ t d h. h) (λ d. (refl, refl, refl)) (r.each i x was))
+      j u e off))
       (owned_joined s.views r.given r.owner id v other w at here apart r.owned)
-      (slot_stays r.history r.flight s.homes views other w spent there (idle_serves w.stage is') (slot_stays r.history r.flight s.homes s.views id v both at (idle_serves v.stage is) r.slot))
+      (slot_stays r.history r.flight s.homes views other w spent there (idle_serves w.stage is')
+      (slot_stays r.history r.flight s.homes s.views id v both at (idle_serves v.stage is) r.slot))
 
   only_one : (v u : View) (j : ℕ) → get_elem? (v ∷ []) j ≡ some u → (j ≡ 0) × (v ≡ u)
   only_one v u zero e = (refl, some-injective v u e)
   only_one v u (suc j) e = absurd (some-ne-none u (sym e))
 
-  opens : (c : C) (ws : List ℕ) → 0 < seats → Legal [] → Fits [] c → length ws ≡ masters + 2 → get_or ws 0 0 ≡ 0 → get_or ws 1 0 ≡ 0 → ((m : ℕ) → m < masters → unpacked at_place m (get_or ws (m + 2) 0) ≡ stored [] m) → Rule (opening ws (c ∷ []) (first_view seats))
+  opens : (c : C) (ws : List ℕ) → 0 < seats → Legal [] → Fits [] c → length ws ≡ masters + 2 → get_or ws 0 0 ≡ 0 → get_or ws 1 0 ≡ 0 →
+      ((m : ℕ) → m < masters → unpacked at_place m (get_or ws (m + 2) 0) ≡ stored [] m) → Rule (opening ws (c ∷ []) (first_view seats))
   opens c ws some_seats legal fits wide zero_served zero_drawn cards = record {
     history = [];
     flight = [];
@@ -737,7 +823,8 @@ module _ {C : Type 0} (Legal : List Entry → Type 0) (stored : List Entry → �
     shares = omega arith;
     numbered = λ n h. refl;
     owned = λ n low. (first_view seats, refl, inl (omega arith));
-    each = λ j u e. let o = only_one (first_view seats) u j e in subst (λ (x : ℕ × View). Knows stored [] [] 1 (λ (n : ℕ). 0) (λ (t : ℕ). 0) (get_or ws 0 0) (get_or ws 1 0) x.0 x.1) (λ i. (sym o.0 i, o.1 i))
+    each = λ j u e. let o = only_one (first_view seats) u j e in
+        subst (λ (x : ℕ × View). Knows stored [] [] 1 (λ (n : ℕ). 0) (λ (t : ℕ). 0) (get_or ws 0 0) (get_or ws 1 0) x.0 x.1) (λ i. (sym o.0 i, o.1 i))
         record {
           front = begins_empty [];
           told = begins_empty [];
@@ -766,8 +853,13 @@ module _ {C : Type 0} (Legal : List Entry → Type 0) (stored : List Entry → �
           (λ apart. let none = no_share s.views id o.1.0 v u at (whole ∙ sym r.shares) apart o.1.3 in omega arith)
 
   -- and each call of the history is under a number of that seat, which has seen them all
-  pub all_seen : (s : St) (r : Rule s) (id : ℕ) (v : View) → get_elem? s.views id ≡ some v → v.share ≡ seats → ((n : ℕ) → ¬ Has n v.numbers → calls_by n v.front ≡ []) × (v.front ≡ r.history)
-  all_seen s r id v at whole = ((λ n away. calls_begin n v.front r.history k.front (unheld n away)), sym (k.front.1 ∙ (ap (λ (l : List Entry). v.front ++ l) none_left ∙ append-nil v.front)))
+  pub all_seen : (s : St) (r : Rule s) (id : ℕ) (v : View) → get_elem? s.views id ≡ some v → v.share ≡ seats →
+      ((n : ℕ) → ¬ Has n v.numbers → calls_by n v.front ≡ []) × (v.front ≡ r.history)
+  all_seen s r id v at whole = (
+    (λ n away. calls_begin n v.front r.history k.front (unheld n away)),
+    sym
+        (k.front.1 ∙ (ap (λ (l : List Entry). v.front ++ l) none_left ∙ append-nil v.front)),
+  )
     where
       k : Knows stored r.history r.flight r.given r.owner r.drawer (served s) (next s) id v
       k = r.each id v at
@@ -788,7 +880,9 @@ module _ {C : Type 0} (Legal : List Entry → Type 0) (stored : List Entry → �
       unheld n away = given_or n (ltb n r.given) refl away
 
       none_left : k.front.0 ≡ []
-      none_left = no_calls k.front.0 (λ n. calls_left n v.front k.front.0 (ap (calls_by n) (sym k.front.1) ∙ ⊎_elim (λ (h : Has n v.numbers). (k.mine n h).2) (λ (away : ¬ Has n v.numbers). unheld n away ∙ sym (calls_begin n v.front r.history k.front (unheld n away))) (has_or n v.numbers)))
+      none_left = no_calls k.front.0 (λ n. calls_left n v.front k.front.0
+          (ap (calls_by n) (sym k.front.1) ∙ ⊎_elim (λ (h : Has n v.numbers). (k.mine n h).2)
+          (λ (away : ¬ Has n v.numbers). unheld n away ∙ sym (calls_begin n v.front r.history k.front (unheld n away))) (has_or n v.numbers)))
 
   -- A new table
 
@@ -821,7 +915,8 @@ module _ {C : Type 0} (Legal : List Entry → Type 0) (stored : List Entry → �
       stage_of u only = ap (λ (x : View). x.stage) (sym (only_one u v id (ap (λ (l : List View). get_elem? l id) (sym only) ∙ at)).1)
 
   -- the steps of a seat that has begun keep the whole rule
-  begun : (empty : C) (slots id : ℕ) (me : M) (i : ℕ) (f : ℕ → ℕ) (then : ℕ → M → Type 0) → IsBegun me.0.stage → Allows Rule slots id me i f then → Allows (All empty) slots id me i f then
+  begun : (empty : C) (slots id : ℕ) (me : M) (i : ℕ) (f : ℕ → ℕ) (then : ℕ → M → Type 0) → IsBegun me.0.stage → Allows Rule slots id me i f then →
+      Allows (All empty) slots id me i f then
   begun empty slots id me i f then is allows s r len at bound = ⊎_elim
       (λ (new : IsNew stored empty at_place masters seats s). absurd (not_new empty s id me.0 at is new))
       (λ (o : Rule s). let x = allows s o len at bound in (x.0, x.1, x.2, inr x.3, x.4))
@@ -849,7 +944,8 @@ module _ {C : Type 0} (Legal : List Entry → Type 0) (stored : List Entry → �
   sits_all empty slots id me is some_share =
       begun empty slots id me 1 (λ n. n) (Sits (step slots 1 0 0 none) me) (idle_begun me.0.stage is) (sits slots id me is some_share)
 
-  pub draws_all : (empty : C) (slots id : ℕ) (me : M) → seats ≤ 4294967296 → me.0.stage ≡ Looked → Allows (All empty) slots id me 1 (λ n. (n + 1) % 18446744073709551616) (Draws (step slots 1 1 0 none) me)
+  pub draws_all : (empty : C) (slots id : ℕ) (me : M) → seats ≤ 4294967296 → me.0.stage ≡ Looked →
+      Allows (All empty) slots id me 1 (λ n. (n + 1) % 18446744073709551616) (Draws (step slots 1 1 0 none) me)
   draws_all empty slots id me few is =
       begun empty slots id me 1 (λ n. (n + 1) % 18446744073709551616) (Draws (step slots 1 1 0 none) me) (looked_begun me.0.stage is) (draws slots id me few is)
 
@@ -857,19 +953,25 @@ module _ {C : Type 0} (Legal : List Entry → Type 0) (stored : List Entry → �
   turns_all empty slots id me t is =
       begun empty slots id me 0 (λ n. n) (Turns Legal Fits (step slots 0 0 0 none) me) (waiting_begun me.0.stage t is) (turns slots id me t is)
 
-  pub passes_all : (empty : C) (slots id : ℕ) (me : M) (t : ℕ) (e : Entry) (c : C) → seats ≤ 4294967296 → me.0.stage ≡ Serving t → me.1 ≡ (0, c) ∷ [] → me.0.flight ≡ e ∷ [] → Has e.number me.0.numbers
+  pub passes_all : (empty : C) (slots id : ℕ) (me : M) (t : ℕ) (e : Entry) (c : C) → seats ≤ 4294967296 → me.0.stage ≡ Serving t → me.1 ≡ (0, c) ∷ [] → me.0.flight ≡ e ∷ [] →
+      Has e.number me.0.numbers
       → Fits (me.0.front ++ e ∷ []) c → Allows (All empty) slots id me 0 (λ n. (n + 1) % 18446744073709551616) (Passes stored (step slots 0 1 0 none) me)
   passes_all empty slots id me t e c few is holds_it announced has fits =
-      begun empty slots id me 0 (λ n. (n + 1) % 18446744073709551616) (Passes stored (step slots 0 1 0 none) me) (serving_begun me.0.stage t is) (passes slots id me t e c few is holds_it announced has fits)
+      begun empty slots id me 0 (λ n. (n + 1) % 18446744073709551616) (Passes stored (step slots 0 1 0 none) me) (serving_begun me.0.stage t is)
+      (passes slots id me t e c few is holds_it announced has fits)
 
-  pub raises_all : (empty : C) (slots id : ℕ) (me : M) (t : ℕ) (e : Entry) (c : C) (m k : ℕ) → me.0.stage ≡ Serving t → me.1 ≡ (0, c) ∷ [] → me.0.flight ≡ [] → Legal (me.0.front ++ e ∷ [])
-      → m < masters → unpacked at_place m k ≡ stored (me.0.front ++ e ∷ []) m → (stored me.0.front m ≡ stored (me.0.front ++ e ∷ []) m) ⊎ ((stored me.0.front m).epoch < (stored (me.0.front ++ e ∷ []) m).epoch)
+  pub raises_all : (empty : C) (slots id : ℕ) (me : M) (t : ℕ) (e : Entry) (c : C) (m k : ℕ) → me.0.stage ≡ Serving t → me.1 ≡ (0, c) ∷ [] → me.0.flight ≡ [] →
+      Legal (me.0.front ++ e ∷ [])
+      → m < masters → unpacked at_place m k ≡ stored (me.0.front ++ e ∷ []) m →
+      (stored me.0.front m ≡ stored (me.0.front ++ e ∷ []) m) ⊎ ((stored me.0.front m).epoch < (stored (me.0.front ++ e ∷ []) m).epoch)
       → ((x : ℕ) → x ≢ m → stored (me.0.front ++ e ∷ []) x ≡ stored me.0.front x)
       → Allows (All empty) slots id me (m + 2) (λ n. max n k) (Raises e (step slots (m + 2) k 0 none) me)
   raises_all empty slots id me t e c m k is holds_it none_flying legal low told newer others =
-      begun empty slots id me (m + 2) (λ n. max n k) (Raises e (step slots (m + 2) k 0 none) me) (serving_begun me.0.stage t is) (raises slots id me t e c m k is holds_it none_flying legal low told newer others)
+      begun empty slots id me (m + 2) (λ n. max n k) (Raises e (step slots (m + 2) k 0 none) me) (serving_begun me.0.stage t is)
+      (raises slots id me t e c m k is holds_it none_flying legal low told newer others)
 
-  pub tells_all : (empty : C) (slots id : ℕ) (me : M) (m : ℕ) → m < masters → me.0.stage ≡ Idle → ((x : ℕ) (part whole : List Entry) → Begins part whole → Legal whole → (stored part x).epoch ≤ (stored whole x).epoch)
+  pub tells_all : (empty : C) (slots id : ℕ) (me : M) (m : ℕ) → m < masters → me.0.stage ≡ Idle →
+      ((x : ℕ) (part whole : List Entry) → Begins part whole → Legal whole → (stored part x).epoch ≤ (stored whole x).epoch)
       → Allows (All empty) slots id me (m + 2) (λ n. n) (Tells Legal stored at_place (step slots (m + 2) 0 0 none) me)
   tells_all empty slots id me m low is rises =
       begun empty slots id me (m + 2) (λ n. n) (Tells Legal stored at_place (step slots (m + 2) 0 0 none) me) (idle_begun me.0.stage is) (tells slots id me m low is rises)
@@ -880,16 +982,19 @@ module _ {C : Type 0} (Legal : List Entry → Type 0) (stored : List Entry → �
   pub settles_all : (empty : C) (slots id : ℕ) (me : M) → me.0.stage ≡ Idle → seats ≤ MOST_SEATS → Allows (All empty) slots id me 0 (λ n. n) (Settles (step slots 0 0 0 none) me)
   settles_all empty slots id me is few = begun empty slots id me 0 (λ n. n) (Settles (step slots 0 0 0 none) me) (idle_begun me.0.stage is) (settles slots id me few)
 
-  pub splits_all : (empty : C) (id : ℕ) (v : View) (n : ℕ) (ns : List ℕ) → v.stage ≡ Idle → 2 ≤ v.share → v.numbers ≡ n ∷ ns → ¬ Has n ns → Splits (All empty) id v (left_half v) (right_half v)
+  pub splits_all : (empty : C) (id : ℕ) (v : View) (n : ℕ) (ns : List ℕ) → v.stage ≡ Idle → 2 ≤ v.share → v.numbers ≡ n ∷ ns → ¬ Has n ns →
+      Splits (All empty) id v (left_half v) (right_half v)
   splits_all empty id v n ns is two numbers fresh = begun_splits empty id v (left_half v) (right_half v) (idle_begun v.stage is) (splits id v n ns is two numbers fresh)
 
   pub joins_all : (empty : C) (id : ℕ) (v : View) (other : ℕ) (w : View) → v.stage ≡ Idle → w.stage ≡ Idle → Joins (All empty) id v other w (merged v w) spent
   joins_all empty id v other w is is' = begun_joins empty id v other w (merged v w) spent (idle_begun v.stage is) (joins id v other w is is')
 
   -- a new table, whose slot is empty
-  pub starts : (empty : C) (ws : List ℕ) → 0 < seats → length ws ≡ masters + 2 → get_or ws 0 0 ≡ 0 → get_or ws 1 0 ≡ 0 → ((m : ℕ) → m < masters → unpacked at_place m (get_or ws (m + 2) 0) ≡ stored [] m)
+  pub starts : (empty : C) (ws : List ℕ) → 0 < seats → length ws ≡ masters + 2 → get_or ws 0 0 ≡ 0 → get_or ws 1 0 ≡ 0 →
+      ((m : ℕ) → m < masters → unpacked at_place m (get_or ws (m + 2) 0) ≡ stored [] m)
       → All empty (opening ws (empty ∷ []) (first_view_at Opening seats))
-  starts empty ws some_seats wide zero_served zero_drawn cards = inl (record { some_seats = some_seats; wide = wide; none_served = zero_served; none_drawn = zero_drawn; cards = cards; slot = inl (refl, refl) })
+  starts empty ws some_seats wide zero_served zero_drawn cards =
+      inl (record { some_seats = some_seats; wide = wide; none_served = zero_served; none_drawn = zero_drawn; cards = cards; slot = inl (refl, refl) })
 
   not_opening : (s : St) (r : Rule s) (id : ℕ) (v : View) (st : Stage) → get_elem? s.views id ≡ some v → v.stage ≡ st
       → Queued r.history r.flight r.drawer (served s) (next s) id v.share v.front v.flight st
@@ -924,7 +1029,8 @@ module _ {C : Type 0} (Legal : List Entry → Type 0) (stored : List Entry → �
       r
 
   -- and gives it back filled
-  pub fills : (empty : C) (slots id : ℕ) (me : M) (c : C) → me.0 ≡ first_view_at Filling seats → me.1 ≡ (0, c) ∷ [] → Legal [] → Fits [] c → Allows (All empty) slots id me 0 (λ n. n) (Fills (step slots 0 0 0 none) me)
+  pub fills : (empty : C) (slots id : ℕ) (me : M) (c : C) → me.0 ≡ first_view_at Filling seats → me.1 ≡ (0, c) ∷ [] → Legal [] → Fits [] c →
+      Allows (All empty) slots id me 0 (λ n. n) (Fills (step slots 0 0 0 none) me)
   fills empty slots id me c is holds_it legal fits s r _ at _ = ⊎_elim
       (λ (new : IsNew stored empty at_place masters seats s). ⊎_elim
       (λ (a : (s.homes ≡ some empty ∷ []) × (s.views ≡ first_view_at Opening seats ∷ [])).

@@ -33,7 +33,8 @@ pub record IsAsLeft (i : ℕ) (v : World) (group : Group) : Type 0 where
 abbrev pub Brings : (i : ℕ) → Input → Group → Step → Type 0
 Brings i input group first =
     ((first ≡ Take (SentinelAt i) input) × IsFree input.event)
-    ⊎ ((k : ℕ) × (message : Message) × (first ≡ Deliver k input.now) × (slice_get group.messages k ≡ Some message) × (message.target ≡ SentinelAt i) × IsFor message.target message.body × Delivers message input.event)
+    ⊎ ((k : ℕ) × (message : Message) × (first ≡ Deliver k input.now) × (slice_get group.messages k ≡ Some message) × (message.target ≡ SentinelAt i) ×
+    IsFor message.target message.body × Delivers message input.event)
 
 -- Between a store and its release: Sentinel i has stored what this world says, and holds these outputs
 pub record IsStoredAt (i : ℕ) (v : World) (outputs : List Output) (group : Group) : Type 0 where

@@ -75,7 +75,8 @@ module _ {C : Type 0} where
 
 -- There is one legal history, with the calls of numbers that were given out, each of which some seat has, and the slot fits it while it is at home. One
 -- more entry may be announced, and the words have the configurations that are stored after it. Each turn that was served has added one entry
-pub record Orderly {C : Type 0} (Legal : List Entry → Type 0) (stored : List Entry → ℕ → Card) (Fits : List Entry → C → Type 0) (at : ℕ → ℕ → Addr) (masters seats : ℕ) (s : State C View) : Type 0 where
+pub record Orderly {C : Type 0} (Legal : List Entry → Type 0) (stored : List Entry → ℕ → Card) (Fits : List Entry → C → Type 0) (at : ℕ → ℕ → Addr) (masters seats : ℕ)
+    (s : State C View) : Type 0 where
   pub history : List Entry
   pub flight : List Entry
   pub given : ℕ
@@ -155,7 +156,19 @@ abbrev pub left_half : View → View
 left_half v = record v { numbers = rests v.numbers; share = v.share - v.share / 2 }
 
 abbrev pub right_half : View → View
-right_half v = record { front = v.front; told = []; told_numbers = []; numbers = firsts v.numbers; given = v.given; answers = v.answers; share = v.share / 2; tickets = v.tickets; stage = Idle; flight = [] }
+right_half v = record {
+  front = v.front;
+  told = [];
+  told_numbers = [];
+  numbers = firsts v.numbers;
+  given = v.given;
+  answers = v.answers;
+  share = v.share / 2;
+  tickets =
+      v.tickets;
+  stage = Idle;
+  flight = [];
+}
 
 abbrev pub merged : View → View → View
 merged v w = record {
@@ -204,7 +217,8 @@ module _ {C : Type 0} where
   -- the turn comes where the served count is the ticket, which is then the number of entries before this turn
   abbrev pub Turns : (List Entry → Type 0) → (List Entry → C → Type 0) → Step C → Me C View → ℕ → Me C View → Type 0
   Turns Legal Fits st m r m' =
-      (m.0.stage ≡ Waiting r → (history : List Entry) × (c : C) × ((given : ℕ) × (m'.0 ≡ serving m.0 r history given) × (m.0.given ≤ given)) × (m'.1 ≡ (0, c) ∷ m.1) × Legal history × Fits history c × Follows m.0 history × (r ≡ length history))
+      (m.0.stage ≡ Waiting r → (history : List Entry) × (c : C) × ((given : ℕ) × (m'.0 ≡ serving m.0 r history given) × (m.0.given ≤ given)) × (m'.1 ≡ (0, c) ∷ m.1) ×
+      Legal history × Fits history c × Follows m.0 history × (r ≡ length history))
       × (¬ (m.0.stage ≡ Waiting r) → m' ≡ m)
 
   abbrev pub Raises : Entry → Step C → Me C View → ℕ → Me C View → Type 0

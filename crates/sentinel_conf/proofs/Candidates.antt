@@ -13,7 +13,8 @@ use Rattle.sentinel_conf.specs.Rewritten.{candidate_states}
 use Rattle.sentinel_conf.proofs.SetLemmas.{In}
 
 -- what is true of the line of the candidate is true of each line, as there is no other
-pub each_candidate : (n : List ℕ) (o : Option RunId) (P : StateLine → Type 0) → ((id : RunId) → o ≡ Some id → P (LeaderId n id)) → (s : StateLine) → In s (candidate_states n o) → P s
+pub each_candidate : (n : List ℕ) (o : Option RunId) (P : StateLine → Type 0) → ((id : RunId) → o ≡ Some id → P (LeaderId n id)) → (s : StateLine) → In s (candidate_states n o) →
+    P s
 each_candidate n None P h s i = absurd i
 each_candidate n (Some id) P h s (inl e) = subst P (sym e) (h id refl)
 each_candidate n (Some id) P h s (inr i) = absurd i

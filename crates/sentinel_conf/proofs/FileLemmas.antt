@@ -62,7 +62,8 @@ pub to_filter : {X : Type 0} (p : X → Bool) (x : X) (xs : List X) → p x ≡ 
 to_filter p x [] h i = absurd i
 to_filter p x (y ∷ xs) h i = to_filter_by p x y xs (p y) refl h (to_filter p x xs h) i
 
-from_filter_by : {X : Type 0} (p : X → Bool) (x y : X) (xs : List X) (t : Bool) → p y ≡ t → (In x (filter p xs) → (p x ≡ true) × In x xs) → In x (filter p (y ∷ xs)) → (p x ≡ true) × In x (y ∷ xs)
+from_filter_by : {X : Type 0} (p : X → Bool) (x y : X) (xs : List X) (t : Bool) → p y ≡ t → (In x (filter p xs) → (p x ≡ true) × In x xs) → In x (filter p (y ∷ xs)) →
+    (p x ≡ true) × In x (y ∷ xs)
 from_filter_by p x y xs true e r i =
     let j : (x ≡ y) ⊎ In x (filter p xs) = subst (In x) (filter_yes p y xs e) i in
     elim j as (λ _. (p x ≡ true) × In x (y ∷ xs)) [ inl f ↦ (ap p f ∙ e, inl f) | inr k ↦ ((r k).0, inr (r k).1) ]
@@ -72,7 +73,8 @@ pub from_filter : {X : Type 0} (p : X → Bool) (x : X) (xs : List X) → In x (
 from_filter p x [] i = absurd i
 from_filter p x (y ∷ xs) i = from_filter_by p x y xs (p y) refl (from_filter p x xs) i
 
-rises_filter_by : {X : Type 0} (before : X → X → Bool) (p : X → Bool) (y : X) (xs : List X) (t : Bool) → p y ≡ t → AllByRecursion (λ z. before y z ≡ true) xs → Rises before (filter p xs) → Rises before (filter p (y ∷ xs))
+rises_filter_by : {X : Type 0} (before : X → X → Bool) (p : X → Bool) (y : X) (xs : List X) (t : Bool) → p y ≡ t → AllByRecursion (λ z. before y z ≡ true) xs →
+    Rises before (filter p xs) → Rises before (filter p (y ∷ xs))
 rises_filter_by before p y xs true e a r =
     subst (Rises before) (sym (filter_yes p y xs e))
     (each_from (λ z. before y z ≡ true) (filter p xs) (λ z i. each_in (λ z. before y z ≡ true) xs a z (from_filter p z xs i).1), r)
@@ -151,7 +153,8 @@ apart_append same (x ∷ xs) ys a b h = (
   apart_append same xs ys a.1 b (λ z y i j. h z y (inr i) j),
 )
 
-pub apart_map : {X Y : Type 0} (f : X → Y) (same : Y → Y → Bool) (test : X → X → Bool) (xs : List X) → ((x y : X) → test y x ≡ false → same (f y) (f x) ≡ false) → Apart test xs → Apart same (map f xs)
+pub apart_map : {X Y : Type 0} (f : X → Y) (same : Y → Y → Bool) (test : X → X → Bool) (xs : List X) → ((x y : X) → test y x ≡ false → same (f y) (f x) ≡ false) → Apart test xs →
+    Apart same (map f xs)
 apart_map f same test [] h a = tt
 apart_map f same test (x ∷ xs) h a = (
   each_from (λ y. same y (f x) ≡ false) (map f xs) (each_map f (λ y. same y (f x) ≡ false) xs (λ y i. h x y (each_in (λ y. test y x ≡ false) xs a.0 y i))),
@@ -198,16 +201,20 @@ apart_back key same (x ∷ xs) a =
     (each_from (λ y. same (key y) (key x) ≡ false) xs (λ y i. each_in (λ k. same k (key x) ≡ false) (map key xs) a.0 (key y) (in_map key y xs i)), apart_back key same xs a.1)
 
 -- two elements with one key are one, where the keys differ
-pub one_of_key : {X K : Type 0} (key : X → K) (same : K → K → Bool) (s : IsSame same) (xs : List X) → Apart same (map key xs) → (x y : X) → In x xs → In y xs → key x ≡ key y → x ≡ y
+pub one_of_key : {X K : Type 0} (key : X → K) (same : K → K → Bool) (s : IsSame same) (xs : List X) → Apart same (map key xs) → (x y : X) → In x xs → In y xs → key x ≡ key y →
+    x ≡ y
 one_of_key key same s [] a x y i j e = absurd i
 one_of_key key same s (z ∷ xs) a x y (inl f) (inl g) e = f ∙ sym g
 one_of_key key same s (z ∷ xs) a x y (inl f) (inr j) e =
-    absurd (true≢false (sym (s.of_equal (key z)) ∙ ap (λ k. same k (key z)) (ap key (sym f) ∙ e) ∙ each_in (λ k. same k (key z) ≡ false) (map key xs) a.0 (key y) (in_map key y xs j)))
+    absurd (true≢false (sym (s.of_equal (key z)) ∙ ap (λ k. same k (key z)) (ap key (sym f) ∙ e) ∙
+    each_in (λ k. same k (key z) ≡ false) (map key xs) a.0 (key y) (in_map key y xs j)))
 one_of_key key same s (z ∷ xs) a x y (inr i) (inl g) e =
-    absurd (true≢false (sym (s.of_equal (key z)) ∙ ap (λ k. same k (key z)) (ap key (sym g) ∙ sym e) ∙ each_in (λ k. same k (key z) ≡ false) (map key xs) a.0 (key x) (in_map key x xs i)))
+    absurd (true≢false (sym (s.of_equal (key z)) ∙ ap (λ k. same k (key z)) (ap key (sym g) ∙ sym e) ∙
+    each_in (λ k. same k (key z) ≡ false) (map key xs) a.0 (key x) (in_map key x xs i)))
 one_of_key key same s (z ∷ xs) a x y (inr i) (inr j) e = one_of_key key same s xs a.1 x y i j e
 
-apart_filter_by : {X : Type 0} (same : X → X → Bool) (p : X → Bool) (y : X) (xs : List X) (t : Bool) → p y ≡ t → AllByRecursion (λ z. same z y ≡ false) xs → Apart same (filter p xs) → Apart same (filter p (y ∷ xs))
+apart_filter_by : {X : Type 0} (same : X → X → Bool) (p : X → Bool) (y : X) (xs : List X) (t : Bool) → p y ≡ t → AllByRecursion (λ z. same z y ≡ false) xs →
+    Apart same (filter p xs) → Apart same (filter p (y ∷ xs))
 apart_filter_by same p y xs true e a r =
     subst (Apart same) (sym (filter_yes p y xs e))
     (each_from (λ z. same z y ≡ false) (filter p xs) (λ z i. each_in (λ z. same z y ≡ false) xs a z (from_filter p z xs i).1), r)

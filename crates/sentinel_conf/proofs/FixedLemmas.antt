@@ -87,7 +87,8 @@ file_with out kept own line rest one two three four e f g h =
     room_join out one four kept (own ++ (line ++ rest)) (room_of out one kept e) second
 
 -- the text of all masters, of which part is spelled already
-masters_same : (id : RunId) (members : List Member) (ms : List MasterPlan) (ks : List KeptMaster) (bs : List (List ℕ)) (out : List ℕ) → map bounded bs ≡ map (fixed_of id members) ms
+masters_same : (id : RunId) (members : List Member) (ms : List MasterPlan) (ks : List KeptMaster) (bs : List (List ℕ)) (out : List ℕ) →
+    map bounded bs ≡ map (fixed_of id members) ms
     → bounded (out ++ all_with_fixed ms ks bs) ≡ bounded (out ++ text_of (flat_map (master_lines id members) (zip ms ks)))
 masters_same id members [] ks bs out h = refl
 masters_same id members (m ∷ ms) [] bs out h = refl
@@ -107,7 +108,8 @@ masters_same id members (m ∷ ms) (k ∷ ks) (b ∷ bs) out h =
     ∙ same_added (out ++ mine) b others rest same
     ∙ ap (λ t. bounded (t ++ rest)) (append_assoc out mine others)
     ∙ ap (λ t. bounded ((out ++ t) ++ rest)) (sym (text_of-append (changing_lines (m, k)) (sentinel_states m.name id members)))
-    ∙ ap (λ t. bounded ((out ++ text_of (Monitor m.name k.card.addr m.quorum ∷ ConfigEpoch m.name k.card.epoch ∷ LeaderEpoch m.name k.voted ∷ t)) ++ rest)) (append_assoc cand reps sens)
+    ∙ ap (λ t. bounded ((out ++ text_of (Monitor m.name k.card.addr m.quorum ∷ ConfigEpoch m.name k.card.epoch ∷ LeaderEpoch m.name k.voted ∷ t)) ++ rest))
+    (append_assoc cand reps sens)
     ∙ ap bounded (append_assoc out (text_of (master_lines id members (m, k))) rest)
     ∙ ap (λ t. bounded (out ++ t)) (sym (text_of-append (master_lines id members (m, k)) (flat_map (master_lines id members) (zip ms ks))))
 

@@ -146,7 +146,8 @@ each_clean test earlier [] h = tt
 each_clean test earlier (l ∷ ls) h = (h.0, each_clean test (earlier ++ states (l ∷ [])) ls h.1)
 
 -- no two state lines have one key, and none has that of a line before
-clean_states : (earlier ss : List StateLine) → ((s : StateLine) → In s ss → list_any (same_key s) earlier ≡ false) → Apart same_key ss → Clean line_fault earlier (map line.State ss)
+clean_states : (earlier ss : List StateLine) → ((s : StateLine) → In s ss → list_any (same_key s) earlier ≡ false) → Apart same_key ss →
+    Clean line_fault earlier (map line.State ss)
 clean_states earlier [] h a = tt
 clean_states earlier (s ∷ ss) h a = (
   ap (λ t. some_if t Twice) (h s (inl refl)),
@@ -156,7 +157,8 @@ clean_states earlier (s ∷ ss) h a = (
       a.1,
 )
 
-clean_plain : (earlier : List StateLine) (texts : List (List ℕ)) (more : List Line) → ArePlainTexts texts → Clean line_fault earlier more → Clean line_fault earlier (map line_of texts ++ more)
+clean_plain : (earlier : List StateLine) (texts : List (List ℕ)) (more : List Line) → ArePlainTexts texts → Clean line_fault earlier more →
+    Clean line_fault earlier (map line_of texts ++ more)
 clean_plain earlier [] more p h = h
 clean_plain earlier (t ∷ ts) more p h = (
   plain_no_fault earlier (line_of t) p.0,
@@ -165,7 +167,8 @@ clean_plain earlier (t ∷ ts) more p h = (
       (clean_plain earlier ts more p.1 h),
 )
 
-pub none_twice : (texts : List (List ℕ)) (ss : List StateLine) → ArePlainTexts texts → AreStates ss → Apart same_key ss → first_fault line_fault 1 [] (map line_of (texts ++ map spelled ss)) ≡ None
+pub none_twice : (texts : List (List ℕ)) (ss : List StateLine) → ArePlainTexts texts → AreStates ss → Apart same_key ss →
+    first_fault line_fault 1 [] (map line_of (texts ++ map spelled ss)) ≡ None
 none_twice texts ss p v a =
     ap (first_fault line_fault 1 []) (lines_again texts ss p v)
     ∙ clean_none line_fault 1 [] (map line_of texts ++ map line.State ss) (clean_plain [] texts (map line.State ss) p (clean_states [] ss (λ s i. refl) a))

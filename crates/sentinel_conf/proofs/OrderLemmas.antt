@@ -35,7 +35,8 @@ module _ {X A B : Type 0} (p : X → A) (q : X → B) (whole : (x y : X) → p x
   lex x y = f (p x) (p y) || (same (p x) (p y) && g (q x) (q y))
 
   module _ (o : IsOrder f) (s : IsSame same) (u : IsOrder g) where
-    chain_by : (x y z : X) → (f (p x) (p y) ≡ true) ⊎ ((same (p x) (p y) && g (q x) (q y)) ≡ true) → (f (p y) (p z) ≡ true) ⊎ ((same (p y) (p z) && g (q y) (q z)) ≡ true) → lex x z ≡ true
+    chain_by : (x y z : X) → (f (p x) (p y) ≡ true) ⊎ ((same (p x) (p y) && g (q x) (q y)) ≡ true) → (f (p y) (p z) ≡ true) ⊎ ((same (p y) (p z) && g (q y) (q z)) ≡ true) →
+        lex x z ≡ true
     chain_by x y z (inl h) (inl k) = or_left (f (p x) (p z)) (same (p x) (p z) && g (q x) (q z)) (o.strict.transitive (p x) (p y) (p z) h k)
     chain_by x y z (inl h) (inr k) =
         let both = and_parts (same (p y) (p z)) (g (q y) (q z)) k in

@@ -122,7 +122,8 @@ map_same f g (x ∷ xs) h = let e : f x ≡ g x = h x (inl refl) in let r : map 
 nothing : {X : Type 0} (x : X) (P : Type 0) → None ≡ Some x → P
 nothing x P e = cc
 
-whole_plan : (m : MasterPlan) (nodes : List Addr) (quorum : ℕ) → nodes ≡ m.nodes → quorum ≡ m.quorum → (let x : MasterPlan = record { name = m.name; nodes = nodes; quorum = quorum } in x) ≡ m
+whole_plan : (m : MasterPlan) (nodes : List Addr) (quorum : ℕ) → nodes ≡ m.nodes → quorum ≡ m.quorum →
+    (let x : MasterPlan = record { name = m.name; nodes = nodes; quorum = quorum } in x) ≡ m
 whole_plan m nodes quorum e f =
     ap (λ t. let x : MasterPlan = record { name = m.name; nodes = t; quorum = quorum } in x) e
     ∙ ap (λ t. let x : MasterPlan = record { name = m.name; nodes = m.nodes; quorum = t } in x) f
@@ -148,7 +149,8 @@ key_name (KnownSentinel m a i) (KnownSentinel n b j) h = ap Some (same_bytes-tru
 key_name _ _ h = absurd (true≢false (sym h))
 
 -- a fact of each replica line and each Sentinel line of a master
-each_tail : (conf : ConfPlan) (p : MasterPlan × KeptMaster) (P : StateLine → Type 0) → ((a : Addr) → In a (replicas p.0 p.1) → P (KnownReplica p.0.name a)) → ((m : Member) → In m (others conf) → P (KnownSentinel p.0.name m.addr m.id))
+each_tail : (conf : ConfPlan) (p : MasterPlan × KeptMaster) (P : StateLine → Type 0) → ((a : Addr) → In a (replicas p.0 p.1) → P (KnownReplica p.0.name a)) →
+    ((m : Member) → In m (others conf) → P (KnownSentinel p.0.name m.addr m.id))
     → (s : StateLine) → In s (map (KnownReplica p.0.name) (replicas p.0 p.1) ++ map (λ member. KnownSentinel p.0.name member.addr member.id) (others conf)) → P s
 each_tail conf p P g h s i =
     elim (in_append_cases s (map (KnownReplica p.0.name) (replicas p.0 p.1)) (map (λ member. KnownSentinel p.0.name member.addr member.id) (others conf)) i) as (λ _. P s) [
@@ -159,7 +161,8 @@ each_tail conf p P g h s i =
 -- a fact of each state line of a master behind its leader-epoch line
 each_behind : (conf : ConfPlan) (p : MasterPlan × KeptMaster) (P : StateLine → Type 0) → ((id : RunId) → p.1.candidate ≡ Some id → P (LeaderId p.0.name id))
     → ((a : Addr) → In a (replicas p.0 p.1) → P (KnownReplica p.0.name a)) → ((m : Member) → In m (others conf) → P (KnownSentinel p.0.name m.addr m.id))
-    → (s : StateLine) → In s (candidate_states p.0.name p.1.candidate ++ (map (KnownReplica p.0.name) (replicas p.0 p.1) ++ map (λ member. KnownSentinel p.0.name member.addr member.id) (others conf))) → P s
+    → (s : StateLine) → In s (candidate_states p.0.name p.1.candidate ++
+    (map (KnownReplica p.0.name) (replicas p.0 p.1) ++ map (λ member. KnownSentinel p.0.name member.addr member.id) (others conf))) → P s
 each_behind conf p P f g h s i =
     let reps : List StateLine = map (KnownReplica p.0.name) (replicas p.0 p.1) in
     let sens : List StateLine = map (λ (member : Member). KnownSentinel p.0.name member.addr member.id) (others conf) in
@@ -190,20 +193,24 @@ apart_candidate : (n : List ℕ) (o : Option RunId) → Apart same_key (candidat
 apart_candidate n None = tt
 apart_candidate n (Some id) = (tt, tt)
 
-apart_master : (conf : ConfPlan) (p : MasterPlan × KeptMaster) → Rises addr_before p.0.nodes → Apart same_id (map (λ (member : Member). member.id) conf.roster.sentinels) → Apart same_key (master_states conf p)
+apart_master : (conf : ConfPlan) (p : MasterPlan × KeptMaster) → Rises addr_before p.0.nodes → Apart same_id (map (λ (member : Member). member.id) conf.roster.sentinels) →
+    Apart same_key (master_states conf p)
 apart_master conf p r a =
     let n = p.0.name in
     let reps : List StateLine = map (KnownReplica n) (replicas p.0 p.1) in
     let sens : List StateLine = map (λ (member : Member). KnownSentinel n member.addr member.id) (others conf) in
     let cand : List StateLine = candidate_states n p.1.candidate in
-    let tails : (P : StateLine → Type 0) → ((id : RunId) → P (LeaderId n id)) → ((a : Addr) → P (KnownReplica n a)) → ((m : Member) → P (KnownSentinel n m.addr m.id)) → AllByRecursion P (cand ++ (reps ++ sens)) =
+    let tails : (P : StateLine → Type 0) → ((id : RunId) → P (LeaderId n id)) → ((a : Addr) → P (KnownReplica n a)) → ((m : Member) → P (KnownSentinel n m.addr m.id)) →
+    AllByRecursion P (cand ++ (reps ++ sens)) =
     λ P f g h. each_from P (cand ++ (reps ++ sens)) (each_behind conf p P (λ id e. f id) (λ a q. g a) (λ m q. h m)) in
     let first_apart : Apart same_key reps =
     apart_map (KnownReplica n) same_key same_addr (replicas p.0 p.1) (λ x y h. and_right (same_bytes n n) (same_addr y x) h)
     (apart_rises addr_before same_addr addr_order addr_same (replicas p.0 p.1) (rises_filter addr_before (λ addr. not (same_addr p.1.card.addr addr)) p.0.nodes r)) in
     let second_apart : Apart same_key sens =
-    apart_map (λ (member : Member). KnownSentinel n member.addr member.id) same_key (λ x y. same_id x.id y.id) (others conf) (λ x y h. and_right (same_bytes n n) (same_id y.id x.id) h)
-    (apart_filter (λ (x y : Member). same_id x.id y.id) (λ member. not (same_id conf.id member.id)) conf.roster.sentinels (apart_back (λ (m : Member). m.id) same_id conf.roster.sentinels a)) in
+    apart_map (λ (member : Member). KnownSentinel n member.addr member.id) same_key (λ x y. same_id x.id y.id) (others conf)
+    (λ x y h. and_right (same_bytes n n) (same_id y.id x.id) h)
+    (apart_filter (λ (x y : Member). same_id x.id y.id) (λ member. not (same_id conf.id member.id)) conf.roster.sentinels
+    (apart_back (λ (m : Member). m.id) same_id conf.roster.sentinels a)) in
     let across : (x y : StateLine) → In x reps → In y sens → same_key y x ≡ false =
     λ x y i j.
     each_map (KnownReplica n) (λ x. same_key y x ≡ false) (replicas p.0 p.1)
@@ -222,7 +229,8 @@ apart_master conf p r a =
       ),
     )
 
-apart_masters : (conf : ConfPlan) (ps : List (MasterPlan × KeptMaster)) → ((p : MasterPlan × KeptMaster) → In p ps → Rises addr_before p.0.nodes) → Apart same_id (map (λ (member : Member). member.id) conf.roster.sentinels)
+apart_masters : (conf : ConfPlan) (ps : List (MasterPlan × KeptMaster)) → ((p : MasterPlan × KeptMaster) → In p ps → Rises addr_before p.0.nodes) →
+    Apart same_id (map (λ (member : Member). member.id) conf.roster.sentinels)
     → Apart same_bytes (map (λ (p : MasterPlan × KeptMaster). p.0.name) ps) → Apart same_key (flat_map (master_states conf) ps)
 apart_masters conf [] r a n = tt
 apart_masters conf (p ∷ ps) r a n =
@@ -235,7 +243,8 @@ apart_masters conf (p ∷ ps) r a n =
     y j)
 
 -- a line speaks of no master but these
-known_line_by : (ns : List (List ℕ)) (o : Option (List ℕ)) → ((n : List ℕ) → o ≡ Some n → In n ns) → (elim o as (λ _. Option ConfKind) [ None ↦ None | Some n ↦ some_if (not (list_any (same_bytes n) ns)) UnknownMaster ]) ≡ None
+known_line_by : (ns : List (List ℕ)) (o : Option (List ℕ)) → ((n : List ℕ) → o ≡ Some n → In n ns) →
+    (elim o as (λ _. Option ConfKind) [ None ↦ None | Some n ↦ some_if (not (list_any (same_bytes n) ns)) UnknownMaster ]) ≡ None
 known_line_by ns None h = refl
 known_line_by ns (Some n) h = ap (λ t. some_if (not t) UnknownMaster) (any_some (same_bytes n) ns n (h n refl) (same_bytes-refl n))
 
@@ -247,7 +256,8 @@ any_in n [] h = absurd (true≢false (sym h))
 any_in n (m ∷ ns) h =
     elim (or_cases (same_bytes n m) (list_any (same_bytes n) ns) h) as (λ _. In n (m ∷ ns)) [ inl e ↦ inl (same_bytes-true n m e) | inr r ↦ inr (any_in n ns r) ]
 
-spoken_by : (ns : List (List ℕ)) (o : Option (List ℕ)) (n : List ℕ) (t : Bool) → list_any (same_bytes n) ns ≡ t → (elim o as (λ _. Option ConfKind) [ None ↦ None | Some n ↦ some_if (not (list_any (same_bytes n) ns)) UnknownMaster ]) ≡ None → o ≡ Some n → In n ns
+spoken_by : (ns : List (List ℕ)) (o : Option (List ℕ)) (n : List ℕ) (t : Bool) → list_any (same_bytes n) ns ≡ t →
+    (elim o as (λ _. Option ConfKind) [ None ↦ None | Some n ↦ some_if (not (list_any (same_bytes n) ns)) UnknownMaster ]) ≡ None → o ≡ Some n → In n ns
 spoken_by ns o n true e h f = any_in n ns e
 spoken_by ns None n false e h f = nothing n (In n ns) f
 spoken_by ns (Some m) n false e h f =
@@ -262,13 +272,15 @@ spoken_known ns l n h f = spoken_by ns (spoken_of l) n (list_any (same_bytes n) 
 module _ (conf : ConfPlan) (kept : Kept) (c : IsConf conf) (k : IsKeptPart conf kept) where
   longest_fits : length (rewritten conf (longest kept)) ≤ FILE_MAX
   longest_fits =
-      let m : AllByRecursion (λ m. Rises addr_before m.nodes) conf.roster.masters = each_from (λ m. Rises addr_before m.nodes) conf.roster.masters (λ m i. (each_in IsMaster conf.roster.masters c.masters m i).order) in
+      let m : AllByRecursion (λ m. Rises addr_before m.nodes) conf.roster.masters =
+      each_from (λ m. Rises addr_before m.nodes) conf.roster.masters (λ m i. (each_in IsMaster conf.roster.masters c.masters m i).order) in
       let le = rewritten_size conf (longest kept) conf.kept m (longest_is conf kept k) c.kept in
       let size = c.size in omega arith
 
   pub fits : length (rewritten conf kept) ≤ FILE_MAX
   fits =
-      let m : AllByRecursion (λ m. Rises addr_before m.nodes) conf.roster.masters = each_from (λ m. Rises addr_before m.nodes) conf.roster.masters (λ m i. (each_in IsMaster conf.roster.masters c.masters m i).order) in
+      let m : AllByRecursion (λ m. Rises addr_before m.nodes) conf.roster.masters =
+      each_from (λ m. Rises addr_before m.nodes) conf.roster.masters (λ m i. (each_in IsMaster conf.roster.masters c.masters m i).order) in
       let le = rewritten_size conf kept conf.kept m k c.kept in
       let size = c.size in omega arith
 
@@ -395,9 +407,12 @@ module _ (conf : ConfPlan) (kept : Kept) (c : IsConf conf) (k : IsKeptPart conf 
           | inr f ↦
               to_filter_map (node_of p.0.name) (KnownReplica p.0.name a) a lines_of_state
               (of_master p i (KnownReplica p.0.name a)
-              (inr (inr (inr (in_append_right (KnownReplica p.0.name a) (candidate_states p.0.name p.1.candidate) (map (KnownReplica p.0.name) (replicas p.0 p.1) ++ map (λ member. KnownSentinel p.0.name member.addr member.id) (others conf))
-              (in_append_left (KnownReplica p.0.name a) (map (KnownReplica p.0.name) (replicas p.0 p.1)) (map (λ member. KnownSentinel p.0.name member.addr member.id) (others conf))
-              (in_map (KnownReplica p.0.name) a (replicas p.0 p.1) (to_filter (λ addr. not (same_addr p.1.card.addr addr)) a p.0.nodes (not_from_false (same_addr p.1.card.addr a) f) l))))))))
+              (inr (inr (inr (in_append_right (KnownReplica p.0.name a) (candidate_states p.0.name p.1.candidate)
+              (map (KnownReplica p.0.name) (replicas p.0 p.1) ++ map (λ member. KnownSentinel p.0.name member.addr member.id) (others conf))
+              (in_append_left (KnownReplica p.0.name a) (map (KnownReplica p.0.name) (replicas p.0 p.1))
+              (map (λ member. KnownSentinel p.0.name member.addr member.id) (others conf))
+              (in_map (KnownReplica p.0.name) a (replicas p.0 p.1)
+              (to_filter (λ addr. not (same_addr p.1.card.addr addr)) a p.0.nodes (not_from_false (same_addr p.1.card.addr a) f) l))))))))
               (some_if-true (same_bytes p.0.name p.0.name) a (same_bytes-refl p.0.name))
         ]
 
@@ -450,7 +465,8 @@ module _ (conf : ConfPlan) (kept : Kept) (c : IsConf conf) (k : IsKeptPart conf 
           replica = λ q j b l y e. nothing y (y ≡ p.1.card.epoch) e;
           known = λ q j m l y e. nothing y (y ≡ p.1.card.epoch) e;
         }))
-        (ConfigEpoch p.0.name p.1.card.epoch) (of_master p i (ConfigEpoch p.0.name p.1.card.epoch) (inr (inl refl))) (some_if-true (same_bytes p.0.name p.0.name) p.1.card.epoch (same_bytes-refl p.0.name))
+        (ConfigEpoch p.0.name p.1.card.epoch) (of_master p i (ConfigEpoch p.0.name p.1.card.epoch) (inr (inl refl)))
+        (some_if-true (same_bytes p.0.name p.0.name) p.1.card.epoch (same_bytes-refl p.0.name))
 
     voted_again : last (voted_of p.0.name) 0 lines_of_state ≡ p.1.voted
     voted_again =
@@ -465,7 +481,8 @@ module _ (conf : ConfPlan) (kept : Kept) (c : IsConf conf) (k : IsKeptPart conf 
           replica = λ q j b l y e. nothing y (y ≡ p.1.voted) e;
           known = λ q j m l y e. nothing y (y ≡ p.1.voted) e;
         }))
-        (LeaderEpoch p.0.name p.1.voted) (of_master p i (LeaderEpoch p.0.name p.1.voted) (inr (inr (inl refl)))) (some_if-true (same_bytes p.0.name p.0.name) p.1.voted (same_bytes-refl p.0.name))
+        (LeaderEpoch p.0.name p.1.voted) (of_master p i (LeaderEpoch p.0.name p.1.voted) (inr (inr (inl refl))))
+        (some_if-true (same_bytes p.0.name p.0.name) p.1.voted (same_bytes-refl p.0.name))
 
     candidate_found : (s : StateLine) → In s lines_of_state → Gives (candidate_of p.0.name) (λ y. p.1.candidate ≡ Some y) s
     candidate_found = each_state (Gives (candidate_of p.0.name) (λ y. p.1.candidate ≡ Some y)) (record {
@@ -483,7 +500,8 @@ module _ (conf : ConfPlan) (kept : Kept) (c : IsConf conf) (k : IsKeptPart conf 
     candidate_stands y e = (
       LeaderId p.0.name y,
       of_master p i (LeaderId p.0.name y)
-          (inr (inr (inr (in_append_left (LeaderId p.0.name y) (candidate_states p.0.name p.1.candidate) (map (KnownReplica p.0.name) (replicas p.0 p.1) ++ map (λ member. KnownSentinel p.0.name member.addr member.id) (others conf))
+          (inr (inr (inr (in_append_left (LeaderId p.0.name y) (candidate_states p.0.name p.1.candidate)
+          (map (KnownReplica p.0.name) (replicas p.0 p.1) ++ map (λ member. KnownSentinel p.0.name member.addr member.id) (others conf))
           (in_candidate p.0.name p.1.candidate y e))))),
       some_if-true (same_bytes p.0.name p.0.name) y (same_bytes-refl p.0.name),
     )
@@ -554,12 +572,14 @@ module _ (conf : ConfPlan) (kept : Kept) (c : IsConf conf) (k : IsKeptPart conf 
   current_again : greatest (filter_map epoch_of lines_of_state) ≡ kept.current
   current_again =
       let rest = filter_map epoch_of (flat_map (master_states conf) pairs) in
-      let le : greatest (kept.current ∷ rest) ≤ kept.current = greatest-le kept.current (kept.current ∷ rest) (each_filter_map epoch_of (λ e. e ≤ kept.current) lines_of_state epoch_le) in
+      let le : greatest (kept.current ∷ rest) ≤ kept.current =
+      greatest-le kept.current (kept.current ∷ rest) (each_filter_map epoch_of (λ e. e ≤ kept.current) lines_of_state epoch_le) in
       let eq : max kept.current (greatest rest) ≡ kept.current = omega arith in eq
 
   -- the Sentinels
   sentinels_apart : Apart same_id (map (λ (member : Member). member.id) conf.roster.sentinels)
-  sentinels_apart = apart_from_repeats same_id id_same (map (λ (member : Member). member.id) conf.roster.sentinels) (repeats_key (λ (member : Member). member.id) same_id conf.roster.sentinels ∙ (no_fault conf.roster c.roster).ids)
+  sentinels_apart = apart_from_repeats same_id id_same (map (λ (member : Member). member.id) conf.roster.sentinels)
+      (repeats_key (λ (member : Member). member.id) same_id conf.roster.sentinels ∙ (no_fault conf.roster c.roster).ids)
 
   known_found : (s : StateLine) → In s lines_of_state → (m : Member) → known_of s ≡ Some m → In m conf.roster.sentinels
   known_found = each_state (λ s. (m : Member) → known_of s ≡ Some m → In m conf.roster.sentinels) (record {
@@ -574,7 +594,8 @@ module _ (conf : ConfPlan) (kept : Kept) (c : IsConf conf) (k : IsKeptPart conf 
   })
 
   some_pair_by : (ps : List (MasterPlan × KeptMaster)) → map (λ (p : MasterPlan × KeptMaster). p.0) ps ≡ conf.roster.masters → (p : MasterPlan × KeptMaster) × In p ps
-  some_pair_by [] e = let n = (no_fault conf.roster c.roster).some in let l : length conf.roster.masters ≡ 0 = ap length (sym e) in absurd (true≢false (sym (ap (λ t. eqb t 0) l) ∙ n))
+  some_pair_by [] e = let n = (no_fault conf.roster c.roster).some in let l : length conf.roster.masters ≡ 0 = ap length (sym e) in
+      absurd (true≢false (sym (ap (λ t. eqb t 0) l) ∙ n))
   some_pair_by (p ∷ ps) e = (p, inl refl)
 
   known_known : (m : Member) → In m conf.roster.sentinels → same_id conf.id m.id ≡ false → In m (filter_map known_of lines_of_state)
@@ -583,9 +604,12 @@ module _ (conf : ConfPlan) (kept : Kept) (c : IsConf conf) (k : IsKeptPart conf 
       let p = some.0 in
       to_filter_map known_of (KnownSentinel p.0.name m.addr m.id) m lines_of_state
       (of_master p some.1 (KnownSentinel p.0.name m.addr m.id)
-      (inr (inr (inr (in_append_right (KnownSentinel p.0.name m.addr m.id) (candidate_states p.0.name p.1.candidate) (map (KnownReplica p.0.name) (replicas p.0 p.1) ++ map (λ member. KnownSentinel p.0.name member.addr member.id) (others conf))
-      (in_append_right (KnownSentinel p.0.name m.addr m.id) (map (KnownReplica p.0.name) (replicas p.0 p.1)) (map (λ member. KnownSentinel p.0.name member.addr member.id) (others conf))
-      (in_map (λ (member : Member). KnownSentinel p.0.name member.addr member.id) m (others conf) (to_filter (λ member. not (same_id conf.id member.id)) m conf.roster.sentinels (not_from_false (same_id conf.id m.id) f) l))))))))
+      (inr (inr (inr (in_append_right (KnownSentinel p.0.name m.addr m.id) (candidate_states p.0.name p.1.candidate)
+      (map (KnownReplica p.0.name) (replicas p.0 p.1) ++ map (λ member. KnownSentinel p.0.name member.addr member.id) (others conf))
+      (in_append_right (KnownSentinel p.0.name m.addr m.id) (map (KnownReplica p.0.name) (replicas p.0 p.1))
+      (map (λ member. KnownSentinel p.0.name member.addr member.id) (others conf))
+      (in_map (λ (member : Member). KnownSentinel p.0.name member.addr member.id) m (others conf)
+      (to_filter (λ member. not (same_id conf.id member.id)) m conf.roster.sentinels (not_from_false (same_id conf.id m.id) f) l))))))))
       refl
 
   member_known : (m : Member) → In m conf.roster.sentinels → In m (own conf ∷ filter_map known_of lines_of_state)
@@ -618,7 +642,8 @@ module _ (conf : ConfPlan) (kept : Kept) (c : IsConf conf) (k : IsKeptPart conf 
 
   no_other_epoch : (s : StateLine) → In s (flat_map (master_states conf) pairs) → same_key s (CurrentEpoch kept.current) ≡ false
   no_other_epoch =
-      each_flat_map (master_states conf) (λ s. same_key s (CurrentEpoch kept.current) ≡ false) pairs (λ p i s j. not_of_none s (CurrentEpoch kept.current) p.0.name (named conf p s j) refl)
+      each_flat_map (master_states conf) (λ s. same_key s (CurrentEpoch kept.current) ≡ false) pairs
+      (λ p i s j. not_of_none s (CurrentEpoch kept.current) p.0.name (named conf p s j) refl)
 
   apart_states : Apart same_key lines_of_state
   apart_states = (
@@ -657,7 +682,8 @@ module _ (conf : ConfPlan) (kept : Kept) (c : IsConf conf) (k : IsKeptPart conf 
   line_known l i =
       elim (in_append_cases l (map line_of conf.kept_lines) (map line.State lines_of_state) i) as (λ _. unknown_fault found_names l ≡ None) [
         | inl j ↦ each_map line_of (λ l. unknown_fault found_names l ≡ None) conf.kept_lines
-            (λ t q. known_line found_names (line_of t) (λ n f. names_in n (spoken_known (names conf) (line_of t) n (each_in (IsKeptText (names conf)) conf.kept_lines c.lines t q).known f))) l j
+            (λ t q. known_line found_names (line_of t) (λ n f. names_in n
+            (spoken_known (names conf) (line_of t) n (each_in (IsKeptText (names conf)) conf.kept_lines c.lines t q).known f))) l j
         | inr j ↦ each_map line.State (λ l. unknown_fault found_names l ≡ None) lines_of_state
             (λ s q. known_line found_names (line.State s) (λ n f. names_in n (state_named s q n f))) l j
       ]
@@ -680,11 +706,14 @@ module _ (conf : ConfPlan) (kept : Kept) (c : IsConf conf) (k : IsKeptPart conf 
       ap (λ k. conf_of k (states (map line_of texts)) (settings (map line_of texts)) conf.id) (kept_lines_again conf.kept_lines lines_of_state are_plain are_states)
       ∙ ap (λ ss. conf_of conf.kept_lines ss (settings (map line_of texts)) conf.id) (states_again conf.kept_lines lines_of_state are_plain are_states)
       ∙ ap (λ t. conf_of conf.kept_lines lines_of_state t conf.id) (settings_again conf.kept_lines lines_of_state are_plain are_states)
-      ∙ ap (λ t. built conf.kept_lines (record { sentinels = t; masters = map (master_of lines_of_state) (names_of lines_of_state) }) (own_port (kept_settings conf)) (map (settings_of (kept_settings conf)) (names_of lines_of_state)) (kept_of lines_of_state)) sentinels_again
-      ∙ ap (λ t. built conf.kept_lines (record { sentinels = conf.roster.sentinels; masters = t }) (own_port (kept_settings conf)) (map (settings_of (kept_settings conf)) (names_of lines_of_state)) (kept_of lines_of_state)) masters_again
+      ∙ ap (λ t. built conf.kept_lines (record { sentinels = t; masters = map (master_of lines_of_state) (names_of lines_of_state) }) (own_port (kept_settings conf))
+      (map (settings_of (kept_settings conf)) (names_of lines_of_state)) (kept_of lines_of_state)) sentinels_again
+      ∙ ap (λ t. built conf.kept_lines (record { sentinels = conf.roster.sentinels; masters = t }) (own_port (kept_settings conf))
+      (map (settings_of (kept_settings conf)) (names_of lines_of_state)) (kept_of lines_of_state)) masters_again
       ∙ ap (λ t. built conf.kept_lines conf.roster t (map (settings_of (kept_settings conf)) (names_of lines_of_state)) (kept_of lines_of_state)) c.port
       ∙ ap (λ t. built conf.kept_lines conf.roster conf.port t (kept_of lines_of_state)) (ap (map (settings_of (kept_settings conf))) names_again ∙ c.settings)
-      ∙ ap (λ t. built conf.kept_lines conf.roster conf.port conf.settings (record { current = t; masters = map (kept_master_of lines_of_state) (names_of lines_of_state) })) current_again
+      ∙ ap (λ t. built conf.kept_lines conf.roster conf.port conf.settings (record { current = t; masters = map (kept_master_of lines_of_state) (names_of lines_of_state) }))
+      current_again
       ∙ ap (λ t. built conf.kept_lines conf.roster conf.port conf.settings (record { current = kept.current; masters = t })) kept_masters_again
 
   abbrev sized : ConfPlan → Result ConfPlan ConfFault
@@ -697,7 +726,8 @@ module _ (conf : ConfPlan) (kept : Kept) (c : IsConf conf) (k : IsKeptPart conf 
   not_long = le-ltb FILE_MAX (length (rewritten conf (longest kept))) (longest_fits conf kept c k)
 
   sized_again : sized again ≡ Ok again
-  sized_again = ap (λ t. elim t as (λ _. Result (Unit {0}) ConfFault) [ true ↦ Err (fault_at 0 TooLong) | false ↦ Ok tt ] >>= λ _. let r : Result ConfPlan ConfFault = Ok again in r) not_long
+  sized_again = ap (λ t. elim t as (λ _. Result (Unit {0}) ConfFault) [ true ↦ Err (fault_at 0 TooLong) | false ↦ Ok tt ] >>= λ _. let r : Result ConfPlan ConfFault = Ok again in
+      r) not_long
 
   rostered_again : rostered again ≡ Ok again
   rostered_again =
@@ -735,7 +765,8 @@ module _ (conf : ConfPlan) (kept : Kept) (c : IsConf conf) (k : IsKeptPart conf 
 
   pub read_again : conf_of_bytes (rewritten conf kept) ≡ Ok again
   read_again =
-      ap (λ t. elim t as (λ _. Result (Unit {0}) ConfFault) [ true ↦ Err (fault_at 0 TooLong) | false ↦ Ok tt ] >>= λ _. guard (not (is_utf8 (rewritten conf kept))) NotUtf8 >>= λ _. conf_of_lines (lines (rewritten conf kept)))
+      ap (λ t. elim t as (λ _. Result (Unit {0}) ConfFault) [ true ↦ Err (fault_at 0 TooLong) | false ↦ Ok tt ] >>= λ _. guard (not (is_utf8 (rewritten conf kept))) NotUtf8 >>=
+      λ _. conf_of_lines (lines (rewritten conf kept)))
       (le-ltb FILE_MAX (length (rewritten conf kept)) (fits conf kept c k))
       ∙ ap (λ t. elim t as (λ _. Result (Unit {0}) ConfFault) [ true ↦ Err (fault_at 0 NotUtf8) | false ↦ Ok tt ] >>= λ _. conf_of_lines (lines (rewritten conf kept))) is_text
       ∙ ap conf_of_lines (lines-ended texts texts_no_lf)

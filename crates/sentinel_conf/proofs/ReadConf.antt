@@ -64,7 +64,8 @@ found_in : {X : Type 0} (kind : ConfKind) (xs : List X) (x : X) → found kind x
 found_in kind [] x h = cc
 found_in kind (y ∷ ys) x h = let e : x ≡ y = cc in inl e
 
-roster_ok_by : (o : Option RosterFault) (u : Unit {0}) → (elim o as (λ _. Result (Unit {0}) ConfFault) [ None ↦ Ok tt | Some fault ↦ Err (fault_at 0 (Roster fault)) ]) ≡ Ok u → o ≡ None
+roster_ok_by : (o : Option RosterFault) (u : Unit {0}) → (elim o as (λ _. Result (Unit {0}) ConfFault) [ None ↦ Ok tt | Some fault ↦ Err (fault_at 0 (Roster fault)) ]) ≡ Ok u →
+    o ≡ None
 roster_ok_by None u h = refl
 roster_ok_by (Some f) u h = cc
 
@@ -79,7 +80,8 @@ clean_plain earlier (m ∷ ls) h l (inl f) e = plain_by l earlier (ap (line_faul
   plain_by (line.Faulty k) earlier h e = cc
 clean_plain earlier (m ∷ ls) h l (inr i) e = clean_plain (earlier ++ states (m ∷ [])) ls h.1 l i e
 
-kept_only_by : (o : Option Setting) (t : Bool) (l : Line) (text : List ℕ) (texts : List (List ℕ)) → is_kept (line_of text) ≡ t → settings (map line_of (kept_lines_of texts)) ≡ settings (map line_of texts)
+kept_only_by : (o : Option Setting) (t : Bool) (l : Line) (text : List ℕ) (texts : List (List ℕ)) → is_kept (line_of text) ≡ t →
+    settings (map line_of (kept_lines_of texts)) ≡ settings (map line_of texts)
     → settings (map line_of (cond t (text ∷ kept_lines_of texts) (kept_lines_of texts))) ≡ settings (map line_of (text ∷ texts))
 kept_only_by o true l text texts e h = ap (cons_option (setting_of (line_of text))) h
 kept_only_by o false l text texts e h = h ∙ sym (ap (λ o. cons_option o (settings (map line_of texts))) (no_setting (line_of text) e)) where
@@ -119,7 +121,8 @@ last_fact h P d (x ∷ xs) p a = last_fact h P (unwrap_or (h x) d) xs (last_fact
 ap_given : {Y : Type 0} (P : Y → Type 0) (o : Option Y) (d y : Y) → o ≡ Some y → P y → P (unwrap_or o d)
 ap_given P o d y e p = subst P (sym (ap (λ t. unwrap_or t d) e)) p
 
-given_fact : {X Y : Type 0} (h : X → Option Y) (P : Y → Type 0) (d : Y) (xs : List X) → ((x : X) → In x xs → (y : Y) → h x ≡ Some y → P y) → (x : X) → In x xs → (y : Y) → h x ≡ Some y → P (last h d xs)
+given_fact : {X Y : Type 0} (h : X → Option Y) (P : Y → Type 0) (d : Y) (xs : List X) → ((x : X) → In x xs → (y : Y) → h x ≡ Some y → P y) → (x : X) → In x xs → (y : Y) →
+    h x ≡ Some y → P (last h d xs)
 given_fact h P d [] a x i y e = absurd i
 given_fact h P d (z ∷ xs) a x (inl f) y e =
     last_fact h P (unwrap_or (h z) d) xs (ap_given (λ t. P t) (h z) d y (ap h (sym f) ∙ e) (a z (inl refl) y (ap h (sym f) ∙ e))) (λ w j. a w (inr j))
@@ -169,14 +172,15 @@ module _ (bytes : List ℕ) (u : IsUtf8 bytes) (id : RunId) where
     port_by (FailoverTimeout n q) p v e = cc
 
   announce_port_is : (1 ≤ (own_addr (settings all)).port) × ((own_addr (settings all)).port ≤ 65535)
-  announce_port_is = last_fact announce_port_of (λ p. (1 ≤ p) × (p ≤ 65535)) (own_port (settings all)) (settings all) own_port_is (λ s i p e. port_by s p (setting_valid s i) e) where
-    port_by : (s : Setting) (p : ℕ) → IsSetting s → announce_port_of s ≡ Some p → (1 ≤ p) × (p ≤ 65535)
-    port_by (Port q) p v e = cc
-    port_by (AnnounceIp q) p v e = cc
-    port_by (AnnouncePort q) p v e = let f : q ≡ p = cc in (let a = v.0 in omega arith, let a = v.1 in omega arith)
-    port_by (DownAfter n q) p v e = cc
-    port_by (ParallelSyncs n q) p v e = cc
-    port_by (FailoverTimeout n q) p v e = cc
+  announce_port_is = last_fact announce_port_of (λ p. (1 ≤ p) × (p ≤ 65535)) (own_port (settings all)) (settings all) own_port_is (λ s i p e. port_by s p (setting_valid s i) e)
+    where
+      port_by : (s : Setting) (p : ℕ) → IsSetting s → announce_port_of s ≡ Some p → (1 ≤ p) × (p ≤ 65535)
+      port_by (Port q) p v e = cc
+      port_by (AnnounceIp q) p v e = cc
+      port_by (AnnouncePort q) p v e = let f : q ≡ p = cc in (let a = v.0 in omega arith, let a = v.1 in omega arith)
+      port_by (DownAfter n q) p v e = cc
+      port_by (ParallelSyncs n q) p v e = cc
+      port_by (FailoverTimeout n q) p v e = cc
 
   announce_ip_is : (own_addr (settings all)).ip < 2 ^ 32
   announce_ip_is = last_fact announce_ip_of (λ p. p < 4294967296) 2130706433 (settings all) (omega arith) (λ s i p e. ip_by s p (setting_valid s i) e) where
@@ -247,7 +251,8 @@ module _ (bytes : List ℕ) (u : IsUtf8 bytes) (id : RunId) where
 
   members_valid : (own_id : IsId id) → AllByRecursion IsMember conf.roster.sentinels
   members_valid own_id =
-      each_from IsMember conf.roster.sentinels (λ m i. member_by m (from_in_order member_before member_order ((record { id = id; addr = own_addr (settings all) }) ∷ filter_map known_of ss) m i)) where
+      each_from IsMember conf.roster.sentinels (λ m i. member_by m
+      (from_in_order member_before member_order ((record { id = id; addr = own_addr (settings all) }) ∷ filter_map known_of ss) m i)) where
         known_by : (m : Member) (s : StateLine) → IsState s → known_of s ≡ Some m → IsMember m
         known_by m (KnownSentinel n a i) v e =
             let made : Member = record { id = i; addr = a } in
@@ -352,7 +357,8 @@ module _ (bytes : List ℕ) (u : IsUtf8 bytes) (id : RunId) where
   settings_kept : kept_settings conf ≡ settings all
   settings_kept = kept_only texts
 
-  is_conf : first_fault line_fault 1 [] all ≡ None → first_fault (λ _. unknown_fault (filter_map name_of ss)) 1 [] all ≡ None → In id (filter_map my_id_of ss) → fault_of conf.roster ≡ None → length (rewritten conf (longest conf.kept)) ≤ FILE_MAX → IsConf conf
+  is_conf : first_fault line_fault 1 [] all ≡ None → first_fault (λ _. unknown_fault (filter_map name_of ss)) 1 [] all ≡ None → In id (filter_map my_id_of ss) →
+      fault_of conf.roster ≡ None → length (rewritten conf (longest conf.kept)) ≤ FILE_MAX → IsConf conf
   is_conf clean known ids roster size =
       let own_id : IsId id = each_filter_map my_id_of (λ i. (i ≡ id) → IsId id) ss (λ s q i e f. own_id_by s (state_valid s q) (e ∙ ap Some f)) id ids refl in
       record {
@@ -364,13 +370,16 @@ module _ (bytes : List ℕ) (u : IsUtf8 bytes) (id : RunId) where
               utf8 = text.1;
               plain = clean_plain [] all (none_clean line_fault 1 [] all clean) (line_of t) (in_map line_of t texts f.1) f.0;
               known = known_line (names conf) (line_of t) (λ n g. name_in n (spoken_known (filter_map name_of ss) (line_of t) n
-                  (each_in (λ l. unknown_fault (filter_map name_of ss) l ≡ None) all (each_clean (unknown_fault (filter_map name_of ss)) [] all (none_clean (λ _. unknown_fault (filter_map name_of ss)) 1 [] all known)) (line_of t) (in_map line_of t texts f.1)) g));
+                  (each_in (λ l. unknown_fault (filter_map name_of ss) l ≡ None) all
+                  (each_clean (unknown_fault (filter_map name_of ss)) [] all (none_clean (λ _. unknown_fault (filter_map name_of ss)) 1 [] all known)) (line_of t)
+                  (in_map line_of t texts f.1)) g));
             });
         name_order = subst (Rises bytes_before) (sym names_are) (in_order_rises bytes_before bytes_order.strict (filter_map name_of ss));
         masters = each_from IsMaster (map (master_of ss) (names_of ss)) (each_map (master_of ss) IsMaster (names_of ss) master_valid);
         order = in_order_rises member_before member_order.strict ((record { id = id; addr = own_addr (settings all) }) ∷ filter_map known_of ss);
         members = members_valid own_id;
-        own = to_in_order member_before member_order ((record { id = id; addr = own_addr (settings all) }) ∷ filter_map known_of ss) (own conf) (inl (ap (λ t. let m : Member = record { id = id; addr = own_addr t } in m) settings_kept));
+        own = to_in_order member_before member_order ((record { id = id; addr = own_addr (settings all) }) ∷ filter_map known_of ss) (own conf)
+            (inl (ap (λ t. let m : Member = record { id = id; addr = own_addr t } in m) settings_kept));
         roster = roster;
         port = ap own_port settings_kept;
         settings = ap (λ t. map (settings_of t) (names conf)) settings_kept ∙ ap (map (settings_of (settings all))) names_are;
@@ -409,5 +418,6 @@ conf_is bytes c h =
     conf_is_of_lines bytes u c b.2
 
 -- the rewritten file of what was read, and a kept part of its masters, is read as both
-pub reads_again : (bytes : List ℕ) (c : ConfPlan) (kept : Kept) → conf_of_bytes bytes ≡ Ok c → IsKeptPart c kept → HasRunIds kept → conf_of_bytes (rewritten c kept) ≡ Ok (record c { kept = kept })
+pub reads_again : (bytes : List ℕ) (c : ConfPlan) (kept : Kept) → conf_of_bytes bytes ≡ Ok c → IsKeptPart c kept → HasRunIds kept →
+    conf_of_bytes (rewritten c kept) ≡ Ok (record c { kept = kept })
 reads_again bytes c kept h k ids = read_again c kept (conf_is bytes c h) k ids

@@ -45,7 +45,8 @@ bounded-again xs = bounded_again ROOM xs
 pub room_step : (out new piece rest : List ℕ) → new ≡ bounded (out ++ piece) → bounded (new ++ rest) ≡ bounded (out ++ (piece ++ rest))
 room_step out new piece rest e = ap (λ t. bounded (t ++ rest)) e ∙ added_both out piece rest
 
-pub room_join : (out mid new first second : List ℕ) → bounded mid ≡ bounded (out ++ first) → bounded new ≡ bounded (mid ++ second) → bounded new ≡ bounded (out ++ (first ++ second))
+pub room_join : (out mid new first second : List ℕ) → bounded mid ≡ bounded (out ++ first) → bounded new ≡ bounded (mid ++ second) →
+    bounded new ≡ bounded (out ++ (first ++ second))
 room_join out mid new first second e f =
     f ∙ sym (bounded-bounded mid second) ∙ ap (λ t. bounded (t ++ second)) e ∙ added_both out first second
 

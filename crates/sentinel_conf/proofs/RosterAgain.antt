@@ -73,7 +73,8 @@ master_again states name =
     (stays addr_before (one_way addr_before addr_order) (in_order addr_before nodes) (in_order_rises addr_before addr_order.strict nodes))
 
 masters_again : (states : List StateLine) (names : List (List ℕ)) → map nodes_in_order (map (master_of states) names) ≡ map (master_of states) names
-masters_again states names = sym (map_map (master_of states) nodes_in_order names) ∙ map_same (λ n. nodes_in_order (master_of states n)) (master_of states) names (λ n i. master_again states n)
+masters_again states names = sym (map_map (master_of states) nodes_in_order names) ∙
+    map_same (λ n. nodes_in_order (master_of states n)) (master_of states) names (λ n i. master_again states n)
 
 pub ordered_again : (own : Member) (states : List StateLine) → fault_of (plan_of own states) ≡ None → ordered (plan_of own states) ≡ plan_of own states
 ordered_again own states h =
@@ -83,7 +84,8 @@ ordered_again own states h =
     let by_name : MasterPlan → MasterPlan → Bool = λ a b. bytes_before a.name b.name in
     let given = filter_map name_of states in
     ap (λ t. let p : Roster = record { sentinels = t; masters = in_order by_name (map nodes_in_order masters) } in p)
-    (stays by_id (λ a b k. one_way id_before id_order a.id b.id k) members (rises_ids members (in_order_rises member_before member_order.strict (own ∷ filter_map known_of states)) none.ids))
+    (stays by_id (λ a b k. one_way id_before id_order a.id b.id k) members
+    (rises_ids members (in_order_rises member_before member_order.strict (own ∷ filter_map known_of states)) none.ids))
     ∙ ap (λ t. let p : Roster = record { sentinels = members; masters = in_order by_name t } in p) (masters_again states (names_of states))
     ∙ ap (λ t. let p : Roster = record { sentinels = members; masters = t } in p)
     (stays by_name (λ a b k. one_way bytes_before bytes_order a.name b.name k) masters

@@ -104,7 +104,8 @@ none_left_out a (b ∷ addrs) h =
     true≢false (sym (addr_same.of_equal a) ∙ ap (λ w. same_addr w a) (addr_same.equal a b e) ∙ h.0))))
     ∙ ap (λ t. b ∷ t) (none_left_out a addrs h.1)
 
-one_left_out_by : (n : List ℕ) (a b : Addr) (addrs : List Addr) (t : Bool) → same_addr a b ≡ t → Apart same_addr (b ∷ addrs) → (In a addrs → length (spelled (KnownReplica n a)) + 1 + replica_size n (others_than a addrs) ≡ replica_size n addrs)
+one_left_out_by : (n : List ℕ) (a b : Addr) (addrs : List Addr) (t : Bool) → same_addr a b ≡ t → Apart same_addr (b ∷ addrs) →
+    (In a addrs → length (spelled (KnownReplica n a)) + 1 + replica_size n (others_than a addrs) ≡ replica_size n addrs)
     → (a ≡ b) ⊎ In a addrs → length (spelled (KnownReplica n a)) + 1 + replica_size n (others_than a (b ∷ addrs)) ≡ replica_size n (b ∷ addrs)
 one_left_out_by n a b addrs true e p r i =
     let f : a ≡ b = addr_same.equal a b e in
@@ -119,11 +120,13 @@ one_left_out_by n a b addrs false e p r (inr i) =
     omega (arith, ap (replica_size n) rest, r i)
 
 -- the replica lines of all but one address, and one of that address
-one_left_out : (n : List ℕ) (a : Addr) (addrs : List Addr) → Apart same_addr addrs → In a addrs → length (spelled (KnownReplica n a)) + 1 + replica_size n (others_than a addrs) ≡ replica_size n addrs
+one_left_out : (n : List ℕ) (a : Addr) (addrs : List Addr) → Apart same_addr addrs → In a addrs →
+    length (spelled (KnownReplica n a)) + 1 + replica_size n (others_than a addrs) ≡ replica_size n addrs
 one_left_out n a [] p i = absurd i
 one_left_out n a (b ∷ addrs) p i = one_left_out_by n a b addrs (same_addr a b) refl p (one_left_out n a addrs p.1) i
 
-master_size : (conf : ConfPlan) (m : MasterPlan) (k l : KeptMaster) → Rises addr_before m.nodes → In k.card.addr m.nodes → In l.card.addr m.nodes → k.card.epoch ≤ MAX_EPOCH → k.voted ≤ MAX_EPOCH
+master_size : (conf : ConfPlan) (m : MasterPlan) (k l : KeptMaster) → Rises addr_before m.nodes → In k.card.addr m.nodes → In l.card.addr m.nodes → k.card.epoch ≤ MAX_EPOCH →
+    k.voted ≤ MAX_EPOCH
     → size (master_states conf (m, k)) ≤ size (master_states conf (m, at_last_epoch l))
 master_size conf m k l r i j e v =
     let apart : Apart same_addr m.nodes = apart_rises addr_before same_addr addr_order addr_same m.nodes r in
@@ -145,7 +148,8 @@ master_size conf m k l r i j e v =
       size-append right known,
     )
 
-masters_size : (conf : ConfPlan) (d e : ℕ) (ms : List MasterPlan) (ks ls : List KeptMaster) → d ≤ MAX_EPOCH → AllByRecursion (λ m. Rises addr_before m.nodes) ms → AllZip (IsKeptMaster d) ms ks → AllZip (IsKeptMaster e) ms ls
+masters_size : (conf : ConfPlan) (d e : ℕ) (ms : List MasterPlan) (ks ls : List KeptMaster) → d ≤ MAX_EPOCH → AllByRecursion (λ m. Rises addr_before m.nodes) ms →
+    AllZip (IsKeptMaster d) ms ks → AllZip (IsKeptMaster e) ms ls
     → size (flat_map (master_states conf) (zip ms ks)) ≤ size (flat_map (master_states conf) (zip ms (map at_last_epoch ls)))
 masters_size conf d e [] ks ls b r a c = omega arith
 masters_size conf d e (m ∷ ms) [] ls b r a c = absurd a
@@ -159,7 +163,8 @@ masters_size conf d e (m ∷ ms) (k ∷ ks) (l ∷ ls) b r a c =
       arith,
       size-append (master_states conf (m, k)) (flat_map (master_states conf) (zip ms ks)),
       size-append (master_states conf (m, at_last_epoch l)) (flat_map (master_states conf) (zip ms (map at_last_epoch ls))),
-      master_size conf m k l r.0 (in_from_at k.card.addr k.card.addr m.nodes ka.0 ka.1 ka.2) (in_from_at l.card.addr l.card.addr m.nodes la.0 la.1 la.2) (omega arith) (omega arith),
+      master_size conf m k l r.0 (in_from_at k.card.addr k.card.addr m.nodes ka.0 ka.1 ka.2) (in_from_at l.card.addr l.card.addr m.nodes la.0 la.1 la.2) (omega arith)
+          (omega arith),
       masters_size conf d e ms ks ls b r.1 a.1 c.1,
     )
 

@@ -43,7 +43,8 @@ module _ {X K : Type 0} (key : X → K) (same : K → K → Bool) (s : IsSame sa
       true≢false (sym (s.of_equal (key x)) ∙ ap (λ t. same t (key x)) e ∙ each_in (λ y. by_key y x ≡ false) xs a.0 (get_or xs k d) (in_at xs d k (omega arith)))
   apart_at (x ∷ xs) d (suc j) (suc k) a l r e = apart_at xs d j k a.1 (omega arith) (omega arith) e
 
-  one_place_by : (xs : List X) (d : X) (i j : ℕ) → Apart by_key xs → i < length xs → j < length xs → key (get_or xs i d) ≡ key (get_or xs j d) → (i ≡ j) ⊎ ((i < j) ⊎ (j < i)) → i ≡ j
+  one_place_by : (xs : List X) (d : X) (i j : ℕ) → Apart by_key xs → i < length xs → j < length xs → key (get_or xs i d) ≡ key (get_or xs j d) → (i ≡ j) ⊎ ((i < j) ⊎ (j < i)) →
+      i ≡ j
   one_place_by xs d i j a l r e (inl f) = f
   one_place_by xs d i j a l r e (inr (inl f)) = absurd (apart_at xs d i j a f r e)
   one_place_by xs d i j a l r e (inr (inr f)) = absurd (apart_at xs d j i a f l (sym e))
@@ -102,7 +103,8 @@ module _ (conf : ConfPlan) (c : IsConf conf) where
         nodes = λ m j k l f r. apart_at (λ (addr : Addr). addr) same_addr addr_same (at m).nodes no_addr j k (nodes_apart m l) f r;
         members = λ i l. let m = member_is i l in
             (addr_is (get_or conf.roster.sentinels i no_member).addr m.addr, id_is (get_or conf.roster.sentinels i no_member).id m.id);
-        listed = λ m k l r. addr_is (get_or (at m).nodes k no_addr) (each_in state.IsAddr (at m).nodes (master_is m l).nodes (get_or (at m).nodes k no_addr) (in_at (at m).nodes no_addr k r));
+        listed = λ m k l r. addr_is (get_or (at m).nodes k no_addr)
+            (each_in state.IsAddr (at m).nodes (master_is m l).nodes (get_or (at m).nodes k no_addr) (in_at (at m).nodes no_addr k r));
         named = λ m l. (name_found (at m).name (at m).name (master_is m l).name).1;
         kept = c.kept;
       }

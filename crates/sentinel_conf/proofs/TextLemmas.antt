@@ -58,10 +58,14 @@ low_name n h =
 
 low_ip : (n : ℕ) → n < 4294967296 → AreLow (ip_text n)
 low_ip n h =
-    low_append (decimal (n / 256 / 256 / 256)) (46 ∷ (decimal (n / 256 / 256 % 256) ++ 46 ∷ (decimal (n / 256 % 256) ++ 46 ∷ decimal (n % 256)))) (low_decimal (n / 256 / 256 / 256) (omega arith)) (
+    low_append (decimal (n / 256 / 256 / 256)) (46 ∷ (decimal (n / 256 / 256 % 256) ++ 46 ∷ (decimal (n / 256 % 256) ++ 46 ∷ decimal (n % 256))))
+    (low_decimal (n / 256 / 256 / 256) (omega arith)) (
       omega arith,
-      low_append (decimal (n / 256 / 256 % 256)) (46 ∷ (decimal (n / 256 % 256) ++ 46 ∷ decimal (n % 256))) (low_decimal (n / 256 / 256 % 256) (omega arith))
-          (omega arith, low_append (decimal (n / 256 % 256)) (46 ∷ decimal (n % 256)) (low_decimal (n / 256 % 256) (omega arith)) (omega arith, low_decimal (n % 256) (omega arith))),
+      low_append (decimal (n / 256 / 256 % 256)) (46 ∷ (decimal (n / 256 % 256) ++ 46 ∷ decimal (n % 256))) (low_decimal (n / 256 / 256 % 256) (omega arith)) (
+        omega arith,
+        low_append (decimal (n / 256 % 256)) (46 ∷ decimal (n % 256)) (low_decimal (n / 256 % 256) (omega arith))
+            (omega arith, low_decimal (n % 256) (omega arith)),
+      ),
     )
 
 low_id : (id : RunId) → IsId id → AreLow (id_text id)
@@ -79,8 +83,13 @@ low_port a h = low_decimal a.port (let l = h.high in omega arith)
 low_words : (s : StateLine) → IsState s → AllByRecursion AreLow (codes "sentinel" ∷ state_words s)
 low_words (MyId i) v = (low_text (codes "sentinel") refl, (low_text (codes "myid") refl, (low_id i v, tt)))
 low_words (CurrentEpoch e) v = (low_text (codes "sentinel") refl, (low_text (codes "current-epoch") refl, (low_epoch e v, tt)))
-low_words (Monitor n a q) v =
-    (low_text (codes "sentinel") refl, (low_text (codes "monitor") refl, (low_name n v.0, (low_ip a.ip v.1.ip, (low_port a v.1, (low_decimal q (let l : q ≤ 4294967295 = v.2 in omega arith), tt))))))
+low_words (Monitor n a q) v = (
+  low_text (codes "sentinel") refl,
+  (
+    low_text (codes "monitor") refl,
+    (low_name n v.0, (low_ip a.ip v.1.ip, (low_port a v.1, (low_decimal q (let l : q ≤ 4294967295 = v.2 in omega arith), tt)))),
+  ),
+)
 low_words (ConfigEpoch n e) v = (low_text (codes "sentinel") refl, (low_text (codes "config-epoch") refl, (low_name n v.0, (low_epoch e v.1, tt))))
 low_words (LeaderEpoch n e) v = (low_text (codes "sentinel") refl, (low_text (codes "leader-epoch") refl, (low_name n v.0, (low_epoch e v.1, tt))))
 low_words (LeaderId n i) v = (low_text (codes "sentinel") refl, (low_text (codes "leader-id") refl, (low_name n v.0, (low_id i v.1, tt))))
@@ -126,7 +135,8 @@ front_text pre bs u =
 back_text : (pre bs : List ℕ) → IsUtf8 (pre ++ 10 ∷ bs) → IsUtf8 bs
 back_text pre bs u =
     let at : get_or (pre ++ 10 ∷ bs) (length pre) 0 ≡ 10 = get_or-seam pre 10 bs in
-    let t = IsUtf8-drop (pre ++ 10 ∷ bs) (length pre + 1) u (IsCharBoundary-after_ascii (pre ++ 10 ∷ bs) (length pre) u (omega (arith, length-append pre (10 ∷ bs))) (omega arith)) in
+    let t = IsUtf8-drop (pre ++ 10 ∷ bs) (length pre + 1) u (IsCharBoundary-after_ascii (pre ++ 10 ∷ bs) (length pre) u (omega (arith, length-append pre (10 ∷ bs)))
+    (omega arith)) in
     subst IsUtf8 (drop-append-add pre (10 ∷ bs) 1) t
 
 nil_front : (ts : List (List ℕ)) → AllByRecursion IsTextLine (attached [] ts) → AllByRecursion IsTextLine ts
@@ -137,7 +147,8 @@ append_nil : (pre : List ℕ) → pre ++ [] ≡ pre
 append_nil [] = refl
 append_nil (x ∷ pre) = ap (λ t. x ∷ t) (append_nil pre)
 
-text_lines_by : (t : Bool) (pre : List ℕ) (b : ℕ) (bs : List ℕ) → eqb b 10 ≡ t → HasNoLf pre → IsUtf8 (pre ++ b ∷ bs) → ((pre : List ℕ) → HasNoLf pre → IsUtf8 (pre ++ bs) → AllByRecursion IsTextLine (attached pre (lines bs)))
+text_lines_by : (t : Bool) (pre : List ℕ) (b : ℕ) (bs : List ℕ) → eqb b 10 ≡ t → HasNoLf pre → IsUtf8 (pre ++ b ∷ bs) →
+    ((pre : List ℕ) → HasNoLf pre → IsUtf8 (pre ++ bs) → AllByRecursion IsTextLine (attached pre (lines bs)))
     → AllByRecursion IsTextLine (attached pre (lines (b ∷ bs)))
 text_lines_by true pre b bs e h u rest =
     let f : b ≡ 10 = grind (arith, nat_tests, e) in

@@ -21,7 +21,8 @@ abbrev pub file : List ℕ
 file = codes "# group one\nport 26379\nbind 127.0.0.1\nsentinel monitor mymaster 127.0.0.1 6379 2\nsentinel auth-pass mymaster secret\nsentinel down-after-milliseconds mymaster 5000\nsentinel known-replica mymaster 127.0.0.1 6381\nsentinel known-replica mymaster 127.0.0.1 6380\nsentinel known-sentinel mymaster 127.0.0.1 26380 bbbbbbbbbbbbbbbbbbbbbbbbbbbbbbbbbbbbbbbb\nsentinel myid aaaaaaaaaaaaaaaaaaaaaaaaaaaaaaaaaaaaaaaa"
 
 abbrev short_file : List ℕ
-short_file = codes "# group one\nport 26379\nbind 127.0.0.1\nsentinel monitor mymaster 127.0.0.1 6379 2\nsentinel auth-pass mymaster secret\nsentinel down-after-milliseconds mymaster 5000\nsentinel known-replica mymaster 127.0.0.1 6381\nsentinel known-replica mymaster 127.0.0.1 6380\nsentinel known-sentinel mymaster 127.0.0.1 26380 bbbbbbbbbbbbbbbbbbbbbbbbbbbbbbbbbbbbbbbb"
+short_file = codes
+    "# group one\nport 26379\nbind 127.0.0.1\nsentinel monitor mymaster 127.0.0.1 6379 2\nsentinel auth-pass mymaster secret\nsentinel down-after-milliseconds mymaster 5000\nsentinel known-replica mymaster 127.0.0.1 6381\nsentinel known-replica mymaster 127.0.0.1 6380\nsentinel known-sentinel mymaster 127.0.0.1 26380 bbbbbbbbbbbbbbbbbbbbbbbbbbbbbbbbbbbbbbbb"
 
 abbrev pub kept : Kept
 kept = record {
@@ -63,15 +64,20 @@ open_quote = refl
 three_lines : lines (codes "\na\nb") ≡ [] ∷ codes "a" ∷ codes "b" ∷ []
 three_lines = refl
 
-rewritten_file : text_of kept (conf_of_lines (lines file)) ≡ codes "# group one\nport 26379\nbind 127.0.0.1\nsentinel auth-pass mymaster secret\nsentinel down-after-milliseconds mymaster 5000\nsentinel myid aaaaaaaaaaaaaaaaaaaaaaaaaaaaaaaaaaaaaaaa\nsentinel current-epoch 3\nsentinel monitor mymaster 127.0.0.1 6380 2\nsentinel config-epoch mymaster 2\nsentinel leader-epoch mymaster 3\nsentinel known-replica mymaster 127.0.0.1 6379\nsentinel known-replica mymaster 127.0.0.1 6381\nsentinel known-sentinel mymaster 127.0.0.1 26380 bbbbbbbbbbbbbbbbbbbbbbbbbbbbbbbbbbbbbbbb\n"
+rewritten_file : text_of kept (conf_of_lines (lines file)) ≡ codes
+    "# group one\nport 26379\nbind 127.0.0.1\nsentinel auth-pass mymaster secret\nsentinel down-after-milliseconds mymaster 5000\nsentinel myid aaaaaaaaaaaaaaaaaaaaaaaaaaaaaaaaaaaaaaaa\nsentinel current-epoch 3\nsentinel monitor mymaster 127.0.0.1 6380 2\nsentinel config-epoch mymaster 2\nsentinel leader-epoch mymaster 3\nsentinel known-replica mymaster 127.0.0.1 6379\nsentinel known-replica mymaster 127.0.0.1 6381\nsentinel known-sentinel mymaster 127.0.0.1 26380 bbbbbbbbbbbbbbbbbbbbbbbbbbbbbbbbbbbbbbbb\n"
 unfolding digits hex
 rewritten_file = refl
 
-rewritten_with_candidate : text_of kept_candidate (conf_of_lines (lines file)) ≡ codes "# group one\nport 26379\nbind 127.0.0.1\nsentinel auth-pass mymaster secret\nsentinel down-after-milliseconds mymaster 5000\nsentinel myid aaaaaaaaaaaaaaaaaaaaaaaaaaaaaaaaaaaaaaaa\nsentinel current-epoch 3\nsentinel monitor mymaster 127.0.0.1 6380 2\nsentinel config-epoch mymaster 2\nsentinel leader-epoch mymaster 3\nsentinel leader-id mymaster bbbbbbbbbbbbbbbbbbbbbbbbbbbbbbbbbbbbbbbb\nsentinel known-replica mymaster 127.0.0.1 6379\nsentinel known-replica mymaster 127.0.0.1 6381\nsentinel known-sentinel mymaster 127.0.0.1 26380 bbbbbbbbbbbbbbbbbbbbbbbbbbbbbbbbbbbbbbbb\n"
+rewritten_with_candidate : text_of kept_candidate (conf_of_lines (lines file)) ≡ codes
+    "# group one\nport 26379\nbind 127.0.0.1\nsentinel auth-pass mymaster secret\nsentinel down-after-milliseconds mymaster 5000\nsentinel myid aaaaaaaaaaaaaaaaaaaaaaaaaaaaaaaaaaaaaaaa\nsentinel current-epoch 3\nsentinel monitor mymaster 127.0.0.1 6380 2\nsentinel config-epoch mymaster 2\nsentinel leader-epoch mymaster 3\nsentinel leader-id mymaster bbbbbbbbbbbbbbbbbbbbbbbbbbbbbbbbbbbbbbbb\nsentinel known-replica mymaster 127.0.0.1 6379\nsentinel known-replica mymaster 127.0.0.1 6381\nsentinel known-sentinel mymaster 127.0.0.1 26380 bbbbbbbbbbbbbbbbbbbbbbbbbbbbbbbbbbbbbbbb\n"
 unfolding digits hex
 rewritten_with_candidate = refl
 
-candidate_again : kept_of (conf_of_lines (lines (codes "# group one\nport 26379\nbind 127.0.0.1\nsentinel auth-pass mymaster secret\nsentinel down-after-milliseconds mymaster 5000\nsentinel myid aaaaaaaaaaaaaaaaaaaaaaaaaaaaaaaaaaaaaaaa\nsentinel current-epoch 3\nsentinel monitor mymaster 127.0.0.1 6380 2\nsentinel config-epoch mymaster 2\nsentinel leader-epoch mymaster 3\nsentinel leader-id mymaster bbbbbbbbbbbbbbbbbbbbbbbbbbbbbbbbbbbbbbbb\nsentinel known-replica mymaster 127.0.0.1 6379\nsentinel known-replica mymaster 127.0.0.1 6381\nsentinel known-sentinel mymaster 127.0.0.1 26380 bbbbbbbbbbbbbbbbbbbbbbbbbbbbbbbbbbbbbbbb\n"))) ≡ Some kept_candidate
+candidate_again : kept_of
+    (conf_of_lines
+    (lines (codes
+    "# group one\nport 26379\nbind 127.0.0.1\nsentinel auth-pass mymaster secret\nsentinel down-after-milliseconds mymaster 5000\nsentinel myid aaaaaaaaaaaaaaaaaaaaaaaaaaaaaaaaaaaaaaaa\nsentinel current-epoch 3\nsentinel monitor mymaster 127.0.0.1 6380 2\nsentinel config-epoch mymaster 2\nsentinel leader-epoch mymaster 3\nsentinel leader-id mymaster bbbbbbbbbbbbbbbbbbbbbbbbbbbbbbbbbbbbbbbb\nsentinel known-replica mymaster 127.0.0.1 6379\nsentinel known-replica mymaster 127.0.0.1 6381\nsentinel known-sentinel mymaster 127.0.0.1 26380 bbbbbbbbbbbbbbbbbbbbbbbbbbbbbbbbbbbbbbbb\n"))) ≡ Some kept_candidate
 unfolding digits hex
 candidate_again = refl
 
@@ -88,7 +94,8 @@ unknown_candidate : fault_of (conf_of_lines (lines (file ++ codes "\nsentinel le
 unfolding digits hex
 unknown_candidate = refl
 
-candidate_twice : fault_of (conf_of_lines (lines (file ++ codes "\nsentinel leader-id mymaster bbbbbbbbbbbbbbbbbbbbbbbbbbbbbbbbbbbbbbbb\nsentinel leader-id mymaster bbbbbbbbbbbbbbbbbbbbbbbbbbbbbbbbbbbbbbbb"))) ≡ Some (fault_at 12 Twice)
+candidate_twice : fault_of (conf_of_lines (lines (file ++ codes
+    "\nsentinel leader-id mymaster bbbbbbbbbbbbbbbbbbbbbbbbbbbbbbbbbbbbbbbb\nsentinel leader-id mymaster bbbbbbbbbbbbbbbbbbbbbbbbbbbbbbbbbbbbbbbb"))) ≡ Some (fault_at 12 Twice)
 unfolding digits hex
 candidate_twice = refl
 

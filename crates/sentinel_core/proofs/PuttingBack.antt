@@ -19,7 +19,8 @@ set_back masters masters2 m long within f =
     let entry = slice_index_or masters m no_kept in
     ext_get_or no_kept (slice_set masters2 m entry) masters (length-set masters2 m entry ∙ long) at
   where
-    at : (k : ℕ) → k < length (slice_set masters2 m (slice_index_or masters m no_kept)) → slice_index_or (slice_set masters2 m (slice_index_or masters m no_kept)) k no_kept ≡ slice_index_or masters k no_kept
+    at : (k : ℕ) → k < length (slice_set masters2 m (slice_index_or masters m no_kept)) →
+        slice_index_or (slice_set masters2 m (slice_index_or masters m no_kept)) k no_kept ≡ slice_index_or masters k no_kept
     at k h = elim (eqb_tells k m) [
       | inl e ↦ subst (λ i. slice_index_or (slice_set masters2 m (slice_index_or masters m no_kept)) i no_kept ≡ slice_index_or masters i no_kept) (sym e.1)
           (get_or-set_same masters2 m (slice_index_or masters m no_kept) no_kept (omega (arith, long, within)))
@@ -34,7 +35,8 @@ masters_back kept kept2 (Some m) long f = by_place (nat_lt m (length kept.master
     by_place : (b : Bool) → nat_lt m (length kept.masters) ≡ b
         → masters_before kept2.masters (if b then Some (let x : FormerEntry = record { master = m; entry = kept_of kept m } in x) else None) ≡ kept.masters
     by_place true e = set_back kept.masters kept2.masters m long (ltb-true m (length kept.masters) e) (λ k apart. f k (λ s. apart (sym (same_Some m k s))))
-    by_place false e = ext_get_or no_kept kept2.masters kept.masters long (λ k h. f k (λ s. let same : m ≡ k = cc in let past = ltb-false m (length kept.masters) e in let no : ⊥ = omega (arith, past, h, same, long) in no))
+    by_place false e = ext_get_or no_kept kept2.masters kept.masters long
+        (λ k h. f k (λ s. let same : m ≡ k = cc in let past = ltb-false m (length kept.masters) e in let no : ⊥ = omega (arith, past, h, same, long) in no))
 
 -- an input that changes the entry of this master alone
 pub before_is : (kept kept2 : Kept) (master : Option ℕ) → length kept2.masters ≡ length kept.masters → ChangesAt master kept kept2

@@ -50,7 +50,8 @@ row_written frame_of row_of start n row mid new is e f =
 
 -- one place more, which is the one or isn't
 but_test : {X : Type 0} (g : X → List ℕ) (row_of : ℕ → X) (one place count : ℕ) (b : Bool) → (place == one) ≡ b
-    → text_below (text_but one (λ k. g (row_of k))) (place + 1) ++ flat_map g (map row_of (places_but one (place + 1) count)) ≡ text_below (text_but one (λ k. g (row_of k))) (place + suc count)
+    → text_below (text_but one (λ k. g (row_of k))) (place + 1) ++
+    flat_map g (map row_of (places_but one (place + 1) count)) ≡ text_below (text_but one (λ k. g (row_of k))) (place + suc count)
     → text_below (text_but one (λ k. g (row_of k))) place ++ flat_map g (map row_of (if b then places_but one (place + 1) count else place ∷ places_but one (place + 1) count))
     ≡ text_below (text_but one (λ k. g (row_of k))) (place + suc count)
 but_test g row_of one place count true e later =
@@ -146,12 +147,14 @@ each_test : {X : Type 0} (P : X → Type 0) (row_of : ℕ → X) (one place coun
 each_test P row_of one place count true here rest = rest
 each_test P row_of one place count false here rest = (here, rest)
 
-each_but : {X : Type 0} (P : X → Type 0) (row_of : ℕ → X) (one place count : ℕ) → ((k : ℕ) → k < place + count → P (row_of k)) → AllByRecursion P (map row_of (places_but one place count))
+each_but : {X : Type 0} (P : X → Type 0) (row_of : ℕ → X) (one place count : ℕ) → ((k : ℕ) → k < place + count → P (row_of k)) →
+    AllByRecursion P (map row_of (places_but one place count))
 each_but P row_of one place zero h = tt
 each_but P row_of one place (suc count) h =
     each_test P row_of one place count (place == one) (h place (omega arith)) (each_but P row_of one (place + 1) count (λ k l. h k (omega arith)))
 
-each_from : {X : Type 0} (P : X → Type 0) (row_of : ℕ → X) (place count : ℕ) → ((k : ℕ) → k < place + count → P (row_of k)) → AllByRecursion P (map row_of (numbers_from place count))
+each_from : {X : Type 0} (P : X → Type 0) (row_of : ℕ → X) (place count : ℕ) → ((k : ℕ) → k < place + count → P (row_of k)) →
+    AllByRecursion P (map row_of (numbers_from place count))
 each_from P row_of place zero h = tt
 each_from P row_of place (suc count) h = (h place (omega arith), each_from P row_of (place + 1) count (λ k l. h k (omega arith)))
 

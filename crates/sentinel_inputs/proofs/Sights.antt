@@ -32,7 +32,8 @@ chained : (m : ℕ) (one two three : Core) → LooksAlike m one two → LooksAli
 chained m one two three f g = (g.0 ∙ f.0, g.1 ∙ f.1)
 
 -- an item that is written in its place has what the former one had
-same_in_place : {X Y : Type 0} (f : X → Y) (xs : List X) (m : ℕ) (x none : X) → f x ≡ f (slice_index_or xs m none) → f (slice_index_or (slice_set xs m x) m none) ≡ f (slice_index_or xs m none)
+same_in_place : {X Y : Type 0} (f : X → Y) (xs : List X) (m : ℕ) (x none : X) → f x ≡ f (slice_index_or xs m none) →
+    f (slice_index_or (slice_set xs m x) m none) ≡ f (slice_index_or xs m none)
 same_in_place f [] m x none h = refl
 same_in_place f (y ∷ ys) zero x none h = h
 same_in_place f (y ∷ ys) (suc m) x none h = same_in_place f ys m x none h
@@ -100,7 +101,8 @@ seen_alike plan m now core core2 h =
 
 -- after a start where one is due, and a row where a failover runs
 row_seen : (plan : Plan) (m now : ℕ) (core : Core) →
-    is_master_down plan (part_if (is_failing_over (start_part plan m now core).core m) (start_part plan m now core).core (row_part plan m now)).core m now ≡ is_master_down plan core m now
+    is_master_down plan (part_if (is_failing_over (start_part plan m now core).core m) (start_part plan m now core).core (row_part plan m now)).core m now ≡ is_master_down plan
+    core m now
 row_seen plan m now core =
     let first : Core = (start_part plan m now core).core in
     let second : Core = (part_if (is_failing_over first m) first (row_part plan m now)).core in

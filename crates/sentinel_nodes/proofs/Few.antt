@@ -72,6 +72,7 @@ outputs_at plan now (HelloRead text) core p = frames_few plan (part_of plan now 
 outputs_at plan now (Become priority offset link_down) core p = tt
 outputs_at plan now (Handed message) core p = tt
 
-pub few_of : (result : Result Took TakeFault) (plan : Plan) (core : Core) (now : ℕ) (event : Event) (held : List Output) → IsSoundPlan plan → OnOk result (held ≡ (next plan core now event).outputs) → OnOk result (AllByRecursion IsFewShown held)
+pub few_of : (result : Result Took TakeFault) (plan : Plan) (core : Core) (now : ℕ) (event : Event) (held : List Output) → IsSoundPlan plan →
+    OnOk result (held ≡ (next plan core now event).outputs) → OnOk result (AllByRecursion IsFewShown held)
 few_of (Ok took) plan core now event held p outputs = subst (AllByRecursion IsFewShown) (sym outputs) (outputs_at plan (clock now) event (cleared core) p)
 few_of (Err fault) plan core now event held p outputs = tt

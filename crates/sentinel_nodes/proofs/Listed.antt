@@ -36,13 +36,15 @@ shown_listed : (roster : Roster) (hello : Hello) (found : Option ℕ) → master
 shown_listed roster hello None found = tt
 shown_listed roster hello (Some m) found = ((named_master roster hello.master m found).0, tt)
 
-numbers_listed : (roster : Roster) (core : Core) (first count : ℕ) → first + count ≤ length roster.masters → AllByRecursion (IsOfMaster roster) (map (shown_of core) (numbers_from first count))
+numbers_listed : (roster : Roster) (core : Core) (first count : ℕ) → first + count ≤ length roster.masters →
+    AllByRecursion (IsOfMaster roster) (map (shown_of core) (numbers_from first count))
 numbers_listed roster core first zero few = tt
 numbers_listed roster core first (suc count) few = (omega (arith, few), numbers_listed roster core (first + 1) count (omega (arith, few)))
 
 -- Answers
 
-asked_listed : (plan : Plan) (now : ℕ) (addr : Addr) (epoch : ℕ) (candidate : Option RunId) (m : Option ℕ) (core : Core) → IsListedIn (roster_of plan) (asked_of plan now addr epoch candidate m core).body
+asked_listed : (plan : Plan) (now : ℕ) (addr : Addr) (epoch : ℕ) (candidate : Option RunId) (m : Option ℕ) (core : Core) →
+    IsListedIn (roster_of plan) (asked_of plan now addr epoch candidate m core).body
 asked_listed plan now addr epoch candidate None core = tt
 asked_listed plan now addr epoch None (Some m) core = tt
 asked_listed plan now addr epoch (Some candidate) (Some m) core = tt
@@ -52,7 +54,8 @@ address_listed : (plan : Plan) (core : Core) (found : Option ℕ) → ((m : ℕ)
 address_listed plan core None within = tt
 address_listed plan core (Some m) within = (within m refl, tt)
 
-about_listed : (plan : Plan) (core : Core) (found : Option ℕ) (body : ℕ → Body) → ((m : ℕ) → found ≡ Some m → IsListedIn (roster_of plan) (body m)) → IsListedIn (roster_of plan) (about core found body)
+about_listed : (plan : Plan) (core : Core) (found : Option ℕ) (body : ℕ → Body) → ((m : ℕ) → found ≡ Some m → IsListedIn (roster_of plan) (body m)) →
+    IsListedIn (roster_of plan) (about core found body)
 about_listed plan core None body each = tt
 about_listed plan core (Some m) body each = each m refl
 
@@ -81,7 +84,8 @@ frame_listed plan core (PromoteTo target) named = tt
 frame_listed plan core (FollowTo target m) named = tt
 frame_listed plan core (NoteOf m old) named = named
 
-frames_listed : (plan : Plan) (core : Core) (frames : List Frame) → AllByRecursion (IsNamed plan) frames → AllByRecursion (IsListed (roster_of plan)) (map (output_of plan core) frames)
+frames_listed : (plan : Plan) (core : Core) (frames : List Frame) → AllByRecursion (IsNamed plan) frames →
+    AllByRecursion (IsListed (roster_of plan)) (map (output_of plan core) frames)
 frames_listed plan core [] named = tt
 frames_listed plan core (frame ∷ frames) named = (frame_listed plan core frame named.0, frames_listed plan core frames named.1)
 
@@ -89,11 +93,14 @@ frames_listed plan core (frame ∷ frames) named = (frame_listed plan core frame
 
 outputs_at : (plan : Plan) (now : ℕ) (event : Event) (core : Core) → AllByRecursion (IsListed (roster_of plan)) (next_at plan now event core).outputs
 outputs_at plan now (Commanded sender c) core = (answer_listed plan now c core, tt)
-outputs_at plan now (Tick m random) core = frames_listed plan (part_of plan now (Tick m random) core).core (part_of plan now (Tick m random) core).frames (hellos_name_masters plan now (Tick m random) core)
+outputs_at plan now (Tick m random) core = frames_listed plan (part_of plan now (Tick m random) core).core (part_of plan now (Tick m random) core).frames
+    (hellos_name_masters plan now (Tick m random) core)
 outputs_at plan now (AnswerCame voter m addr down leader epoch) core = tt
 outputs_at plan now (Pinged node reply) core = tt
-outputs_at plan now (InfoRead node text) core = frames_listed plan (part_of plan now (InfoRead node text) core).core (part_of plan now (InfoRead node text) core).frames (hellos_name_masters plan now (InfoRead node text) core)
-outputs_at plan now (HelloRead text) core = frames_listed plan (part_of plan now (HelloRead text) core).core (part_of plan now (HelloRead text) core).frames (hellos_name_masters plan now (HelloRead text) core)
+outputs_at plan now (InfoRead node text) core = frames_listed plan (part_of plan now (InfoRead node text) core).core (part_of plan now (InfoRead node text) core).frames
+    (hellos_name_masters plan now (InfoRead node text) core)
+outputs_at plan now (HelloRead text) core = frames_listed plan (part_of plan now (HelloRead text) core).core (part_of plan now (HelloRead text) core).frames
+    (hellos_name_masters plan now (HelloRead text) core)
 outputs_at plan now (Become priority offset link_down) core = tt
 outputs_at plan now (Handed message) core = tt
 

@@ -16,7 +16,8 @@ use Rattle.sentinel_rules.specs.Plans.{Plan}
 use Rattle.sentinel_rules.specs.States.{Core}
 use Rattle.sentinel_rules.specs.Takes.{next}
 
-pub sendable_of : (result : Result Took TakeFault) (before after : Whole) (now : ℕ) (event : Event) (held : List Output) → OutputsAreWithin → EpochsAreWithin → IsWhole before → IsWhole after → IsTakeable event →
+pub sendable_of : (result : Result Took TakeFault) (before after : Whole) (now : ℕ) (event : Event) (held : List Output) → OutputsAreWithin → EpochsAreWithin → IsWhole before →
+    IsWhole after → IsTakeable event →
     OnOk result (after.core ≡ (next before.plan before.core now event).core) →
     OnOk result (held ≡ (next before.plan before.core now event).outputs) →
     OnOk result (after.plan ≡ before.plan) →
@@ -26,5 +27,6 @@ sendable_of (Ok took) before after now event held within limits was is h core ou
     let kept : IsKeptPart before.plan.conf (next before.plan before.core now event).core.kept =
     subst (λ (c : Core). IsKeptPart before.plan.conf c.kept) core (subst (λ (p : Plan). IsKeptPart p.conf after.core.kept) plan is.core.kept) in
     subst (AllByRecursion IsSendableOutput) (sym outputs)
-    (outputs_sendable (next before.plan before.core now event).outputs numbers (limits before.plan before.core now event was.plan was.core (within_event event h)) (outputs_writable before.plan before.core now event kept numbers))
+    (outputs_sendable (next before.plan before.core now event).outputs numbers (limits before.plan before.core now event was.plan was.core (within_event event h))
+    (outputs_writable before.plan before.core now event kept numbers))
 sendable_of (Err fault) before after now event held within limits was is h core outputs plan = tt

@@ -43,7 +43,8 @@ use Rattle.sentinel_nodes.proofs.Wins.{won_of, parts_within}
 -- A take
 
 -- what the model stores, and what the Sentinel does
-must_store_is : (event : Event) (changed : Bool) (old new old_kept new_kept : Kept) → (IsTrue changed ↔ (new ≢ old)) → old_kept ≡ old → new_kept ≡ new → (changed || is_flush event ≡ true) ↔ (IsFlush event ⊎ (new_kept ≢ old_kept))
+must_store_is : (event : Event) (changed : Bool) (old new old_kept new_kept : Kept) → (IsTrue changed ↔ (new ≢ old)) → old_kept ≡ old → new_kept ≡ new →
+    (changed || is_flush event ≡ true) ↔ (IsFlush event ⊎ (new_kept ≢ old_kept))
 must_store_is event changed old new old_kept new_kept told e f = (
   λ h. (elim (or_cases changed (is_flush event) h) as (λ _. IsFlush event ⊎ (new_kept ≢ old_kept)) [
     | inl t ↦ inr (λ same. told.0 t (sym f ∙ same ∙ e))
@@ -126,10 +127,12 @@ SizeOf = (bytes : List ℕ) (conf : ConfPlan) (kept : Kept) → conf_of_bytes by
 kept_part : (conf : ConfPlan) (file kept : Kept) → IsKeptPart conf kept → IsKeptPart (record conf { kept = file }) kept
 kept_part conf file kept part = record { current = part.current; masters = part.masters }
 
-read_again : (kept : Kept) → AgainOf kept → (text : List ℕ) (conf : ConfPlan) (file : Kept) → conf_of_bytes text ≡ Ok (record conf { kept = file }) → IsKeptPart conf kept → conf_of_bytes (rewritten conf kept) ≡ Ok (record conf { kept = kept })
+read_again : (kept : Kept) → AgainOf kept → (text : List ℕ) (conf : ConfPlan) (file : Kept) → conf_of_bytes text ≡ Ok (record conf { kept = file }) → IsKeptPart conf kept →
+    conf_of_bytes (rewritten conf kept) ≡ Ok (record conf { kept = kept })
 read_again kept again text conf file read part = again text (record conf { kept = file }) read (kept_part conf file kept part)
 
-fits_file : SizeOf → (text : List ℕ) (conf : ConfPlan) (file kept : Kept) → conf_of_bytes text ≡ Ok (record conf { kept = file }) → IsKeptPart conf kept → length (rewritten conf kept) ≤ FILE_MAX
+fits_file : SizeOf → (text : List ℕ) (conf : ConfPlan) (file kept : Kept) → conf_of_bytes text ≡ Ok (record conf { kept = file }) → IsKeptPart conf kept →
+    length (rewritten conf kept) ≤ FILE_MAX
 fits_file size text conf file kept read part = size text (record conf { kept = file }) kept read (kept_part conf file kept part)
 
 -- A store
@@ -142,24 +145,28 @@ pub record StoredAs (before after : Whole) (file file2 : File) (result : Result 
   pub stored : OnOk result (after ≡ record before { stored = before.core.kept; phase = phase.Stored })
   pub untouched : before.phase ≡ phase.Pending false → OnOk result (file2 ≡ file) × IsOk result
   pub halted : IsErrOf result store_fault.Refused → after ≡ record before { phase = phase.Halted }
-  pub known : before.phase ≡ phase.Pending true → (is_ok result ≡ (outcome_of file (rewritten before.plan.conf before.core.kept)).is_stored) × (Some file2.text ≡ Some (outcome_of file (rewritten before.plan.conf before.core.kept)).text)
+  pub known : before.phase ≡ phase.Pending true → (is_ok result ≡ (outcome_of file (rewritten before.plan.conf before.core.kept)).is_stored) ×
+      (Some file2.text ≡ Some (outcome_of file (rewritten before.plan.conf before.core.kept)).text)
 
 no_over : (n : ℕ) → n ≤ FILE_MAX → nat_lt FILE_MAX n ≡ false
 no_over n h = le-ltb FILE_MAX n h
 
 -- where there is room, the file answers by its refusal
 answers : (file : File) (text : List ℕ) → length text ≤ FILE_MAX → outcome_of file text ≡ outcome_with file.refusal file.text text
-answers file text h = ap (λ b. Rattle.std.proofs.Common.cond b (record { is_stored = false; text = file.text }) (outcome_with file.refusal file.text text)) (no_over (length text) h)
+answers file text h = ap (λ b. Rattle.std.proofs.Common.cond b (record { is_stored = false; text = file.text }) (outcome_with file.refusal file.text text))
+    (no_over (length text) h)
 
 -- a store that ends well
-stored_image_of : (before after : Whole) (text text2 : List ℕ) (roster : Roster) (s : Sentinel) → IsSentinelImage before text roster s → is_pending before.phase ≡ true → IsWhole after → after ≡ record before { stored = before.core.kept; phase = phase.Stored } →
+stored_image_of : (before after : Whole) (text text2 : List ℕ) (roster : Roster) (s : Sentinel) → IsSentinelImage before text roster s → is_pending before.phase ≡ true →
+    IsWhole after → after ≡ record before { stored = before.core.kept; phase = phase.Stored } →
     conf_of_bytes text2 ≡ Ok (record before.plan.conf { kept = before.core.kept }) → IsImageOf after text2 roster (OfSentinel (stored_now s))
 stored_image_of before after text text2 roster s h p whole e read =
     record {
       whole_ok = whole;
       has_roster = ap (λ (w : Whole). roster_of w.plan) e ∙ h.has_roster;
       state_is = sym (ap (λ (w : Whole). state_in w.phase) e);
-      read = subst (λ (w : Whole). conf_of_bytes text2 ≡ Ok (record w.plan.conf { kept = s.parts.kept })) (sym e) (subst (λ k. conf_of_bytes text2 ≡ Ok (record before.plan.conf { kept = k })) (sym h.parts_of.kept) read);
+      read = subst (λ (w : Whole). conf_of_bytes text2 ≡ Ok (record w.plan.conf { kept = s.parts.kept })) (sym e)
+          (subst (λ k. conf_of_bytes text2 ≡ Ok (record before.plan.conf { kept = k })) (sym h.parts_of.kept) read);
       file_is = λ _. h.parts_of.kept ∙ sym (ap (λ (w : Whole). w.stored) e);
       before = s.stored;
       stored_is = λ _. ap (λ k. s.stored ++ k ∷ []) (h.parts_of.kept ∙ sym (ap (λ (w : Whole). w.stored) e));
@@ -169,8 +176,10 @@ stored_image_of before after text text2 roster s h p whole e read =
     }
 
 -- a store that is refused
-halted_image_of : (before after : Whole) (text text2 : List ℕ) (roster : Roster) (s : Sentinel) (s2 : Sentinel) → IsSentinelImage before text roster s → before.phase ≡ phase.Pending true → IsWhole after → after ≡ record before { phase = phase.Halted } →
-    s2.state ≡ Halted → s2.stored ≡ s.stored → s2.parts ≡ s.parts → conf_of_bytes text2 ≡ Ok (record before.plan.conf { kept = s2.file }) → IsImageOf after text2 roster (OfSentinel s2)
+halted_image_of : (before after : Whole) (text text2 : List ℕ) (roster : Roster) (s : Sentinel) (s2 : Sentinel) → IsSentinelImage before text roster s →
+    before.phase ≡ phase.Pending true → IsWhole after → after ≡ record before { phase = phase.Halted } →
+    s2.state ≡ Halted → s2.stored ≡ s.stored → s2.parts ≡ s.parts → conf_of_bytes text2 ≡ Ok (record before.plan.conf { kept = s2.file }) →
+    IsImageOf after text2 roster (OfSentinel s2)
 halted_image_of before after text text2 roster s s2 h p whole e state stored parts read =
     record {
       whole_ok = whole;
@@ -179,7 +188,8 @@ halted_image_of before after text text2 roster s s2 h p whole e state stored par
       read = subst (λ (w : Whole). conf_of_bytes text2 ≡ Ok (record w.plan.conf { kept = s2.file })) (sym e) read;
       file_is = λ r. (let f : false ≡ true = sym (ap (λ (w : Whole). is_running w.phase) e) ∙ r in cc);
       before = h.before;
-      stored_is = λ _. stored ∙ h.stored_is (λ x. (let f : phase.Pending true ≡ phase.Stopped = sym p ∙ x in cc)) ∙ ap (λ k. h.before ++ k ∷ []) (sym (ap (λ (w : Whole). w.stored) e));
+      stored_is = λ _. stored ∙ h.stored_is (λ x. (let f : phase.Pending true ≡ phase.Stopped = sym p ∙ x in cc)) ∙
+          ap (λ k. h.before ++ k ∷ []) (sym (ap (λ (w : Whole). w.stored) e));
       parts_of = subst (λ (w : Whole). IsPartsOf w.core s2.parts) (sym e) (subst (IsPartsOf before.core) (sym parts) h.parts_of);
       won = subst (λ (w : Whole). IsWinOf roster w.core.won) (sym e) h.won;
       pending = subst (λ (w : Whole). IsPendingAs w.phase w s2) (sym e) tt;
@@ -210,8 +220,10 @@ abbrev pub StoreEnds : HowStored → Sentinel → (after : Whole) (text2 : List 
 StoreEnds h s after text2 roster result = (result ≡ store_answer h (OfSentinel s)) × IsImageOf after text2 roster (after_store h (OfSentinel s))
 
 -- with nothing to store, the store ends well however it is to end
-store_free : (w : HowStored) (before after : Whole) (file file2 : File) (result : Result (Unit {0}) StoreFault) → StoredAs before after file file2 result → before.phase ≡ phase.Pending false →
-    (roster : Roster) (s : Sentinel) → IsSentinelImage before file.text roster s → s.must_store ≡ false → before.core.kept ≡ before.stored → (result ≡ Ok tt) × IsImageOf after file2.text roster (OfSentinel (stored_now s))
+store_free : (w : HowStored) (before after : Whole) (file file2 : File) (result : Result (Unit {0}) StoreFault) → StoredAs before after file file2 result →
+    before.phase ≡ phase.Pending false →
+    (roster : Roster) (s : Sentinel) → IsSentinelImage before file.text roster s → s.must_store ≡ false → before.core.kept ≡ before.stored →
+    (result ≡ Ok tt) × IsImageOf after file2.text roster (OfSentinel (stored_now s))
 store_free w before after file file2 result st p roster s h none same =
     let ok : is_ok result ≡ true = is_ok_told result (st.untouched p).1 in
     let file_same : file2 ≡ file = on_ok_in result (st.untouched p).0 ok in
@@ -221,18 +233,21 @@ store_free w before after file file2 result st p roster s h none same =
           (ap (λ (f : File). conf_of_bytes f.text) file_same ∙ subst (λ k. conf_of_bytes file.text ≡ Ok (record before.plan.conf { kept = k })) file_is h.read),
     )
 
-store_free_ends : (w : HowStored) (s : Sentinel) (after : Whole) (text2 : List ℕ) (roster : Roster) (result : Result (Unit {0}) StoreFault) → (b : Bool) → b ≡ false → s.must_store ≡ b → (result ≡ Ok tt) × IsImageOf after text2 roster (OfSentinel (stored_now s)) → StoreEnds w s after text2 roster result
+store_free_ends : (w : HowStored) (s : Sentinel) (after : Whole) (text2 : List ℕ) (roster : Roster) (result : Result (Unit {0}) StoreFault) → (b : Bool) → b ≡ false →
+    s.must_store ≡ b → (result ≡ Ok tt) × IsImageOf after text2 roster (OfSentinel (stored_now s)) → StoreEnds w s after text2 roster result
 store_free_ends how.Done s after text2 roster result b e m ends = ends
 store_free_ends how.RefusedOld s after text2 roster result b e m ends =
     subst (λ x. (result ≡ refusal x) × IsImageOf after text2 roster (OfSentinel (refused_sentinel s x Old))) (sym (m ∙ e)) ends
 store_free_ends how.RefusedNew s after text2 roster result b e m ends =
     subst (λ x. (result ≡ refusal x) × IsImageOf after text2 roster (OfSentinel (refused_sentinel s x New))) (sym (m ∙ e)) ends
 
-store_due : (w : HowStored) (before after : Whole) → AgainOf before.core.kept → SizeOf → (file file2 : File) (result : Result (Unit {0}) StoreFault) → file.refusal ≡ refusal_of w → StoredAs before after file file2 result → before.phase ≡ phase.Pending true →
+store_due : (w : HowStored) (before after : Whole) → AgainOf before.core.kept → SizeOf → (file file2 : File) (result : Result (Unit {0}) StoreFault) →
+    file.refusal ≡ refusal_of w → StoredAs before after file file2 result → before.phase ≡ phase.Pending true →
     (roster : Roster) (s : Sentinel) → IsSentinelImage before file.text roster s → s.must_store ≡ true → StoreEnds w s after file2.text roster result
 store_due how.Done before after again size file file2 result asked st p roster s h due =
     let new = rewritten before.plan.conf before.core.kept in
-    let a : outcome_of file new ≡ record { is_stored = true; text = new } = answers file new (fits_file size file.text before.plan.conf s.file before.core.kept h.read h.whole_ok.core.kept) ∙ ap (λ r. outcome_with r file.text new) asked in
+    let a : outcome_of file new ≡ record { is_stored = true; text = new } =
+    answers file new (fits_file size file.text before.plan.conf s.file before.core.kept h.read h.whole_ok.core.kept) ∙ ap (λ r. outcome_with r file.text new) asked in
     let ok : is_ok result ≡ true = (st.known p).0 ∙ ap (λ (x : Outcome). x.is_stored) a in
     let text : file2.text ≡ new = same_text ((st.known p).1 ∙ ap (λ (x : Outcome). Some x.text) a) in (
       ok_unit result ok,
@@ -241,7 +256,8 @@ store_due how.Done before after again size file file2 result asked st p roster s
     )
 store_due how.RefusedOld before after again size file file2 result asked st p roster s h due =
     let new = rewritten before.plan.conf before.core.kept in
-    let a : outcome_of file new ≡ record { is_stored = false; text = file.text } = answers file new (fits_file size file.text before.plan.conf s.file before.core.kept h.read h.whole_ok.core.kept) ∙ ap (λ r. outcome_with r file.text new) asked in
+    let a : outcome_of file new ≡ record { is_stored = false; text = file.text } =
+    answers file new (fits_file size file.text before.plan.conf s.file before.core.kept h.read h.whole_ok.core.kept) ∙ ap (λ r. outcome_with r file.text new) asked in
     let r : result ≡ Err store_fault.Refused = refused_is result (is_pending before.phase) st.nothing (ap is_pending p) ((st.known p).0 ∙ ap (λ (x : Outcome). x.is_stored) a) in
     let text : file2.text ≡ file.text = same_text ((st.known p).1 ∙ ap (λ (x : Outcome). Some x.text) a) in
     subst (λ x. (result ≡ refusal x) × IsImageOf after file2.text roster (OfSentinel (refused_sentinel s x Old))) (sym due) (
@@ -250,22 +266,26 @@ store_due how.RefusedOld before after again size file file2 result asked st p ro
     )
 store_due how.RefusedNew before after again size file file2 result asked st p roster s h due =
     let new = rewritten before.plan.conf before.core.kept in
-    let a : outcome_of file new ≡ record { is_stored = false; text = new } = answers file new (fits_file size file.text before.plan.conf s.file before.core.kept h.read h.whole_ok.core.kept) ∙ ap (λ r. outcome_with r file.text new) asked in
+    let a : outcome_of file new ≡ record { is_stored = false; text = new } =
+    answers file new (fits_file size file.text before.plan.conf s.file before.core.kept h.read h.whole_ok.core.kept) ∙ ap (λ r. outcome_with r file.text new) asked in
     let r : result ≡ Err store_fault.Refused = refused_is result (is_pending before.phase) st.nothing (ap is_pending p) ((st.known p).0 ∙ ap (λ (x : Outcome). x.is_stored) a) in
     let text : file2.text ≡ new = same_text ((st.known p).1 ∙ ap (λ (x : Outcome). Some x.text) a) in
     subst (λ x. (result ≡ refusal x) × IsImageOf after file2.text roster (OfSentinel (refused_sentinel s x New))) (sym due) (
       r,
       halted_image_of before after file.text file2.text roster s (ended_new s Halted) h p st.whole (st.halted r) refl refl refl
-          (ap conf_of_bytes text ∙ subst (λ k. conf_of_bytes new ≡ Ok (record before.plan.conf { kept = k })) (sym h.parts_of.kept) (read_again before.core.kept again file.text before.plan.conf s.file h.read h.whole_ok.core.kept)),
+          (ap conf_of_bytes text ∙ subst (λ k. conf_of_bytes new ≡ Ok (record before.plan.conf { kept = k })) (sym h.parts_of.kept)
+          (read_again before.core.kept again file.text before.plan.conf s.file h.read h.whole_ok.core.kept)),
     )
 
-store_pending : (w : HowStored) (before after : Whole) → AgainOf before.core.kept → SizeOf → (file file2 : File) (result : Result (Unit {0}) StoreFault) → file.refusal ≡ refusal_of w → StoredAs before after file file2 result →
+store_pending : (w : HowStored) (before after : Whole) → AgainOf before.core.kept → SizeOf → (file file2 : File) (result : Result (Unit {0}) StoreFault) →
+    file.refusal ≡ refusal_of w → StoredAs before after file file2 result →
     (roster : Roster) (s : Sentinel) → IsSentinelImage before file.text roster s → (b : Bool) → before.phase ≡ phase.Pending b → StoreEnds w s after file2.text roster result
 store_pending w before after again size file file2 result asked st roster s h b p =
     let due = subst (λ q. IsPendingAs q before s) p h.pending in
     elim b as (λ x. b ≡ x → StoreEnds w s after file2.text roster result) [
       | true ↦ λ e. store_due w before after again size file file2 result asked st (p ∙ ap phase.Pending e) roster s h (due.0 ∙ e)
-      | false ↦ λ e. store_free_ends w s after file2.text roster result false refl (due.0 ∙ e) (store_free w before after file file2 result st (p ∙ ap phase.Pending e) roster s h (due.0 ∙ e) (due.1 e))
+      | false ↦ λ e. store_free_ends w s after file2.text roster result false refl (due.0 ∙ e)
+          (store_free w before after file file2 result st (p ∙ ap phase.Pending e) roster s h (due.0 ∙ e) (due.1 e))
     ] refl
 
 -- a phase that the model calls pending
@@ -283,8 +303,10 @@ not_pending phase.Stored e = refl
 not_pending phase.Halted e = refl
 not_pending phase.Stopped e = refl
 
-pub store_moves : (w : HowStored) (before after : Whole) → AgainOf before.core.kept → SizeOf → (file file2 : File) (result : Result (Unit {0}) StoreFault) → file.refusal ≡ refusal_of w → StoredAs before after file file2 result →
-    (roster : Roster) (image : Image) → IsImageOf before file.text roster image → state_of image ≡ Pending → (result ≡ store_answer w image) × IsImageOf after file2.text roster (after_store w image)
+pub store_moves : (w : HowStored) (before after : Whole) → AgainOf before.core.kept → SizeOf → (file file2 : File) (result : Result (Unit {0}) StoreFault) →
+    file.refusal ≡ refusal_of w → StoredAs before after file file2 result →
+    (roster : Roster) (image : Image) → IsImageOf before file.text roster image → state_of image ≡ Pending →
+    (result ≡ store_answer w image) × IsImageOf after file2.text roster (after_store w image)
 store_moves w before after again size file file2 result asked st roster (OfSentinel s) h pending =
     let p = pending_phase before.phase (sym pending ∙ h.state_is) in
     store_pending w before after again size file file2 result asked st roster s h p.0 p.1
@@ -294,7 +316,8 @@ err_of : (r : Result (Unit {0}) StoreFault) (f : StoreFault) → IsErrOf r f →
 err_of r f h = h
 
 pub store_nothing : (before after : Whole) (file file2 : File) (result : Result (Unit {0}) StoreFault) → StoredAs before after file file2 result →
-    (roster : Roster) (image : Image) → IsImageOf before file.text roster image → state_of image ≢ Pending → (result ≡ Err store_fault.Nothing) × IsImageOf after file2.text roster image
+    (roster : Roster) (image : Image) → IsImageOf before file.text roster image → state_of image ≢ Pending →
+    (result ≡ Err store_fault.Nothing) × IsImageOf after file2.text roster image
 store_nothing before after file file2 result st roster (OfSentinel s) h other =
     let none = st.nothing.1 (not_pending before.phase (λ e. other (h.state_is ∙ sym e))) in
     let same = st.nothing_left none in (
@@ -305,7 +328,8 @@ store_nothing before after file file2 result st roster (OfOther o) h other = eli
 
 -- A stop
 
-stopped_as : (before after : Whole) (text text2 : List ℕ) (roster : Roster) (s s2 : Sentinel) → IsSentinelImage before text roster s → IsWhole after → after.plan ≡ before.plan → after.core ≡ before.core → after.phase ≡ phase.Stopped →
+stopped_as : (before after : Whole) (text text2 : List ℕ) (roster : Roster) (s s2 : Sentinel) → IsSentinelImage before text roster s → IsWhole after → after.plan ≡ before.plan →
+    after.core ≡ before.core → after.phase ≡ phase.Stopped →
     s2.state ≡ Stopped → s2.parts ≡ s.parts → conf_of_bytes text2 ≡ Ok (record before.plan.conf { kept = s2.file }) → IsSentinelImage after text2 roster s2
 stopped_as before after text text2 roster s s2 h whole plan core p state parts read =
     record {
@@ -329,10 +353,12 @@ stop_old_at s Stored = refl
 stop_old_at s Halted = refl
 stop_old_at s Stopped = refl
 
-pub stop_old : (before after : Whole) (text : List ℕ) (roster : Roster) (image : Image) → after ≡ record before { phase = phase.Stopped } → IsWhole after → IsImageOf before text roster image → IsImageOf after text roster (stopped_image Old image)
+pub stop_old : (before after : Whole) (text : List ℕ) (roster : Roster) (image : Image) → after ≡ record before { phase = phase.Stopped } → IsWhole after →
+    IsImageOf before text roster image → IsImageOf after text roster (stopped_image Old image)
 stop_old before after text roster (OfSentinel s) e whole h =
     subst (λ x. IsSentinelImage after text roster x) (sym (stop_old_at s s.state))
-    (stopped_as before after text text roster s (ended s Stopped) h whole (ap (λ (w : Whole). w.plan) e) (ap (λ (w : Whole). w.core) e) (ap (λ (w : Whole). w.phase) e) refl refl h.read)
+    (stopped_as before after text text roster s (ended s Stopped) h whole (ap (λ (w : Whole). w.plan) e) (ap (λ (w : Whole). w.core) e) (ap (λ (w : Whole). w.phase) e) refl refl
+    h.read)
 stop_old before after text roster (OfOther o) e whole h = elim h [ ]
 
 -- with the new text, where there is one
@@ -350,22 +376,28 @@ pub record StoppedNew (before middle after : Whole) (file file2 : File) (result 
   pub stopped : after ≡ record middle { phase = phase.Stopped }
   pub whole : IsWhole after
 
-stop_new_sentinel : (before middle after : Whole) → AgainOf before.core.kept → SizeOf → (file file2 : File) (result : Result (Unit {0}) StoreFault) (roster : Roster) (s : Sentinel) → StoppedNew before middle after file file2 result → IsSentinelImage before file.text roster s →
+stop_new_sentinel : (before middle after : Whole) → AgainOf before.core.kept → SizeOf →
+    (file file2 : File) (result : Result (Unit {0}) StoreFault) (roster : Roster) (s : Sentinel) → StoppedNew before middle after file file2 result →
+    IsSentinelImage before file.text roster s →
     ((s.state ≡ Pending) ⊎ (s.state ≢ Pending)) → IsSentinelImage after file2.text roster (stopped_sentinel s s.state New)
 stop_new_sentinel before middle after again size file file2 result roster s n h (inl pending) =
     let m = (store_moves how.Done before middle again size file file2 result n.asked n.stored roster (OfSentinel s) h pending).1 in
     let e = n.stopped in
     subst (λ state. IsSentinelImage after file2.text roster (stopped_sentinel s state New)) (sym pending)
-    (stopped_as middle after file2.text file2.text roster (stored_now s) (ended_new s Stopped) m n.whole (ap (λ (w : Whole). w.plan) e) (ap (λ (w : Whole). w.core) e) (ap (λ (w : Whole). w.phase) e) refl refl m.read)
+    (stopped_as middle after file2.text file2.text roster (stored_now s) (ended_new s Stopped) m n.whole (ap (λ (w : Whole). w.plan) e) (ap (λ (w : Whole). w.core) e)
+    (ap (λ (w : Whole). w.phase) e) refl refl m.read)
 stop_new_sentinel before middle after again size file file2 result roster s n h (inr other) =
     let m = (store_nothing before middle file file2 result n.stored roster (OfSentinel s) h other).1 in
     let e = n.stopped in
     subst (IsSentinelImage after file2.text roster) (sym (stop_new_at s s.state other))
-    (stopped_as middle after file2.text file2.text roster s (ended s Stopped) m n.whole (ap (λ (w : Whole). w.plan) e) (ap (λ (w : Whole). w.core) e) (ap (λ (w : Whole). w.phase) e) refl refl m.read)
+    (stopped_as middle after file2.text file2.text roster s (ended s Stopped) m n.whole (ap (λ (w : Whole). w.plan) e) (ap (λ (w : Whole). w.core) e)
+    (ap (λ (w : Whole). w.phase) e) refl refl m.read)
 
-pub stop_new : (before middle after : Whole) → AgainOf before.core.kept → SizeOf → (file file2 : File) (result : Result (Unit {0}) StoreFault) (roster : Roster) (image : Image) → StoppedNew before middle after file file2 result → IsImageOf before file.text roster image →
+pub stop_new : (before middle after : Whole) → AgainOf before.core.kept → SizeOf → (file file2 : File) (result : Result (Unit {0}) StoreFault) (roster : Roster) (image : Image) →
+    StoppedNew before middle after file file2 result → IsImageOf before file.text roster image →
     IsImageOf after file2.text roster (stopped_image New image)
-stop_new before middle after again size file file2 result roster (OfSentinel s) n h = stop_new_sentinel before middle after again size file file2 result roster s n h (pending_or_not s.state)
+stop_new before middle after again size file file2 result roster (OfSentinel s) n h =
+    stop_new_sentinel before middle after again size file file2 result roster s n h (pending_or_not s.state)
 stop_new before middle after again size file file2 result roster (OfOther o) n h = elim h [ ]
 
 -- A start
@@ -400,13 +432,16 @@ started_moves open_ok before after text conf now st roster (OfSentinel s) h stop
       stored_is = λ _. ap (λ k. k ∷ []) (sym kept ∙ sym st.stored);
       won = subst (λ (c : Core). IsWinOf roster c.won) (sym st.core) tt;
       parts_of = subst (λ c. IsPartsOf c (restored roster s.file)) (sym st.core)
-          (subst (λ r. IsPartsOf (opened after.plan now) (restored r s.file)) has (subst (λ k. IsPartsOf (opened after.plan now) (restored (roster_of after.plan) k)) (ap (λ (c : ConfPlan). c.kept) st.plan ∙ kept) (open_ok after.plan now st.whole.plan).1));
+          (subst (λ r. IsPartsOf (opened after.plan now) (restored r s.file)) has
+          (subst (λ k. IsPartsOf (opened after.plan now) (restored (roster_of after.plan) k)) (ap (λ (c : ConfPlan). c.kept) st.plan ∙ kept)
+          (open_ok after.plan now st.whole.plan).1));
       pending = subst (λ q. IsPendingAs q after (started roster s.file)) (sym st.phase_is) tt;
     }
 started_moves open_ok before after text conf now st roster (OfOther o) h stopped = elim h [ ]
 
 -- the place is that of the run id
-pub started_name : (before after : Whole) (text : List ℕ) (conf : ConfPlan) (now : ℕ) → StartedAs after text conf now → (roster : Roster) (image : Image) → IsImageOf before text roster image → SentinelAt after.plan.place ≡ SentinelAt before.plan.place
+pub started_name : (before after : Whole) (text : List ℕ) (conf : ConfPlan) (now : ℕ) → StartedAs after text conf now → (roster : Roster) (image : Image) →
+    IsImageOf before text roster image → SentinelAt after.plan.place ≡ SentinelAt before.plan.place
 started_name before after text conf now st roster (OfSentinel s) h =
     let same : after.plan.conf ≡ record before.plan.conf { kept = s.file } = st.plan ∙ ok_same (sym st.read ∙ h.read) in
     let r : roster_of after.plan ≡ roster_of before.plan = ap (λ (c : ConfPlan). c.roster) same in
@@ -431,45 +466,71 @@ pub takes_of : (result : Result Took TakeFault) (before after : Whole) (text : L
 takes_of (Ok took) before after text now event held whole ready core outputs changed unchanged p plan stored steps =
     record {
       each = taken_image before after text now event took.changed held
-          (record { ready = ready; whole = whole; core = core; outputs_are = outputs; changed_is = changed; unchanged = unchanged; phase_is = p; plan = plan; stored = stored; steps = steps });
+          (record {
+            ready = ready;
+            whole = whole;
+            core = core;
+            outputs_are = outputs;
+            changed_is = changed;
+            unchanged = unchanged;
+            phase_is = p;
+            plan = plan;
+            stored =
+                stored;
+            steps = steps;
+          });
     }
 takes_of (Err fault) before after text now event held whole ready core outputs changed unchanged p plan stored steps = tt
 
-pub stores_of : (w : HowStored) (before after : Whole) → AgainOf before.core.kept → SizeOf → (first file file2 : File) (result : Result (Unit {0}) StoreFault) → file ≡ record first { refusal = refusal_of w } → StoredAs before after file file2 result →
+pub stores_of : (w : HowStored) (before after : Whole) → AgainOf before.core.kept → SizeOf → (first file file2 : File) (result : Result (Unit {0}) StoreFault) →
+    file ≡ record first { refusal = refusal_of w } → StoredAs before after file file2 result →
     Stores w result (IsImageOf before first.text) (IsImageOf after file2.text)
 stores_of w before after again size first file file2 result e st =
     let text : file.text ≡ first.text = ap (λ (f : File). f.text) e in
     record {
-      pending = λ roster image h p. store_moves w before after again size file file2 result (ap (λ (f : File). f.refusal) e) st roster image (subst (λ t. IsImageOf before t roster image) (sym text) h) p;
+      pending = λ roster image h p. store_moves w before after again size file file2 result (ap (λ (f : File). f.refusal) e) st roster image
+          (subst (λ t. IsImageOf before t roster image) (sym text) h) p;
       nothing = λ roster image h p. store_nothing before after file file2 result st roster image (subst (λ t. IsImageOf before t roster image) (sym text) h) p;
     }
 
 pub stops_old : (before after : Whole) (text : List ℕ) → after ≡ record before { phase = phase.Stopped } → IsWhole after → Stops Old (IsImageOf before text) (IsImageOf after text)
 stops_old before after text e whole = record { each = λ roster image h. stop_old before after text roster image e whole h }
 
-pub stops_new : (before middle after : Whole) → AgainOf before.core.kept → SizeOf → (first file file2 : File) (result : Result (Unit {0}) StoreFault) → file ≡ record first { refusal = None } → StoredAs before middle file file2 result → after ≡ record middle { phase = phase.Stopped } → IsWhole after →
+pub stops_new : (before middle after : Whole) → AgainOf before.core.kept → SizeOf → (first file file2 : File) (result : Result (Unit {0}) StoreFault) →
+    file ≡ record first { refusal = None } → StoredAs before middle file file2 result → after ≡ record middle { phase = phase.Stopped } → IsWhole after →
     Stops New (IsImageOf before first.text) (IsImageOf after file2.text)
 stops_new before middle after again size first file file2 result e st stopped whole =
     let text : file.text ≡ first.text = ap (λ (f : File). f.text) e in
     record {
-      each = λ roster image h. stop_new before middle after again size file file2 result roster image (record { asked = ap (λ (f : File). f.refusal) e; stored = st; stopped = stopped; whole = whole }) (subst (λ t. IsImageOf before t roster image) (sym text) h);
+      each = λ roster image h. stop_new before middle after again size file file2 result roster image
+          (record { asked = ap (λ (f : File). f.refusal) e; stored = st; stopped = stopped; whole = whole }) (subst (λ t. IsImageOf before t roster image) (sym text) h);
     }
 
-pub starts_of : OpenedIsSound → (before after : Whole) (text text2 : List ℕ) (conf : ConfPlan) (now : ℕ) → StartedAs after text conf now → text2 ≡ text → Starts (IsImageOf before text) (IsImageOf after text2)
+pub starts_of : OpenedIsSound → (before after : Whole) (text text2 : List ℕ) (conf : ConfPlan) (now : ℕ) → StartedAs after text conf now → text2 ≡ text →
+    Starts (IsImageOf before text) (IsImageOf after text2)
 starts_of sound before after text text2 conf now st e =
-    record { each = λ roster image h p. subst (λ t. IsImageOf after t roster (started_image roster image)) (sym e) (started_moves sound before after text conf now st roster image h p) }
+    record {
+      each = λ roster image h p. subst (λ t. IsImageOf after t roster (started_image roster image)) (sym e)
+          (started_moves sound before after text conf now st roster image h p);
+    }
 
-pub named_of : (before after : Whole) (text : List ℕ) (conf : ConfPlan) (now : ℕ) → StartedAs after text conf now → IsNamed (IsImageOf before text) (SentinelAt before.plan.place) (SentinelAt after.plan.place)
+pub named_of : (before after : Whole) (text : List ℕ) (conf : ConfPlan) (now : ℕ) → StartedAs after text conf now →
+    IsNamed (IsImageOf before text) (SentinelAt before.plan.place) (SentinelAt after.plan.place)
 named_of before after text conf now st = record { each = started_name before after text conf now st }
 
 -- A new one
 
-pub fresh_of : OpenedIsSound → (node : Whole) (text text2 : List ℕ) (conf : ConfPlan) (now : ℕ) → StartedAs node text conf now → text2 ≡ text → IsFresh (λ roster. roster_of node.plan ≡ roster) (IsImageOf node text2)
+pub fresh_of : OpenedIsSound → (node : Whole) (text text2 : List ℕ) (conf : ConfPlan) (now : ℕ) → StartedAs node text conf now → text2 ≡ text →
+    IsFresh (λ roster. roster_of node.plan ≡ roster) (IsImageOf node text2)
 fresh_of open_ok node text text2 conf now st e =
     record {
       each = λ roster has. (
         OfSentinel (started roster conf.kept),
-        (refl, subst (λ r. Rattle.ballot_law.specs.Law.IsWellFormed r conf.kept) (ap (λ (c : ConfPlan). c.roster) (sym st.plan) ∙ has) (subst (λ (c : ConfPlan). Rattle.ballot_law.specs.Law.IsWellFormed c.roster c.kept) st.plan (well_formed node.plan.conf node.plan.conf.kept st.whole.plan.conf.kept))),
+        (
+          refl,
+          subst (λ r. Rattle.ballot_law.specs.Law.IsWellFormed r conf.kept) (ap (λ (c : ConfPlan). c.roster) (sym st.plan) ∙ has)
+              (subst (λ (c : ConfPlan). Rattle.ballot_law.specs.Law.IsWellFormed c.roster c.kept) st.plan (well_formed node.plan.conf node.plan.conf.kept st.whole.plan.conf.kept)),
+        ),
         record {
           whole_ok = st.whole;
           has_roster = has;
@@ -480,7 +541,9 @@ fresh_of open_ok node text text2 conf now st e =
           stored_is = λ _. ap (λ k. k ∷ []) (sym st.stored);
           won = subst (λ (c : Core). IsWinOf roster c.won) (sym st.core) tt;
           parts_of = subst (λ c. IsPartsOf c (restored roster conf.kept)) (sym st.core)
-              (subst (λ r. IsPartsOf (opened node.plan now) (restored r conf.kept)) has (subst (λ k. IsPartsOf (opened node.plan now) (restored (roster_of node.plan) k)) (ap (λ (c : ConfPlan). c.kept) st.plan) (open_ok node.plan now st.whole.plan).1));
+              (subst (λ r. IsPartsOf (opened node.plan now) (restored r conf.kept)) has
+              (subst (λ k. IsPartsOf (opened node.plan now) (restored (roster_of node.plan) k)) (ap (λ (c : ConfPlan). c.kept) st.plan)
+              (open_ok node.plan now st.whole.plan).1));
           pending = subst (λ q. IsPendingAs q node (started roster conf.kept)) (sym st.phase_is) tt;
         },
       );

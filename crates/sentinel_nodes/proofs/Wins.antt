@@ -30,7 +30,8 @@ abbrev pub AreCampaignsWithin : Parts → Type 0
 AreCampaignsWithin parts = (m : ℕ) → IsCampaignWithin (campaign_of parts m)
 
 -- one master's campaign has changed
-set_at : (masters : List OpenMaster) (m j : ℕ) (opened : OpenMaster) → IsCampaignWithin opened.campaign → IsCampaignWithin (get_or masters j empty).campaign → IsCampaignWithin (get_or (set masters m opened) j empty).campaign
+set_at : (masters : List OpenMaster) (m j : ℕ) (opened : OpenMaster) → IsCampaignWithin opened.campaign → IsCampaignWithin (get_or masters j empty).campaign →
+    IsCampaignWithin (get_or (set masters m opened) j empty).campaign
 set_at [] m j opened new old = old
 set_at (x ∷ masters) zero zero opened new old = new
 set_at (x ∷ masters) zero (suc j) opened new old = old
@@ -40,7 +41,8 @@ set_at (x ∷ masters) (suc m) (suc j) opened new old = set_at masters m j opene
 one_above : (epoch : ℕ) → epoch < MAX_EPOCH → epoch + 1 ≤ MAX_EPOCH
 one_above epoch below = omega (arith, below)
 
-step_within : (roster : Roster) (i : ℕ) (event : Event) (parts : Parts) (ballot : Ballot) → IsAllowed roster i event parts ballot → AreCampaignsWithin parts → AreCampaignsWithin (after i parts ballot)
+step_within : (roster : Roster) (i : ℕ) (event : Event) (parts : Parts) (ballot : Ballot) → IsAllowed roster i event parts ballot → AreCampaignsWithin parts →
+    AreCampaignsWithin (after i parts ballot)
 step_within roster i event parts (Raise e) allowed fine j = fine j
 step_within roster i event parts (Open m) allowed fine j = set_at parts.masters m j _ (one_above parts.kept.current allowed.2) (fine j)
 step_within roster i event parts (Cast m e c) allowed fine j = set_at parts.masters m j _ (fine m) (fine j)
@@ -74,12 +76,14 @@ parts_within plan core parts sound is m =
 abbrev AreWithin : Roster → List Win → Type 0
 AreWithin roster wins = AllByRecursion (λ win. (win.master < length roster.masters) × (win.epoch ≤ MAX_EPOCH)) wins
 
-one_more : (roster : Roster) (wins : List Win) (win : Win) → AreWithin roster wins → (win.master < length roster.masters) × (win.epoch ≤ MAX_EPOCH) → AreWithin roster (wins ++ win ∷ [])
+one_more : (roster : Roster) (wins : List Win) (win : Win) → AreWithin roster wins → (win.master < length roster.masters) × (win.epoch ≤ MAX_EPOCH) →
+    AreWithin roster (wins ++ win ∷ [])
 one_more roster [] win fine last = (last, tt)
 one_more roster (first ∷ wins) win fine last = (fine.0, one_more roster wins win fine.1 last)
 
 -- a step wins for a master of the roster at its campaign's epoch, or for none
-step_wins : (roster : Roster) (i : ℕ) (event : Event) (parts : Parts) (ballot : Ballot) → IsAllowed roster i event parts ballot → AreCampaignsWithin parts → AreWithin roster parts.wins → AreWithin roster (after i parts ballot).wins
+step_wins : (roster : Roster) (i : ℕ) (event : Event) (parts : Parts) (ballot : Ballot) → IsAllowed roster i event parts ballot → AreCampaignsWithin parts →
+    AreWithin roster parts.wins → AreWithin roster (after i parts ballot).wins
 step_wins roster i event parts (Raise e) allowed campaigns fine = fine
 step_wins roster i event parts (Open m) allowed campaigns fine = fine
 step_wins roster i event parts (Cast m e c) allowed campaigns fine = fine
@@ -91,16 +95,19 @@ step_wins roster i event parts (Enact m e a) allowed campaigns fine = fine
 step_wins roster i event parts (Adopt m card) allowed campaigns fine = fine
 step_wins roster i event parts (Drop m) allowed campaigns fine = fine
 
-all_wins : (roster : Roster) (i : ℕ) (event : Event) (ballots : List Ballot) (parts last : Parts) → Moved roster i event ballots parts last → AreCampaignsWithin parts → AreWithin roster parts.wins → AreWithin roster last.wins
+all_wins : (roster : Roster) (i : ℕ) (event : Event) (ballots : List Ballot) (parts last : Parts) → Moved roster i event ballots parts last → AreCampaignsWithin parts →
+    AreWithin roster parts.wins → AreWithin roster last.wins
 all_wins roster i event [] parts last moved campaigns fine = subst (λ (p : Parts). AreWithin roster p.wins) moved fine
 all_wins roster i event (ballot ∷ ballots) parts last moved campaigns fine =
-    all_wins roster i event ballots (after i parts ballot) last moved.1 (step_within roster i event parts ballot moved.0 campaigns) (step_wins roster i event parts ballot moved.0 campaigns fine)
+    all_wins roster i event ballots (after i parts ballot) last moved.1 (step_within roster i event parts ballot moved.0 campaigns)
+    (step_wins roster i event parts ballot moved.0 campaigns fine)
 
 win_listed : (roster : Roster) (won : Option Win) → AreWithin roster (wins_of won) → IsWinOf roster won
 win_listed roster None fine = tt
 win_listed roster (Some win) fine = fine.0
 
 -- a take begins with no win
-pub won_of : (roster : Roster) (i : ℕ) (event : Event) (ballots : List Ballot) (parts last : Parts) (core : Core) → Moved roster i event ballots (record parts { casts = []; wins = [] }) last → IsPartsOf core last → AreCampaignsWithin parts → IsWinOf roster core.won
+pub won_of : (roster : Roster) (i : ℕ) (event : Event) (ballots : List Ballot) (parts last : Parts) (core : Core) →
+    Moved roster i event ballots (record parts { casts = []; wins = [] }) last → IsPartsOf core last → AreCampaignsWithin parts → IsWinOf roster core.won
 won_of roster i event ballots parts last core moved is campaigns =
     win_listed roster core.won (subst (AreWithin roster) is.wins (all_wins roster i event ballots (record parts { casts = []; wins = [] }) last moved campaigns tt))

@@ -73,7 +73,8 @@ mark_touches : (plan : Plan) (m now : ℕ) (candidate : RunId) (core : Core) →
 mark_touches plan m now candidate core =
     by_test m core (same_id candidate (me plan)) core (with_failover core m (marked now core.random (failover_of core m))) (stays m core) (λ k apart. refl)
 
-voted : (plan : Plan) (m now epoch : ℕ) (candidate : RunId) (core : Core) → Touches m core (mark_for plan m now candidate (with_book core m (asked (book_of core m) epoch candidate)))
+voted : (plan : Plan) (m now epoch : ℕ) (candidate : RunId) (core : Core) →
+    Touches m core (mark_for plan m now candidate (with_book core m (asked (book_of core m) epoch candidate)))
 voted plan m now epoch candidate core =
     let after : Core = with_book core m (asked (book_of core m) epoch candidate) in
     chained m core after (mark_for plan m now candidate after) (booked m (asked (book_of core m) epoch candidate) core) (mark_touches plan m now candidate after)
@@ -81,7 +82,8 @@ voted plan m now epoch candidate core =
 requested_touches : (plan : Plan) (m now epoch : ℕ) (candidate : RunId) (core : Core) → Touches m core (requested plan m now epoch candidate core)
 requested_touches plan m now epoch candidate core =
     let after : Core = with_book core m (asked (book_of core m) epoch candidate) in
-    by_test m core (grants (book_of core m) epoch) (mark_for plan m now candidate after) after (voted plan m now epoch candidate core) (booked m (asked (book_of core m) epoch candidate) core)
+    by_test m core (grants (book_of core m) epoch) (mark_for plan m now candidate after) after (voted plan m now epoch candidate core)
+    (booked m (asked (book_of core m) epoch candidate) core)
 
 -- A tick
 
@@ -212,11 +214,13 @@ heard_at voter m epoch (Some leader) core first f = f
 reported_at : (voter m now : ℕ) (addr : Addr) (down : Bool) (core : Core) → At None core (reported voter m now addr down core)
 reported_at voter m now addr down core = known (same_addr addr (card_of core.kept m).addr)
   where
-    known : (b : Bool) → At None core (if b then with_master core m (record (master_of core m) { reports = Rattle.ballot_law.specs.Reports.with_report voter (record { down = down; at = now }) (master_of core m).reports }) else core)
+    known : (b : Bool) → At None core (if b then with_master core m
+        (record (master_of core m) { reports = Rattle.ballot_law.specs.Reports.with_report voter (record { down = down; at = now }) (master_of core m).reports }) else core)
     known true = λ k apart. refl
     known false = same None core
 
-answer_at : (plan : Plan) (voter : NodeName) (m now : ℕ) (addr : Addr) (down : Bool) (leader : Option RunId) (epoch : ℕ) (core : Core) → At None core (answered plan voter m now addr down leader epoch core)
+answer_at : (plan : Plan) (voter : NodeName) (m now : ℕ) (addr : Addr) (down : Bool) (leader : Option RunId) (epoch : ℕ) (core : Core) →
+    At None core (answered plan voter m now addr down leader epoch core)
 answer_at plan (SentinelAt voter) m now addr down leader epoch core =
     at_by_test None core (nat_lt voter (group_size plan) && not (voter == plan.place) && nat_lt m (master_count plan))
     (vote_heard voter m epoch leader (reported voter m now addr down core)) core
@@ -232,7 +236,11 @@ node_at now reply (Some at) core = λ k apart. refl
 ping_at : (plan : Plan) (node : NodeName) (now : ℕ) (reply : PingReply) (core : Core) → At None core (pinged plan node now reply core)
 ping_at plan (SentinelAt place) now reply core = known (nat_lt place (group_size plan) && not (place == plan.place))
   where
-    known : (b : Bool) → At None core (if b then record core { peers = Rattle.std.specs.Prelude.slice_set core.peers place (Rattle.sentinel_rules.specs.News.peer_pinged now reply (Rattle.sentinel_rules.specs.States.peer_of core place)) } else core)
+    known : (b : Bool) → At None core (if b then record core {
+      peers =
+          Rattle.std.specs.Prelude.slice_set core.peers place (Rattle.sentinel_rules.specs.News.peer_pinged now reply (Rattle.sentinel_rules.specs.States.peer_of core place));
+    }
+        else core)
     known true = λ k apart. refl
     known false = same None core
 ping_at plan (StoreAt number) now reply core = node_at now reply (node_named plan (StoreAt number)) core
@@ -244,7 +252,8 @@ promotion_touches plan m k now info (WaitPromotion epoch choice former) core =
     let first : Core = with_failover core m (promoted (WaitPromotion epoch choice former) (record (failover_of core m) { moment = now })) in
     let card : Card = record { epoch = epoch; addr = choice.addr } in
     if_part m core ((k == choice.place) && is_master_role info.role)
-    (λ c. card_taken m now (record { epoch = epoch; addr = choice.addr }) (with_failover c m (promoted (WaitPromotion epoch choice former) (record (failover_of c m) { moment = now }))))
+    (λ c. card_taken m now (record { epoch = epoch; addr = choice.addr })
+    (with_failover c m (promoted (WaitPromotion epoch choice former) (record (failover_of c m) { moment = now }))))
     (chained m core first (card_taken m now card first).core (λ k apart. refl) (taken m now card first))
 promotion_touches plan m k now info _ core = stays m core
 
@@ -270,13 +279,15 @@ info_at plan now (Some at) info core =
     (chained at.master core first (info_at_node plan at.master at.place now info core).core (λ k apart. refl)
     (if_part at.master first (not (is_tilted first)) (judged plan at.master at.place now info) (judged_touches plan at.master at.place now info first)))
 
-read_at : (plan : Plan) (node : NodeName) (now : ℕ) (read : Result Info TextFault) (core : Core) → At (listed_by (node_named plan node)) core (info_read plan node now read core).core
+read_at : (plan : Plan) (node : NodeName) (now : ℕ) (read : Result Info TextFault) (core : Core) →
+    At (listed_by (node_named plan node)) core (info_read plan node now read core).core
 read_at plan node now (Err fault) core = same (listed_by (node_named plan node)) core
 read_at plan node now (Ok info) core = info_at plan now (node_named plan node) info core
 
 -- Commands
 
-asked_at_most : (plan : Plan) (now : ℕ) (addr : Addr) (epoch : ℕ) (candidate : Option RunId) (m : Option ℕ) (core : Core) → At m core (asked_of plan now addr epoch candidate m core).core
+asked_at_most : (plan : Plan) (now : ℕ) (addr : Addr) (epoch : ℕ) (candidate : Option RunId) (m : Option ℕ) (core : Core) →
+    At m core (asked_of plan now addr epoch candidate m core).core
 asked_at_most plan now addr epoch candidate None core = same None core
 asked_at_most plan now addr epoch None (Some m) core = same (Some m) core
 asked_at_most plan now addr epoch (Some candidate) (Some m) core =

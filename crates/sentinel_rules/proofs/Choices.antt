@@ -34,13 +34,15 @@ found_before : {X : Type 0} (p : X → Bool) (xs : List X) (k : ℕ) (d : X) →
 found_before p [] k d lt h = absurd (omega arith)
 found_before p (x ∷ xs) k d lt h = known (p x) refl k lt h (λ j. found_before p xs j d)
   where
-    known : (b : Bool) → p x ≡ b → (k : ℕ) → k < length (x ∷ xs) → p (get_or (x ∷ xs) k d) ≡ true → ((j : ℕ) → j < length xs → p (get_or xs j d) ≡ true → position_or_len p xs < length xs) → cond (not b) (1 + position_or_len p xs) 0 < length (x ∷ xs)
+    known : (b : Bool) → p x ≡ b → (k : ℕ) → k < length (x ∷ xs) → p (get_or (x ∷ xs) k d) ≡ true →
+        ((j : ℕ) → j < length xs → p (get_or xs j d) ≡ true → position_or_len p xs < length xs) → cond (not b) (1 + position_or_len p xs) 0 < length (x ∷ xs)
     known true e k lt h more = omega arith
     known false e zero lt h more = let never : false ≡ true = sym e ∙ h in absurd (cc)
     known false e (suc k) lt h more = let l : position_or_len p xs < length xs = more k (omega arith) h in omega arith
 
 -- the node with an address of the list is the first with it
-pub place_of_node : (plan : Plan) (m k : ℕ) (addr : Addr) → IsSoundPlan plan → m < master_count plan → k < length (nodes_of plan m) → addr_at plan m k ≡ addr → node_place plan m addr ≡ k
+pub place_of_node : (plan : Plan) (m k : ℕ) (addr : Addr) → IsSoundPlan plan → m < master_count plan → k < length (nodes_of plan m) → addr_at plan m k ≡ addr →
+    node_place plan m addr ≡ k
 place_of_node plan m k addr p lt inside at =
     rw found (one_place (cases_order j k))
   where
@@ -72,7 +74,8 @@ eligible_by : (candidates : List Candidate) (now : ℕ) (limits : Limits) (n pla
     → (place < suc n) × (is_eligible now limits (candidate_at candidates place) ≡ true)
 eligible_by candidates now limits n place None known h = new (is_eligible now limits (candidate_at candidates n)) refl h
   where
-    new : (b : Bool) → is_eligible now limits (candidate_at candidates n) ≡ b → cond b (Some n) None ≡ Some place → (place < suc n) × (is_eligible now limits (candidate_at candidates place) ≡ true)
+    new : (b : Bool) → is_eligible now limits (candidate_at candidates n) ≡ b → cond b (Some n) None ≡ Some place →
+        (place < suc n) × (is_eligible now limits (candidate_at candidates place) ≡ true)
     new true e h = let at : n ≡ place = cc in (omega arith, subst (λ (i : ℕ). is_eligible now limits (candidate_at candidates i) ≡ true) at e)
     new false e h = absurd (cc)
 eligible_by candidates now limits n place (Some best) known h =
@@ -81,12 +84,14 @@ eligible_by candidates now limits n place (Some best) known h =
     old : Some best ≡ Some place → (place < suc n) × (is_eligible now limits (candidate_at candidates place) ≡ true)
     old e = let k = known e in (let l : place < n = k.0 in omega arith, k.1)
 
-    next : (b c : Bool) → is_eligible now limits (candidate_at candidates n) ≡ b → cond (b && c) (Some n) (Some best) ≡ Some place → (place < suc n) × (is_eligible now limits (candidate_at candidates place) ≡ true)
+    next : (b c : Bool) → is_eligible now limits (candidate_at candidates n) ≡ b → cond (b && c) (Some n) (Some best) ≡ Some place →
+        (place < suc n) × (is_eligible now limits (candidate_at candidates place) ≡ true)
     next true true e h = let at : n ≡ place = cc in (omega arith, subst (λ (i : ℕ). is_eligible now limits (candidate_at candidates i) ≡ true) at e)
     next true false e h = old h
     next false c e h = old h
 
-eligible : (candidates : List Candidate) (now : ℕ) (limits : Limits) (n place : ℕ) → choice_below candidates now limits n ≡ Some place → (place < n) × (is_eligible now limits (candidate_at candidates place) ≡ true)
+eligible : (candidates : List Candidate) (now : ℕ) (limits : Limits) (n place : ℕ) → choice_below candidates now limits n ≡ Some place →
+    (place < n) × (is_eligible now limits (candidate_at candidates place) ≡ true)
 eligible candidates now limits zero place h = absurd (cc)
 eligible candidates now limits (suc n) place h =
     eligible_by candidates now limits n place (choice_below candidates now limits n) (eligible candidates now limits n place) h
@@ -120,14 +125,17 @@ best_awaited plan core m now p lt = known (choice_of (candidates_of plan core m 
     f : ℕ → Candidate
     f = candidate_of plan core m now
 
-    known : (choice : Option ℕ) → choice_of (candidates_of plan core m now) now (limits_of plan core m now) ≡ choice → Best plan core.kept m (option_map (λ k. (k, addr_at plan m k)) choice)
+    known : (choice : Option ℕ) → choice_of (candidates_of plan core m now) now (limits_of plan core m now) ≡ choice →
+        Best plan core.kept m (option_map (λ k. (k, addr_at plan m k)) choice)
     known None e = tt
     known (Some k) e =
         let long : length (candidates_of plan core m now) ≡ length (nodes_of plan m) = length-at_places (candidate_of plan core m now) 0 (length (nodes_of plan m)) in
         let is = eligible (candidates_of plan core m now) now (limits_of plan core m now) (length (candidates_of plan core m now)) k e in
         let inside : k < length (nodes_of plan m) = subst (λ (c : ℕ). k < c) long is.0 in
-        let there : candidate_at (candidates_of plan core m now) k ≡ candidate_of plan core m now k = at_place (candidate_of plan core m now) 0 (length (nodes_of plan m)) k k no_candidate inside (omega arith) in
-        let not_down : (eqb k (card_place plan core m) || is_node_down plan core m now k) ≡ false = up now (limits_of plan core m now) (candidate_of plan core m now k) (subst (λ (c : Candidate). is_eligible now (limits_of plan core m now) c ≡ true) there is.1) in
+        let there : candidate_at (candidates_of plan core m now) k ≡ candidate_of plan core m now k =
+        at_place (candidate_of plan core m now) 0 (length (nodes_of plan m)) k k no_candidate inside (omega arith) in
+        let not_down : (eqb k (card_place plan core m) || is_node_down plan core m now k) ≡ false =
+        up now (limits_of plan core m now) (candidate_of plan core m now k) (subst (λ (c : Candidate). is_eligible now (limits_of plan core m now) c ≡ true) there is.1) in
         let apart : k ≡ card_place plan core m → ⊥ = eqb-false k (card_place plan core m) (or_parts (eqb k (card_place plan core m)) (is_node_down plan core m now k) not_down).0 in
         record {
           listed = inside;

@@ -28,7 +28,8 @@ awaited_still plan kept kept2 m e choice a =
     record { listed = a.listed; addressed = a.addressed; other = λ same. a.other (same ∙ ap (λ (card : Card). card.addr) e) }
 
 -- a master is sound with a later current epoch too
-pub master_later : (plan : Plan) (kept kept2 : Kept) (m : ℕ) (master : MasterState) → kept.current ≤ kept2.current → card_of kept2 m ≡ card_of kept m → IsSoundMaster plan kept m master → IsSoundMaster plan kept2 m master
+pub master_later : (plan : Plan) (kept kept2 : Kept) (m : ℕ) (master : MasterState) → kept.current ≤ kept2.current → card_of kept2 m ≡ card_of kept m →
+    IsSoundMaster plan kept m master → IsSoundMaster plan kept2 m master
 master_later plan kept kept2 m master low e s =
     record {
       heard = s.heard;
@@ -71,7 +72,8 @@ sound_at plan core core2 m s count others peers part low cards new =
 pub sound_master : (plan : Plan) (core : Core) (m : ℕ) (master : MasterState) → IsSound plan core
     → (m < master_count plan → IsSoundMaster plan core.kept m master) → IsSound plan (with_master core m master)
 sound_master plan core m master s new =
-    sound_at plan core (with_master core m master) m s (length-set core.masters m master) (λ k apart. master_other core m k master apart) refl s.kept (omega arith) (λ k apart. refl)
+    sound_at plan core (with_master core m master) m s (length-set core.masters m master) (λ k apart. master_other core m k master apart) refl s.kept (omega arith)
+    (λ k apart. refl)
     (λ lt. let inside : m < length core.masters = subst (λ (n : ℕ). m < n) (sym s.masters) lt in
     subst (IsSoundMaster plan core.kept m) (sym (master_same core m master inside)) (new lt))
 
@@ -88,7 +90,8 @@ sound_current plan core current s low part =
     }
 
 -- what soundness doesn't look at
-pub sound_alike : (plan : Plan) (core core2 : Core) → core2.kept ≡ core.kept → core2.masters ≡ core.masters → length core2.peers ≡ length core.peers → IsSound plan core → IsSound plan core2
+pub sound_alike : (plan : Plan) (core core2 : Core) → core2.kept ≡ core.kept → core2.masters ≡ core.masters → length core2.peers ≡ length core.peers → IsSound plan core →
+    IsSound plan core2
 sound_alike plan core core2 kept masters peers s =
     let at : (m : ℕ) → master_of core2 m ≡ master_of core m = λ m. ap (λ (list : List MasterState). slice_index_or list m no_master) masters in
     record {

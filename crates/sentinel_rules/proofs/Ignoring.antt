@@ -36,8 +36,10 @@ nobody false valid unknown some other h = refl
 nobody true false unknown some other h = refl
 nobody true true unknown some other h = absurd (cc)
 
-answer_ignored : (plan : Plan) (voter : NodeName) (m now : ℕ) (addr : Addr) (down : Bool) (leader : Option RunId) (epoch : ℕ) (core : Core) → (is_other plan voter && nat_lt m (master_count plan)) ≡ false → answered plan voter m now addr down leader epoch core ≡ core
-answer_ignored plan (SentinelAt voter) m now addr down leader epoch core h = left_out (nat_lt voter (group_size plan)) (not (voter == plan.place)) (nat_lt m (master_count plan)) _ core h
+answer_ignored : (plan : Plan) (voter : NodeName) (m now : ℕ) (addr : Addr) (down : Bool) (leader : Option RunId) (epoch : ℕ) (core : Core) →
+    (is_other plan voter && nat_lt m (master_count plan)) ≡ false → answered plan voter m now addr down leader epoch core ≡ core
+answer_ignored plan (SentinelAt voter) m now addr down leader epoch core h =
+    left_out (nat_lt voter (group_size plan)) (not (voter == plan.place)) (nat_lt m (master_count plan)) _ core h
 answer_ignored plan (StoreAt number) m now addr down leader epoch core h = refl
 answer_ignored plan (ClientAt number) m now addr down leader epoch core h = refl
 answer_ignored plan (PortAt number) m now addr down leader epoch core h = refl
@@ -46,7 +48,8 @@ nowhere : (now : ℕ) (reply : PingReply) (at : Option NodePlace) (core : Core) 
 nowhere now reply None core h = refl
 nowhere now reply (Some at) core h = absurd (cc)
 
-reply_ignored : (plan : Plan) (node : NodeName) (now : ℕ) (reply : PingReply) (core : Core) → (if is_other plan node then true else is_data_node plan node) ≡ false → pinged plan node now reply core ≡ core
+reply_ignored : (plan : Plan) (node : NodeName) (now : ℕ) (reply : PingReply) (core : Core) → (if is_other plan node then true else is_data_node plan node) ≡ false →
+    pinged plan node now reply core ≡ core
 reply_ignored plan (SentinelAt place) now reply core h = nobody (nat_lt place (group_size plan)) (not (place == plan.place)) false _ core h
 reply_ignored plan (StoreAt number) now reply core h = nowhere now reply (node_named plan (StoreAt number)) core h
 reply_ignored plan (ClientAt number) now reply core h = refl
@@ -56,11 +59,13 @@ at_no_node : (plan : Plan) (now : ℕ) (at : Option NodePlace) (info : Info) (co
 at_no_node plan now None info core h = refl
 at_no_node plan now (Some at) info core h = absurd (cc)
 
-info_ignored : (plan : Plan) (node : NodeName) (now : ℕ) (read : Result Info TextFault) (core : Core) → is_info_heeded plan node read ≡ false → info_read plan node now read core ≡ quiet core
+info_ignored : (plan : Plan) (node : NodeName) (now : ℕ) (read : Result Info TextFault) (core : Core) → is_info_heeded plan node read ≡ false →
+    info_read plan node now read core ≡ quiet core
 info_ignored plan node now (Err fault) core h = refl
 info_ignored plan node now (Ok info) core h = at_no_node plan now (node_named plan node) info core h
 
-unheeded : (plan : Plan) (now : ℕ) (heeded : Bool) (m : Option ℕ) (hello : Hello) (core : Core) → (heeded && is_some m) ≡ false → part_if heeded core (hello_heeded plan now m hello) ≡ quiet core
+unheeded : (plan : Plan) (now : ℕ) (heeded : Bool) (m : Option ℕ) (hello : Hello) (core : Core) → (heeded && is_some m) ≡ false →
+    part_if heeded core (hello_heeded plan now m hello) ≡ quiet core
 unheeded plan now false m hello core h = refl
 unheeded plan now true None hello core h = refl
 unheeded plan now true (Some m) hello core h = absurd (cc)
@@ -72,7 +77,8 @@ hello_ignored plan now (Ok hello) core h = unheeded plan now (is_heeded plan hel
 pub ignored_changes_nothing : IgnoredChangesNothing
 ignored_changes_nothing plan core now (Tick m random) h = absurd (cc)
 ignored_changes_nothing plan core now (Command sender command) h = absurd (cc)
-ignored_changes_nothing plan core now (Answered voter m addr down leader epoch) h = alike (λ after. shown_after plan (quiet after)) _ _ (answer_ignored plan voter m (clock now) addr down leader epoch (cleared core) h)
+ignored_changes_nothing plan core now (Answered voter m addr down leader epoch) h =
+    alike (λ after. shown_after plan (quiet after)) _ _ (answer_ignored plan voter m (clock now) addr down leader epoch (cleared core) h)
 ignored_changes_nothing plan core now (Pinged node reply) h = alike (λ after. shown_after plan (quiet after)) _ _ (reply_ignored plan node (clock now) reply (cleared core) h)
 ignored_changes_nothing plan core now (InfoRead node text) h = alike (shown_after plan) _ _ (info_ignored plan node (clock now) (info_of text) (cleared core) h)
 ignored_changes_nothing plan core now (HelloRead text) h = alike (shown_after plan) _ _ (hello_ignored plan (clock now) (hello_of text) (cleared core) h)

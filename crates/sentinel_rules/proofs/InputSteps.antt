@@ -47,19 +47,23 @@ use Rattle.sentinel_rules.proofs.NamedFrames.{tick_frames, hello_frames, info_fr
 card_master : (masters : List KeptMaster) (addr : Addr) (m : ℕ) → master_with_card masters addr ≡ Some m → m < length masters
 card_master masters addr m e = (position-Some (λ (master : KeptMaster). same_addr addr master.card.addr) masters m no_kept e).0
 
-asked_at_steps : (plan : Plan) (event : Event) (m now : ℕ) (addr : Addr) (epoch : ℕ) (down : Bool) (candidate : Option RunId) (core : Core) → IsSound plan core → m < master_count plan → StepsTo plan event 2 core (asked_at plan m now addr epoch down candidate core).core
+asked_at_steps : (plan : Plan) (event : Event) (m now : ℕ) (addr : Addr) (epoch : ℕ) (down : Bool) (candidate : Option RunId) (core : Core) → IsSound plan core →
+    m < master_count plan → StepsTo plan event 2 core (asked_at plan m now addr epoch down candidate core).core
 asked_at_steps plan event m now addr epoch down None core s lt = stay_steps plan event 2 core
 asked_at_steps plan event m now addr epoch down (Some candidate) core s lt = requested_steps plan event m now epoch candidate core (within_core plan core m s lt) lt
 
-asked_of_steps : (plan : Plan) (event : Event) (now : ℕ) (addr : Addr) (epoch : ℕ) (candidate : Option RunId) (m : Option ℕ) (core : Core) → IsSound plan core → ((j : ℕ) → m ≡ Some j → j < master_count plan) → StepsTo plan event 2 core (asked_of plan now addr epoch candidate m core).core
+asked_of_steps : (plan : Plan) (event : Event) (now : ℕ) (addr : Addr) (epoch : ℕ) (candidate : Option RunId) (m : Option ℕ) (core : Core) → IsSound plan core →
+    ((j : ℕ) → m ≡ Some j → j < master_count plan) → StepsTo plan event 2 core (asked_of plan now addr epoch candidate m core).core
 asked_of_steps plan event now addr epoch candidate None core s f = stay_steps plan event 2 core
-asked_of_steps plan event now addr epoch candidate (Some m) core s f = asked_at_steps plan event m now addr epoch (is_master_down plan core m now && not (is_tilted core)) candidate core s (f m refl)
+asked_of_steps plan event now addr epoch candidate (Some m) core s f =
+    asked_at_steps plan event m now addr epoch (is_master_down plan core m now && not (is_tilted core)) candidate core s (f m refl)
 
 card_within : (plan : Plan) (core : Core) (addr : Addr) → IsSound plan core → (j : ℕ) → master_with_card core.kept.masters addr ≡ Some j → j < master_count plan
 card_within plan core addr s j e = subst (λ (n : ℕ). j < n) s.kept_masters (card_master core.kept.masters addr j e)
 
 commanded_steps : (plan : Plan) (event : Event) (now : ℕ) (command : Command) (core : Core) → IsSound plan core → StepsTo plan event 2 core (commanded plan now command core).core
-commanded_steps plan event now (IsMasterDownByAddr addr epoch candidate) core s = asked_of_steps plan event now addr epoch candidate (master_with_card core.kept.masters addr) core s (card_within plan core addr s)
+commanded_steps plan event now (IsMasterDownByAddr addr epoch candidate) core s =
+    asked_of_steps plan event now addr epoch candidate (master_with_card core.kept.masters addr) core s (card_within plan core addr s)
 commanded_steps plan event now Ping core s = stay_steps plan event 2 core
 commanded_steps plan event now (GetMasterAddrByName name) core s = stay_steps plan event 2 core
 commanded_steps plan event now Masters core s = stay_steps plan event 2 core
@@ -76,7 +80,8 @@ commanded_steps plan event now Subscribe core s = stay_steps plan event 2 core
 abbrev IsRightBody : Plan → Parts → NodeName → Body → Type 0
 IsRightBody plan parts target body = IsRightOutput (roster_of plan) plan.place parts (send plan target body)
 
-asked_at_right : (plan : Plan) (parts : Parts) (target : NodeName) (m now : ℕ) (addr : Addr) (epoch : ℕ) (down : Bool) (candidate : Option RunId) (core : Core) → m < master_count plan
+asked_at_right : (plan : Plan) (parts : Parts) (target : NodeName) (m now : ℕ) (addr : Addr) (epoch : ℕ) (down : Bool) (candidate : Option RunId) (core : Core) →
+    m < master_count plan
     → IsSound plan (asked_at plan m now addr epoch down candidate core).core → IsPartsOf (asked_at plan m now addr epoch down candidate core).core parts
     → IsRightBody plan parts target (asked_at plan m now addr epoch down candidate core).body
 asked_at_right plan parts target m now addr epoch down None core lt s is = silent plan parts target (Answer m addr down None 0) refl refl refl refl
@@ -86,38 +91,50 @@ asked_at_right plan parts target m now addr epoch down (Some candidate) core lt 
     (ap (λ (kept : Kept). voted_of kept m) (sym is.kept))
     (ap (λ (kept : Kept). (kept_of kept m).candidate) is.kept)
 
-asked_of_right : (plan : Plan) (parts : Parts) (target : NodeName) (now : ℕ) (addr : Addr) (epoch : ℕ) (candidate : Option RunId) (m : Option ℕ) (core : Core) → ((j : ℕ) → m ≡ Some j → j < master_count plan)
+asked_of_right : (plan : Plan) (parts : Parts) (target : NodeName) (now : ℕ) (addr : Addr) (epoch : ℕ) (candidate : Option RunId) (m : Option ℕ) (core : Core) →
+    ((j : ℕ) → m ≡ Some j → j < master_count plan)
     → IsSound plan (asked_of plan now addr epoch candidate m core).core → IsPartsOf (asked_of plan now addr epoch candidate m core).core parts
     → IsRightBody plan parts target (asked_of plan now addr epoch candidate m core).body
 asked_of_right plan parts target now addr epoch candidate None core f s is = silent plan parts target (asked_of plan now addr epoch candidate None core).body refl refl refl refl
-asked_of_right plan parts target now addr epoch candidate (Some m) core f s is = asked_at_right plan parts target m now addr epoch (is_master_down plan core m now && not (is_tilted core)) candidate core (f m refl) s is
+asked_of_right plan parts target now addr epoch candidate (Some m) core f s is =
+    asked_at_right plan parts target m now addr epoch (is_master_down plan core m now && not (is_tilted core)) candidate core (f m refl) s is
 
-reply_right : (plan : Plan) (core : Core) (parts : Parts) (target : NodeName) (masters : List ℕ) (frame : Reply) → IsPartsOf core parts → IsRightBody plan parts target (reply core masters frame)
+reply_right : (plan : Plan) (core : Core) (parts : Parts) (target : NodeName) (masters : List ℕ) (frame : Reply) → IsPartsOf core parts →
+    IsRightBody plan parts target (reply core masters frame)
 reply_right plan core parts target masters frame is = showing plan parts target (reply core masters frame) (shown_right core parts masters is) refl refl refl
 
-about_right : (plan : Plan) (core : Core) (parts : Parts) (target : NodeName) (m : Option ℕ) (body : ℕ → Body) → IsPartsOf core parts → ((j : ℕ) → IsRightBody plan parts target (body j)) → IsRightBody plan parts target (about core m body)
+about_right : (plan : Plan) (core : Core) (parts : Parts) (target : NodeName) (m : Option ℕ) (body : ℕ → Body) → IsPartsOf core parts →
+    ((j : ℕ) → IsRightBody plan parts target (body j)) → IsRightBody plan parts target (about core m body)
 about_right plan core parts target None body is f = reply_right plan core parts target [] no_such_master is
 about_right plan core parts target (Some m) body is f = f m
 
-address_right : (plan : Plan) (core : Core) (parts : Parts) (target : NodeName) (m : Option ℕ) → IsPartsOf core parts → IsRightBody plan parts target (AddressAnswer (address_of core m))
+address_right : (plan : Plan) (core : Core) (parts : Parts) (target : NodeName) (m : Option ℕ) → IsPartsOf core parts →
+    IsRightBody plan parts target (AddressAnswer (address_of core m))
 address_right plan core parts target None is = silent plan parts target (AddressAnswer None) refl refl refl refl
 address_right plan core parts target (Some m) is = showing plan parts target (AddressAnswer (Some (shown_of core m))) (shown_right core parts (m ∷ []) is) refl refl refl
 
-commanded_right : (plan : Plan) (parts : Parts) (target : NodeName) (now : ℕ) (command : Command) (core : Core) → IsSound plan core → IsSound plan (commanded plan now command core).core → IsPartsOf (commanded plan now command core).core parts
+commanded_right : (plan : Plan) (parts : Parts) (target : NodeName) (now : ℕ) (command : Command) (core : Core) → IsSound plan core →
+    IsSound plan (commanded plan now command core).core → IsPartsOf (commanded plan now command core).core parts
     → IsRightBody plan parts target (commanded plan now command core).body
-commanded_right plan parts target now (IsMasterDownByAddr addr epoch candidate) core s t is = asked_of_right plan parts target now addr epoch candidate (master_with_card core.kept.masters addr) core (card_within plan core addr s) t is
+commanded_right plan parts target now (IsMasterDownByAddr addr epoch candidate) core s t is =
+    asked_of_right plan parts target now addr epoch candidate (master_with_card core.kept.masters addr) core (card_within plan core addr s) t is
 commanded_right plan parts target now Ping core s t is = silent plan parts target (PingText false (codes "PONG")) refl refl refl refl
 commanded_right plan parts target now (GetMasterAddrByName name) core s t is = address_right plan core parts target (named plan name) is
-commanded_right plan parts target now Masters core s t is = reply_right plan core parts target (all_masters plan) (masters_frame (map (master_row plan core now) (all_masters plan))) is
+commanded_right plan parts target now Masters core s t is = reply_right plan core parts target (all_masters plan)
+    (masters_frame (map (master_row plan core now) (all_masters plan))) is
 commanded_right plan parts target now (Master name) core s t is =
-    about_right plan core parts target (named plan name) (λ m. reply core (m ∷ []) (master_frame (master_row plan core now m))) is (λ m. reply_right plan core parts target (m ∷ []) (master_frame (master_row plan core now m)) is)
+    about_right plan core parts target (named plan name) (λ m. reply core (m ∷ []) (master_frame (master_row plan core now m))) is
+    (λ m. reply_right plan core parts target (m ∷ []) (master_frame (master_row plan core now m)) is)
 commanded_right plan parts target now (Replicas name) core s t is =
-    about_right plan core parts target (named plan name) (λ m. reply core [] (replicas_frame (replica_rows plan core now m))) is (λ m. reply_right plan core parts target [] (replicas_frame (replica_rows plan core now m)) is)
+    about_right plan core parts target (named plan name) (λ m. reply core [] (replicas_frame (replica_rows plan core now m))) is
+    (λ m. reply_right plan core parts target [] (replicas_frame (replica_rows plan core now m)) is)
 commanded_right plan parts target now (Sentinels name) core s t is =
-    about_right plan core parts target (named plan name) (λ m. reply core [] (sentinels_frame (sentinel_rows plan core now))) is (λ m. reply_right plan core parts target [] (sentinels_frame (sentinel_rows plan core now)) is)
+    about_right plan core parts target (named plan name) (λ m. reply core [] (sentinels_frame (sentinel_rows plan core now))) is
+    (λ m. reply_right plan core parts target [] (sentinels_frame (sentinel_rows plan core now)) is)
 commanded_right plan parts target now MyId core s t is = reply_right plan core parts target [] (id_frame (me plan)) is
 commanded_right plan parts target now (CkQuorum name) core s t is =
-    about_right plan core parts target (named plan name) (λ m. reply core [] (quorum_frame plan core now m)) is (λ m. reply_right plan core parts target [] (quorum_frame plan core now m) is)
+    about_right plan core parts target (named plan name) (λ m. reply core [] (quorum_frame plan core now m)) is
+    (λ m. reply_right plan core parts target [] (quorum_frame plan core now m) is)
 commanded_right plan parts target now FlushConfig core s t is = reply_right plan core parts target [] ok_line is
 commanded_right plan parts target now Subscribe core s t is = reply_right plan core parts target [] subscribed is
 
@@ -155,12 +172,15 @@ take_of_part plan core parts event most part few p is sound leads frames =
 input_by : (plan : Plan) (core : Core) (parts : Parts) (now : ℕ) (event : Event) → IsSoundPlan plan → IsSound plan (cleared core) → IsPartsOf core parts → IsWithinEvent event
     → IsTake plan core parts event (next_at plan now event (cleared core)).core (next_at plan now event (cleared core)).outputs
 input_by plan core parts now (Tick m random) p s is h =
-    take_of_part plan core parts (Tick m random) 3 (tick plan m random now (cleared core)) (omega arith) p is (tick_keeps plan m random now (cleared core) p s).sound (tick_steps plan (Tick m random) m random now (cleared core) p s refl) (tick_frames plan m random now (cleared core))
+    take_of_part plan core parts (Tick m random) 3 (tick plan m random now (cleared core)) (omega arith) p is (tick_keeps plan m random now (cleared core) p s).sound
+    (tick_steps plan (Tick m random) m random now (cleared core) p s refl) (tick_frames plan m random now (cleared core))
 input_by plan core parts now (Commanded sender command) p s is h =
     let done : Answered = commanded plan now command (cleared core) in
     let t : IsSound plan done.core = commanded_sound plan now command (cleared core) h s in
-    take_by plan core parts (Commanded sender command) 2 (answer_to plan sender done) (omega arith) is t (commanded_steps plan (Commanded sender command) now command (cleared core) s)
-    (λ last l. All-cons (IsRightOutput (roster_of plan) plan.place last) (send plan sender done.body) [] (commanded_right plan last sender now command (cleared core) s t l) (All-nil (IsRightOutput (roster_of plan) plan.place last)))
+    take_by plan core parts (Commanded sender command) 2 (answer_to plan sender done) (omega arith) is t
+    (commanded_steps plan (Commanded sender command) now command (cleared core) s)
+    (λ last l. All-cons (IsRightOutput (roster_of plan) plan.place last) (send plan sender done.body) [] (commanded_right plan last sender now command (cleared core) s t l)
+    (All-nil (IsRightOutput (roster_of plan) plan.place last)))
 input_by plan core parts now (AnswerCame voter m addr down leader epoch) p s is h =
     take_of_part plan core parts (AnswerCame voter m addr down leader epoch) 1 (quiet (answered plan voter m now addr down leader epoch (cleared core))) (omega arith) p is
     (answered_sound plan voter m now addr down leader epoch (cleared core) s) (answered_steps plan voter m now addr down leader epoch (cleared core) s) tt
@@ -169,12 +189,14 @@ input_by plan core parts now (Pinged node reply) p s is h =
     (pinged_sound plan node now reply (cleared core) s) (pinged_steps plan (Pinged node reply) node now reply (cleared core) s) tt
 input_by plan core parts now (InfoRead node text) p s is h =
     take_of_part plan core parts (InfoRead node text) 1 (info_read plan node now (info_of text) (cleared core)) (omega arith) p is
-    (info_keeps plan node now (info_of text) (cleared core) s).sound (info_steps plan (InfoRead node text) node now (info_of text) (cleared core) s) (info_frames plan node now (info_of text) (cleared core))
+    (info_keeps plan node now (info_of text) (cleared core) s).sound (info_steps plan (InfoRead node text) node now (info_of text) (cleared core) s)
+    (info_frames plan node now (info_of text) (cleared core))
 input_by plan core parts now (HelloRead text) p s is h =
     take_of_part plan core parts (HelloRead text) 2 (hello_read plan now (hello_of text) (cleared core)) (omega arith) p is
     (hello_keeps plan now text (cleared core) s).sound (hello_steps plan now text (cleared core) s) (hello_frames plan now (hello_of text) (cleared core))
 input_by plan core parts now (Become priority offset link_down) p s is h =
-    take_of_part plan core parts (Become priority offset link_down) 0 (quiet (cleared core)) (omega arith) p is s (stay_steps plan (Become priority offset link_down) 0 (cleared core)) tt
+    take_of_part plan core parts (Become priority offset link_down) 0 (quiet (cleared core)) (omega arith) p is s
+    (stay_steps plan (Become priority offset link_down) 0 (cleared core)) tt
 input_by plan core parts now (Handed message) p s is h =
     take_of_part plan core parts (Handed message) 0 (quiet (cleared core)) (omega arith) p is s (stay_steps plan (Handed message) 0 (cleared core)) tt
 

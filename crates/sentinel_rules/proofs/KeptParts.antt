@@ -19,13 +19,15 @@ all_later d e [] (k ∷ ks) h i = absurd i
 all_later d e (m ∷ ms) [] h i = absurd i
 all_later d e (m ∷ ms) (k ∷ ks) h i = (later d e m k h i.0, all_later d e ms ks h i.1)
 
-pub zip_at : (d : ℕ) (ms : List MasterPlan) (ks : List KeptMaster) (place : ℕ) → place < length ms → AllZip (IsKeptMaster d) ms ks → IsKeptMaster d (slice_index_or ms place no_master) (slice_index_or ks place no_kept)
+pub zip_at : (d : ℕ) (ms : List MasterPlan) (ks : List KeptMaster) (place : ℕ) → place < length ms → AllZip (IsKeptMaster d) ms ks →
+    IsKeptMaster d (slice_index_or ms place no_master) (slice_index_or ks place no_kept)
 zip_at d [] ks place h i = absurd (omega arith)
 zip_at d (m ∷ ms) [] place h i = absurd i
 zip_at d (m ∷ ms) (k ∷ ks) zero h i = i.0
 zip_at d (m ∷ ms) (k ∷ ks) (suc place) h i = zip_at d ms ks place (omega arith) i.1
 
-zip_set : (d : ℕ) (ms : List MasterPlan) (ks : List KeptMaster) (place : ℕ) (new : KeptMaster) → (place < length ms → IsKeptMaster d (slice_index_or ms place no_master) new) → AllZip (IsKeptMaster d) ms ks → AllZip (IsKeptMaster d) ms (slice_set ks place new)
+zip_set : (d : ℕ) (ms : List MasterPlan) (ks : List KeptMaster) (place : ℕ) (new : KeptMaster) → (place < length ms → IsKeptMaster d (slice_index_or ms place no_master) new) →
+    AllZip (IsKeptMaster d) ms ks → AllZip (IsKeptMaster d) ms (slice_set ks place new)
 zip_set d [] [] place new f i = tt
 zip_set d [] (k ∷ ks) place new f i = absurd i
 zip_set d (m ∷ ms) [] place new f i = absurd i
@@ -50,7 +52,8 @@ kept_with conf kept current m new low high f i =
       masters = zip_set current conf.roster.masters kept.masters m new f (all_later kept.current current conf.roster.masters kept.masters low i.masters);
     }
 
-pub kept_raised : (conf : ConfPlan) (kept : Kept) (current : ℕ) → kept.current ≤ current → current ≤ MAX_EPOCH → IsKeptPart conf kept → IsKeptPart conf (record kept { current = current })
+pub kept_raised : (conf : ConfPlan) (kept : Kept) (current : ℕ) → kept.current ≤ current → current ≤ MAX_EPOCH → IsKeptPart conf kept →
+    IsKeptPart conf (record kept { current = current })
 kept_raised conf kept current low high i =
     record { current = high; masters = all_later kept.current current conf.roster.masters kept.masters low i.masters }
 

@@ -40,18 +40,21 @@ frame_within plan core (PromoteTo target) p s f = tt
 frame_within plan core (FollowTo target m) p s f = tt
 frame_within plan core (NoteOf m old) p s f = tt
 
-frames_within : (plan : Plan) (core : Core) (frames : List Frame) → IsSoundPlan plan → IsSound plan core → AreNamed plan frames → All IsWithinOutput (map (output_of plan core) frames)
+frames_within : (plan : Plan) (core : Core) (frames : List Frame) → IsSoundPlan plan → IsSound plan core → AreNamed plan frames →
+    All IsWithinOutput (map (output_of plan core) frames)
 frames_within plan core [] p s f = All-nil IsWithinOutput
 frames_within plan core (frame ∷ frames) p s f =
     All-cons IsWithinOutput (output_of plan core frame) (map (output_of plan core) frames) (frame_within plan core frame p s f.0) (frames_within plan core frames p s f.1)
 
 -- Answers: none asks, and none is a hello
 
-asked_at_within : (plan : Plan) (m now : ℕ) (addr : Addr) (epoch : ℕ) (down : Bool) (candidate : Option RunId) (core : Core) → IsWithinBody (asked_at plan m now addr epoch down candidate core).body
+asked_at_within : (plan : Plan) (m now : ℕ) (addr : Addr) (epoch : ℕ) (down : Bool) (candidate : Option RunId) (core : Core) →
+    IsWithinBody (asked_at plan m now addr epoch down candidate core).body
 asked_at_within plan m now addr epoch down None core = tt
 asked_at_within plan m now addr epoch down (Some candidate) core = tt
 
-asked_within : (plan : Plan) (now : ℕ) (addr : Addr) (epoch : ℕ) (candidate : Option RunId) (found : Option ℕ) (core : Core) → IsWithinBody (asked_of plan now addr epoch candidate found core).body
+asked_within : (plan : Plan) (now : ℕ) (addr : Addr) (epoch : ℕ) (candidate : Option RunId) (found : Option ℕ) (core : Core) →
+    IsWithinBody (asked_of plan now addr epoch candidate found core).body
 asked_within plan now addr epoch candidate None core = tt
 asked_within plan now addr epoch candidate (Some m) core =
     asked_at_within plan m now addr epoch (is_master_down plan core m now && not (is_tilted core)) candidate core
@@ -75,7 +78,8 @@ answer_within plan now command.Subscribe core = tt
 
 -- One input
 
-within_at : (plan : Plan) (now : ℕ) (event : Event) (core : Core) → IsSoundPlan plan → IsSound plan (next_at plan now event core).core → AreNamed plan (part_of plan now event core).frames → All IsWithinOutput (next_at plan now event core).outputs
+within_at : (plan : Plan) (now : ℕ) (event : Event) (core : Core) → IsSoundPlan plan → IsSound plan (next_at plan now event core).core →
+    AreNamed plan (part_of plan now event core).frames → All IsWithinOutput (next_at plan now event core).outputs
 within_at plan now (Commanded sender c) core p s f = All-cons IsWithinOutput _ [] (answer_within plan now c core) (All-nil IsWithinOutput)
 within_at plan now (Tick m random) core p s f = frames_within plan (part_of plan now (Tick m random) core).core (part_of plan now (Tick m random) core).frames p s f
 within_at plan now (AnswerCame voter m addr down leader epoch) core p s f = All-nil IsWithinOutput

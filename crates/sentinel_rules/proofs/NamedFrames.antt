@@ -42,7 +42,8 @@ nodes_frames : (plan : Plan) (m now : ℕ) (core : Core) → m < master_count pl
 nodes_frames plan m now core lt =
     let s : Sending = sending_of plan core m now in
     named_each plan (node_frames plan m s)
-    (λ k node. named_append plan (frame_if (is_ping_due s node) (PingTo (node_name plan m k))) (frame_if (is_info_due s k node) (InfoTo (node_name plan m k)) ++ frame_if (is_hello_due s node) (HelloTo (node_name plan m k) m))
+    (λ k node. named_append plan (frame_if (is_ping_due s node) (PingTo (node_name plan m k)))
+    (frame_if (is_info_due s k node) (InfoTo (node_name plan m k)) ++ frame_if (is_hello_due s node) (HelloTo (node_name plan m k) m))
     (named_one plan (is_ping_due s node) (PingTo (node_name plan m k)) tt)
     (named_append plan (frame_if (is_info_due s k node) (InfoTo (node_name plan m k))) (frame_if (is_hello_due s node) (HelloTo (node_name plan m k) m))
     (named_one plan (is_info_due s k node) (InfoTo (node_name plan m k)) tt)
@@ -79,7 +80,8 @@ failover_frames plan m now core =
     let begun : Part = then_part (start_part plan m now core) (λ c. part_if (is_failing_over c m) c (row_part plan m now)) in
     frames_then plan begun (ask_part plan m now (starts_now plan core m now))
     (frames_then plan (start_part plan m now core) (λ c. part_if (is_failing_over c m) c (row_part plan m now)) (start_frames plan m now core)
-    (named_if plan (is_failing_over (start_part plan m now core).core m) (start_part plan m now core).core (row_part plan m now) (λ h. row_frames plan m now (start_part plan m now core).core)))
+    (named_if plan (is_failing_over (start_part plan m now core).core m) (start_part plan m now core).core (row_part plan m now)
+    (λ h. row_frames plan m now (start_part plan m now core).core)))
     (ask_is plan m now (starts_now plan core m now) begun.core)
 
 judging_frames : (plan : Plan) (m now : ℕ) (core : Core) → AreNamed plan (judging_part plan m now core).frames
@@ -113,7 +115,8 @@ taken_frames plan m now card core lt =
     tt
     (lt, tt)
 
-heeded_frames : (plan : Plan) (now : ℕ) (m : Option ℕ) (hello : Hello) (core : Core) → master_named (roster_of plan) hello.master ≡ m → AreNamed plan (hello_heeded plan now m hello core).frames
+heeded_frames : (plan : Plan) (now : ℕ) (m : Option ℕ) (hello : Hello) (core : Core) → master_named (roster_of plan) hello.master ≡ m →
+    AreNamed plan (hello_heeded plan now m hello core).frames
 heeded_frames plan now None hello core found = tt
 heeded_frames plan now (Some m) hello core found =
     named_if plan (is_newer plan (raised_to hello.current core) m hello.card) (raised_to hello.current core) (adopted m now hello.card)
@@ -125,12 +128,14 @@ hello_frames plan now (Ok hello) core =
     named_if plan (is_heeded plan hello) core (hello_heeded plan now (master_named (roster_of plan) hello.master) hello)
     (λ h. heeded_frames plan now (master_named (roster_of plan) hello.master) hello core refl)
 
-promotion_frames : (plan : Plan) (m k now : ℕ) (info : Info) (state : FailoverState) (core : Core) → m < master_count plan → AreNamed plan (promotion m k now info state core).frames
+promotion_frames : (plan : Plan) (m k now : ℕ) (info : Info) (state : FailoverState) (core : Core) → m < master_count plan →
+    AreNamed plan (promotion m k now info state core).frames
 promotion_frames plan m k now info (WaitPromotion epoch choice former) core lt =
     named_if plan ((k == choice.place) && is_master_role info.role) core
     (λ c. card_taken m now (record { epoch = epoch; addr = choice.addr })
     (with_failover c m (promoted (WaitPromotion epoch choice former) (record (failover_of c m) { moment = now }))))
-    (λ h. taken_frames plan m now (record { epoch = epoch; addr = choice.addr }) (with_failover core m (promoted (WaitPromotion epoch choice former) (record (failover_of core m) { moment = now }))) lt)
+    (λ h. taken_frames plan m now (record { epoch = epoch; addr = choice.addr })
+    (with_failover core m (promoted (WaitPromotion epoch choice former) (record (failover_of core m) { moment = now }))) lt)
 promotion_frames plan m k now info _ core lt = tt
 
 judged_frames : (plan : Plan) (m k now : ℕ) (info : Info) (core : Core) → m < master_count plan → AreNamed plan (judged plan m k now info core).frames
@@ -141,7 +146,8 @@ judged_frames plan m k now info core lt =
     (frames_either plan (is_reconfiguring (failover_of core m).state) (reconfiguration m k info core) (promotion m k now info (failover_of core m).state core)
     (named_if plan (has_followed info (card_of core.kept m).addr) core (λ c. quiet (with_failover c m (reconfigured (failover_of c m).state (failover_of c m) k))) (λ h. tt))
     (promotion_frames plan m k now info (failover_of core m).state core lt))
-    (named_if plan (not (k == card_place plan core m)) core (correction plan m k now info) (λ h. named_one plan (if role_told then true else address_told) (FollowTo (node_name plan m k) m) tt))
+    (named_if plan (not (k == card_place plan core m)) core (correction plan m k now info)
+    (λ h. named_one plan (if role_told then true else address_told) (FollowTo (node_name plan m k) m) tt))
   where
     role_told : Bool
     role_told = is_role_overdue now (wrong_of now info (card_of core.kept m).addr (node_of core m k)) && can_be_followed plan core m now
@@ -149,7 +155,8 @@ judged_frames plan m k now info core lt =
     address_told : Bool
     address_told = is_address_overdue (settings_at plan m).timeout now (wrong_of now info (card_of core.kept m).addr (node_of core m k)) && can_be_followed plan core m now
 
-of_node_frames : (plan : Plan) (now : ℕ) (at : Option NodePlace) (info : Info) (core : Core) → ((it : NodePlace) → at ≡ Some it → it.master < master_count plan) → AreNamed plan (info_of_node plan now at info core).frames
+of_node_frames : (plan : Plan) (now : ℕ) (at : Option NodePlace) (info : Info) (core : Core) → ((it : NodePlace) → at ≡ Some it → it.master < master_count plan) →
+    AreNamed plan (info_of_node plan now at info core).frames
 of_node_frames plan now None info core within = tt
 of_node_frames plan now (Some at) info core within =
     named_if plan (not (is_tilted (info_kept at.master at.place now info core))) (info_kept at.master at.place now info core) (judged plan at.master at.place now info)

@@ -32,7 +32,8 @@ votes_from m place [] = []
 votes_from m place (None ∷ votes) = votes_from m (place + 1) votes
 votes_from m place (Some given ∷ votes) = vote place m given.epoch given.candidate ∷ votes_from m (place + 1) votes
 
-in_votes : (m place : ℕ) (votes : List (Option HeardVote)) (voter : ℕ) (given : HeardVote) → slice_index_or votes voter None ≡ Some given → Contains (votes_from m place votes) (vote (place + voter) m given.epoch given.candidate)
+in_votes : (m place : ℕ) (votes : List (Option HeardVote)) (voter : ℕ) (given : HeardVote) → slice_index_or votes voter None ≡ Some given →
+    Contains (votes_from m place votes) (vote (place + voter) m given.epoch given.candidate)
 in_votes m place [] voter given e = absurd (cc)
 in_votes m place (None ∷ votes) zero given e = absurd (cc)
 in_votes m place (None ∷ votes) (suc voter) given e =
@@ -83,7 +84,8 @@ are_parts_of core =
       count = opens_long 0 core.masters;
       each = λ m lt. subst (IsOpenOf m (master_of core m)) (sym (opens_at 0 core.masters m lt ∙ ap (λ (x : ℕ). open_at x (master_of core m)) (nothing_more m)))
           (record {
-            heard = λ voter given e. subst (λ (v : ℕ). Contains (votes_from m 0 (master_of core m).heard) (vote v m given.epoch given.candidate)) (nothing_more voter) (in_votes m 0 (master_of core m).heard voter given e);
+            heard = λ voter given e. subst (λ (v : ℕ). Contains (votes_from m 0 (master_of core m).heard) (vote v m given.epoch given.candidate)) (nothing_more voter)
+                (in_votes m 0 (master_of core m).heard voter given e);
             campaign = refl;
           });
       wins = refl;
@@ -144,24 +146,30 @@ module _ (roster : Roster) (parts : Parts) (h : Holds roster parts) (current m :
   open_there : (k : ℕ) → k ≢ m → open_of (changed parts current m kept opened) k ≡ open_of parts k
   open_there k apart = get_or-set_other parts.masters m k opened empty apart
 
-  goes : parts.kept.current ≤ current → kept.card.epoch ≤ current → IsAheadOf kept.card opened.campaign → IsUpTo current opened.campaign → IsSameOrNewer (card_of parts.kept m) kept.card → Goes roster parts (changed parts current m kept opened)
+  goes : parts.kept.current ≤ current → kept.card.epoch ≤ current → IsAheadOf kept.card opened.campaign → IsUpTo current opened.campaign →
+      IsSameOrNewer (card_of parts.kept m) kept.card → Goes roster parts (changed parts current m kept opened)
   goes later low ahead up newer =
       record {
         holds = record {
           kept_long = length-set parts.kept.masters m kept ∙ h.kept_long;
           open_long = length-set parts.masters m opened ∙ h.open_long;
           low = λ k. ⊎_elim
-              (λ (e : k ≡ m). subst (λ (i : ℕ). (card_of (changed parts current m kept opened).kept i).epoch ≤ current) (sym e) (subst (λ (x : KeptMaster). x.card.epoch ≤ current) (sym kept_here) low))
-              (λ (apart : k ≢ m). subst (λ (x : KeptMaster). x.card.epoch ≤ current) (sym (kept_there k apart)) (let before : (card_of parts.kept k).epoch ≤ parts.kept.current = h.low k in omega arith))
+              (λ (e : k ≡ m). subst (λ (i : ℕ). (card_of (changed parts current m kept opened).kept i).epoch ≤ current) (sym e)
+              (subst (λ (x : KeptMaster). x.card.epoch ≤ current) (sym kept_here) low))
+              (λ (apart : k ≢ m). subst (λ (x : KeptMaster). x.card.epoch ≤ current) (sym (kept_there k apart))
+              (let before : (card_of parts.kept k).epoch ≤ parts.kept.current = h.low k in omega arith))
               (cases_eq k m);
           ahead = λ k. ⊎_elim
               (λ (e : k ≡ m). subst (λ (i : ℕ). IsAheadOf (card_of (changed parts current m kept opened).kept i) (campaign_of (changed parts current m kept opened) i)) (sym e)
               (subst (λ (x : KeptMaster × OpenMaster). IsAheadOf x.0.card x.1.campaign) (λ i. (sym kept_here i, sym open_here i)) ahead))
-              (λ (apart : k ≢ m). subst (λ (x : KeptMaster × OpenMaster). IsAheadOf x.0.card x.1.campaign) (λ i. (sym (kept_there k apart) i, sym (open_there k apart) i)) (h.ahead k))
+              (λ (apart : k ≢ m). subst (λ (x : KeptMaster × OpenMaster). IsAheadOf x.0.card x.1.campaign) (λ i. (sym (kept_there k apart) i, sym (open_there k apart) i))
+              (h.ahead k))
               (cases_eq k m);
           up = λ k. ⊎_elim
-              (λ (e : k ≡ m). subst (λ (i : ℕ). IsUpTo current (campaign_of (changed parts current m kept opened) i)) (sym e) (subst (λ (x : OpenMaster). IsUpTo current x.campaign) (sym open_here) up))
-              (λ (apart : k ≢ m). subst (λ (x : OpenMaster). IsUpTo current x.campaign) (sym (open_there k apart)) (up_later parts.kept.current current (campaign_of parts k) later (h.up k)))
+              (λ (e : k ≡ m). subst (λ (i : ℕ). IsUpTo current (campaign_of (changed parts current m kept opened) i)) (sym e)
+              (subst (λ (x : OpenMaster). IsUpTo current x.campaign) (sym open_here) up))
+              (λ (apart : k ≢ m). subst (λ (x : OpenMaster). IsUpTo current x.campaign) (sym (open_there k apart))
+              (up_later parts.kept.current current (campaign_of parts k) later (h.up k)))
               (cases_eq k m);
         };
         newer = λ k. ⊎_elim
@@ -185,18 +193,21 @@ recorded roster parts last last2 e f g =
       newer = λ k. subst (λ (kept : Kept). IsSameOrNewer (card_of parts.kept k) (card_of kept k)) (sym e) (g.newer k);
     }
 
-chosen_ahead : (card : Card) (epoch : ℕ) (choice : Addr) (campaign : Campaign) → campaign ≡ Chosen epoch choice → IsAheadOf card campaign → (card.epoch < epoch) ⊎ (card ≡ record { epoch = epoch; addr = choice })
+chosen_ahead : (card : Card) (epoch : ℕ) (choice : Addr) (campaign : Campaign) → campaign ≡ Chosen epoch choice → IsAheadOf card campaign →
+    (card.epoch < epoch) ⊎ (card ≡ record { epoch = epoch; addr = choice })
 chosen_ahead card epoch choice campaign e h = let g : IsAheadOf card (Chosen epoch choice) = subst (IsAheadOf card) e h in g
 
 -- the choice of a campaign is the configuration, or of a greater epoch
-enacted : (card : Card) (epoch : ℕ) (choice : Addr) → (card.epoch < epoch) ⊎ (card ≡ record { epoch = epoch; addr = choice }) → IsSameOrNewer card (record { epoch = epoch; addr = choice })
+enacted : (card : Card) (epoch : ℕ) (choice : Addr) → (card.epoch < epoch) ⊎ (card ≡ record { epoch = epoch; addr = choice }) →
+    IsSameOrNewer card (record { epoch = epoch; addr = choice })
 enacted card epoch choice h = ⊎_elim (λ (l : card.epoch < epoch). inr l) (λ (e : card ≡ record { epoch = epoch; addr = choice }). inl e) h
 
 up_enacted : (current epoch : ℕ) (choice : Addr) (campaign : Campaign) → campaign ≡ Chosen epoch choice → IsUpTo current campaign → epoch ≤ current
 up_enacted current epoch choice campaign e h = let g : IsUpTo current (Chosen epoch choice) = subst (IsUpTo current) e h in g
 
 -- a campaign is opened above all configurations, and enacts its epoch
-one_step : (roster : Roster) (i : ℕ) (event : Event) (parts : Parts) (ballot : Ballot) → Holds roster parts → IsAllowed roster i event parts ballot → Goes roster parts (after i parts ballot)
+one_step : (roster : Roster) (i : ℕ) (event : Event) (parts : Parts) (ballot : Ballot) → Holds roster parts → IsAllowed roster i event parts ballot →
+    Goes roster parts (after i parts ballot)
 one_step roster i event parts (Raise e) h may =
     let up : parts.kept.current < e = may in
     record {
@@ -211,12 +222,16 @@ one_step roster i event parts (Raise e) h may =
     }
 one_step roster i event parts (Open m) h may =
     let low : (card_of parts.kept m).epoch ≤ parts.kept.current = h.low m in
-    goes roster parts h (parts.kept.current + 1) m (kept_of parts.kept m) (record (open_of parts m) { campaign = Running (parts.kept.current + 1) }) may.0 (omega arith) (omega arith) (omega arith) (omega arith) (inl refl)
+    goes roster parts h (parts.kept.current + 1) m (kept_of parts.kept m) (record (open_of parts m) { campaign = Running (parts.kept.current + 1) }) may.0 (omega arith)
+    (omega arith) (omega arith) (omega arith) (inl refl)
 one_step roster i event parts (Cast m e c) h may =
-    recorded roster parts (changed parts parts.kept.current m (record (kept_of parts.kept m) { voted = e; candidate = Some c }) (open_of parts m)) (after i parts (Cast m e c)) refl refl
-    (goes roster parts h parts.kept.current m (record (kept_of parts.kept m) { voted = e; candidate = Some c }) (open_of parts m) may.0 (omega arith) (h.low m) (h.ahead m) (h.up m) (inl refl))
+    recorded roster parts (changed parts parts.kept.current m (record (kept_of parts.kept m) { voted = e; candidate = Some c }) (open_of parts m)) (after i parts (Cast m e c))
+    refl refl
+    (goes roster parts h parts.kept.current m (record (kept_of parts.kept m) { voted = e; candidate = Some c }) (open_of parts m) may.0 (omega arith) (h.low m) (h.ahead m)
+    (h.up m) (inl refl))
 one_step roster i event parts (Hear v m e c) h may =
-    goes roster parts h parts.kept.current m (kept_of parts.kept m) (record (open_of parts m) { heard = (open_of parts m).heard ++ vote v m e c ∷ [] }) may.0 (omega arith) (h.low m) (h.ahead m) (h.up m) (inl refl)
+    goes roster parts h parts.kept.current m (kept_of parts.kept m) (record (open_of parts m) { heard = (open_of parts m).heard ++ vote v m e c ∷ [] }) may.0 (omega arith)
+    (h.low m) (h.ahead m) (h.up m) (inl refl)
 one_step roster i event parts (Win_at m e) h may =
     let ahead : (card_of parts.kept m).epoch < e = (let g : IsAheadOf (card_of parts.kept m) (Running e) = subst (IsAheadOf (card_of parts.kept m)) may.1 (h.ahead m) in g) in
     let up : e ≤ parts.kept.current = (let g : IsUpTo parts.kept.current (Running e) = subst (IsUpTo parts.kept.current) may.1 (h.up m) in g) in
@@ -233,11 +248,13 @@ one_step roster i event parts (Enact m e a) h may =
     (h.up m)
     (enacted (card_of parts.kept m) e a (chosen_ahead (card_of parts.kept m) e a (campaign_of parts m) may.1 (h.ahead m)))
 one_step roster i event parts (Adopt m card) h may =
-    goes roster parts h (max parts.kept.current card.epoch) m (record (kept_of parts.kept m) { card = card }) (record (open_of parts m) { campaign = Idle }) may.0 (omega arith) (omega arith) tt tt (inr may.2)
+    goes roster parts h (max parts.kept.current card.epoch) m (record (kept_of parts.kept m) { card = card }) (record (open_of parts m) { campaign = Idle }) may.0 (omega arith)
+    (omega arith) tt tt (inr may.2)
 one_step roster i event parts (Drop m) h may =
     goes roster parts h parts.kept.current m (kept_of parts.kept m) (record (open_of parts m) { campaign = Idle }) may (omega arith) (h.low m) tt tt (inl refl)
 
-all_steps : (roster : Roster) (i : ℕ) (event : Event) (ballots : List Ballot) (parts last : Parts) → Holds roster parts → Moved roster i event ballots parts last → Goes roster parts last
+all_steps : (roster : Roster) (i : ℕ) (event : Event) (ballots : List Ballot) (parts last : Parts) → Holds roster parts → Moved roster i event ballots parts last →
+    Goes roster parts last
 all_steps roster i event [] parts last h moved = subst (Goes roster parts) moved (record { holds = h; newer = λ k. inl refl })
 all_steps roster i event (ballot ∷ ballots) parts last h moved =
     let first : Goes roster parts (after i parts ballot) = one_step roster i event parts ballot h moved.0 in
@@ -270,13 +287,15 @@ module _ (plan : Plan) (core : Core) (s : IsSound plan core) where
   low_card : (k : ℕ) → (card_of core.kept k).epoch ≤ core.kept.current
   low_card k = ⊎_elim
       (λ (lt : k < master_count plan). (kept_part_at plan.conf core.kept k lt s.kept).epoch)
-      (λ (le : master_count plan ≤ k). subst (λ (x : KeptMaster). x.card.epoch ≤ core.kept.current) (sym (behind core.kept.masters k no_kept (let e : length core.kept.masters ≡ master_count plan = s.kept_masters in omega arith))) (omega arith))
+      (λ (le : master_count plan ≤ k). subst (λ (x : KeptMaster). x.card.epoch ≤ core.kept.current)
+      (sym (behind core.kept.masters k no_kept (let e : length core.kept.masters ≡ master_count plan = s.kept_masters in omega arith))) (omega arith))
       (split_at k (master_count plan))
 
   up_state : (k : ℕ) → IsUpTo core.kept.current (campaign_in (failover_of core k).state)
   up_state k = ⊎_elim
       (λ (lt : k < master_count plan). up_in core.kept.current (failover_of core k).state (s.each k lt).epoch)
-      (λ (le : master_count plan ≤ k). subst (λ (x : MasterState). IsUpTo core.kept.current (campaign_in x.failover.state)) (sym (behind core.masters k no_master (let e : length core.masters ≡ master_count plan = s.masters in omega arith))) tt)
+      (λ (le : master_count plan ≤ k). subst (λ (x : MasterState). IsUpTo core.kept.current (campaign_in x.failover.state))
+      (sym (behind core.masters k no_master (let e : length core.masters ≡ master_count plan = s.masters in omega arith))) tt)
       (split_at k (master_count plan))
 
 -- the campaigns of a core's parts are those of its states
@@ -301,7 +320,8 @@ holds_of plan core s ahead =
 pub inputs_raise_cards : InputsRaiseCards
 inputs_raise_cards plan core now event p s within ahead =
     let after' : Core = (next plan core now event).core in
-    let take : IsTake plan core (parts_of core) event after' (next plan core now event).outputs = inputs_are_steps plan core (parts_of core) now event p s (are_parts_of core) within in
+    let take : IsTake plan core (parts_of core) event after' (next plan core now event).outputs =
+    inputs_are_steps plan core (parts_of core) now event p s (are_parts_of core) within in
     let g : Goes (roster_of plan) (record (parts_of core) { casts = []; wins = [] }) take.moved_to =
     all_steps (roster_of plan) plan.place event take.ballots (record (parts_of core) { casts = []; wins = [] }) take.moved_to (holds_of plan core s ahead) take.moved in
     let kept : take.moved_to.kept ≡ after'.kept = take.parts_after.kept in (
@@ -311,7 +331,8 @@ inputs_raise_cards plan core now event p s within ahead =
     )
 
 -- at the start each state is idle
-idle_at : (f : MasterPlan → MasterState) → ((x : MasterPlan) → (f x).failover.state ≡ NoState) → (masters : List MasterPlan) (m : ℕ) → (slice_index_or (map f masters) m no_master).failover.state ≡ NoState
+idle_at : (f : MasterPlan → MasterState) → ((x : MasterPlan) → (f x).failover.state ≡ NoState) → (masters : List MasterPlan) (m : ℕ) →
+    (slice_index_or (map f masters) m no_master).failover.state ≡ NoState
 idle_at f e [] m = refl
 idle_at f e (x ∷ xs) zero = e x
 idle_at f e (x ∷ xs) (suc m) = idle_at f e xs m
@@ -319,5 +340,6 @@ idle_at f e (x ∷ xs) (suc m) = idle_at f e xs m
 pub opened_is_ahead : OpenedIsAhead
 opened_is_ahead plan now m =
     let core : Core = opened plan now in
-    let idle : (failover_of core m).state ≡ NoState = idle_at (λ (master : MasterPlan). new_master (group_size plan) (length master.nodes) (clock now)) (λ x. refl) (roster_of plan).masters m in
+    let idle : (failover_of core m).state ≡ NoState = idle_at (λ (master : MasterPlan). new_master (group_size plan) (length master.nodes) (clock now)) (λ x. refl)
+    (roster_of plan).masters m in
     subst (λ (st : FailoverState). IsAheadOf (card_of core.kept m) (campaign_in st)) (sym idle) tt

@@ -107,7 +107,8 @@ answer_shows plan now command.Subscribe core h = tt
 
 -- One input
 
-shows_at : (plan : Plan) (now : ℕ) (event : Event) (core : Core) → IsKeptPart plan.conf (next_at plan now event core).core.kept → All ShowsWithin (next_at plan now event core).outputs
+shows_at : (plan : Plan) (now : ℕ) (event : Event) (core : Core) → IsKeptPart plan.conf (next_at plan now event core).core.kept →
+    All ShowsWithin (next_at plan now event core).outputs
 shows_at plan now (Commanded sender c) core h = All-cons ShowsWithin _ [] (answer_shows plan now c core h) (All-nil ShowsWithin)
 shows_at plan now (Tick m random) core h = frames_show plan (part_of plan now (Tick m random) core).core (part_of plan now (Tick m random) core).frames h
 shows_at plan now (AnswerCame voter m addr down leader epoch) core h = All-nil ShowsWithin

@@ -42,7 +42,8 @@ pub named_one : (plan : Plan) (test : Bool) (frame : Frame) → IsNamed plan fra
 named_one plan true frame f = (f, tt)
 named_one plan false frame f = tt
 
-pub named_each : {X : Type 0} (plan : Plan) (frames : ℕ → X → List Frame) → ((k : ℕ) (x : X) → AreNamed plan (frames k x)) → (place : ℕ) (xs : List X) → AreNamed plan (frames_from frames place xs)
+pub named_each : {X : Type 0} (plan : Plan) (frames : ℕ → X → List Frame) → ((k : ℕ) (x : X) → AreNamed plan (frames k x)) → (place : ℕ) (xs : List X) →
+    AreNamed plan (frames_from frames place xs)
 named_each plan frames f place [] = tt
 named_each plan frames f place (x ∷ xs) = named_append plan (frames place x) (frames_from frames (place + 1) xs) (f place x) (named_each plan frames f (place + 1) xs)
 
@@ -53,19 +54,22 @@ named_if plan false core part f = tt
 -- Messages
 
 -- a body that shows nothing
-pub silent : (plan : Plan) (parts : Parts) (target : NodeName) (body : Body) → advertised (roster_of plan) body ≡ [] → vote_shown (SentinelAt plan.place) body ≡ None → published body ≡ None → passed_on body ≡ None
+pub silent : (plan : Plan) (parts : Parts) (target : NodeName) (body : Body) → advertised (roster_of plan) body ≡ [] → vote_shown (SentinelAt plan.place) body ≡ None →
+    published body ≡ None → passed_on body ≡ None
     → IsRightOutput (roster_of plan) plan.place parts (send plan target body)
 silent plan parts target body cards votes hellos text =
     record {
       sender = refl;
-      cards = subst (λ (list : List Shown). All (λ shown. shown.card ≡ card_of parts.kept shown.master) list) (sym cards) (All-nil (λ (shown : Shown). shown.card ≡ card_of parts.kept shown.master));
+      cards = subst (λ (list : List Shown). All (λ shown. shown.card ≡ card_of parts.kept shown.master) list) (sym cards)
+          (All-nil (λ (shown : Shown). shown.card ≡ card_of parts.kept shown.master));
       votes = λ v h. let never : None ≡ Some v = sym votes ∙ h in absurd (cc);
       hellos = λ hello h. let never : None ≡ Some hello = sym hellos ∙ h in absurd (cc);
       no_hello_text = text;
     }
 
 -- a body that shows configurations alone
-pub showing : (plan : Plan) (parts : Parts) (target : NodeName) (body : Body) → All (λ shown. shown.card ≡ card_of parts.kept shown.master) (advertised (roster_of plan) body) → vote_shown (SentinelAt plan.place) body ≡ None → published body ≡ None → passed_on body ≡ None
+pub showing : (plan : Plan) (parts : Parts) (target : NodeName) (body : Body) → All (λ shown. shown.card ≡ card_of parts.kept shown.master) (advertised (roster_of plan) body) →
+    vote_shown (SentinelAt plan.place) body ≡ None → published body ≡ None → passed_on body ≡ None
     → IsRightOutput (roster_of plan) plan.place parts (send plan target body)
 showing plan parts target body cards votes hellos text =
     record {
@@ -105,7 +109,8 @@ hello_right plan core parts target m p s is lt =
     }
   where
     shown : (named : Option ℕ) → master_named (roster_of plan) (master_at (roster_of plan) m).name ≡ named
-        → All (λ (shown : Shown). shown.card ≡ card_of parts.kept shown.master) (elim named as (λ _. List Shown) [ None ↦ [] | Some j ↦ (record { master = j; card = card_of core.kept m }) ∷ [] ])
+        → All (λ (shown : Shown). shown.card ≡ card_of parts.kept shown.master)
+        (elim named as (λ _. List Shown) [ None ↦ [] | Some j ↦ (record { master = j; card = card_of core.kept m }) ∷ [] ])
     shown None e = All-nil (λ (shown : Shown). shown.card ≡ card_of parts.kept shown.master)
     shown (Some j) e =
         let found = named_master (roster_of plan) (master_at (roster_of plan) m).name j e in
@@ -137,7 +142,8 @@ frames_right plan core parts (frame ∷ frames) p s is f =
 -- Answers
 
 -- a vote that is shown is the one that is kept
-pub answer_right : (plan : Plan) (parts : Parts) (target : NodeName) (m : ℕ) (addr : Addr) (down : Bool) (leader : Option RunId) (epoch : ℕ) → epoch ≡ voted_of parts.kept m → candidate_of parts m ≡ leader
+pub answer_right : (plan : Plan) (parts : Parts) (target : NodeName) (m : ℕ) (addr : Addr) (down : Bool) (leader : Option RunId) (epoch : ℕ) → epoch ≡ voted_of parts.kept m →
+    candidate_of parts m ≡ leader
     → IsRightOutput (roster_of plan) plan.place parts (send plan target (Answer m addr down leader epoch))
 answer_right plan parts target m addr down None epoch voted given = silent plan parts target (Answer m addr down None epoch) refl refl refl refl
 answer_right plan parts target m addr down (Some c) epoch voted given =
@@ -150,7 +156,8 @@ answer_right plan parts target m addr down (Some c) epoch voted given =
       no_hello_text = refl;
     }
 
-pub shown_right : (core : Core) (parts : Parts) (masters : List ℕ) → IsPartsOf core parts → All (λ (shown : Shown). shown.card ≡ card_of parts.kept shown.master) (map (shown_of core) masters)
+pub shown_right : (core : Core) (parts : Parts) (masters : List ℕ) → IsPartsOf core parts →
+    All (λ (shown : Shown). shown.card ≡ card_of parts.kept shown.master) (map (shown_of core) masters)
 shown_right core parts [] is = All-nil (λ (shown : Shown). shown.card ≡ card_of parts.kept shown.master)
 shown_right core parts (m ∷ masters) is =
     All-cons (λ (shown : Shown). shown.card ≡ card_of parts.kept shown.master) (shown_of core m) (map (shown_of core) masters)

@@ -24,7 +24,8 @@ use Rattle.sentinel_rules.proofs.Framing.{sound_alike}
 use Rattle.sentinel_rules.proofs.SoundTicks.{keeps_more, tick_keeps, book_sound, mark_sound}
 use Rattle.sentinel_rules.proofs.SoundNews.{hello_keeps, answered_sound, pinged_sound, info_keeps}
 
-pub requested_sound : (plan : Plan) (m now epoch : ℕ) (candidate : RunId) (core : Core) → epoch ≤ MAX_EPOCH → IsSound plan core → IsSound plan (requested plan m now epoch candidate core)
+pub requested_sound : (plan : Plan) (m now epoch : ℕ) (candidate : RunId) (core : Core) → epoch ≤ MAX_EPOCH → IsSound plan core →
+    IsSound plan (requested plan m now epoch candidate core)
 requested_sound plan m now epoch candidate core h s = known (grants (book_of core m) epoch)
   where
     voted : Core
@@ -34,11 +35,13 @@ requested_sound plan m now epoch candidate core h s = known (grants (book_of cor
     known true = mark_sound plan m now candidate voted (book_sound plan core m epoch candidate h s)
     known false = book_sound plan core m epoch candidate h s
 
-asked_at_sound : (plan : Plan) (m now : ℕ) (addr : Addr) (epoch : ℕ) (down : Bool) (candidate : Option RunId) (core : Core) → epoch ≤ MAX_EPOCH → IsSound plan core → IsSound plan (asked_at plan m now addr epoch down candidate core).core
+asked_at_sound : (plan : Plan) (m now : ℕ) (addr : Addr) (epoch : ℕ) (down : Bool) (candidate : Option RunId) (core : Core) → epoch ≤ MAX_EPOCH → IsSound plan core →
+    IsSound plan (asked_at plan m now addr epoch down candidate core).core
 asked_at_sound plan m now addr epoch down None core h s = s
 asked_at_sound plan m now addr epoch down (Some candidate) core h s = requested_sound plan m now epoch candidate core h s
 
-asked_of_sound : (plan : Plan) (now : ℕ) (addr : Addr) (epoch : ℕ) (candidate : Option RunId) (m : Option ℕ) (core : Core) → epoch ≤ MAX_EPOCH → IsSound plan core → IsSound plan (asked_of plan now addr epoch candidate m core).core
+asked_of_sound : (plan : Plan) (now : ℕ) (addr : Addr) (epoch : ℕ) (candidate : Option RunId) (m : Option ℕ) (core : Core) → epoch ≤ MAX_EPOCH → IsSound plan core →
+    IsSound plan (asked_of plan now addr epoch candidate m core).core
 asked_of_sound plan now addr epoch candidate None core h s = s
 asked_of_sound plan now addr epoch candidate (Some m) core h s = asked_at_sound plan m now addr epoch (is_master_down plan core m now && not (is_tilted core)) candidate core h s
 
@@ -58,7 +61,8 @@ commanded_sound plan now Subscribe core h s = s
 cleared_sound : (plan : Plan) (core : Core) → IsSound plan core → IsSound plan (cleared core)
 cleared_sound plan core s = sound_alike plan core (cleared core) refl refl refl s
 
-at_keeps : (plan : Plan) (core : Core) (now : ℕ) (event : Event) → IsSoundPlan plan → IsSound plan core → IsWithinEvent event → IsSound plan (next_at plan now event core).core × (length (part_of plan now event core).frames ≤ FRAMES_MAX)
+at_keeps : (plan : Plan) (core : Core) (now : ℕ) (event : Event) → IsSoundPlan plan → IsSound plan core → IsWithinEvent event →
+    IsSound plan (next_at plan now event core).core × (length (part_of plan now event core).frames ≤ FRAMES_MAX)
 at_keeps plan core now (Tick m random) p s h = let f = tick_keeps plan m random now core p s in (f.sound, f.few)
 at_keeps plan core now (Commanded sender command) p s h = (commanded_sound plan now command core h s, omega arith)
 at_keeps plan core now (AnswerCame voter m addr down leader epoch) p s h = (answered_sound plan voter m now addr down leader epoch core s, omega arith)

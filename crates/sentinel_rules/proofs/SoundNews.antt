@@ -55,7 +55,8 @@ pub card_sound : (plan : Plan) (core : Core) (m : ℕ) (card : Card) → IsSound
 card_sound plan core m card s low there none =
     sound_at plan core core2 m s refl (λ k apart. refl) refl
     (kept_with plan.conf core.kept core.kept.current m (record (kept_of core.kept m) { card = card }) (omega arith) s.kept.current
-    (λ lt. record { addr = there lt; epoch = low lt; voted = (kept_at plan.conf core.kept m lt s.kept).voted; candidate = (kept_at plan.conf core.kept m lt s.kept).candidate }) s.kept)
+    (λ lt. record { addr = there lt; epoch = low lt; voted = (kept_at plan.conf core.kept m lt s.kept).voted; candidate = (kept_at plan.conf core.kept m lt s.kept).candidate })
+    s.kept)
     (omega arith)
     (λ k apart. other_entry core.kept core.kept.current m k (record (kept_of core.kept m) { card = card }) apart)
     (λ lt. let i = s.each m lt in
@@ -98,7 +99,8 @@ card_keeps plan m now card core s low there none = known (same_addr (card_of cor
     known false =
         record {
           sound = sound_master plan (with_card core m card) m new carded
-              (λ lt. master_alike plan (with_card core m card).kept m (master_of core m) new (carded.each m lt) refl (length-map (master_of core m).reports (λ _. None)) (length-map (master_of core m).nodes (moved now)) refl);
+              (λ lt. master_alike plan (with_card core m card).kept m (master_of core m) new (carded.each m lt) refl (length-map (master_of core m).reports (λ _. None))
+              (length-map (master_of core m).nodes (moved now)) refl);
           few = omega arith;
         }
 
@@ -109,10 +111,12 @@ raised_sound plan epoch core h s =
     let high : max core.kept.current epoch ≤ MAX_EPOCH = let c : core.kept.current ≤ MAX_EPOCH = s.kept.current in omega arith in
     sound_current plan core (max core.kept.current epoch) s (omega arith) (kept_raised plan.conf core.kept (max core.kept.current epoch) (omega arith) high s.kept)
 
-pub adopted_keeps : (plan : Plan) (m now : ℕ) (card : Card) (core : Core) → card.epoch ≤ MAX_EPOCH → Contains (nodes_of plan m) card.addr → IsSound plan core → KeepsSound plan 1 (adopted m now card core)
+pub adopted_keeps : (plan : Plan) (m now : ℕ) (card : Card) (core : Core) → card.epoch ≤ MAX_EPOCH → Contains (nodes_of plan m) card.addr → IsSound plan core →
+    KeepsSound plan 1 (adopted m now card core)
 adopted_keeps plan m now card core h there s =
     card_keeps plan m now card (with_failover high m end) stopped (λ lt. omega arith) (λ lt. there)
-    (λ lt. ap (λ (master : MasterState). awaited master.failover.state) (master_same high m (record (master_of high m) { failover = end }) (subst (λ (n : ℕ). m < n) (sym s.masters) lt)))
+    (λ lt. ap (λ (master : MasterState). awaited master.failover.state)
+    (master_same high m (record (master_of high m) { failover = end }) (subst (λ (n : ℕ). m < n) (sym s.masters) lt)))
   where
     high : Core
     high = raised_to card.epoch core
@@ -125,10 +129,13 @@ adopted_keeps plan m now card core h there s =
         sound_failover plan high m end (raised_sound plan card.epoch core h s)
         (λ lt. ended_sound plan high.kept m (failover_of core m) (s.each m lt).replicas)
 
-known_keeps : (plan : Plan) (m now : ℕ) (text : List ℕ) (hello : Hello) (core : Core) → SpellsHello text hello → IsSound plan core → KeepsSound plan 1 (hello_of_known plan m now hello core)
+known_keeps : (plan : Plan) (m now : ℕ) (text : List ℕ) (hello : Hello) (core : Core) → SpellsHello text hello → IsSound plan core →
+    KeepsSound plan 1 (hello_of_known plan m now hello core)
 known_keeps plan m now text hello core spelled s =
     keeps_if plan 1 (is_newer plan high m hello.card) high (adopted m now hello.card) t
-    (λ h. adopted_keeps plan m now hello.card high spelled.is_hello.epoch (Contains-from_any {eq = same_addr} same_addr-equal hello.card.addr (nodes_of plan m) (both (nat_lt (card_of high.kept m).epoch hello.card.epoch) (list_any (same_addr hello.card.addr) (nodes_of plan m)) h).1) t)
+    (λ h. adopted_keeps plan m now hello.card high spelled.is_hello.epoch
+    (Contains-from_any {eq = same_addr} same_addr-equal hello.card.addr (nodes_of plan m)
+    (both (nat_lt (card_of high.kept m).epoch hello.card.epoch) (list_any (same_addr hello.card.addr) (nodes_of plan m)) h).1) t)
   where
     high : Core
     high = raised_to hello.current core
@@ -136,11 +143,13 @@ known_keeps plan m now text hello core spelled s =
     t : IsSound plan high
     t = raised_sound plan hello.current core spelled.is_hello.current s
 
-heeded_keeps : (plan : Plan) (now : ℕ) (m : Option ℕ) (text : List ℕ) (hello : Hello) (core : Core) → SpellsHello text hello → IsSound plan core → KeepsSound plan 1 (hello_heeded plan now m hello core)
+heeded_keeps : (plan : Plan) (now : ℕ) (m : Option ℕ) (text : List ℕ) (hello : Hello) (core : Core) → SpellsHello text hello → IsSound plan core →
+    KeepsSound plan 1 (hello_heeded plan now m hello core)
 heeded_keeps plan now None text hello core spelled s = keeps_quiet plan 1 core s
 heeded_keeps plan now (Some m) text hello core spelled s = known_keeps plan m now text hello core spelled s
 
-read_keeps : (plan : Plan) (now : ℕ) (text : List ℕ) (read : Result Hello TextFault) (core : Core) → hello_of text ≡ read → IsSound plan core → KeepsSound plan 1 (hello_read plan now read core)
+read_keeps : (plan : Plan) (now : ℕ) (text : List ℕ) (read : Result Hello TextFault) (core : Core) → hello_of text ≡ read → IsSound plan core →
+    KeepsSound plan 1 (hello_read plan now read core)
 read_keeps plan now text (Err fault) core e s = keeps_quiet plan 1 core s
 read_keeps plan now text (Ok hello) core e s =
     keeps_if plan 1 (is_heeded plan hello) core (hello_heeded plan now (master_named (roster_of plan) hello.master) hello) s
@@ -158,7 +167,8 @@ sound_cond plan false a b f g = g refl
 pub reported_sound : (plan : Plan) (voter m now : ℕ) (addr : Addr) (down : Bool) (core : Core) → IsSound plan core → IsSound plan (reported voter m now addr down core)
 reported_sound plan voter m now addr down core s =
     sound_cond plan (same_addr addr (card_of core.kept m).addr) (with_master core m new) core
-    (λ h. sound_master plan core m new s (λ lt. master_alike plan core.kept m (master_of core m) new (s.each m lt) refl (length-set (master_of core m).reports voter (Some (record { down = down; at = now }))) refl refl))
+    (λ h. sound_master plan core m new s (λ lt. master_alike plan core.kept m (master_of core m) new (s.each m lt) refl
+    (length-set (master_of core m).reports voter (Some (record { down = down; at = now }))) refl refl))
     (λ h. s)
   where
     new : MasterState
@@ -174,7 +184,8 @@ vote_sound plan voter m epoch (Some leader) core apart s =
       reports = i.reports;
       nodes = i.nodes;
       replicas = i.replicas;
-      own = get_or-set_other (master_of core m).heard voter plan.place (Some (greater (vote_at (master_of core m).heard voter) (record { candidate = leader; epoch = epoch }))) None apart ∙ i.own;
+      own = get_or-set_other (master_of core m).heard voter plan.place (Some (greater (vote_at (master_of core m).heard voter) (record { candidate = leader; epoch = epoch })))
+          None apart ∙ i.own;
       epoch = i.epoch;
       choice = i.choice;
     })
@@ -189,15 +200,19 @@ parts3 true true false h = absurd (cc)
 parts3 true false c h = absurd (cc)
 parts3 false b c h = absurd (cc)
 
-answer_sound : (plan : Plan) (voter m now : ℕ) (addr : Addr) (down : Bool) (leader : Option RunId) (epoch : ℕ) (core : Core) → IsSound plan core → IsSound plan (answer_of plan voter m now addr down leader epoch core)
+answer_sound : (plan : Plan) (voter m now : ℕ) (addr : Addr) (down : Bool) (leader : Option RunId) (epoch : ℕ) (core : Core) → IsSound plan core →
+    IsSound plan (answer_of plan voter m now addr down leader epoch core)
 answer_sound plan voter m now addr down leader epoch core s =
-    sound_cond plan (nat_lt voter (group_size plan) && not (voter == plan.place) && nat_lt m (master_count plan)) (vote_heard voter m epoch leader (reported voter m now addr down core)) core
+    sound_cond plan (nat_lt voter (group_size plan) && not (voter == plan.place) && nat_lt m (master_count plan))
+    (vote_heard voter m epoch leader (reported voter m now addr down core)) core
     (λ h. vote_sound plan voter m epoch leader (reported voter m now addr down core)
-    (λ e. eqb-false voter plan.place (not_true (eqb voter plan.place) (parts3 (nat_lt voter (group_size plan)) (not (voter == plan.place)) (nat_lt m (master_count plan)) h).1) (sym e))
+    (λ e. eqb-false voter plan.place (not_true (eqb voter plan.place) (parts3 (nat_lt voter (group_size plan)) (not (voter == plan.place)) (nat_lt m (master_count plan)) h).1)
+    (sym e))
     (reported_sound plan voter m now addr down core s))
     (λ h. s)
 
-pub answered_sound : (plan : Plan) (voter : NodeName) (m now : ℕ) (addr : Addr) (down : Bool) (leader : Option RunId) (epoch : ℕ) (core : Core) → IsSound plan core → IsSound plan (answered plan voter m now addr down leader epoch core)
+pub answered_sound : (plan : Plan) (voter : NodeName) (m now : ℕ) (addr : Addr) (down : Bool) (leader : Option RunId) (epoch : ℕ) (core : Core) → IsSound plan core →
+    IsSound plan (answered plan voter m now addr down leader epoch core)
 answered_sound plan (SentinelAt voter) m now addr down leader epoch core s = answer_sound plan voter m now addr down leader epoch core s
 answered_sound plan (StoreAt number) m now addr down leader epoch core s = s
 answered_sound plan (ClientAt number) m now addr down leader epoch core s = s
@@ -216,8 +231,10 @@ pinged_at_sound plan now reply (Some at) core s = node_sound plan core at.master
 
 pub pinged_sound : (plan : Plan) (node : NodeName) (now : ℕ) (reply : PingReply) (core : Core) → IsSound plan core → IsSound plan (pinged plan node now reply core)
 pinged_sound plan (SentinelAt place) now reply core s =
-    sound_cond plan (nat_lt place (group_size plan) && not (place == plan.place)) (record core { peers = slice_set core.peers place (peer_pinged now reply (peer_of core place)) }) core
-    (λ h. sound_alike plan core (record core { peers = slice_set core.peers place (peer_pinged now reply (peer_of core place)) }) refl refl (length-set core.peers place (peer_pinged now reply (peer_of core place))) s)
+    sound_cond plan (nat_lt place (group_size plan) && not (place == plan.place)) (record core { peers = slice_set core.peers place (peer_pinged now reply (peer_of core place)) })
+    core
+    (λ h. sound_alike plan core (record core { peers = slice_set core.peers place (peer_pinged now reply (peer_of core place)) }) refl refl
+    (length-set core.peers place (peer_pinged now reply (peer_of core place))) s)
     (λ h. s)
 pinged_sound plan (StoreAt number) now reply core s = pinged_at_sound plan now reply (node_named plan (StoreAt number)) core s
 pinged_sound plan (ClientAt number) now reply core s = s
@@ -225,7 +242,8 @@ pinged_sound plan (PortAt number) now reply core s = s
 
 -- INFO
 
-promotion_keeps : (plan : Plan) (m k now : ℕ) (info : Info) (state : FailoverState) (core : Core) → (failover_of core m).state ≡ state → IsSound plan core → KeepsSound plan 1 (promotion m k now info state core)
+promotion_keeps : (plan : Plan) (m k now : ℕ) (info : Info) (state : FailoverState) (core : Core) → (failover_of core m).state ≡ state → IsSound plan core →
+    KeepsSound plan 1 (promotion m k now info state core)
 promotion_keeps plan m k now info (WaitPromotion epoch choice former) core e s =
     keeps_if plan 1 ((k == choice.place) && is_master_role info.role) core
     (λ c. card_taken m now (record { epoch = epoch; addr = choice.addr })
@@ -235,7 +253,8 @@ promotion_keeps plan m k now info (WaitPromotion epoch choice former) core e s =
     low
     (λ lt. let c : IsAwaited plan core.kept m choice = subst (λ (st : FailoverState). IfSome (awaited st) (IsAwaited plan core.kept m)) e (s.each m lt).choice in
     subst (λ (addr : Addr). Contains (nodes_of plan m) addr) (sym c.addressed) (Contains-get_or (nodes_of plan m) choice.place no_addr c.listed))
-    (λ lt. ap (λ (master : MasterState). awaited master.failover.state) (master_same core m (record (master_of core m) { failover = f }) (subst (λ (n : ℕ). m < n) (sym s.masters) lt))))
+    (λ lt. ap (λ (master : MasterState). awaited master.failover.state)
+    (master_same core m (record (master_of core m) { failover = f }) (subst (λ (n : ℕ). m < n) (sym s.masters) lt))))
   where
     f : Failover
     f = promoted (WaitPromotion epoch choice former) (record (failover_of core m) { moment = now })
@@ -244,7 +263,8 @@ promotion_keeps plan m k now info (WaitPromotion epoch choice former) core e s =
     low lt = subst (λ (st : FailoverState). IfSome (epoch_of st) (λ epoch. epoch ≤ core.kept.current)) e (s.each m lt).epoch
 promotion_keeps plan m k now info _ core e s = keeps_quiet plan 1 core s
 
-pub reconfigured_sound : (plan : Plan) (kept : Kept) (m : ℕ) (state : FailoverState) (f : Failover) (k : ℕ) → IsSoundFailover plan kept m f → IsSoundFailover plan kept m (reconfigured state f k)
+pub reconfigured_sound : (plan : Plan) (kept : Kept) (m : ℕ) (state : FailoverState) (f : Failover) (k : ℕ) → IsSoundFailover plan kept m f →
+    IsSoundFailover plan kept m (reconfigured state f k)
 reconfigured_sound plan kept m (ReconfReplicas epoch choice former) f k s =
     record { replicas = length-set f.replicas k (followed (replica_at f.replicas k)) ∙ s.replicas; epoch = s.epoch; choice = s.choice }
 reconfigured_sound plan kept m _ f k s = s
@@ -253,7 +273,8 @@ reconfiguration_keeps : (plan : Plan) (m k : ℕ) (info : Info) (core : Core) �
 reconfiguration_keeps plan m k info core s =
     keeps_if plan 1 (has_followed info (card_of core.kept m).addr) core (λ c. quiet (with_failover c m (reconfigured (failover_of c m).state (failover_of c m) k))) s
     (λ h. keeps_quiet plan 1 (with_failover core m (reconfigured (failover_of core m).state (failover_of core m) k))
-    (sound_failover plan core m (reconfigured (failover_of core m).state (failover_of core m) k) s (λ lt. reconfigured_sound plan core.kept m (failover_of core m).state (failover_of core m) k (own_failover plan core m s lt))))
+    (sound_failover plan core m (reconfigured (failover_of core m).state (failover_of core m) k) s
+    (λ lt. reconfigured_sound plan core.kept m (failover_of core m).state (failover_of core m) k (own_failover plan core m s lt))))
 
 correction_keeps : (plan : Plan) (m k now : ℕ) (info : Info) (core : Core) → IsSound plan core → KeepsSound plan 1 (correction plan m k now info core)
 correction_keeps plan m k now info core s =
@@ -274,7 +295,8 @@ judged_keeps plan m k now info core s =
     keeps_cond plan 1 (is_failing_over core m)
     (if is_reconfiguring (failover_of core m).state then reconfiguration m k info core else promotion m k now info (failover_of core m).state core)
     (part_if (not (k == card_place plan core m)) core (correction plan m k now info))
-    (keeps_cond plan 1 (is_reconfiguring (failover_of core m).state) (reconfiguration m k info core) (promotion m k now info (failover_of core m).state core) (reconfiguration_keeps plan m k info core s) (promotion_keeps plan m k now info (failover_of core m).state core refl s))
+    (keeps_cond plan 1 (is_reconfiguring (failover_of core m).state) (reconfiguration m k info core) (promotion m k now info (failover_of core m).state core)
+    (reconfiguration_keeps plan m k info core s) (promotion_keeps plan m k now info (failover_of core m).state core refl s))
     (keeps_if plan 1 (not (k == card_place plan core m)) core (correction plan m k now info) s (λ h. correction_keeps plan m k now info core s))
 
 at_node_keeps : (plan : Plan) (m k now : ℕ) (info : Info) (core : Core) → IsSound plan core → KeepsSound plan 1 (info_at_node plan m k now info core)

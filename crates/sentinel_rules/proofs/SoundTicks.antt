@@ -47,11 +47,13 @@ keeps_quiet plan room core s = record { sound = s; few = omega arith }
 pub keeps_more : (plan : Plan) (room more : ℕ) (part : Part) → room ≤ more → KeepsSound plan room part → KeepsSound plan more part
 keeps_more plan room more part le f = record { sound = f.sound; few = let l : length part.frames ≤ room = f.few in omega arith }
 
-pub keeps_if : (plan : Plan) (room : ℕ) (test : Bool) (core : Core) (part : Core → Part) → IsSound plan core → (test ≡ true → KeepsSound plan room (part core)) → KeepsSound plan room (part_if test core part)
+pub keeps_if : (plan : Plan) (room : ℕ) (test : Bool) (core : Core) (part : Core → Part) → IsSound plan core → (test ≡ true → KeepsSound plan room (part core)) →
+    KeepsSound plan room (part_if test core part)
 keeps_if plan room true core part s f = f refl
 keeps_if plan room false core part s f = keeps_quiet plan room core s
 
-pub keeps_then : (plan : Plan) (room more : ℕ) (first : Part) (part : Core → Part) → KeepsSound plan room first → (IsSound plan first.core → KeepsSound plan more (part first.core)) → KeepsSound plan (room + more) (then_part first part)
+pub keeps_then : (plan : Plan) (room more : ℕ) (first : Part) (part : Core → Part) → KeepsSound plan room first →
+    (IsSound plan first.core → KeepsSound plan more (part first.core)) → KeepsSound plan (room + more) (then_part first part)
 keeps_then plan room more first part f g =
     let after : KeepsSound plan more (part first.core) = g f.sound in
     record {
@@ -72,20 +74,24 @@ pub one_frame : (test : Bool) (frame : Frame) → length (frame_if test frame) �
 one_frame true frame = omega arith
 one_frame false frame = omega arith
 
-pub one_each : {X : Type 0} (frames : ℕ → X → List Frame) → ((k : ℕ) (x : X) → length (frames k x) ≤ 1) → (place : ℕ) (xs : List X) → length (frames_from frames place xs) ≤ length xs
+pub one_each : {X : Type 0} (frames : ℕ → X → List Frame) → ((k : ℕ) (x : X) → length (frames k x) ≤ 1) → (place : ℕ) (xs : List X) →
+    length (frames_from frames place xs) ≤ length xs
 one_each frames f place [] = omega arith
 one_each frames f place (x ∷ xs) =
     let a : length (frames place x) ≤ 1 = f place x in
     let b : length (frames_from frames (place + 1) xs) ≤ length xs = one_each frames f (place + 1) xs in
-    let e : length (frames place x ++ frames_from frames (place + 1) xs) ≡ length (frames place x) + length (frames_from frames (place + 1) xs) = length-append (frames place x) (frames_from frames (place + 1) xs) in
+    let e : length (frames place x ++ frames_from frames (place + 1) xs) ≡ length (frames place x) + length (frames_from frames (place + 1) xs) =
+    length-append (frames place x) (frames_from frames (place + 1) xs) in
     omega arith
 
-pub three_each : {X : Type 0} (frames : ℕ → X → List Frame) → ((k : ℕ) (x : X) → length (frames k x) ≤ 3) → (place : ℕ) (xs : List X) → length (frames_from frames place xs) ≤ 3 * length xs
+pub three_each : {X : Type 0} (frames : ℕ → X → List Frame) → ((k : ℕ) (x : X) → length (frames k x) ≤ 3) → (place : ℕ) (xs : List X) →
+    length (frames_from frames place xs) ≤ 3 * length xs
 three_each frames f place [] = omega arith
 three_each frames f place (x ∷ xs) =
     let a : length (frames place x) ≤ 3 = f place x in
     let b : length (frames_from frames (place + 1) xs) ≤ 3 * length xs = three_each frames f (place + 1) xs in
-    let e : length (frames place x ++ frames_from frames (place + 1) xs) ≡ length (frames place x) + length (frames_from frames (place + 1) xs) = length-append (frames place x) (frames_from frames (place + 1) xs) in
+    let e : length (frames place x ++ frames_from frames (place + 1) xs) ≡ length (frames place x) + length (frames_from frames (place + 1) xs) =
+    length-append (frames place x) (frames_from frames (place + 1) xs) in
     omega arith
 
 -- Sizes
@@ -106,7 +112,8 @@ pub peers_keeps : (plan : Plan) (m now : ℕ) (core : Core) → IsSoundPlan plan
 peers_keeps plan zero now core p s =
     record {
       sound = sound_alike plan core (record core { peers = changed_from (peer_after plan now) 0 core.peers }) refl refl (length-changed_from (peer_after plan now) 0 core.peers) s;
-      few = let a : length (frames_from (peer_frames plan now) 0 core.peers) ≤ length core.peers = one_each (peer_frames plan now) (λ k x. one_frame (is_peer_due plan now k x) (PingTo _)) 0 core.peers in
+      few = let a : length (frames_from (peer_frames plan now) 0 core.peers) ≤ length core.peers =
+          one_each (peer_frames plan now) (λ k x. one_frame (is_peer_due plan now k x) (PingTo _)) 0 core.peers in
           let b : length core.peers ≤ SENTINELS_MAX = few_peers plan core p s in
           omega arith;
     }
@@ -118,7 +125,8 @@ node_few plan m s k node =
     let b : length (frame_if (is_info_due s k node) (InfoTo (node_name plan m k))) ≤ 1 = one_frame (is_info_due s k node) (InfoTo (node_name plan m k)) in
     let c : length (frame_if (is_hello_due s node) (HelloTo (node_name plan m k) m)) ≤ 1 = one_frame (is_hello_due s node) (HelloTo (node_name plan m k) m) in
     rw (
-      length-append (frame_if (is_ping_due s node) (PingTo (node_name plan m k))) (frame_if (is_info_due s k node) (InfoTo (node_name plan m k)) ++ frame_if (is_hello_due s node) (HelloTo (node_name plan m k) m)),
+      length-append (frame_if (is_ping_due s node) (PingTo (node_name plan m k)))
+          (frame_if (is_info_due s k node) (InfoTo (node_name plan m k)) ++ frame_if (is_hello_due s node) (HelloTo (node_name plan m k) m)),
       length-append (frame_if (is_info_due s k node) (InfoTo (node_name plan m k))) (frame_if (is_hello_due s node) (HelloTo (node_name plan m k) m)),
     ) (omega arith)
 
@@ -127,7 +135,8 @@ nodes_keeps plan m now core p lt s =
     let g : Sending = sending_of plan core m now in
     let nodes : List NodeState = (master_of core m).nodes in
     record {
-      sound = sound_master plan core m (record (master_of core m) { nodes = changed_from (node_after g) 0 nodes }) s (λ l. nodes_with plan core.kept m (master_of core m) (changed_from (node_after g) 0 nodes) (s.each m l) (length-changed_from (node_after g) 0 nodes));
+      sound = sound_master plan core m (record (master_of core m) { nodes = changed_from (node_after g) 0 nodes }) s
+          (λ l. nodes_with plan core.kept m (master_of core m) (changed_from (node_after g) 0 nodes) (s.each m l) (length-changed_from (node_after g) 0 nodes));
       few = let a : length (frames_from (node_frames plan m g) 0 nodes) ≤ 3 * length nodes = three_each (node_frames plan m g) (λ k node. node_few plan m g k node) 0 nodes in
           let b : length nodes ≤ NODES_MAX = few_nodes plan core m p s lt in
           omega arith;
@@ -154,12 +163,14 @@ odown_keeps plan m now core s =
     plan
     0
     (with_master core m (record (master_of core m) { odown = is_odown_at plan core m now }))
-    (sound_master plan core m (record (master_of core m) { odown = is_odown_at plan core m now }) s (λ lt. master_alike plan core.kept m (master_of core m) (record (master_of core m) { odown = is_odown_at plan core m now }) (s.each m lt) refl refl refl refl))
+    (sound_master plan core m (record (master_of core m) { odown = is_odown_at plan core m now }) s
+    (λ lt. master_alike plan core.kept m (master_of core m) (record (master_of core m) { odown = is_odown_at plan core m now }) (s.each m lt) refl refl refl refl))
 
 -- Votes
 
 -- a failover of a sound core that may take the place of the one that is there
-pub sound_failover : (plan : Plan) (core : Core) (m : ℕ) (failover : Failover) → IsSound plan core → (m < master_count plan → IsSoundFailover plan core.kept m failover) → IsSound plan (with_failover core m failover)
+pub sound_failover : (plan : Plan) (core : Core) (m : ℕ) (failover : Failover) → IsSound plan core → (m < master_count plan → IsSoundFailover plan core.kept m failover) →
+    IsSound plan (with_failover core m failover)
 sound_failover plan core m failover s f =
     sound_master plan core m (record (master_of core m) { failover = failover }) s
     (λ lt. master_with plan core.kept m (master_of core m) failover (s.each m lt) ((f lt).replicas ∙ sym (s.each m lt).replicas) (f lt).epoch (f lt).choice)
@@ -186,7 +197,8 @@ later_by book epoch candidate false e h = record { current = omega arith; voted 
 book_later : (book : Book) (epoch : ℕ) (candidate : RunId) → epoch ≤ MAX_EPOCH → IsLater book (asked book epoch candidate)
 book_later book epoch candidate h = later_by book epoch candidate (grants book epoch) refl h
 
-pub book_sound : (plan : Plan) (core : Core) (m epoch : ℕ) (candidate : RunId) → epoch ≤ MAX_EPOCH → IsSound plan core → IsSound plan (with_book core m (asked (book_of core m) epoch candidate))
+pub book_sound : (plan : Plan) (core : Core) (m epoch : ℕ) (candidate : RunId) → epoch ≤ MAX_EPOCH → IsSound plan core →
+    IsSound plan (with_book core m (asked (book_of core m) epoch candidate))
 book_sound plan core m epoch candidate h s =
     sound_at plan core core2 m s
     refl
@@ -194,7 +206,13 @@ book_sound plan core m epoch candidate h s =
     refl
     (kept_with plan.conf core.kept book.current m (record (kept_of core.kept m) { voted = book.voted; candidate = book.leader }) l.current (l.last s.kept.current)
     (λ lt. let i = kept_at plan.conf core.kept m lt s.kept in
-    record { addr = i.addr; epoch = let a : (card_of core.kept m).epoch ≤ core.kept.current = i.epoch in let b : core.kept.current ≤ book.current = l.current in omega arith; voted = l.voted i.voted; candidate = l.candidate i.candidate }) s.kept)
+    record {
+      addr = i.addr;
+      epoch = let a : (card_of core.kept m).epoch ≤ core.kept.current = i.epoch in let b : core.kept.current ≤ book.current = l.current in
+          omega arith;
+      voted = l.voted i.voted;
+      candidate = l.candidate i.candidate;
+    }) s.kept)
     l.current
     (λ k apart. other_entry core.kept book.current m k (record (kept_of core.kept m) { voted = book.voted; candidate = book.leader }) apart)
     (λ lt. master_later plan core.kept core2.kept m (master_of core m) l.current (same_card lt) (s.each m lt))
@@ -209,14 +227,16 @@ book_sound plan core m epoch candidate h s =
     l = book_later (book_of core m) epoch candidate h
 
     same_card : m < master_count plan → card_of core2.kept m ≡ card_of core.kept m
-    same_card lt = ap (λ kept. kept.card) (own core.kept book.current m (record (kept_of core.kept m) { voted = book.voted; candidate = book.leader }) (subst (λ (n : ℕ). m < n) (sym s.kept_masters) lt))
+    same_card lt = ap (λ kept. kept.card) (own core.kept book.current m (record (kept_of core.kept m) { voted = book.voted; candidate = book.leader })
+        (subst (λ (n : ℕ). m < n) (sym s.kept_masters) lt))
 
 pub mark_sound : (plan : Plan) (m now : ℕ) (candidate : RunId) (core : Core) → IsSound plan core → IsSound plan (mark_for plan m now candidate core)
 mark_sound plan m now candidate core s = known (same_id candidate (me plan))
   where
     known : (b : Bool) → IsSound plan (if b then core else with_failover core m (marked now core.random (failover_of core m)))
     known true = s
-    known false = sound_failover plan core m (marked now core.random (failover_of core m)) s (λ lt. let f = own_failover plan core m s lt in record { replicas = f.replicas; epoch = f.epoch; choice = f.choice })
+    known false = sound_failover plan core m (marked now core.random (failover_of core m)) s
+        (λ lt. let f = own_failover plan core m s lt in record { replicas = f.replicas; epoch = f.epoch; choice = f.choice })
 
 -- The row of a failover
 
@@ -241,7 +261,8 @@ campaign_within kept None h le = omega arith
 campaign_within kept (Some e) h le = omega (arith, h, le)
 
 -- what a turn of a running failover leaves
-pub turn_of_sound : (plan : Plan) (core : Core) (m now : ℕ) → IsSoundPlan plan → IsSound plan core → m < master_count plan → ((failover_of core m).state ≡ Idle → ⊥) → IsSoundFailover plan core.kept m (turn_of plan core m now false).failover
+pub turn_of_sound : (plan : Plan) (core : Core) (m now : ℕ) → IsSoundPlan plan → IsSound plan core → m < master_count plan → ((failover_of core m).state ≡ Idle → ⊥) →
+    IsSoundFailover plan core.kept m (turn_of plan core m now false).failover
 turn_of_sound plan core m now p s lt busy =
     turn_sound
     plan
@@ -256,7 +277,8 @@ turn_of_sound plan core m now p s lt busy =
     (best_awaited plan core m now p lt)
     busy
 
-pub row_keeps : (plan : Plan) (m now : ℕ) (core : Core) → IsSoundPlan plan → m < master_count plan → ((failover_of core m).state ≡ Idle → ⊥) → IsSound plan core → KeepsSound plan 257 (row_part plan m now core)
+pub row_keeps : (plan : Plan) (m now : ℕ) (core : Core) → IsSoundPlan plan → m < master_count plan → ((failover_of core m).state ≡ Idle → ⊥) → IsSound plan core →
+    KeepsSound plan 257 (row_part plan m now core)
 row_keeps plan m now core p lt busy s =
     let turn : Turn = turn_of plan core m now false in
     let epoch : ℕ = campaign_epoch core m in
@@ -265,10 +287,12 @@ row_keeps plan m now core p lt busy s =
     let orders : List Frame = frames_from (order_frames plan m) 0 turn.failover.replicas in
     record {
       sound = win_sound plan m epoch turn.row (with_vote plan m now epoch turn.vote (with_failover core m turn.failover))
-          (vote_sound plan m now epoch turn.vote (with_failover core m turn.failover) (campaign_within core.kept (epoch_of (failover_of core m).state) s.kept.current (s.each m lt).epoch)
+          (vote_sound plan m now epoch turn.vote (with_failover core m turn.failover)
+          (campaign_within core.kept (epoch_of (failover_of core m).state) s.kept.current (s.each m lt).epoch)
           (sound_failover plan core m turn.failover s (λ l. f)));
       few = let a : length promotes ≤ 1 = promote_few plan m turn.row (chosen_place turn.failover.state) in
-          let b : length orders ≤ length turn.failover.replicas = one_each (order_frames plan m) (λ k replica. one_frame replica.ordered (FollowTo (node_name plan m k) m)) 0 turn.failover.replicas in
+          let b : length orders ≤ length turn.failover.replicas =
+          one_each (order_frames plan m) (λ k replica. one_frame replica.ordered (FollowTo (node_name plan m k) m)) 0 turn.failover.replicas in
           let c : length turn.failover.replicas ≡ length (nodes_of plan m) = f.replicas in
           let d : length (nodes_of plan m) ≤ NODES_MAX = p.conf.few_nodes m lt in
           let e : length (promotes ++ orders) ≡ length promotes + length orders = length-append promotes orders in
@@ -346,8 +370,10 @@ ask_keeps plan m now started core p s =
     (λ c. puts (with_master c m (record (master_of c m) { ask_sent = Some now })) (frames_from (ask_frames plan m (ask_candidate plan c m)) 0 c.peers))
     s
     (λ h. record {
-      sound = sound_master plan core m (record (master_of core m) { ask_sent = Some now }) s (λ lt. master_alike plan core.kept m (master_of core m) (record (master_of core m) { ask_sent = Some now }) (s.each m lt) refl refl refl refl);
-      few = let a : length (frames_from (ask_frames plan m (ask_candidate plan core m)) 0 core.peers) ≤ length core.peers = one_each (ask_frames plan m (ask_candidate plan core m)) (λ k x. one_frame (not (k == plan.place)) (AskTo k m (ask_candidate plan core m))) 0 core.peers in
+      sound = sound_master plan core m (record (master_of core m) { ask_sent = Some now }) s
+          (λ lt. master_alike plan core.kept m (master_of core m) (record (master_of core m) { ask_sent = Some now }) (s.each m lt) refl refl refl refl);
+      few = let a : length (frames_from (ask_frames plan m (ask_candidate plan core m)) 0 core.peers) ≤ length core.peers =
+          one_each (ask_frames plan m (ask_candidate plan core m)) (λ k x. one_frame (not (k == plan.place)) (AskTo k m (ask_candidate plan core m))) 0 core.peers in
           let b : length core.peers ≤ SENTINELS_MAX = few_peers plan core p s in
           omega arith;
     })
@@ -355,7 +381,8 @@ ask_keeps plan m now started core p s =
 failover_keeps : (plan : Plan) (m now : ℕ) (core : Core) → IsSoundPlan plan → m < master_count plan → IsSound plan core → KeepsSound plan 321 (failover_part plan m now core)
 failover_keeps plan m now core p lt s =
     keeps_then plan 257 64 (then_part (start_part plan m now core) (λ c. part_if (is_failing_over c m) c (row_part plan m now))) (ask_part plan m now (starts_now plan core m now))
-    (keeps_then plan 0 257 (start_part plan m now core) (λ c. part_if (is_failing_over c m) c (row_part plan m now)) (start_keeps plan m now core s) (λ t. rows (start_part plan m now core).core t))
+    (keeps_then plan 0 257 (start_part plan m now core) (λ c. part_if (is_failing_over c m) c (row_part plan m now)) (start_keeps plan m now core s)
+    (λ t. rows (start_part plan m now core).core t))
     (λ t. ask_keeps plan m now (starts_now plan core m now) (then_part (start_part plan m now core) (λ c. part_if (is_failing_over c m) c (row_part plan m now))).core p t)
   where
     rows : (c : Core) → IsSound plan c → KeepsSound plan 257 (part_if (is_failing_over c m) c (row_part plan m now))
@@ -364,18 +391,21 @@ failover_keeps plan m now core p lt s =
 judging_keeps : (plan : Plan) (m now : ℕ) (core : Core) → IsSoundPlan plan → m < master_count plan → IsSound plan core → KeepsSound plan 321 (judging_part plan m now core)
 judging_keeps plan m now core p lt s =
     keeps_if plan 321 (not (is_tilted core)) core (λ c. then_part (odown_part plan m now c) (failover_part plan m now)) s
-    (λ h. keeps_then plan 0 321 (odown_part plan m now core) (failover_part plan m now) (odown_keeps plan m now core s) (λ t. failover_keeps plan m now (odown_part plan m now core).core p lt t))
+    (λ h. keeps_then plan 0 321 (odown_part plan m now core) (failover_part plan m now) (odown_keeps plan m now core s)
+    (λ t. failover_keeps plan m now (odown_part plan m now core).core p lt t))
 
 master_keeps : (plan : Plan) (m now : ℕ) (core : Core) → IsSoundPlan plan → m < master_count plan → IsSound plan core → KeepsSound plan 1153 (master_part plan m now core)
 master_keeps plan m now core p lt s =
     keeps_then plan 832 321 (then_part (peers_part plan m now core) (nodes_part plan m now)) (judging_part plan m now)
-    (keeps_then plan 64 768 (peers_part plan m now core) (nodes_part plan m now) (peers_keeps plan m now core p s) (λ t. nodes_keeps plan m now (peers_part plan m now core).core p lt t))
+    (keeps_then plan 64 768 (peers_part plan m now core) (nodes_part plan m now) (peers_keeps plan m now core p s)
+    (λ t. nodes_keeps plan m now (peers_part plan m now core).core p lt t))
     (λ t. judging_keeps plan m now (then_part (peers_part plan m now core) (nodes_part plan m now)).core p lt t)
 
 pub tick_keeps : (plan : Plan) (m random now : ℕ) (core : Core) → IsSoundPlan plan → IsSound plan core → KeepsSound plan FRAMES_MAX (tick plan m random now core)
 tick_keeps plan m random now core p s =
     keeps_if plan FRAMES_MAX (nat_lt m (master_count plan)) (with_reading now random core) (master_part plan m now) (read now)
-    (λ h. keeps_more plan 1153 FRAMES_MAX (master_part plan m now (with_reading now random core)) (omega arith) (master_keeps plan m now (with_reading now random core) p (ltb-true m (master_count plan) h) (read now)))
+    (λ h. keeps_more plan 1153 FRAMES_MAX (master_part plan m now (with_reading now random core)) (omega arith)
+    (master_keeps plan m now (with_reading now random core) p (ltb-true m (master_count plan) h) (read now)))
   where
     read : (now : ℕ) → IsSound plan (with_reading now random core)
     read now = sound_alike plan core (with_reading now random core) refl refl refl s

@@ -49,15 +49,18 @@ use Rattle.sentinel_rules.proofs.StepsTo.{StepsTo, steps_then, steps_more, kept_
 pub stay_steps : (plan : Plan) (event : Event) (most : ℕ) (core : Core) → StepsTo plan event most core core
 stay_steps plan event most core = same_steps plan event most core core refl refl refl
 
-pub steps_if : (plan : Plan) (event : Event) (most : ℕ) (test : Bool) (core : Core) (part : Core → Part) → (test ≡ true → StepsTo plan event most core (part core).core) → StepsTo plan event most core (part_if test core part).core
+pub steps_if : (plan : Plan) (event : Event) (most : ℕ) (test : Bool) (core : Core) (part : Core → Part) → (test ≡ true → StepsTo plan event most core (part core).core) →
+    StepsTo plan event most core (part_if test core part).core
 steps_if plan event most true core part f = f refl
 steps_if plan event most false core part f = stay_steps plan event most core
 
-pub steps_cond : (plan : Plan) (event : Event) (most : ℕ) (core : Core) (test : Bool) (a b : Core) → (test ≡ true → StepsTo plan event most core a) → (test ≡ false → StepsTo plan event most core b) → StepsTo plan event most core (if test then a else b)
+pub steps_cond : (plan : Plan) (event : Event) (most : ℕ) (core : Core) (test : Bool) (a b : Core) → (test ≡ true → StepsTo plan event most core a) →
+    (test ≡ false → StepsTo plan event most core b) → StepsTo plan event most core (if test then a else b)
 steps_cond plan event most core true a b f g = f refl
 steps_cond plan event most core false a b f g = g refl
 
-pub steps_part : (plan : Plan) (event : Event) (most : ℕ) (core : Core) (test : Bool) (a b : Part) → (test ≡ true → StepsTo plan event most core a.core) → (test ≡ false → StepsTo plan event most core b.core) → StepsTo plan event most core (if test then a else b).core
+pub steps_part : (plan : Plan) (event : Event) (most : ℕ) (core : Core) (test : Bool) (a b : Part) → (test ≡ true → StepsTo plan event most core a.core) →
+    (test ≡ false → StepsTo plan event most core b.core) → StepsTo plan event most core (if test then a else b).core
 steps_part plan event most core true a b f g = f refl
 steps_part plan event most core false a b f g = g refl
 
@@ -79,7 +82,8 @@ raised_steps plan event epoch core = ⊎_elim above (λ (le : epoch ≤ core.kep
     below : epoch ≤ core.kept.current → StepsTo plan event 1 core (raised_to epoch core)
     below le = is_max core.kept.current (omega arith) (stay_steps plan event 1 core)
 
-pub mark_twin : (plan : Plan) (m now : ℕ) (candidate : RunId) (core : Core) → m < length core.masters → IsTwin m core (mark_for plan m now candidate core) (campaign_in (failover_of core m).state)
+pub mark_twin : (plan : Plan) (m now : ℕ) (candidate : RunId) (core : Core) → m < length core.masters →
+    IsTwin m core (mark_for plan m now candidate core) (campaign_in (failover_of core m).state)
 mark_twin plan m now candidate core lt = known (same_id candidate (me plan))
   where
     self : IsTwin m core core (campaign_in (failover_of core m).state)
@@ -89,21 +93,26 @@ mark_twin plan m now candidate core lt = known (same_id candidate (me plan))
     known true = self
     known false = twin_master core m (record (master_of core m) { failover = marked now core.random (failover_of core m) }) lt refl
 
-granted : (b : Bool) (book : Book) (epoch : ℕ) (candidate : RunId) → b ≡ true → (if b then record { current = epoch; voted = epoch; leader = Some candidate } else raised book epoch) ≡ (let x : Book = record { current = epoch; voted = epoch; leader = Some candidate } in x)
+granted : (b : Bool) (book : Book) (epoch : ℕ) (candidate : RunId) → b ≡ true →
+    (if b then record { current = epoch; voted = epoch; leader = Some candidate } else raised book epoch) ≡ (let x : Book =
+    record { current = epoch; voted = epoch; leader = Some candidate } in x)
 granted true book epoch candidate h = refl
 granted false book epoch candidate h = absurd (cc)
 
-refused : (b : Bool) (book : Book) (epoch : ℕ) (candidate : RunId) → b ≡ false → (if b then record { current = epoch; voted = epoch; leader = Some candidate } else raised book epoch) ≡ raised book epoch
+refused : (b : Bool) (book : Book) (epoch : ℕ) (candidate : RunId) → b ≡ false →
+    (if b then record { current = epoch; voted = epoch; leader = Some candidate } else raised book epoch) ≡ raised book epoch
 refused true book epoch candidate h = absurd (cc)
 refused false book epoch candidate h = refl
 
 -- the core after a vote that is given
-pub voted_is : (core : Core) (m epoch : ℕ) (candidate : RunId) → grants (book_of core m) epoch ≡ true → with_book core m (asked (book_of core m) epoch candidate) ≡ voted_core core m epoch candidate
+pub voted_is : (core : Core) (m epoch : ℕ) (candidate : RunId) → grants (book_of core m) epoch ≡ true →
+    with_book core m (asked (book_of core m) epoch candidate) ≡ voted_core core m epoch candidate
 voted_is core m epoch candidate h =
     ap (λ (book : Book). with_book core m book) (granted (grants (book_of core m) epoch) (book_of core m) epoch candidate h)
 
 -- a request: the current epoch is raised, and the vote given, or the epoch raised alone
-pub requested_steps : (plan : Plan) (event : Event) (m now epoch : ℕ) (candidate : RunId) (core : Core) → m < length core.masters → m < master_count plan → StepsTo plan event 2 core (requested plan m now epoch candidate core)
+pub requested_steps : (plan : Plan) (event : Event) (m now epoch : ℕ) (candidate : RunId) (core : Core) → m < length core.masters → m < master_count plan →
+    StepsTo plan event 2 core (requested plan m now epoch candidate core)
 requested_steps plan event m now epoch candidate core lt inside = known (grants (book_of core m) epoch) refl
   where
     book : Core
@@ -118,10 +127,13 @@ requested_steps plan event m now epoch candidate core lt inside = known (grants 
         let newer : voted_of core.kept m < epoch = ltb-true (voted_of core.kept m) epoch parts.0 in
         let low : core.kept.current ≤ epoch = leb-true core.kept.current epoch parts.1 in
         let at : max core.kept.current epoch ≡ epoch = omega arith in
-        let high : StepsTo plan event 1 core (with_current core epoch) = subst (λ (n : ℕ). StepsTo plan event 1 core (with_current core n)) at (raised_steps plan event epoch core) in
-        let cast : StepsTo plan event 1 (with_current core epoch) (voted_core core m epoch candidate) = cast_steps plan event m epoch candidate (with_current core epoch) lt inside refl newer in
+        let high : StepsTo plan event 1 core (with_current core epoch) =
+        subst (λ (n : ℕ). StepsTo plan event 1 core (with_current core n)) at (raised_steps plan event epoch core) in
+        let cast : StepsTo plan event 1 (with_current core epoch) (voted_core core m epoch candidate) =
+        cast_steps plan event m epoch candidate (with_current core epoch) lt inside refl newer in
         let mark : StepsTo plan event 0 (voted_core core m epoch candidate) (mark_for plan m now candidate (voted_core core m epoch candidate)) =
-        twin_steps plan event 0 m (voted_core core m epoch candidate) (mark_for plan m now candidate (voted_core core m epoch candidate)) lt (mark_twin plan m now candidate (voted_core core m epoch candidate) lt) in
+        twin_steps plan event 0 m (voted_core core m epoch candidate) (mark_for plan m now candidate (voted_core core m epoch candidate)) lt
+        (mark_twin plan m now candidate (voted_core core m epoch candidate) lt) in
         subst (λ (c : Core). StepsTo plan event 2 core (mark_for plan m now candidate c)) (sym (voted_is core m epoch candidate h))
         (steps_then plan event 2 0 core (voted_core core m epoch candidate) (mark_for plan m now candidate (voted_core core m epoch candidate))
         (steps_then plan event 1 1 core (with_current core epoch) (voted_core core m epoch candidate) high cast) mark)
@@ -132,7 +144,8 @@ requested_steps plan event m now epoch candidate core lt inside = known (grants 
 
     past : grants (book_of core m) epoch ≡ false → StepsTo plan event 2 core book
     past h =
-        let same : book ≡ with_book core m (raised (book_of core m) epoch) = ap (λ (b : Book). with_book core m b) (refused (grants (book_of core m) epoch) (book_of core m) epoch candidate h) in
+        let same : book ≡ with_book core m (raised (book_of core m) epoch) =
+        ap (λ (b : Book). with_book core m b) (refused (grants (book_of core m) epoch) (book_of core m) epoch candidate h) in
         subst (λ (c : Core). StepsTo plan event 2 core c) (sym same)
         (steps_then plan event 1 1 core raised_core (with_book core m (raised (book_of core m) epoch)) (raised_steps plan event epoch core)
         (twin_steps plan event 1 m raised_core (with_book core m (raised (book_of core m) epoch)) lt same_twin))
@@ -148,7 +161,8 @@ pub enact_steps : (plan : Plan) (event : Event) (m epoch : ℕ) (choice : Addr) 
 enact_steps plan event m epoch choice core lt inside runs =
     steps_one plan event (Enact m epoch choice) core (with_card core m (record { epoch = epoch; addr = choice }))
     (λ parts is. (inside, (is.each m lt).campaign ∙ runs))
-    (λ parts is. parts_at core (with_card core m (record { epoch = epoch; addr = choice })) m (kept_as core parts) (after plan.place (kept_as core parts) (Enact m epoch choice)) (open_of parts m) is lt refl (λ k apart. refl) (is.each m lt) refl refl is.wins)
+    (λ parts is. parts_at core (with_card core m (record { epoch = epoch; addr = choice })) m (kept_as core parts) (after plan.place (kept_as core parts) (Enact m epoch choice))
+    (open_of parts m) is lt refl (λ k apart. refl) (is.each m lt) refl refl is.wins)
 
 abbrev pub stopped_core : Core → (m : ℕ) → Card → Core
 stopped_core core m card = with_failover (raised_to card.epoch core) m (ended (failover_of core m))
@@ -173,23 +187,28 @@ adopt_steps plan event m card core lt inside shows newer there =
     master = record (master_of core m) { failover = ended (failover_of core m) }
 
 -- what is forgotten at the nodes is nothing to the model
-pub taken_steps : (plan : Plan) (event : Event) (m now : ℕ) (card : Card) (core : Core) → m < length core.masters → StepsTo plan event 0 (with_card core m card) (card_taken m now card core).core
+pub taken_steps : (plan : Plan) (event : Event) (m now : ℕ) (card : Card) (core : Core) → m < length core.masters →
+    StepsTo plan event 0 (with_card core m card) (card_taken m now card core).core
 taken_steps plan event m now card core lt =
     steps_part plan event 0 (with_card core m card) (same_addr (card_of core.kept m).addr card.addr)
     (quiet (with_card (with_master core m (at_same_address (master_of core m))) m card))
     (puts (with_card (with_master core m (at_new_address now (master_of core m))) m card) _)
-    (λ h. twin_steps plan event 0 m (with_card core m card) (with_card (with_master core m (at_same_address (master_of core m))) m card) lt (twin_master (with_card core m card) m (at_same_address (master_of core m)) lt refl))
-    (λ h. twin_steps plan event 0 m (with_card core m card) (with_card (with_master core m (at_new_address now (master_of core m))) m card) lt (twin_master (with_card core m card) m (at_new_address now (master_of core m)) lt refl))
+    (λ h. twin_steps plan event 0 m (with_card core m card) (with_card (with_master core m (at_same_address (master_of core m))) m card) lt
+    (twin_master (with_card core m card) m (at_same_address (master_of core m)) lt refl))
+    (λ h. twin_steps plan event 0 m (with_card core m card) (with_card (with_master core m (at_new_address now (master_of core m))) m card) lt
+    (twin_master (with_card core m card) m (at_new_address now (master_of core m)) lt refl))
 
 -- Hellos
 
-known_steps : (plan : Plan) (m now : ℕ) (text : List ℕ) (hello : Hello) (core : Core) → SpellsHello text hello → master_named (roster_of plan) hello.master ≡ Some m → IsSound plan core → StepsTo plan (HelloRead text) 2 core (hello_of_known plan m now hello core).core
+known_steps : (plan : Plan) (m now : ℕ) (text : List ℕ) (hello : Hello) (core : Core) → SpellsHello text hello → master_named (roster_of plan) hello.master ≡ Some m →
+    IsSound plan core → StepsTo plan (HelloRead text) 2 core (hello_of_known plan m now hello core).core
 known_steps plan m now text hello core spelled names s =
     steps_then plan (HelloRead text) 1 1 core high (hello_of_known plan m now hello core).core (raised_steps plan (HelloRead text) hello.current core)
     (steps_if plan (HelloRead text) 1 (is_newer plan high m hello.card) high (adopted m now hello.card)
     (λ h. let parts = both (nat_lt (card_of high.kept m).epoch hello.card.epoch) (list_any (same_addr hello.card.addr) (nodes_of plan m)) h in
     steps_then plan (HelloRead text) 1 0 high (with_card (stopped_core high m hello.card) m hello.card) (adopted m now hello.card high).core
-    (adopt_steps plan (HelloRead text) m hello.card high lt inside (record { hello = hello; text = text; read = refl; spelled = spelled; names = names; shows = refl }) (ltb-true (card_of high.kept m).epoch hello.card.epoch parts.0) parts.1)
+    (adopt_steps plan (HelloRead text) m hello.card high lt inside (record { hello = hello; text = text; read = refl; spelled = spelled; names = names; shows = refl })
+    (ltb-true (card_of high.kept m).epoch hello.card.epoch parts.0) parts.1)
     (taken_steps plan (HelloRead text) m now hello.card (stopped_core high m hello.card) stopped_lt)))
   where
     high : Core
@@ -204,11 +223,13 @@ known_steps plan m now text hello core spelled names s =
     stopped_lt : m < length (stopped_core high m hello.card).masters
     stopped_lt = subst (λ (n : ℕ). m < n) (sym (length-set core.masters m (record (master_of core m) { failover = ended (failover_of core m) }))) lt
 
-heeded_steps : (plan : Plan) (now : ℕ) (m : Option ℕ) (text : List ℕ) (hello : Hello) (core : Core) → SpellsHello text hello → master_named (roster_of plan) hello.master ≡ m → IsSound plan core → StepsTo plan (HelloRead text) 2 core (hello_heeded plan now m hello core).core
+heeded_steps : (plan : Plan) (now : ℕ) (m : Option ℕ) (text : List ℕ) (hello : Hello) (core : Core) → SpellsHello text hello → master_named (roster_of plan) hello.master ≡ m →
+    IsSound plan core → StepsTo plan (HelloRead text) 2 core (hello_heeded plan now m hello core).core
 heeded_steps plan now None text hello core spelled names s = stay_steps plan (HelloRead text) 2 core
 heeded_steps plan now (Some m) text hello core spelled names s = known_steps plan m now text hello core spelled names s
 
-read_steps : (plan : Plan) (now : ℕ) (text : List ℕ) (read : Result Hello TextFault) (core : Core) → hello_of text ≡ read → IsSound plan core → StepsTo plan (HelloRead text) 2 core (hello_read plan now read core).core
+read_steps : (plan : Plan) (now : ℕ) (text : List ℕ) (read : Result Hello TextFault) (core : Core) → hello_of text ≡ read → IsSound plan core →
+    StepsTo plan (HelloRead text) 2 core (hello_read plan now read core).core
 read_steps plan now text (Err fault) core e s = stay_steps plan (HelloRead text) 2 core
 read_steps plan now text (Ok hello) core e s =
     steps_if plan (HelloRead text) 2 (is_heeded plan hello) core (hello_heeded plan now (master_named (roster_of plan) hello.master) hello)
@@ -219,7 +240,8 @@ hello_steps plan now text core s = read_steps plan now text (hello_of text) core
 
 -- Answers
 
-reported_steps : (plan : Plan) (event : Event) (voter m now : ℕ) (addr : Addr) (down : Bool) (core : Core) → m < length core.masters → StepsTo plan event 0 core (reported voter m now addr down core)
+reported_steps : (plan : Plan) (event : Event) (voter m now : ℕ) (addr : Addr) (down : Bool) (core : Core) → m < length core.masters →
+    StepsTo plan event 0 core (reported voter m now addr down core)
 reported_steps plan event voter m now addr down core lt =
     steps_cond plan event 0 core (same_addr addr (card_of core.kept m).addr) (with_master core m new) core
     (λ h. twin_steps plan event 0 m core (with_master core m new) lt (twin_master core m new lt refl))
@@ -228,32 +250,40 @@ reported_steps plan event voter m now addr down core lt =
     new : MasterState
     new = record (master_of core m) { reports = with_report voter (record { down = down; at = now }) (master_of core m).reports }
 
-greater_heard : (heard : List _) (voter m : ℕ) (kept : Option HeardVote) (new given : HeardVote) → ((old : HeardVote) → kept ≡ Some old → Contains heard (vote voter m old.epoch old.candidate))
+greater_heard : (heard : List _) (voter m : ℕ) (kept : Option HeardVote) (new given : HeardVote) →
+    ((old : HeardVote) → kept ≡ Some old → Contains heard (vote voter m old.epoch old.candidate))
     → Some (greater kept new) ≡ Some given → Contains (heard ++ vote voter m new.epoch new.candidate ∷ []) (vote voter m given.epoch given.candidate)
 greater_heard heard voter m kept new given old e = of_case kept old e
   where
     last : new ≡ given → Contains (heard ++ vote voter m new.epoch new.candidate ∷ []) (vote voter m given.epoch given.candidate)
-    last e = subst (λ (g : HeardVote). Contains (heard ++ vote voter m new.epoch new.candidate ∷ []) (vote voter m g.epoch g.candidate)) e (Contains-push heard (vote voter m new.epoch new.candidate))
+    last e = subst (λ (g : HeardVote). Contains (heard ++ vote voter m new.epoch new.candidate ∷ []) (vote voter m g.epoch g.candidate)) e
+        (Contains-push heard (vote voter m new.epoch new.candidate))
 
-    earlier : (x : HeardVote) → Contains heard (vote voter m x.epoch x.candidate) → x ≡ given → Contains (heard ++ vote voter m new.epoch new.candidate ∷ []) (vote voter m given.epoch given.candidate)
-    earlier x there e = subst (λ (g : HeardVote). Contains (heard ++ vote voter m new.epoch new.candidate ∷ []) (vote voter m g.epoch g.candidate)) e (Contains-append_left heard (vote voter m new.epoch new.candidate ∷ []) (vote voter m x.epoch x.candidate) there)
+    earlier : (x : HeardVote) → Contains heard (vote voter m x.epoch x.candidate) → x ≡ given →
+        Contains (heard ++ vote voter m new.epoch new.candidate ∷ []) (vote voter m given.epoch given.candidate)
+    earlier x there e = subst (λ (g : HeardVote). Contains (heard ++ vote voter m new.epoch new.candidate ∷ []) (vote voter m g.epoch g.candidate)) e
+        (Contains-append_left heard (vote voter m new.epoch new.candidate ∷ []) (vote voter m x.epoch x.candidate) there)
 
-    by_test : (b : Bool) (x : HeardVote) → Contains heard (vote voter m x.epoch x.candidate) → Some (cond b new x) ≡ Some given → Contains (heard ++ vote voter m new.epoch new.candidate ∷ []) (vote voter m given.epoch given.candidate)
+    by_test : (b : Bool) (x : HeardVote) → Contains heard (vote voter m x.epoch x.candidate) → Some (cond b new x) ≡ Some given →
+        Contains (heard ++ vote voter m new.epoch new.candidate ∷ []) (vote voter m given.epoch given.candidate)
     by_test true x there e = last cc
     by_test false x there e = earlier x there cc
 
-    of_case : (kept : Option HeardVote) → ((old : HeardVote) → kept ≡ Some old → Contains heard (vote voter m old.epoch old.candidate)) → Some (greater kept new) ≡ Some given → Contains (heard ++ vote voter m new.epoch new.candidate ∷ []) (vote voter m given.epoch given.candidate)
+    of_case : (kept : Option HeardVote) → ((old : HeardVote) → kept ≡ Some old → Contains heard (vote voter m old.epoch old.candidate)) → Some (greater kept new) ≡ Some given →
+        Contains (heard ++ vote voter m new.epoch new.candidate ∷ []) (vote voter m given.epoch given.candidate)
     of_case None old e = last cc
     of_case (Some x) old e = by_test (nat_lt x.epoch new.epoch) x (old x refl) e
 
 -- a vote is heard
-pub hear_steps : (plan : Plan) (voter m : ℕ) (addr : Addr) (down : Bool) (leader : RunId) (epoch : ℕ) (core : Core) → m < length core.masters → m < master_count plan → voter < length (master_of core m).heard
+pub hear_steps : (plan : Plan) (voter m : ℕ) (addr : Addr) (down : Bool) (leader : RunId) (epoch : ℕ) (core : Core) → m < length core.masters → m < master_count plan →
+    voter < length (master_of core m).heard
     → StepsTo plan (AnswerCame (SentinelAt voter) m addr down (Some leader) epoch) 1 core (vote_heard voter m epoch (Some leader) core)
 hear_steps plan voter m addr down leader epoch core lt inside room =
     steps_one plan (AnswerCame (SentinelAt voter) m addr down (Some leader) epoch) (Hear voter m epoch leader) core core2
     (λ parts is. (inside, refl))
     (λ parts is. let o : IsOpenOf m (master_of core m) (open_of parts m) = is.each m lt in
-    parts_at core core2 m (kept_as core parts) (after plan.place (kept_as core parts) (Hear voter m epoch leader)) (record (open_of parts m) { heard = (open_of parts m).heard ++ vote voter m epoch leader ∷ [] }) is lt
+    parts_at core core2 m (kept_as core parts) (after plan.place (kept_as core parts) (Hear voter m epoch leader))
+    (record (open_of parts m) { heard = (open_of parts m).heard ++ vote voter m epoch leader ∷ [] }) is lt
     (length-set core.masters m master) (λ k apart. master_other core m k master apart)
     (subst (λ (x : MasterState). IsOpenOf m x (record (open_of parts m) { heard = (open_of parts m).heard ++ vote voter m epoch leader ∷ [] })) (sym (master_same core m master lt))
     (record {
@@ -268,20 +298,26 @@ hear_steps plan voter m addr down leader epoch core lt inside room =
     master : MasterState
     master = record (master_of core m) { heard = with_hearing voter epoch leader (master_of core m).heard }
 
-    others : (parts : Parts) → IsOpenOf m (master_of core m) (open_of parts m) → (v : ℕ) (given : HeardVote) → v ≢ voter → kept_at master.heard v ≡ Some given → Contains ((open_of parts m).heard ++ vote voter m epoch leader ∷ []) (vote v m given.epoch given.candidate)
+    others : (parts : Parts) → IsOpenOf m (master_of core m) (open_of parts m) → (v : ℕ) (given : HeardVote) → v ≢ voter → kept_at master.heard v ≡ Some given →
+        Contains ((open_of parts m).heard ++ vote voter m epoch leader ∷ []) (vote v m given.epoch given.candidate)
     others parts o v given apart h =
-        let same : kept_at master.heard v ≡ kept_at (master_of core m).heard v = get_or-set_other (master_of core m).heard voter v (Some (greater (kept_at (master_of core m).heard voter) (record { candidate = leader; epoch = epoch }))) None apart in
+        let same : kept_at master.heard v ≡ kept_at (master_of core m).heard v =
+        get_or-set_other (master_of core m).heard voter v (Some (greater (kept_at (master_of core m).heard voter) (record { candidate = leader; epoch = epoch }))) None
+        apart in
         Contains-append_left (open_of parts m).heard (vote voter m epoch leader ∷ []) (vote v m given.epoch given.candidate) (o.heard v given (sym same ∙ h))
 
-    own : (parts : Parts) → IsOpenOf m (master_of core m) (open_of parts m) → (v : ℕ) (given : HeardVote) → v ≡ voter → kept_at master.heard v ≡ Some given → Contains ((open_of parts m).heard ++ vote voter m epoch leader ∷ []) (vote v m given.epoch given.candidate)
+    own : (parts : Parts) → IsOpenOf m (master_of core m) (open_of parts m) → (v : ℕ) (given : HeardVote) → v ≡ voter → kept_at master.heard v ≡ Some given →
+        Contains ((open_of parts m).heard ++ vote voter m epoch leader ∷ []) (vote v m given.epoch given.candidate)
     own parts o v given e h =
         let there : kept_at master.heard voter ≡ Some (greater (kept_at (master_of core m).heard voter) (record { candidate = leader; epoch = epoch })) =
         get_or-set_same (master_of core m).heard voter (Some (greater (kept_at (master_of core m).heard voter) (record { candidate = leader; epoch = epoch }))) None room in
         let h2 : kept_at master.heard voter ≡ Some given = subst (λ (i : ℕ). kept_at master.heard i ≡ Some given) e h in
         subst (λ (i : ℕ). Contains ((open_of parts m).heard ++ vote voter m epoch leader ∷ []) (vote i m given.epoch given.candidate)) (sym e)
-        (greater_heard (open_of parts m).heard voter m (kept_at (master_of core m).heard voter) (record { candidate = leader; epoch = epoch }) given (λ old k. o.heard voter old k) (sym there ∙ h2))
+        (greater_heard (open_of parts m).heard voter m (kept_at (master_of core m).heard voter) (record { candidate = leader; epoch = epoch }) given (λ old k. o.heard voter old k)
+        (sym there ∙ h2))
 
-heard_steps : (plan : Plan) (voter m : ℕ) (addr : Addr) (down : Bool) (leader : Option RunId) (epoch : ℕ) (core : Core) → m < length core.masters → m < master_count plan → voter < length (master_of core m).heard
+heard_steps : (plan : Plan) (voter m : ℕ) (addr : Addr) (down : Bool) (leader : Option RunId) (epoch : ℕ) (core : Core) → m < length core.masters → m < master_count plan →
+    voter < length (master_of core m).heard
     → StepsTo plan (AnswerCame (SentinelAt voter) m addr down leader epoch) 1 core (vote_heard voter m epoch leader core)
 heard_steps plan voter m addr down None epoch core lt inside room = stay_steps plan (AnswerCame (SentinelAt voter) m addr down None epoch) 1 core
 heard_steps plan voter m addr down (Some leader) epoch core lt inside room = hear_steps plan voter m addr down leader epoch core lt inside room
@@ -289,17 +325,21 @@ heard_steps plan voter m addr down (Some leader) epoch core lt inside room = hea
 answer_steps : (plan : Plan) (voter m now : ℕ) (addr : Addr) (down : Bool) (leader : Option RunId) (epoch : ℕ) (core : Core) → IsSound plan core
     → StepsTo plan (AnswerCame (SentinelAt voter) m addr down leader epoch) 1 core (answer_of plan voter m now addr down leader epoch core)
 answer_steps plan voter m now addr down leader epoch core s =
-    steps_cond plan (AnswerCame (SentinelAt voter) m addr down leader epoch) 1 core (nat_lt voter (group_size plan) && not (voter == plan.place) && nat_lt m (master_count plan)) (vote_heard voter m epoch leader (reported voter m now addr down core)) core
+    steps_cond plan (AnswerCame (SentinelAt voter) m addr down leader epoch) 1 core (nat_lt voter (group_size plan) && not (voter == plan.place) && nat_lt m (master_count plan))
+    (vote_heard voter m epoch leader (reported voter m now addr down core)) core
     (λ h. let parts = parts3 (nat_lt voter (group_size plan)) (not (voter == plan.place)) (nat_lt m (master_count plan)) h in
     heard (ltb-true voter (group_size plan) parts.0) (ltb-true m (master_count plan) parts.2))
     (λ h. stay_steps plan (AnswerCame (SentinelAt voter) m addr down leader epoch) 1 core)
   where
-    heard : voter < group_size plan → m < master_count plan → StepsTo plan (AnswerCame (SentinelAt voter) m addr down leader epoch) 1 core (vote_heard voter m epoch leader (reported voter m now addr down core))
+    heard : voter < group_size plan → m < master_count plan →
+        StepsTo plan (AnswerCame (SentinelAt voter) m addr down leader epoch) 1 core (vote_heard voter m epoch leader (reported voter m now addr down core))
     heard in_group inside =
         let t : IsSound plan (reported voter m now addr down core) = reported_sound plan voter m now addr down core s in
-        steps_then plan (AnswerCame (SentinelAt voter) m addr down leader epoch) 0 1 core (reported voter m now addr down core) (vote_heard voter m epoch leader (reported voter m now addr down core))
+        steps_then plan (AnswerCame (SentinelAt voter) m addr down leader epoch) 0 1 core (reported voter m now addr down core)
+        (vote_heard voter m epoch leader (reported voter m now addr down core))
         (reported_steps plan (AnswerCame (SentinelAt voter) m addr down leader epoch) voter m now addr down core (within_core plan core m s inside))
-        (heard_steps plan voter m addr down leader epoch (reported voter m now addr down core) (within_core plan (reported voter m now addr down core) m t inside) inside (subst (λ (n : ℕ). voter < n) (sym (t.each m inside).heard) in_group))
+        (heard_steps plan voter m addr down leader epoch (reported voter m now addr down core) (within_core plan (reported voter m now addr down core) m t inside) inside
+        (subst (λ (n : ℕ). voter < n) (sym (t.each m inside).heard) in_group))
 
 pub answered_steps : (plan : Plan) (voter : NodeName) (m now : ℕ) (addr : Addr) (down : Bool) (leader : Option RunId) (epoch : ℕ) (core : Core) → IsSound plan core
     → StepsTo plan (AnswerCame voter m addr down leader epoch) 1 core (answered plan voter m now addr down leader epoch core)
@@ -312,11 +352,14 @@ answered_steps plan (PortAt number) m now addr down leader epoch core s = stay_s
 
 numbered_within : (masters : List MasterPlan) (first number : ℕ) (at : NodePlace) → node_numbered masters first number ≡ Some at → at.master < first + length masters
 numbered_within [] first number at h = absurd (cc)
-numbered_within (master ∷ masters) first number at h = known (nat_lt number (length master.nodes)) h (λ (e : node_numbered masters (first + 1) (number - length master.nodes) ≡ Some at). numbered_within masters (first + 1) (number - length master.nodes) at e)
+numbered_within (master ∷ masters) first number at h = known (nat_lt number (length master.nodes)) h
+    (λ (e : node_numbered masters (first + 1) (number - length master.nodes) ≡ Some at). numbered_within masters (first + 1) (number - length master.nodes) at e)
   where
-    known : (b : Bool) → (if b then Some (let x : NodePlace = record { master = first; place = number } in x) else node_numbered masters (first + 1) (number - length master.nodes)) ≡ Some at
+    known : (b : Bool) → (if b then Some (let x : NodePlace = record { master = first; place = number } in x) else node_numbered masters (first + 1)
+        (number - length master.nodes)) ≡ Some at
         → (node_numbered masters (first + 1) (number - length master.nodes) ≡ Some at → at.master < first + 1 + length masters) → at.master < first + length (master ∷ masters)
-    known true h more = let e : (let x : NodePlace = record { master = first; place = number } in x) ≡ at = cc in subst (λ (a : NodePlace). a.master < first + length (master ∷ masters)) e (omega arith)
+    known true h more = let e : (let x : NodePlace = record { master = first; place = number } in x) ≡ at =
+        cc in subst (λ (a : NodePlace). a.master < first + length (master ∷ masters)) e (omega arith)
     known false h more = let l : at.master < first + 1 + length masters = more h in omega arith
 
 pub named_within : (plan : Plan) (node : NodeName) (at : NodePlace) → node_named plan node ≡ Some at → at.master < master_count plan
@@ -329,30 +372,38 @@ pub node_steps : (plan : Plan) (event : Event) (m k : ℕ) (node : NodeState) (c
 node_steps plan event m k node core lt =
     twin_steps plan event 0 m core (with_node core m k node) lt (twin_master core m (record (master_of core m) { nodes = slice_set (master_of core m).nodes k node }) lt refl)
 
-pinged_at_steps : (plan : Plan) (event : Event) (now : ℕ) (reply : PingReply) (at : Option NodePlace) (core : Core) → ((a : NodePlace) → at ≡ Some a → a.master < master_count plan) → IsSound plan core → StepsTo plan event 0 core (pinged_at now reply at core)
+pinged_at_steps : (plan : Plan) (event : Event) (now : ℕ) (reply : PingReply) (at : Option NodePlace) (core : Core) →
+    ((a : NodePlace) → at ≡ Some a → a.master < master_count plan) → IsSound plan core → StepsTo plan event 0 core (pinged_at now reply at core)
 pinged_at_steps plan event now reply None core f s = stay_steps plan event 0 core
-pinged_at_steps plan event now reply (Some at) core f s = node_steps plan event at.master at.place (node_pinged now reply (node_of core at.master at.place)) core (within_core plan core at.master s (f at refl))
+pinged_at_steps plan event now reply (Some at) core f s = node_steps plan event at.master at.place (node_pinged now reply (node_of core at.master at.place)) core
+    (within_core plan core at.master s (f at refl))
 
-pub pinged_steps : (plan : Plan) (event : Event) (node : NodeName) (now : ℕ) (reply : PingReply) (core : Core) → IsSound plan core → StepsTo plan event 0 core (pinged plan node now reply core)
+pub pinged_steps : (plan : Plan) (event : Event) (node : NodeName) (now : ℕ) (reply : PingReply) (core : Core) → IsSound plan core →
+    StepsTo plan event 0 core (pinged plan node now reply core)
 pinged_steps plan event (SentinelAt place) now reply core s =
-    steps_cond plan event 0 core (nat_lt place (group_size plan) && not (place == plan.place)) (record core { peers = slice_set core.peers place (peer_pinged now reply (peer_of core place)) }) core
+    steps_cond plan event 0 core (nat_lt place (group_size plan) && not (place == plan.place))
+    (record core { peers = slice_set core.peers place (peer_pinged now reply (peer_of core place)) }) core
     (λ h. same_steps plan event 0 core (record core { peers = slice_set core.peers place (peer_pinged now reply (peer_of core place)) }) refl refl refl)
     (λ h. stay_steps plan event 0 core)
-pinged_steps plan event (StoreAt number) now reply core s = pinged_at_steps plan event now reply (node_named plan (StoreAt number)) core (λ at e. named_within plan (StoreAt number) at e) s
+pinged_steps plan event (StoreAt number) now reply core s = pinged_at_steps plan event now reply (node_named plan (StoreAt number)) core
+    (λ at e. named_within plan (StoreAt number) at e) s
 pinged_steps plan event (ClientAt number) now reply core s = stay_steps plan event 0 core
 pinged_steps plan event (PortAt number) now reply core s = stay_steps plan event 0 core
 
 -- INFO
 
-promotion_steps : (plan : Plan) (event : Event) (m k now : ℕ) (info : Info) (state : FailoverState) (core : Core) → m < length core.masters → m < master_count plan → (failover_of core m).state ≡ state → StepsTo plan event 1 core (promotion m k now info state core).core
+promotion_steps : (plan : Plan) (event : Event) (m k now : ℕ) (info : Info) (state : FailoverState) (core : Core) → m < length core.masters → m < master_count plan →
+    (failover_of core m).state ≡ state → StepsTo plan event 1 core (promotion m k now info state core).core
 promotion_steps plan event m k now info (WaitPromotion epoch choice former) core lt inside e =
     steps_if plan event 1 ((k == choice.place) && is_master_role info.role) core
     (λ c. card_taken m now (record { epoch = epoch; addr = choice.addr })
     (with_failover c m (promoted (WaitPromotion epoch choice former) (record (failover_of c m) { moment = now }))))
     (λ h. steps_then plan event 1 0 core (with_card told m card) (card_taken m now card told).core
     (steps_then plan event 0 1 core told (with_card told m card)
-    (twin_steps plan event 0 m core told lt (twin_state m core told (campaign_in f.state) (campaign_in (failover_of core m).state) (sym (ap (λ (st : FailoverState). campaign_in st) e)) (twin_master core m (record (master_of core m) { failover = f }) lt refl)))
-    (enact_steps plan event m epoch choice.addr told told_lt inside (ap (λ (master : MasterState). campaign_in master.failover.state) (master_same core m (record (master_of core m) { failover = f }) lt))))
+    (twin_steps plan event 0 m core told lt (twin_state m core told (campaign_in f.state) (campaign_in (failover_of core m).state)
+    (sym (ap (λ (st : FailoverState). campaign_in st) e)) (twin_master core m (record (master_of core m) { failover = f }) lt refl)))
+    (enact_steps plan event m epoch choice.addr told told_lt inside
+    (ap (λ (master : MasterState). campaign_in master.failover.state) (master_same core m (record (master_of core m) { failover = f }) lt))))
     (taken_steps plan event m now card told told_lt))
   where
     f : Failover
@@ -372,15 +423,20 @@ reconfigured_state : (state : FailoverState) (f : Failover) (k : ℕ) → (recon
 reconfigured_state (ReconfReplicas epoch choice former) f k = refl
 reconfigured_state _ f k = refl
 
-reconfiguration_steps : (plan : Plan) (event : Event) (m k : ℕ) (info : Info) (core : Core) → m < length core.masters → StepsTo plan event 1 core (reconfiguration m k info core).core
+reconfiguration_steps : (plan : Plan) (event : Event) (m k : ℕ) (info : Info) (core : Core) → m < length core.masters →
+    StepsTo plan event 1 core (reconfiguration m k info core).core
 reconfiguration_steps plan event m k info core lt =
     steps_if plan event 1 (has_followed info (card_of core.kept m).addr) core (λ c. quiet (with_failover c m (reconfigured (failover_of c m).state (failover_of c m) k)))
-    (λ h. twin_steps plan event 1 m core (with_failover core m f) lt (twin_state m core (with_failover core m f) (campaign_in f.state) (campaign_in (failover_of core m).state) (ap (λ (st : FailoverState). campaign_in st) (reconfigured_state (failover_of core m).state (failover_of core m) k)) (twin_master core m (record (master_of core m) { failover = f }) lt refl)))
+    (λ h. twin_steps plan event 1 m core (with_failover core m f) lt
+    (twin_state m core (with_failover core m f) (campaign_in f.state) (campaign_in (failover_of core m).state)
+    (ap (λ (st : FailoverState). campaign_in st) (reconfigured_state (failover_of core m).state (failover_of core m) k))
+    (twin_master core m (record (master_of core m) { failover = f }) lt refl)))
   where
     f : Failover
     f = reconfigured (failover_of core m).state (failover_of core m) k
 
-judged_steps : (plan : Plan) (event : Event) (m k now : ℕ) (info : Info) (core : Core) → m < length core.masters → m < master_count plan → StepsTo plan event 1 core (judged plan m k now info core).core
+judged_steps : (plan : Plan) (event : Event) (m k now : ℕ) (info : Info) (core : Core) → m < length core.masters → m < master_count plan →
+    StepsTo plan event 1 core (judged plan m k now info core).core
 judged_steps plan event m k now info core lt inside =
     steps_part plan event 1 core (is_failing_over core m)
     (if is_reconfiguring (failover_of core m).state then reconfiguration m k info core else promotion m k now info (failover_of core m).state core)
@@ -401,7 +457,8 @@ judged_steps plan event m k now info core lt inside =
     address_told : Bool
     address_told = is_address_overdue (settings_at plan m).timeout now wrong && can_be_followed plan core m now
 
-at_node_steps : (plan : Plan) (event : Event) (m k now : ℕ) (info : Info) (core : Core) → m < length core.masters → m < master_count plan → StepsTo plan event 1 core (info_at_node plan m k now info core).core
+at_node_steps : (plan : Plan) (event : Event) (m k now : ℕ) (info : Info) (core : Core) → m < length core.masters → m < master_count plan →
+    StepsTo plan event 1 core (info_at_node plan m k now info core).core
 at_node_steps plan event m k now info core lt inside =
     steps_then plan event 0 1 core kept (info_at_node plan m k now info core).core
     (node_steps plan event m k (with_info now info (node_of core m k)) core lt)
@@ -411,12 +468,15 @@ at_node_steps plan event m k now info core lt inside =
     kept = info_kept m k now info core
 
     kept_lt : m < length kept.masters
-    kept_lt = subst (λ (n : ℕ). m < n) (sym (length-set core.masters m (record (master_of core m) { nodes = slice_set (master_of core m).nodes k (with_info now info (node_of core m k)) }))) lt
+    kept_lt = subst (λ (n : ℕ). m < n) (sym (length-set core.masters m
+        (record (master_of core m) { nodes = slice_set (master_of core m).nodes k (with_info now info (node_of core m k)) }))) lt
 
-of_node_steps : (plan : Plan) (event : Event) (now : ℕ) (at : Option NodePlace) (info : Info) (core : Core) → ((a : NodePlace) → at ≡ Some a → a.master < master_count plan) → IsSound plan core → StepsTo plan event 1 core (info_of_node plan now at info core).core
+of_node_steps : (plan : Plan) (event : Event) (now : ℕ) (at : Option NodePlace) (info : Info) (core : Core) → ((a : NodePlace) → at ≡ Some a → a.master < master_count plan) →
+    IsSound plan core → StepsTo plan event 1 core (info_of_node plan now at info core).core
 of_node_steps plan event now None info core f s = stay_steps plan event 1 core
 of_node_steps plan event now (Some at) info core f s = at_node_steps plan event at.master at.place now info core (within_core plan core at.master s (f at refl)) (f at refl)
 
-pub info_steps : (plan : Plan) (event : Event) (node : NodeName) (now : ℕ) (read : Result Info TextFault) (core : Core) → IsSound plan core → StepsTo plan event 1 core (info_read plan node now read core).core
+pub info_steps : (plan : Plan) (event : Event) (node : NodeName) (now : ℕ) (read : Result Info TextFault) (core : Core) → IsSound plan core →
+    StepsTo plan event 1 core (info_read plan node now read core).core
 info_steps plan event node now (Err fault) core s = stay_steps plan event 1 core
 info_steps plan event node now (Ok info) core s = of_node_steps plan event now (node_named plan node) info core (λ at e. named_within plan node at e) s

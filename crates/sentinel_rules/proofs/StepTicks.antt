@@ -42,7 +42,8 @@ use Rattle.sentinel_rules.proofs.StepNews.{stay_steps, steps_if, within_core, ma
 -- Votes that are counted
 
 -- a vote of the table that is for the candidate
-table_vote : (heard : List (Option HeardVote)) (epoch : ℕ) (candidate : RunId) (v : ℕ) (P : (e : ℕ) → RunId → Type 0) → ((given : HeardVote) → kept_at heard v ≡ Some given → P given.epoch given.candidate) → is_for epoch candidate (kept_at heard v) ≡ true → P epoch candidate
+table_vote : (heard : List (Option HeardVote)) (epoch : ℕ) (candidate : RunId) (v : ℕ) (P : (e : ℕ) → RunId → Type 0) →
+    ((given : HeardVote) → kept_at heard v ≡ Some given → P given.epoch given.candidate) → is_for epoch candidate (kept_at heard v) ≡ true → P epoch candidate
 table_vote heard epoch candidate v P f h = known (kept_at heard v) refl h
   where
     known : (kept : Option HeardVote) → kept_at heard v ≡ kept → is_for epoch candidate kept ≡ true → P epoch candidate
@@ -86,18 +87,23 @@ pub place_is_node : (plan : Plan) (core : Core) (m place : ℕ) (addr : Addr) �
 place_is_node plan core m place addr a =
     list_any_at (same_addr addr) (nodes_of plan m) place no_addr a.listed (subst (λ (x : Addr). same_addr addr x ≡ true) a.addressed (same_addr-same addr))
 
-module _ (plan : Plan) (event : Event) (m : ℕ) (k : Known) (f : Failover) (core : Core) (lt : m < length core.masters) (inside : m < master_count plan) (none : core.won ≡ None) (best : Best plan core.kept m k.best) where
-  stay : (epoch : ℕ) (row : Option Row) (state : FailoverState) (last : Core) → campaign_in (failover_of core m).state ≡ campaign_in state → IsTwin m core last (campaign_in state) → StepsTo plan event 1 core last
+module _ (plan : Plan) (event : Event) (m : ℕ) (k : Known) (f : Failover) (core : Core) (lt : m < length core.masters) (inside : m < master_count plan) (none : core.won ≡ None)
+    (best : Best plan core.kept m k.best) where
+  stay : (epoch : ℕ) (row : Option Row) (state : FailoverState) (last : Core) → campaign_in (failover_of core m).state ≡ campaign_in state →
+      IsTwin m core last (campaign_in state) → StepsTo plan event 1 core last
   stay epoch row state last runs t = twin_steps plan event 1 m core last lt (twin_state m core last (campaign_in state) (campaign_in (failover_of core m).state) (sym runs) t)
 
-  chosen_steps : (epoch : ℕ) (best : Option (ℕ × Addr)) (g : Failover) → Best plan core.kept m best → campaign_in (failover_of core m).state ≡ Won epoch → is_some best ≡ true → IsReached plan event m epoch core (Some ReplicaChosen) (chosen epoch best g k)
+  chosen_steps : (epoch : ℕ) (best : Option (ℕ × Addr)) (g : Failover) → Best plan core.kept m best → campaign_in (failover_of core m).state ≡ Won epoch → is_some best ≡ true →
+      IsReached plan event m epoch core (Some ReplicaChosen) (chosen epoch best g k)
   chosen_steps epoch None g b won h last t = absurd (cc)
   chosen_steps epoch (Some choice) g b won h last t =
       choose_steps plan event m epoch choice.1 core last lt inside won (place_is_node plan core m choice.0 choice.1 b) b.other t
 
   pub turn_steps : (state : FailoverState) → f.state ≡ state → campaign_in (failover_of core m).state ≡ campaign_in state → (state ≡ Idle → ⊥)
-      → ((epoch : ℕ) → state ≡ WaitStart epoch → is_elected epoch k ≡ true → (parts : Parts) → IsPartsOf core (kept_as core parts) → AtLeast (HasVoted (roster_of plan) plan.place (kept_as core parts) m epoch) (size (roster_of plan)) (need (roster_of plan) m))
-      → IsReached plan event m (unwrap_or (epoch_of state) 0) core (turn_in state (expiring state k.now (quieted f)) k).row (turn_in state (expiring state k.now (quieted f)) k).failover
+      → ((epoch : ℕ) → state ≡ WaitStart epoch → is_elected epoch k ≡ true → (parts : Parts) → IsPartsOf core (kept_as core parts) →
+      AtLeast (HasVoted (roster_of plan) plan.place (kept_as core parts) m epoch) (size (roster_of plan)) (need (roster_of plan) m))
+      → IsReached plan event m (unwrap_or (epoch_of state) 0) core (turn_in state (expiring state k.now (quieted f)) k).row
+      (turn_in state (expiring state k.now (quieted f)) k).failover
   turn_steps Idle e runs busy enough = absurd (busy refl)
   turn_steps (WaitStart epoch) e runs busy enough =
       let same = ap (λ (st : FailoverState). campaign_in st) e in
@@ -145,7 +151,8 @@ module _ (plan : Plan) (event : Event) (m : ℕ) (k : Known) (f : Failover) (cor
 
 -- The own vote
 
-asked_given : (book : Book) (epoch : ℕ) (candidate : RunId) → grants book epoch ≡ true → asked book epoch candidate ≡ record { current = epoch; voted = epoch; leader = Some candidate }
+asked_given : (book : Book) (epoch : ℕ) (candidate : RunId) → grants book epoch ≡ true →
+    asked book epoch candidate ≡ record { current = epoch; voted = epoch; leader = Some candidate }
 asked_given book epoch candidate h =
     ap (λ (b : Bool). let after : Book = if b then record { current = epoch; voted = epoch; leader = Some candidate } else raised book epoch in after) h
 
@@ -162,7 +169,8 @@ some_if_false true x e = absurd (cc)
 some_if_false false x e = refl
 
 -- a core that voted, and one with another failover that voted
-voted_twin : (core : Core) (m epoch : ℕ) (candidate : RunId) (f : Failover) → m < length core.masters → IsTwin m (voted_core core m epoch candidate) (voted_core (with_failover core m f) m epoch candidate) (campaign_in f.state)
+voted_twin : (core : Core) (m epoch : ℕ) (candidate : RunId) (f : Failover) → m < length core.masters →
+    IsTwin m (voted_core core m epoch candidate) (voted_core (with_failover core m f) m epoch candidate) (campaign_in f.state)
 voted_twin core m epoch candidate f lt =
     twin_master (voted_core core m epoch candidate) m (record (master_of core m) { failover = f }) lt refl
 
@@ -188,32 +196,39 @@ module _ (plan : Plan) (event : Event) (m now : ℕ) (core : Core) (p : IsSoundP
   elected_by epoch e h =
       let at : campaign_epoch core m ≡ epoch = ap (λ (st : FailoverState). unwrap_or (epoch_of st) 0) e in
       subst
-      (λ (n : ℕ). need (roster_of plan) m ≤ count_in (kept_at (master_of core m).heard) (length (master_of core m).heard) n (me plan) + own_votes (book_asked epoch) epoch (me plan))
+      (λ (n : ℕ). need (roster_of plan) m ≤ count_in (kept_at (master_of core m).heard) (length (master_of core m).heard) n (me plan) + own_votes (book_asked epoch) epoch
+      (me plan))
       at
       (leb-true (need (roster_of plan) m) ((known_of plan core m now false).count + own_votes (book_asked epoch) epoch (me plan)) h)
 
   -- where no vote is given
   quiet_turn : (state : FailoverState) → (failover_of core m).state ≡ state → (state ≡ Idle → ⊥) → (turn_in_state state).vote ≡ None
       → ((epoch : ℕ) → state ≡ WaitStart epoch → grants (book_of core m) epoch ≡ false)
-      → StepsTo plan event 2 core (with_win m (unwrap_or (epoch_of state) 0) (turn_in_state state).row (with_vote plan m now (unwrap_or (epoch_of state) 0) (turn_in_state state).vote (with_failover core m (turn_in_state state).failover)))
+      → StepsTo plan event 2 core (with_win m (unwrap_or (epoch_of state) 0) (turn_in_state state).row
+      (with_vote plan m now (unwrap_or (epoch_of state) 0) (turn_in_state state).vote (with_failover core m (turn_in_state state).failover)))
   quiet_turn state e busy no_vote past =
       subst
-      (λ (vote : Option RunId). StepsTo plan event 2 core (with_win m (unwrap_or (epoch_of state) 0) (turn_in_state state).row (with_vote plan m now (unwrap_or (epoch_of state) 0) vote (with_failover core m (turn_in_state state).failover))))
+      (λ (vote : Option RunId). StepsTo plan event 2 core (with_win m (unwrap_or (epoch_of state) 0) (turn_in_state state).row
+      (with_vote plan m now (unwrap_or (epoch_of state) 0) vote (with_failover core m (turn_in_state state).failover))))
       (sym no_vote)
       (steps_more plan event 1 2 core (with_win m (unwrap_or (epoch_of state) 0) (turn_in_state state).row (with_failover core m (turn_in_state state).failover)) (omega arith)
-      (turn_steps plan event m (known_of plan core m now false) (failover_of core m) core lt inside none (best_awaited plan core m now p inside) state e (ap (λ (st : FailoverState). campaign_in st) e) busy enough
+      (turn_steps plan event m (known_of plan core m now false) (failover_of core m) core lt inside none (best_awaited plan core m now p inside) state e
+      (ap (λ (st : FailoverState). campaign_in st) e) busy enough
       (with_failover core m (turn_in_state state).failover)
       (twin_master core m (record (master_of core m) { failover = (turn_in_state state).failover }) lt refl)))
     where
-      enough : (epoch : ℕ) → state ≡ WaitStart epoch → is_elected epoch (known_of plan core m now false) ≡ true → (parts : Parts) → IsPartsOf core (kept_as core parts) → AtLeast (HasVoted (roster_of plan) plan.place (kept_as core parts) m epoch) (size (roster_of plan)) (need (roster_of plan) m)
+      enough : (epoch : ℕ) → state ≡ WaitStart epoch → is_elected epoch (known_of plan core m now false) ≡ true → (parts : Parts) → IsPartsOf core (kept_as core parts) →
+          AtLeast (HasVoted (roster_of plan) plan.place (kept_as core parts) m epoch) (size (roster_of plan)) (need (roster_of plan) m)
       enough epoch at h parts is =
           let same : book_asked epoch ≡ raised (book_of core m) epoch = asked_refused (book_of core m) epoch (known_of plan core m now false).pick (past epoch at) in
           enough_votes plan (master_of core m) m epoch (book_asked epoch) (kept_as core parts) p (is.each m lt) (s.each m inside).heard (s.each m inside).own
           (ap (λ (book : Book). book.voted) same) (ap (λ (book : Book). book.leader) same) (elected_by epoch (e ∙ at) h)
 
   -- where the own vote is given
-  voting_turn : (epoch : ℕ) → (failover_of core m).state ≡ WaitStart epoch → grants (book_of core m) epoch ≡ true → (turn_in_state (WaitStart epoch)).vote ≡ Some (known_of plan core m now false).pick
-      → StepsTo plan event 2 core (with_win m epoch (turn_in_state (WaitStart epoch)).row (with_vote plan m now epoch (turn_in_state (WaitStart epoch)).vote (with_failover core m (turn_in_state (WaitStart epoch)).failover)))
+  voting_turn : (epoch : ℕ) → (failover_of core m).state ≡ WaitStart epoch → grants (book_of core m) epoch ≡ true →
+      (turn_in_state (WaitStart epoch)).vote ≡ Some (known_of plan core m now false).pick
+      → StepsTo plan event 2 core (with_win m epoch (turn_in_state (WaitStart epoch)).row
+      (with_vote plan m now epoch (turn_in_state (WaitStart epoch)).vote (with_failover core m (turn_in_state (WaitStart epoch)).failover)))
   voting_turn epoch e can gives =
       subst
       (λ (vote : Option RunId). StepsTo plan event 2 core (with_win m epoch turn.row (with_vote plan m now epoch vote next)))
@@ -228,9 +243,11 @@ module _ (plan : Plan) (event : Event) (m now : ℕ) (core : Core) (p : IsSoundP
       (λ b. absurd (cc))
       enough
       (mark_for plan m now pick (voted_core next m epoch pick))
-      (twin_then m voted (voted_core next m epoch pick) (mark_for plan m now pick (voted_core next m epoch pick)) (campaign_in turn.failover.state) (campaign_in turn.failover.state)
+      (twin_then m voted (voted_core next m epoch pick) (mark_for plan m now pick (voted_core next m epoch pick)) (campaign_in turn.failover.state)
+      (campaign_in turn.failover.state)
       (voted_twin core m epoch pick turn.failover lt)
-      (twin_state m (voted_core next m epoch pick) (mark_for plan m now pick (voted_core next m epoch pick)) (campaign_in (failover_of (voted_core next m epoch pick) m).state) (campaign_in turn.failover.state)
+      (twin_state m (voted_core next m epoch pick) (mark_for plan m now pick (voted_core next m epoch pick)) (campaign_in (failover_of (voted_core next m epoch pick) m).state)
+      (campaign_in turn.failover.state)
       (voted_twin core m epoch pick turn.failover lt).runs
       (mark_twin plan m now pick (voted_core next m epoch pick) next_lt))))))
     where
@@ -275,7 +292,8 @@ module _ (plan : Plan) (event : Event) (m now : ℕ) (core : Core) (p : IsSoundP
       given : book_asked epoch ≡ record { current = epoch; voted = epoch; leader = Some pick }
       given = asked_given (book_of core m) epoch pick can
 
-      enough : (epoch2 : ℕ) → WaitStart epoch ≡ WaitStart epoch2 → is_elected epoch2 (known_of plan core m now false) ≡ true → (parts : Parts) → IsPartsOf voted (kept_as voted parts) → AtLeast (HasVoted (roster_of plan) plan.place (kept_as voted parts) m epoch2) (size (roster_of plan)) (need (roster_of plan) m)
+      enough : (epoch2 : ℕ) → WaitStart epoch ≡ WaitStart epoch2 → is_elected epoch2 (known_of plan core m now false) ≡ true → (parts : Parts) →
+          IsPartsOf voted (kept_as voted parts) → AtLeast (HasVoted (roster_of plan) plan.place (kept_as voted parts) m epoch2) (size (roster_of plan)) (need (roster_of plan) m)
       enough epoch2 at h parts is =
           let same : epoch ≡ epoch2 = cc in
           subst
@@ -283,34 +301,43 @@ module _ (plan : Plan) (event : Event) (m now : ℕ) (core : Core) (p : IsSoundP
           same
           (enough_votes plan (master_of core m) m epoch (book_asked epoch) (kept_as voted parts) p (is.each m lt)
           (s.each m inside).heard (s.each m inside).own
-          (ap (λ (book : Book). book.voted) given ∙ sym (ap (λ (x : KeptMaster). x.voted) entry)) (ap (λ (book : Book). book.leader) given ∙ sym (ap (λ (x : KeptMaster). x.candidate) entry))
+          (ap (λ (book : Book). book.voted) given ∙ sym (ap (λ (x : KeptMaster). x.voted) entry))
+          (ap (λ (book : Book). book.leader) given ∙ sym (ap (λ (x : KeptMaster). x.candidate) entry))
           (elected_by epoch e (subst (λ (n : ℕ). is_elected n (known_of plan core m now false) ≡ true) (sym same) h)))
 
   turn_by_state : (state : FailoverState) → (failover_of core m).state ≡ state → (state ≡ Idle → ⊥)
-      → StepsTo plan event 2 core (with_win m (unwrap_or (epoch_of state) 0) (turn_in_state state).row (with_vote plan m now (unwrap_or (epoch_of state) 0) (turn_in_state state).vote (with_failover core m (turn_in_state state).failover)))
+      → StepsTo plan event 2 core (with_win m (unwrap_or (epoch_of state) 0) (turn_in_state state).row
+      (with_vote plan m now (unwrap_or (epoch_of state) 0) (turn_in_state state).vote (with_failover core m (turn_in_state state).failover)))
   turn_by_state Idle e busy = absurd (busy refl)
   turn_by_state (WaitStart epoch) e busy = known (grants (book_of core m) epoch) refl
     where
       given : (turn_in_state (WaitStart epoch)).vote ≡ vote_in epoch (known_of plan core m now false)
-      given = turn_vote (quieted (failover_of core m)) (vote_in epoch (known_of plan core m now false)) (table (WaitStart epoch) (quieted (failover_of core m)) (known_of plan core m now false))
+      given = turn_vote (quieted (failover_of core m)) (vote_in epoch (known_of plan core m now false))
+          (table (WaitStart epoch) (quieted (failover_of core m)) (known_of plan core m now false))
 
       known : (b : Bool) → grants (book_of core m) epoch ≡ b
-          → StepsTo plan event 2 core (with_win m epoch (turn_in_state (WaitStart epoch)).row (with_vote plan m now epoch (turn_in_state (WaitStart epoch)).vote (with_failover core m (turn_in_state (WaitStart epoch)).failover)))
+          → StepsTo plan event 2 core (with_win m epoch (turn_in_state (WaitStart epoch)).row
+          (with_vote plan m now epoch (turn_in_state (WaitStart epoch)).vote (with_failover core m (turn_in_state (WaitStart epoch)).failover)))
       known true h = voting_turn epoch e h (given ∙ some_if_true (grants (book_of core m) epoch) (known_of plan core m now false).pick h)
       known false h =
           quiet_turn (WaitStart epoch) e busy (given ∙ some_if_false (grants (book_of core m) epoch) (known_of plan core m now false).pick h)
           (λ epoch2 at. let same : epoch ≡ epoch2 = cc in subst (λ (n : ℕ). grants (book_of core m) n ≡ false) same h)
   turn_by_state (SelectReplica epoch) e busy =
-      quiet_turn (SelectReplica epoch) e busy (turn_vote (quieted (failover_of core m)) None (table (SelectReplica epoch) (quieted (failover_of core m)) (known_of plan core m now false))) (λ epoch2 at. absurd (cc))
+      quiet_turn (SelectReplica epoch) e busy (turn_vote (quieted (failover_of core m)) None
+      (table (SelectReplica epoch) (quieted (failover_of core m)) (known_of plan core m now false))) (λ epoch2 at. absurd (cc))
   turn_by_state (SendPromotion epoch choice) e busy =
-      quiet_turn (SendPromotion epoch choice) e busy (turn_vote (quieted (failover_of core m)) None (table (SendPromotion epoch choice) (quieted (failover_of core m)) (known_of plan core m now false))) (λ epoch2 at. absurd (cc))
+      quiet_turn (SendPromotion epoch choice) e busy (turn_vote (quieted (failover_of core m)) None
+      (table (SendPromotion epoch choice) (quieted (failover_of core m)) (known_of plan core m now false))) (λ epoch2 at. absurd (cc))
   turn_by_state (WaitPromotion epoch choice former) e busy =
-      quiet_turn (WaitPromotion epoch choice former) e busy (turn_vote (quieted (failover_of core m)) None (table (WaitPromotion epoch choice former) (quieted (failover_of core m)) (known_of plan core m now false))) (λ epoch2 at. absurd (cc))
+      quiet_turn (WaitPromotion epoch choice former) e busy (turn_vote (quieted (failover_of core m)) None
+      (table (WaitPromotion epoch choice former) (quieted (failover_of core m)) (known_of plan core m now false))) (λ epoch2 at. absurd (cc))
   turn_by_state (ReconfReplicas epoch choice former) e busy =
       let g : Failover = expiring (ReconfReplicas epoch choice former) (known_of plan core m now false).now (quieted (failover_of core m)) in
-      quiet_turn (ReconfReplicas epoch choice former) e busy (turn_vote g None (table (ReconfReplicas epoch choice former) g (known_of plan core m now false))) (λ epoch2 at. absurd (cc))
+      quiet_turn (ReconfReplicas epoch choice former) e busy (turn_vote g None (table (ReconfReplicas epoch choice former) g (known_of plan core m now false)))
+      (λ epoch2 at. absurd (cc))
   turn_by_state (UpdateConfig epoch choice) e busy =
-      quiet_turn (UpdateConfig epoch choice) e busy (turn_vote (quieted (failover_of core m)) None (table (UpdateConfig epoch choice) (quieted (failover_of core m)) (known_of plan core m now false))) (λ epoch2 at. absurd (cc))
+      quiet_turn (UpdateConfig epoch choice) e busy (turn_vote (quieted (failover_of core m)) None
+      (table (UpdateConfig epoch choice) (quieted (failover_of core m)) (known_of plan core m now false))) (λ epoch2 at. absurd (cc))
 
   -- a vote at most, and a step of the campaign at most
   pub row_steps : ((failover_of core m).state ≡ Idle → ⊥) → StepsTo plan event 2 core (row_part plan m now core).core
@@ -318,8 +345,10 @@ module _ (plan : Plan) (event : Event) (m now : ℕ) (core : Core) (p : IsSoundP
 
 -- A start
 
-start_steps : (plan : Plan) (event : Event) (m now : ℕ) (core : Core) → IsSound plan core → m < master_count plan → (failover_of core m).state ≡ Idle → StepsTo plan event 1 core (after_start m (start_turn plan core m now) core)
-start_steps plan event m now core s inside idle = subst (λ (x : Failover). StepsTo plan event 1 core (after_start m (turned x k) core)) (sym (as_idle (failover_of core m) idle)) from_idle
+start_steps : (plan : Plan) (event : Event) (m now : ℕ) (core : Core) → IsSound plan core → m < master_count plan → (failover_of core m).state ≡ Idle →
+    StepsTo plan event 1 core (after_start m (start_turn plan core m now) core)
+start_steps plan event m now core s inside idle = subst (λ (x : Failover). StepsTo plan event 1 core (after_start m (turned x k) core)) (sym (as_idle (failover_of core m) idle))
+    from_idle
   where
     k : Known
     k = known_of plan core m now (master_of core m).odown
@@ -339,8 +368,13 @@ start_steps plan event m now core s inside idle = subst (λ (x : Failover). Step
     from_idle : StepsTo plan event 1 core (after_start m (turned f k) core)
     from_idle =
         turn_by Q (quieted f) None (table Idle (quieted f) k)
-        (twin_steps plan event 1 m core (with_failover core m (quieted f)) lt (twin_state m core (with_failover core m (quieted f)) NoCampaign (campaign_in (failover_of core m).state) (sym runs) (twin_master core m (record (master_of core m) { failover = quieted f }) lt refl)))
-        ((λ h. open_steps plan event m core (with_failover core m (started (quieted f) k)) lt inside runs (start_within (quieted f) k h) (twin_master core m (record (master_of core m) { failover = started (quieted f) k }) lt refl)), tt)
+        (twin_steps plan event 1 m core (with_failover core m (quieted f)) lt
+        (twin_state m core (with_failover core m (quieted f)) NoCampaign (campaign_in (failover_of core m).state) (sym runs)
+        (twin_master core m (record (master_of core m) { failover = quieted f }) lt refl))) (
+          (λ h. open_steps plan event m core (with_failover core m (started (quieted f) k)) lt inside runs (start_within (quieted f) k h)
+              (twin_master core m (record (master_of core m) { failover = started (quieted f) k }) lt refl)),
+          tt,
+        )
 
 starts_steps : (plan : Plan) (event : Event) (m now : ℕ) (core : Core) → IsSound plan core → m < master_count plan → StepsTo plan event 1 core (start_part plan m now core).core
 starts_steps plan event m now core s inside =
@@ -360,7 +394,8 @@ won_either false a b core e f = f
 start_won : (plan : Plan) (m now : ℕ) (core : Core) → (start_part plan m now core).core.won ≡ core.won
 start_won plan m now core =
     won_if (not (is_failing_over core m)) core (λ c. quiet (after_start m (start_turn plan c m now) c))
-    (won_either (is_some (start_turn plan core m now).row) (with_current (with_failover core m (start_turn plan core m now).failover) (core.kept.current + 1)) (with_failover core m (start_turn plan core m now).failover) core refl refl)
+    (won_either (is_some (start_turn plan core m now).row) (with_current (with_failover core m (start_turn plan core m now).failover) (core.kept.current + 1))
+    (with_failover core m (start_turn plan core m now).failover) core refl refl)
 
 peers_won : (plan : Plan) (m now : ℕ) (core : Core) → (peers_part plan m now core).core.won ≡ core.won
 peers_won plan zero now core = refl
@@ -386,9 +421,11 @@ ask_steps : (plan : Plan) (event : Event) (m now : ℕ) (started : Bool) (core :
 ask_steps plan event m now started core lt =
     steps_if plan event 0 (is_master_down plan core m now && is_ask_due started (master_of core m).ask_sent now) core
     (λ c. puts (with_master c m (record (master_of c m) { ask_sent = Some now })) (frames_from (ask_frames plan m (ask_candidate plan c m)) 0 c.peers))
-    (λ h. twin_steps plan event 0 m core (with_master core m (record (master_of core m) { ask_sent = Some now })) lt (twin_master core m (record (master_of core m) { ask_sent = Some now }) lt refl))
+    (λ h. twin_steps plan event 0 m core (with_master core m (record (master_of core m) { ask_sent = Some now })) lt
+    (twin_master core m (record (master_of core m) { ask_sent = Some now }) lt refl))
 
-failover_steps : (plan : Plan) (event : Event) (m now : ℕ) (core : Core) → IsSoundPlan plan → IsSound plan core → m < master_count plan → core.won ≡ None → StepsTo plan event 3 core (failover_part plan m now core).core
+failover_steps : (plan : Plan) (event : Event) (m now : ℕ) (core : Core) → IsSoundPlan plan → IsSound plan core → m < master_count plan → core.won ≡ None →
+    StepsTo plan event 3 core (failover_part plan m now core).core
 failover_steps plan event m now core p s inside none =
     steps_then plan event 3 0 core rowed (failover_part plan m now core).core
     (steps_then plan event 1 2 core begun rowed (starts_steps plan event m now core s inside) (rows begun (start_keeps plan m now core s).sound (start_won plan m now core ∙ none)))
@@ -404,9 +441,11 @@ failover_steps plan event m now core p s inside none =
     rows c t n = steps_if plan event 2 (is_failing_over c m) c (row_part plan m now) (λ h. row_steps plan event m now c p t inside n (busy_is (failover_of c m).state h))
 
     rowed_sound : IsSound plan rowed
-    rowed_sound = (keeps_if plan 257 (is_failing_over begun m) begun (row_part plan m now) (start_keeps plan m now core s).sound (λ h. row_keeps plan m now begun p inside (busy_is (failover_of begun m).state h) (start_keeps plan m now core s).sound)).sound
+    rowed_sound = (keeps_if plan 257 (is_failing_over begun m) begun (row_part plan m now) (start_keeps plan m now core s).sound
+        (λ h. row_keeps plan m now begun p inside (busy_is (failover_of begun m).state h) (start_keeps plan m now core s).sound)).sound
 
-judging_steps : (plan : Plan) (event : Event) (m now : ℕ) (core : Core) → IsSoundPlan plan → IsSound plan core → m < master_count plan → core.won ≡ None → StepsTo plan event 3 core (judging_part plan m now core).core
+judging_steps : (plan : Plan) (event : Event) (m now : ℕ) (core : Core) → IsSoundPlan plan → IsSound plan core → m < master_count plan → core.won ≡ None →
+    StepsTo plan event 3 core (judging_part plan m now core).core
 judging_steps plan event m now core p s inside none =
     steps_if plan event 3 (not (is_tilted core)) core (λ c. then_part (odown_part plan m now c) (failover_part plan m now))
     (λ h. steps_then plan event 0 3 core judged (failover_part plan m now judged).core
@@ -416,10 +455,12 @@ judging_steps plan event m now core p s inside none =
     judged : Core
     judged = (odown_part plan m now core).core
 
-master_steps : (plan : Plan) (event : Event) (m now : ℕ) (core : Core) → IsSoundPlan plan → IsSound plan core → m < master_count plan → core.won ≡ None → StepsTo plan event 3 core (master_part plan m now core).core
+master_steps : (plan : Plan) (event : Event) (m now : ℕ) (core : Core) → IsSoundPlan plan → IsSound plan core → m < master_count plan → core.won ≡ None →
+    StepsTo plan event 3 core (master_part plan m now core).core
 master_steps plan event m now core p s inside none =
     steps_then plan event 0 3 core sent (master_part plan m now core).core
-    (steps_then plan event 0 0 core asked_peers sent (peers_steps plan event m now core) (nodes_steps plan event m now asked_peers (within_core plan asked_peers m asked_sound inside)))
+    (steps_then plan event 0 0 core asked_peers sent (peers_steps plan event m now core)
+    (nodes_steps plan event m now asked_peers (within_core plan asked_peers m asked_sound inside)))
     (judging_steps plan event m now sent p (nodes_keeps plan m now asked_peers p inside asked_sound).sound inside (peers_won plan m now core ∙ none))
   where
     asked_peers : Core
@@ -431,9 +472,11 @@ master_steps plan event m now core p s inside none =
     sent : Core
     sent = (nodes_part plan m now asked_peers).core
 
-pub tick_steps : (plan : Plan) (event : Event) (m random now : ℕ) (core : Core) → IsSoundPlan plan → IsSound plan core → core.won ≡ None → StepsTo plan event 3 core (tick plan m random now core).core
+pub tick_steps : (plan : Plan) (event : Event) (m random now : ℕ) (core : Core) → IsSoundPlan plan → IsSound plan core → core.won ≡ None →
+    StepsTo plan event 3 core (tick plan m random now core).core
 tick_steps plan event m random now core p s none =
     steps_then plan event 0 3 core (with_reading now random core) (tick plan m random now core).core
     (same_steps plan event 0 core (with_reading now random core) refl refl refl)
     (steps_if plan event 3 (nat_lt m (master_count plan)) (with_reading now random core) (master_part plan m now)
-    (λ h. master_steps plan event m now (with_reading now random core) p (sound_alike plan core (with_reading now random core) refl refl refl s) (ltb-true m (master_count plan) h) none))
+    (λ h. master_steps plan event m now (with_reading now random core) p (sound_alike plan core (with_reading now random core) refl refl refl s) (ltb-true m (master_count plan) h)
+    none))

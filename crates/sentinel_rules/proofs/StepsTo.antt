@@ -31,7 +31,8 @@ pub record Stepped (plan : Plan) (event : Event) (most : ℕ) (core : Core) (par
 abbrev pub StepsTo : Plan → Event → (most : ℕ) → Core → Core → Type 0
 StepsTo plan event most core core2 = (parts : Parts) → IsPartsOf core parts → Stepped plan event most core2 parts
 
-pub steps_then : (plan : Plan) (event : Event) (a b : ℕ) (core next last : Core) → StepsTo plan event a core next → StepsTo plan event b next last → StepsTo plan event (a + b) core last
+pub steps_then : (plan : Plan) (event : Event) (a b : ℕ) (core next last : Core) → StepsTo plan event a core next → StepsTo plan event b next last →
+    StepsTo plan event (a + b) core last
 steps_then plan event a b core next last f g parts is =
     let x : Stepped plan event a next parts = f parts is in
     let y : Stepped plan event b last x.last = g x.last x.are_parts in
@@ -55,7 +56,8 @@ steps_more plan event a b core last le f parts is =
 abbrev pub kept_as : Core → Parts → Parts
 kept_as core parts = record parts { kept = core.kept }
 
-pub steps_kept : (plan : Plan) (event : Event) (most : ℕ) (core core2 : Core) → ((parts : Parts) → IsPartsOf core (kept_as core parts) → Stepped plan event most core2 (kept_as core parts)) → StepsTo plan event most core core2
+pub steps_kept : (plan : Plan) (event : Event) (most : ℕ) (core core2 : Core) →
+    ((parts : Parts) → IsPartsOf core (kept_as core parts) → Stepped plan event most core2 (kept_as core parts)) → StepsTo plan event most core core2
 steps_kept plan event most core core2 f parts is =
     let same : parts ≡ kept_as core parts = ap (λ (kept : Kept). let x : Parts = record parts { kept = kept } in x) is.kept in
     subst (λ (p : Parts). Stepped plan event most core2 p) (sym same) (f parts (subst (λ (p : Parts). IsPartsOf core p) same is))
@@ -67,7 +69,14 @@ pub steps_one : (plan : Plan) (event : Event) (ballot : Ballot) (core core2 : Co
     → StepsTo plan event 1 core core2
 steps_one plan event ballot core core2 allowed there =
     steps_kept plan event 1 core core2
-    (λ parts is. record { ballots = ballot ∷ []; last = after plan.place (kept_as core parts) ballot; few = omega arith; moved = (allowed parts is, refl); are_parts = there parts is })
+    (λ parts is. record {
+      ballots = ballot ∷ [];
+      last = after plan.place (kept_as core parts) ballot;
+      few = omega arith;
+      moved = (allowed parts is, refl);
+      are_parts =
+          there parts is;
+    })
 
 -- Parts of a core of which one master changed
 
@@ -125,7 +134,8 @@ twin_then m core next last c d s t =
     }
 
 -- the open part of a twin
-twin_open : (m : ℕ) (core core2 : Core) (campaign : Campaign) (opened : OpenMaster) → IsTwin m core core2 campaign → IsOpenOf m (master_of core m) opened → IsOpenOf m (master_of core2 m) (record opened { campaign = campaign })
+twin_open : (m : ℕ) (core core2 : Core) (campaign : Campaign) (opened : OpenMaster) → IsTwin m core core2 campaign → IsOpenOf m (master_of core m) opened →
+    IsOpenOf m (master_of core2 m) (record opened { campaign = campaign })
 twin_open m core core2 campaign opened t o =
     record {
       heard = λ voter given h. o.heard voter given (subst (λ (list : List (Option HeardVote)). kept_at list voter ≡ Some given) t.heard h);
@@ -137,7 +147,8 @@ pub kept_back : (kept : Kept) (m : ℕ) → (let x : Kept = record { current = k
 kept_back kept m = ap (λ (masters : List KeptMaster). let x : Kept = record { current = kept.current; masters = masters } in x) (set-get_or kept.masters m no_kept)
 
 -- nothing that the model sees changed
-pub twin_steps : (plan : Plan) (event : Event) (most m : ℕ) (core core2 : Core) → m < length core.masters → IsTwin m core core2 (campaign_in (failover_of core m).state) → StepsTo plan event most core core2
+pub twin_steps : (plan : Plan) (event : Event) (most m : ℕ) (core core2 : Core) → m < length core.masters → IsTwin m core core2 (campaign_in (failover_of core m).state) →
+    StepsTo plan event most core core2
 twin_steps plan event most m core core2 lt t =
     steps_kept plan event most core core2
     (λ parts is. let o : IsOpenOf m (master_of core m) (open_of parts m) = is.each m lt in
@@ -157,7 +168,8 @@ twin_steps plan event most m core core2 lt t =
     })
 
 -- what soundness doesn't look at, and the model neither
-pub same_steps : (plan : Plan) (event : Event) (most : ℕ) (core core2 : Core) → core2.kept ≡ core.kept → core2.masters ≡ core.masters → core2.won ≡ core.won → StepsTo plan event most core core2
+pub same_steps : (plan : Plan) (event : Event) (most : ℕ) (core core2 : Core) → core2.kept ≡ core.kept → core2.masters ≡ core.masters → core2.won ≡ core.won →
+    StepsTo plan event most core core2
 same_steps plan event most core core2 kept masters won parts is =
     record {
       ballots = [];
@@ -167,14 +179,16 @@ same_steps plan event most core core2 kept masters won parts is =
       are_parts = record {
         kept = is.kept ∙ sym kept;
         count = is.count ∙ sym (ap (λ (list : List MasterState). length list) masters);
-        each = λ k lt. subst (λ (list : List MasterState). IsOpenOf k (slice_index_or list k no_master) (open_of parts k)) (sym masters) (is.each k (subst (λ (list : List MasterState). k < length list) masters lt));
+        each = λ k lt. subst (λ (list : List MasterState). IsOpenOf k (slice_index_or list k no_master) (open_of parts k)) (sym masters)
+            (is.each k (subst (λ (list : List MasterState). k < length list) masters lt));
         wins = is.wins ∙ ap (λ (w : Option Win). wins_of w) (sym won);
       };
     }
 
 -- One master's state, in what the model doesn't see
 
-pub twin_master : (core : Core) (m : ℕ) (master : MasterState) → m < length core.masters → master.heard ≡ (master_of core m).heard → IsTwin m core (with_master core m master) (campaign_in master.failover.state)
+pub twin_master : (core : Core) (m : ℕ) (master : MasterState) → m < length core.masters → master.heard ≡ (master_of core m).heard →
+    IsTwin m core (with_master core m master) (campaign_in master.failover.state)
 twin_master core m master lt heard =
     record {
       kept = refl;
@@ -197,11 +211,13 @@ pub campaign_steps : (plan : Plan) (event : Event) (ballot : Ballot) (campaign :
 campaign_steps plan event ballot campaign m core core2 lt t allowed same =
     steps_one plan event ballot core core2 allowed
     (λ parts is. subst (λ (p : Parts). IsPartsOf core2 p) (sym (same parts))
-    (parts_at core core2 m (kept_as core parts) (with_campaign (kept_as core parts) core.kept.current m campaign) (record (open_of parts m) { campaign = campaign }) is lt t.count t.others
+    (parts_at core core2 m (kept_as core parts) (with_campaign (kept_as core parts) core.kept.current m campaign) (record (open_of parts m) { campaign = campaign }) is lt t.count
+    t.others
     (twin_open m core core2 campaign (open_of parts m) t (is.each m lt))
     (kept_back core.kept m ∙ sym t.kept) refl (is.wins ∙ ap (λ (w : Option Win). wins_of w) (sym t.won))))
 
-pub drop_steps : (plan : Plan) (event : Event) (m : ℕ) (core core2 : Core) → m < length core.masters → m < master_count plan → IsTwin m core core2 NoCampaign → StepsTo plan event 1 core core2
+pub drop_steps : (plan : Plan) (event : Event) (m : ℕ) (core core2 : Core) → m < length core.masters → m < master_count plan → IsTwin m core core2 NoCampaign →
+    StepsTo plan event 1 core core2
 drop_steps plan event m core core2 lt inside t = campaign_steps plan event (Drop m) NoCampaign m core core2 lt t (λ parts is. inside) (λ parts. refl)
 
 pub choose_steps : (plan : Plan) (event : Event) (m epoch : ℕ) (choice : Addr) (core core2 : Core) → m < length core.masters → m < master_count plan
@@ -215,12 +231,14 @@ choose_steps plan event m epoch choice core core2 lt inside won there other t =
 pub win_steps : (plan : Plan) (event : Event) (m epoch : ℕ) (core core2 : Core) → m < length core.masters → m < master_count plan
     → core.won ≡ None
     → campaign_in (failover_of core m).state ≡ Running epoch
-    → ((parts : Parts) → IsPartsOf core (kept_as core parts) → AtLeast (HasVoted (roster_of plan) plan.place (kept_as core parts) m epoch) (size (roster_of plan)) (need (roster_of plan) m))
+    → ((parts : Parts) → IsPartsOf core (kept_as core parts) →
+    AtLeast (HasVoted (roster_of plan) plan.place (kept_as core parts) m epoch) (size (roster_of plan)) (need (roster_of plan) m))
     → IsTwin m core core2 (Won epoch) → StepsTo plan event 1 core (record core2 { won = Some (record { master = m; epoch = epoch }) })
 win_steps plan event m epoch core core2 lt inside none running enough t =
     steps_one plan event (Win_at m epoch) core (record core2 { won = Some (record { master = m; epoch = epoch }) })
     (λ parts is. (inside, (is.each m lt).campaign ∙ running, enough parts is))
-    (λ parts is. parts_at core (record core2 { won = Some (record { master = m; epoch = epoch }) }) m (kept_as core parts) (after plan.place (kept_as core parts) (Win_at m epoch)) (record (open_of parts m) { campaign = Won epoch }) is lt t.count t.others
+    (λ parts is. parts_at core (record core2 { won = Some (record { master = m; epoch = epoch }) }) m (kept_as core parts) (after plan.place (kept_as core parts) (Win_at m epoch))
+    (record (open_of parts m) { campaign = Won epoch }) is lt t.count t.others
     (twin_open m core core2 (Won epoch) (open_of parts m) t (is.each m lt))
     (kept_back core.kept m ∙ sym t.kept) refl
     (ap (λ (wins : List Win). wins ++ record { master = m; epoch = epoch } ∷ []) (is.wins ∙ ap (λ (w : Option Win). wins_of w) none)))
@@ -232,7 +250,8 @@ pub open_steps : (plan : Plan) (event : Event) (m : ℕ) (core core2 : Core) →
 open_steps plan event m core core2 lt inside idle room t =
     steps_one plan event (Open m) core (with_current core2 (core.kept.current + 1))
     (λ parts is. (inside, (is.each m lt).campaign ∙ idle, room))
-    (λ parts is. parts_at core (with_current core2 (core.kept.current + 1)) m (kept_as core parts) (after plan.place (kept_as core parts) (Open m)) (record (open_of parts m) { campaign = Running (core.kept.current + 1) }) is lt t.count t.others
+    (λ parts is. parts_at core (with_current core2 (core.kept.current + 1)) m (kept_as core parts) (after plan.place (kept_as core parts) (Open m))
+    (record (open_of parts m) { campaign = Running (core.kept.current + 1) }) is lt t.count t.others
     (twin_open m core core2 (Running (core.kept.current + 1)) (open_of parts m) t (is.each m lt))
     (ap (λ (kept : Kept). let x : Kept = record kept { current = core.kept.current + 1 } in x) (kept_back core.kept m ∙ sym t.kept)) refl
     (is.wins ∙ ap (λ (w : Option Win). wins_of w) (sym t.won)))
@@ -259,5 +278,7 @@ cast_steps plan event m epoch candidate core lt inside now_open later =
     (λ parts is. (inside, now_open, later))
     (λ parts is. parts_at core (voted_core core m epoch candidate) m (kept_as core parts) (after plan.place (kept_as core parts) (Cast m epoch candidate)) (open_of parts m) is lt
     refl (λ k apart. refl) (is.each m lt)
-    (ap (λ (current : ℕ). let x : Kept = record { current = current; masters = slice_set core.kept.masters m (record (kept_of core.kept m) { voted = epoch; candidate = Some candidate }) } in x) now_open)
+    (ap (λ (current : ℕ).
+    let x : Kept = record { current = current; masters = slice_set core.kept.masters m (record (kept_of core.kept m) { voted = epoch; candidate = Some candidate }) } in x)
+    now_open)
     refl is.wins)

@@ -23,12 +23,14 @@ abbrev pub Fits : (Option Row → Failover → Type 0) → List TableRow → Typ
 Fits Q [] = Unit {0}
 Fits Q (row ∷ rows) = (row.fits ≡ true → Q (Some row.row) row.leaves) × Fits Q rows
 
-by_test : (Q : Option Row → Failover → Type 0) (test : Bool) (t u : Turn) → (test ≡ true → Q t.row t.failover) → Q u.row u.failover → Q (if test then t else u).row (if test then t else u).failover
+by_test : (Q : Option Row → Failover → Type 0) (test : Bool) (t u : Turn) → (test ≡ true → Q t.row t.failover) → Q u.row u.failover →
+    Q (if test then t else u).row (if test then t else u).failover
 by_test Q true t u fits past = fits refl
 by_test Q false t u fits past = past
 
 -- what each row leaves where it fits, and what stays where none does, is what a turn leaves
-pub turn_by : (Q : Option Row → Failover → Type 0) (f : Failover) (vote : Option RunId) (rows : List TableRow) → Q None f → Fits Q rows → Q (first_that_fits f vote rows).row (first_that_fits f vote rows).failover
+pub turn_by : (Q : Option Row → Failover → Type 0) (f : Failover) (vote : Option RunId) (rows : List TableRow) → Q None f → Fits Q rows →
+    Q (first_that_fits f vote rows).row (first_that_fits f vote rows).failover
 turn_by Q f vote [] none fits = none
 turn_by Q f vote (row ∷ rows) none fits =
     by_test Q row.fits (record { failover = row.leaves; row = Some row.row; vote = vote }) (first_that_fits f vote rows) fits.0 (turn_by Q f vote rows none fits.1)
@@ -65,7 +67,8 @@ Best plan kept m best = IfSome best (λ b. IsAwaited plan kept m (record { place
 pub ended_sound : (plan : Plan) (kept : Kept) (m : ℕ) (f : Failover) → length f.replicas ≡ length (nodes_of plan m) → IsSoundFailover plan kept m (ended f)
 ended_sound plan kept m f r = record { replicas = length-map f.replicas forgotten ∙ r; epoch = tt; choice = tt }
 
-chosen_sound : (plan : Plan) (kept : Kept) (m epoch : ℕ) (best : Option (ℕ × Addr)) (f : Failover) (k : Known) → IsSoundFailover plan kept m f → epoch ≤ kept.current → Best plan kept m best → IsSoundFailover plan kept m (chosen epoch best f k)
+chosen_sound : (plan : Plan) (kept : Kept) (m epoch : ℕ) (best : Option (ℕ × Addr)) (f : Failover) (k : Known) → IsSoundFailover plan kept m f → epoch ≤ kept.current →
+    Best plan kept m best → IsSoundFailover plan kept m (chosen epoch best f k)
 chosen_sound plan kept m epoch None f k s le b = s
 chosen_sound plan kept m epoch (Some best) f k s le b = record { replicas = s.replicas; epoch = le; choice = b }
 
@@ -102,16 +105,19 @@ turn_sound plan kept m state f k r le c b busy = sound state le c busy
     size : ℕ
     size = length (nodes_of plan m)
 
-    stays : (state : FailoverState) → IfSome (epoch_of state) (λ epoch. epoch ≤ kept.current) → IfSome (awaited state) (IsAwaited plan kept m) → IsSoundFailover plan kept m (record (begun state f k) { state = state })
+    stays : (state : FailoverState) → IfSome (epoch_of state) (λ epoch. epoch ≤ kept.current) → IfSome (awaited state) (IsAwaited plan kept m) →
+        IsSoundFailover plan kept m (record (begun state f k) { state = state })
     stays state le c = record { replicas = length-begun state f k size r; epoch = le; choice = c }
 
-    enters : (state next : FailoverState) → IfSome (epoch_of next) (λ epoch. epoch ≤ kept.current) → IfSome (awaited next) (IsAwaited plan kept m) → IsSoundFailover plan kept m (entering next k.now (begun state f k))
+    enters : (state next : FailoverState) → IfSome (epoch_of next) (λ epoch. epoch ≤ kept.current) → IfSome (awaited next) (IsAwaited plan kept m) →
+        IsSoundFailover plan kept m (entering next k.now (begun state f k))
     enters state next le c = record { replicas = length-begun state f k size r; epoch = le; choice = c }
 
     ends : (state : FailoverState) → IsSoundFailover plan kept m (ended (begun state f k))
     ends state = ended_sound plan kept m (begun state f k) (length-begun state f k size r)
 
-    sound : (state : FailoverState) → IfSome (epoch_of state) (λ epoch. epoch ≤ kept.current) → IfSome (awaited state) (IsAwaited plan kept m) → (state ≡ Idle → ⊥) → IsSoundFailover plan kept m (turn_in state (begun state f k) k).failover
+    sound : (state : FailoverState) → IfSome (epoch_of state) (λ epoch. epoch ≤ kept.current) → IfSome (awaited state) (IsAwaited plan kept m) → (state ≡ Idle → ⊥) →
+        IsSoundFailover plan kept m (turn_in state (begun state f k) k).failover
     sound Idle le c busy = absurd (busy refl)
     sound (WaitStart epoch) le c busy =
         let here = WaitStart epoch in

@@ -36,7 +36,20 @@ a_failover = refl
 pub failover_goes_on : FailoverGoesOn
 unfolding on_literals
 failover_goes_on =
-    record { before = refl; started = refl; elected = refl; won = refl; chosen = refl; told = refl; same_card = refl; promoted = refl; new_card = refl; updating = refl; ended = refl }
+    record {
+      before = refl;
+      started = refl;
+      elected = refl;
+      won = refl;
+      chosen = refl;
+      told = refl;
+      same_card = refl;
+      promoted = refl;
+      new_card = refl;
+      updating = refl;
+      ended =
+          refl;
+    }
 
 pub a_tick_in_full : ATickInFull
 unfolding on_literals

@@ -7,7 +7,8 @@ first_part : (b : ℕ) (parts : List (List ℕ)) → (part : List ℕ) × (rest 
 first_part b [] = (b ∷ [], [], refl)
 first_part b (part ∷ parts) = (b ∷ part, parts, refl)
 
-either_part : (test : Bool) (b : ℕ) (parts : List (List ℕ)) → (part : List ℕ) × (rest : List (List ℕ)) × (elim test [ true ↦ [] ∷ parts | false ↦ with_first b parts ] ≡ part ∷ rest)
+either_part : (test : Bool) (b : ℕ) (parts : List (List ℕ)) →
+    (part : List ℕ) × (rest : List (List ℕ)) × (elim test [ true ↦ [] ∷ parts | false ↦ with_first b parts ] ≡ part ∷ rest)
 either_part true b parts = ([], parts, refl)
 either_part false b parts = first_part b parts
 

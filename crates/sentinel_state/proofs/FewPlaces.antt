@@ -42,7 +42,8 @@ few_chosen : (epoch : ℕ) (best : Option (ℕ × Addr)) (f : Failover) (k : Kno
 few_chosen epoch None f k b h = h
 few_chosen epoch (Some best) f k b h = (h.0, b)
 
-few_in : (state : FailoverState) (f : Failover) (k : Known) → IfSome k.best (λ b. b.0 ≤ NODES_MAX) → unwrap_or (choice_of state) 0 ≤ NODES_MAX → HasFewPlaces f → HasFewPlaces (turn_in state f k).failover
+few_in : (state : FailoverState) (f : Failover) (k : Known) → IfSome k.best (λ b. b.0 ≤ NODES_MAX) → unwrap_or (choice_of state) 0 ≤ NODES_MAX → HasFewPlaces f →
+    HasFewPlaces (turn_in state f k).failover
 few_in Idle f k b c h = first_few f (vote_of Idle k) (table Idle f k) h ((h.0, omega arith), tt)
 few_in (WaitStart epoch) f k b c h =
     first_few f (vote_of (WaitStart epoch) k) (table (WaitStart epoch) f k) h ((h.0, omega arith), (few_ended f h, (h, tt)))

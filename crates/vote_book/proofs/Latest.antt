@@ -51,20 +51,26 @@ all_below : (es : List Hearing) (voter epoch : ℕ) (kept : HeardVote) → kept.
 all_below es voter epoch kept lt t =
     rw t.heard_is
     (all_joined (Below voter epoch) t.later (record { voter = voter; vote = kept } ∷ t.earlier)
-    (all_weaker (UpTo voter kept.epoch) (Below voter epoch) (λ x up same. let u : x.vote.epoch ≤ kept.epoch = up same in omega arith) t.later t.none_later)
-    ((λ same. lt), all_weaker (Below voter kept.epoch) (Below voter epoch) (λ x below same. let b : x.vote.epoch < kept.epoch = below same in omega arith) t.earlier t.none_earlier))
+    (all_weaker (UpTo voter kept.epoch) (Below voter epoch) (λ x up same. let u : x.vote.epoch ≤ kept.epoch = up same in omega arith) t.later t.none_later) (
+      (λ same. lt),
+      all_weaker (Below voter kept.epoch) (Below voter epoch) (λ x below same. let b : x.vote.epoch < kept.epoch = below same in omega arith) t.earlier
+          t.none_earlier,
+    ))
 
-own : (h : Hearing) (es : List Hearing) (voter : ℕ) (kept : HeardVote) (newer : Bool) → nat_lt kept.epoch h.vote.epoch ≡ newer → h.voter ≡ voter → IsLatest es voter kept → IsLatest (h ∷ es) voter (cond newer h.vote kept)
+own : (h : Hearing) (es : List Hearing) (voter : ℕ) (kept : HeardVote) (newer : Bool) → nat_lt kept.epoch h.vote.epoch ≡ newer → h.voter ≡ voter → IsLatest es voter kept →
+    IsLatest (h ∷ es) voter (cond newer h.vote kept)
 own h es voter kept true e same t = first h es voter same (all_below es voter h.vote.epoch kept (ltb-true kept.epoch h.vote.epoch e) t)
 own h es voter kept false e same t = later_one h es voter kept (λ _. ltb-false kept.epoch h.vote.epoch e) t
 
-step : (h : Hearing) (es : List Hearing) (voter : ℕ) (told : Option HeardVote) (his : Bool) → eqb h.voter voter ≡ his → Told es voter told → Told (h ∷ es) voter (cond his (Some (greater told h.vote)) told)
+step : (h : Hearing) (es : List Hearing) (voter : ℕ) (told : Option HeardVote) (his : Bool) → eqb h.voter voter ≡ his → Told es voter told →
+    Told (h ∷ es) voter (cond his (Some (greater told h.vote)) told)
 step h es voter None true e t =
     first h es voter (eqb-true h.voter voter e) (all_weaker (Others voter) (Below voter h.vote.epoch) (λ x other same. absurd (other same)) es t)
 step h es voter None false e t = (eqb-false h.voter voter e, t)
 step h es voter (Some kept) true e t = own h es voter kept (nat_lt kept.epoch h.vote.epoch) refl (eqb-true h.voter voter e) t
 step h es voter (Some kept) false e t = later_one h es voter kept (λ same. absurd (eqb-false h.voter voter e same)) t
 
-pub latest_told : (heard : List Hearing) (voter : ℕ) → MatchOption (latest heard voter) (AllByRecursion (λ hearing. hearing.voter ≢ voter) heard) (λ vote. IsLatest heard voter vote)
+pub latest_told : (heard : List Hearing) (voter : ℕ) → MatchOption (latest heard voter) (AllByRecursion (λ hearing. hearing.voter ≢ voter) heard)
+    (λ vote. IsLatest heard voter vote)
 latest_told [] voter = tt
 latest_told (h ∷ es) voter = step h es voter (latest es voter) (eqb h.voter voter) refl (latest_told es voter)

@@ -75,7 +75,8 @@ abbrev Led : (RunId → ℕ) → Votes → (epoch n : ℕ) → Option RunId → 
 Led count votes epoch n leader = MatchOption leader (NoVote votes epoch n) (IsLeader count votes epoch n)
 
 -- a voter without a vote of the epoch changes nothing
-without : (count : RunId → ℕ) (votes : Votes) (epoch n : ℕ) (leader : Option RunId) → ((candidate : RunId) → is_for epoch candidate (votes n) ≡ false) → Led count votes epoch n leader → Led count votes epoch (suc n) leader
+without : (count : RunId → ℕ) (votes : Votes) (epoch n : ℕ) (leader : Option RunId) → ((candidate : RunId) → is_for epoch candidate (votes n) ≡ false) →
+    Led count votes epoch n leader → Led count votes epoch (suc n) leader
 without count votes epoch n None no_vote led =
     λ v candidate lt. ⊎_elim (λ l. led v candidate l) (λ same. rw same (no_vote candidate)) (below_suc v n lt)
 without count votes epoch n (Some leader) no_vote led =
@@ -84,14 +85,17 @@ without count votes epoch n (Some leader) no_vote led =
       first = let l = led.first in omega arith;
       has = led.has;
       none_ahead = λ v candidate lt e.
-          ⊎_elim (λ l. led.none_ahead v candidate l e) (λ same. let never = no_vote candidate in let clash : is_for epoch candidate (votes n) ≡ true = rw (← same) e in cc) (below_suc v n lt);
+          ⊎_elim (λ l. led.none_ahead v candidate l e) (λ same. let never = no_vote candidate in let clash : is_for epoch candidate (votes n) ≡ true = rw (← same) e in cc)
+          (below_suc v n lt);
     }
 
 -- a vote of the epoch is for its candidate alone
 own_candidate : (epoch : ℕ) (vote : HeardVote) (candidate : RunId) → is_for epoch candidate (Some vote) ≡ true → vote.candidate ≡ candidate
 own_candidate epoch vote candidate e = same_id-equal vote.candidate candidate (and_parts (eqb vote.epoch epoch) (same_id vote.candidate candidate) e).1
 
-new_leader : (count : RunId → ℕ) (votes : Votes) (epoch n : ℕ) (vote : HeardVote) → votes n ≡ Some vote → eqb vote.epoch epoch ≡ true → ((v : ℕ) (candidate : RunId) → v < n → is_for epoch candidate (votes v) ≡ true → leads count candidate vote.candidate ≡ false) → IsLeader count votes epoch (suc n) vote.candidate
+new_leader : (count : RunId → ℕ) (votes : Votes) (epoch n : ℕ) (vote : HeardVote) → votes n ≡ Some vote → eqb vote.epoch epoch ≡ true →
+    ((v : ℕ) (candidate : RunId) → v < n → is_for epoch candidate (votes v) ≡ true → leads count candidate vote.candidate ≡ false) →
+    IsLeader count votes epoch (suc n) vote.candidate
 new_leader count votes epoch n vote is e ahead =
     record {
       voter = n;
@@ -105,7 +109,8 @@ new_leader count votes epoch n vote is e ahead =
           (below_suc v n lt);
     }
 
-old_leader : (count : RunId → ℕ) (votes : Votes) (epoch n : ℕ) (vote : HeardVote) (leader : RunId) → votes n ≡ Some vote → leads count vote.candidate leader ≡ false → IsLeader count votes epoch n leader → IsLeader count votes epoch (suc n) leader
+old_leader : (count : RunId → ℕ) (votes : Votes) (epoch n : ℕ) (vote : HeardVote) (leader : RunId) → votes n ≡ Some vote → leads count vote.candidate leader ≡ false →
+    IsLeader count votes epoch n leader → IsLeader count votes epoch (suc n) leader
 old_leader count votes epoch n vote leader is behind led =
     record {
       voter = led.voter;
@@ -114,27 +119,32 @@ old_leader count votes epoch n vote leader is behind led =
       none_ahead = λ v candidate lt h.
           ⊎_elim
           (λ l. led.none_ahead v candidate l h)
-          (λ same. let at_n : is_for epoch candidate (votes n) ≡ true = rw (← same) h in let his : is_for epoch candidate (Some vote) ≡ true = rw is at at_n in rw (← own_candidate epoch vote candidate his) behind)
+          (λ same. let at_n : is_for epoch candidate (votes n) ≡ true = rw (← same) h in let his : is_for epoch candidate (Some vote) ≡ true = rw is at at_n in
+          rw (← own_candidate epoch vote candidate his) behind)
           (below_suc v n lt);
     }
 
-taken : (count : RunId → ℕ) (votes : Votes) (epoch n : ℕ) (vote : HeardVote) (leader : Option RunId) → votes n ≡ Some vote → eqb vote.epoch epoch ≡ true → Led count votes epoch n leader → IsLeader count votes epoch (suc n) (leader_of count leader vote.candidate)
+taken : (count : RunId → ℕ) (votes : Votes) (epoch n : ℕ) (vote : HeardVote) (leader : Option RunId) → votes n ≡ Some vote → eqb vote.epoch epoch ≡ true →
+    Led count votes epoch n leader → IsLeader count votes epoch (suc n) (leader_of count leader vote.candidate)
 taken count votes epoch n vote None is e led =
     new_leader count votes epoch n vote is e (λ v candidate lt h. let never = led v candidate lt in cc)
 taken count votes epoch n vote (Some leader) is e led = ahead (leads count vote.candidate leader) refl
   where
-    overtaken : (candidate : RunId) → leads count vote.candidate leader ≡ true → leads count candidate leader ≡ false → (b : Bool) → leads count candidate vote.candidate ≡ b → b ≡ false
+    overtaken : (candidate : RunId) → leads count vote.candidate leader ≡ true → leads count candidate leader ≡ false → (b : Bool) → leads count candidate vote.candidate ≡ b →
+        b ≡ false
     overtaken candidate h behind true k = let t = lead_trans count candidate vote.candidate leader k h in cc
     overtaken candidate h behind false k = refl
 
     ahead : (b : Bool) → leads count vote.candidate leader ≡ b → IsLeader count votes epoch (suc n) (cond b vote.candidate leader)
-    ahead true h = new_leader count votes epoch n vote is e (λ v candidate lt k. overtaken candidate h (led.none_ahead v candidate lt k) (leads count candidate vote.candidate) refl)
+    ahead true h = new_leader count votes epoch n vote is e (λ v candidate lt k. overtaken candidate h (led.none_ahead v candidate lt k) (leads count candidate vote.candidate)
+        refl)
     ahead false h = old_leader count votes epoch n vote leader is h led
 
 other_epoch : (epoch : ℕ) (vote : HeardVote) (candidate : RunId) → eqb vote.epoch epoch ≡ false → is_for epoch candidate (Some vote) ≡ false
 other_epoch epoch vote candidate e = rw e refl
 
-more : (count : RunId → ℕ) (votes : Votes) (epoch n : ℕ) (leader : Option RunId) (vote : Option HeardVote) → votes n ≡ vote → Led count votes epoch n leader → Led count votes epoch (suc n) (with_vote count epoch leader vote)
+more : (count : RunId → ℕ) (votes : Votes) (epoch n : ℕ) (leader : Option RunId) (vote : Option HeardVote) → votes n ≡ vote → Led count votes epoch n leader →
+    Led count votes epoch (suc n) (with_vote count epoch leader vote)
 more count votes epoch n leader None is led = without count votes epoch n leader (λ candidate. rw is refl) led
 more count votes epoch n leader (Some vote) is led = known (eqb vote.epoch epoch) refl
   where
@@ -148,7 +158,8 @@ led_below count votes epoch (suc n) = more count votes epoch n (leader_below cou
 
 pick_of : (votes : Votes) (n epoch : ℕ) (me : RunId) (leader : Option RunId) → Led (count_in votes n epoch) votes epoch n leader → IsPick votes n epoch me (unwrap_or leader me)
 pick_of votes n epoch me None led =
-    let zero_count : (candidate : RunId) → count_in votes n epoch candidate ≡ 0 = λ candidate. none_counted (λ v. is_for epoch candidate (votes v)) n (λ v lt. led v candidate lt) in
+    let zero_count : (candidate : RunId) → count_in votes n epoch candidate ≡ 0 =
+    λ candidate. none_counted (λ v. is_for epoch candidate (votes v)) n (λ v lt. led v candidate lt) in
     record {
       none = λ h. refl;
       most = λ candidate. let z = zero_count candidate in omega arith;

@@ -7,7 +7,8 @@ use Rattle.watched_nodes.specs.Room.{added}
 use Rattle.watched_nodes.proofs.RoomLemmas.{added_both}
 
 -- one item more is changed
-pub changed_more : {X : Type 0} (change : ℕ → X → X) (xs all : List X) (i : ℕ) (d new : X) → i < length xs → new ≡ change i (get_or xs i d) → take i xs ++ changed_from change i (drop i xs) ≡ all → take (i + 1) (set xs i new) ++ changed_from change (i + 1) (drop (i + 1) (set xs i new)) ≡ all
+pub changed_more : {X : Type 0} (change : ℕ → X → X) (xs all : List X) (i : ℕ) (d new : X) → i < length xs → new ≡ change i (get_or xs i d) →
+    take i xs ++ changed_from change i (drop i xs) ≡ all → take (i + 1) (set xs i new) ++ changed_from change (i + 1) (drop (i + 1) (set xs i new)) ≡ all
 changed_more change xs all i d new lt is so_far =
     let more : i < i + 1 = omega arith in
     let front : drop i xs ≡ get_or xs i d ∷ drop (i + 1) xs = drop_more xs i d lt in
@@ -19,7 +20,8 @@ changed_more change xs all i d new lt is so_far =
     ∙ so_far)
 
 -- the frames of one item more are put out
-pub frames_more : {X : Type 0} (frames : ℕ → X → List Frame) (xs : List X) (before after all : List Frame) (i : ℕ) (d : X) → i < length xs → after ≡ added before (frames i (get_or xs i d)) → added before (frames_from frames i (drop i xs)) ≡ all → added after (frames_from frames (i + 1) (drop (i + 1) xs)) ≡ all
+pub frames_more : {X : Type 0} (frames : ℕ → X → List Frame) (xs : List X) (before after all : List Frame) (i : ℕ) (d : X) → i < length xs →
+    after ≡ added before (frames i (get_or xs i d)) → added before (frames_from frames i (drop i xs)) ≡ all → added after (frames_from frames (i + 1) (drop (i + 1) xs)) ≡ all
 frames_more frames xs before after all i d lt is so_far =
     let front : drop i xs ≡ get_or xs i d ∷ drop (i + 1) xs = drop_more xs i d lt in
     let rest = frames_from frames (i + 1) (drop (i + 1) xs) in
@@ -29,7 +31,9 @@ frames_more frames xs before after all i d lt is so_far =
     ∙ so_far
 
 -- also where the item was changed
-pub frames_more_set : {X : Type 0} (frames : ℕ → X → List Frame) (xs : List X) (before after all : List Frame) (i : ℕ) (d new : X) → i < length xs → after ≡ added before (frames i (get_or xs i d)) → added before (frames_from frames i (drop i xs)) ≡ all → added after (frames_from frames (i + 1) (drop (i + 1) (set xs i new))) ≡ all
+pub frames_more_set : {X : Type 0} (frames : ℕ → X → List Frame) (xs : List X) (before after all : List Frame) (i : ℕ) (d new : X) → i < length xs →
+    after ≡ added before (frames i (get_or xs i d)) → added before (frames_from frames i (drop i xs)) ≡ all →
+    added after (frames_from frames (i + 1) (drop (i + 1) (set xs i new))) ≡ all
 frames_more_set frames xs before after all i d new lt is so_far =
     let more : i < i + 1 = omega arith in
     rw (drop-set-lt (i + 1) xs i new more) (frames_more frames xs before after all i d lt is so_far)

@@ -8,6 +8,7 @@ more_by : (a b c x : List ℕ) (ps : List (List ℕ)) → IsSomeParts ps → ip_
 more_by a b c x ps s = ap (λ t. ip_of_parts (a ∷ b ∷ c ∷ x ∷ t)) s.2
 
 -- more than four parts are no address
-pub more_parts : {X : Type 0} → (a b c d : List ℕ) (r : Option X) (f g : X → List ℕ) → MatchOption r (parts d ≡ d ∷ []) (λ p. parts d ≡ f p ∷ parts (g p)) → is_some r ≡ true → ip_of_parts (a ∷ b ∷ c ∷ parts d) ≡ None
+pub more_parts : {X : Type 0} → (a b c d : List ℕ) (r : Option X) (f g : X → List ℕ) → MatchOption r (parts d ≡ d ∷ []) (λ p. parts d ≡ f p ∷ parts (g p)) → is_some r ≡ true →
+    ip_of_parts (a ∷ b ∷ c ∷ parts d) ≡ None
 more_parts a b c d None f g m s = absurd cc
 more_parts a b c d (Some p) f g m s = ap (λ t. ip_of_parts (a ∷ b ∷ c ∷ t)) m ∙ more_by a b c (f p) (parts (g p)) (some_parts 46 (g p))

@@ -39,7 +39,8 @@ abbrev pub before : ℕ → ℕ → ℕ
 before zero n = n
 before (suc k) n = before k (n / 16)
 
-pub eight_digits : (n : ℕ) → hex 8 n ≡ hex_digit (before 7 n % 16) ∷ hex_digit (before 6 n % 16) ∷ hex_digit (before 5 n % 16) ∷ hex_digit (before 4 n % 16) ∷ hex_digit (before 3 n % 16) ∷ hex_digit (before 2 n % 16) ∷ hex_digit (before 1 n % 16) ∷ hex_digit (n % 16) ∷ []
+pub eight_digits : (n : ℕ) → hex 8 n ≡ hex_digit (before 7 n % 16) ∷ hex_digit (before 6 n % 16) ∷ hex_digit (before 5 n % 16) ∷ hex_digit (before 4 n % 16) ∷
+    hex_digit (before 3 n % 16) ∷ hex_digit (before 2 n % 16) ∷ hex_digit (before 1 n % 16) ∷ hex_digit (n % 16) ∷ []
 unfolding hex
 eight_digits n = refl
 

@@ -73,7 +73,8 @@ pair_at b (x ∷ y ∷ rest) (suc i) zero d h e k = absurd (omega (arith, e))
 pair_at b (x ∷ y ∷ rest) (suc i) (suc zero) d h e k = absurd (omega (arith, e))
 pair_at b (x ∷ y ∷ rest) (suc i) (suc (suc j)) d h e k =
     let here : suc b + i ≡ b + suc i = omega arith in
-    let behind = pair_at (suc b) rest i j d (and_parts (eqb x (hex_digit (b / 16)) && eqb y (hex_digit (b % 16))) (are_pairs (suc b) rest) h).1 (omega (arith, e)) (omega (arith, k)) in
+    let behind = pair_at (suc b) rest i j d (and_parts (eqb x (hex_digit (b / 16)) && eqb y (hex_digit (b % 16))) (are_pairs (suc b) rest) h).1 (omega (arith, e))
+    (omega (arith, k)) in
     let next : suc (suc j) + 1 ≡ suc (suc (j + 1)) = omega arith in
     (behind.0 ∙ ap (λ n. hex_digit (n / 16)) here, ap (λ k. slice_index_or (x ∷ y ∷ rest) k d) next ∙ behind.1 ∙ ap (λ n. hex_digit (n % 16)) here)
 

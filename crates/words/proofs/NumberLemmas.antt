@@ -41,7 +41,8 @@ stops_by low high n c bs true e h f =
     tail_digit low high n c bs e ∙ tail_over low high (n * 10 + (c - 48)) bs (omega arith)
 stops_by low high n c bs false e h f = tail_other low high n c bs e
 
-pub digit_stops : (low high n c : ℕ) (bs : List ℕ) → high < 2 ^ 64 → None ≡ some_if (is_digit c && ltb (n * 10 + (c - 48)) (2 ^ 64)) (n * 10 + (c - 48)) → tail_within low high n (c ∷ bs) ≡ None
+pub digit_stops : (low high n c : ℕ) (bs : List ℕ) → high < 2 ^ 64 → None ≡ some_if (is_digit c && ltb (n * 10 + (c - 48)) (2 ^ 64)) (n * 10 + (c - 48)) →
+    tail_within low high n (c ∷ bs) ≡ None
 digit_stops low high n c bs h e = stops_by low high n c bs (is_digit c) refl h (some_if-none (is_digit c && ltb (n * 10 + (c - 48)) (2 ^ 64)) (n * 10 + (c - 48)) (sym e))
 
 -- ---- numbers without leading zeros
@@ -100,7 +101,8 @@ canonical_same low high n bs h e z =
     canonical_of low high n bs e ∙ ap (λ t. some_if t n) same
 
 -- by whether a zero stands before other digits
-pub canonical_by_lead : (low high n : ℕ) (bs : List ℕ) (v : Bool) → n < 2 ^ 64 → number_within low high bs ≡ Some n → has_leading_zero bs ≡ v → canonical_within low high bs ≡ cond v None (Some n)
+pub canonical_by_lead : (low high n : ℕ) (bs : List ℕ) (v : Bool) → n < 2 ^ 64 → number_within low high bs ≡ Some n → has_leading_zero bs ≡ v →
+    canonical_within low high bs ≡ cond v None (Some n)
 canonical_by_lead low high n bs true h e z =
     let both = and_parts (ltb 1 (length bs)) (eqb (get_or bs 0 0) 48) z in
     canonical_other low high n bs h e (eqb-true (get_or bs 0 0) 48 both.1) (ltb-true 1 (length bs) both.0)

@@ -5,7 +5,8 @@ use Rattle.ballot_law.proofs.ordering.has_repeats.Goals as goal
 
 pub returns-then-is_same : goal.returns-then-is_same
 returns-then-is_same g c =
-    found_again g.T.Keyed.same c.args.items.now c.first.i c.second.j c.index-items-i.result c.index-items-j.result (repeats g.T.Keyed.same c.args.items.now) (repeats g.T.Keyed.same (drop (c.first.i + 1) c.args.items.now))
+    found_again g.T.Keyed.same c.args.items.now c.first.i c.second.j c.index-items-i.result c.index-items-j.result (repeats g.T.Keyed.same c.args.items.now)
+    (repeats g.T.Keyed.same (drop (c.first.i + 1) c.args.items.now))
     c.index-items-i.is c.index-items-j.is (omega arith) (sym c.is_same.ensures ∙ c.if-is_same.true) c.second.invariant
 
 pub second-init : goal.second-init
@@ -14,7 +15,8 @@ second-init g c =
 
 pub second-preserved : goal.second-preserved
 second-preserved g c =
-    not_found g.T.Keyed.same c.args.items.now c.first.i c.second.j c.index-items-i.result c.index-items-j.result (repeats g.T.Keyed.same c.args.items.now) (repeats g.T.Keyed.same (drop (c.first.i + 1) c.args.items.now))
+    not_found g.T.Keyed.same c.args.items.now c.first.i c.second.j c.index-items-i.result c.index-items-j.result (repeats g.T.Keyed.same c.args.items.now)
+    (repeats g.T.Keyed.same (drop (c.first.i + 1) c.args.items.now))
     c.index-items-i.is c.index-items-j.is (omega arith) (omega arith) (sym c.is_same.ensures ∙ c.if-is_same.false) c.second.invariant
 
 pub first-preserved : goal.first-preserved

@@ -7,4 +7,5 @@ abbrev pub invariant-first : goal.invariant-first
 invariant-first g l = repeats g.T.Keyed.same l.items ≡ repeats g.T.Keyed.same (drop l.i l.items)
 
 abbrev pub invariant-second : goal.invariant-second
-invariant-second g l = (d : _) → repeats g.T.Keyed.same l.items ≡ (list_any (g.T.Keyed.same (get_or l.items l.i d)) (drop l.j l.items) || repeats g.T.Keyed.same (drop (l.i + 1) l.items))
+invariant-second g l = (d : _) → repeats g.T.Keyed.same l.items ≡ (list_any (g.T.Keyed.same (get_or l.items l.i d)) (drop l.j l.items) || repeats g.T.Keyed.same
+    (drop (l.i + 1) l.items))

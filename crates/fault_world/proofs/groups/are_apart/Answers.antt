@@ -4,7 +4,8 @@ use Rattle.fault_world.proofs.groups.are_apart.Goals as goal
 
 pub loop-place-preserved : goal.loop-place-preserved
 loop-place-preserved g c =
-    first_more c.args.nodes.now.items c.loop-place.place (λ b. (goal.Node-dyn g (b.vtable, b.value)).name b.value) (c.is_first_named.ensures.first c.if-not-is_first_named.false) c.loop-place.invariant
+    first_more c.args.nodes.now.items c.loop-place.place (λ b. (goal.Node-dyn g (b.vtable, b.value)).name b.value) (c.is_first_named.ensures.first c.if-not-is_first_named.false)
+    c.loop-place.invariant
 
 pub returns-clause-apart : goal.returns-clause-apart
 returns-clause-apart g c =

@@ -9,7 +9,8 @@ loop-k-preserved g c =
 
 pub returns-then-is_same_name-clause-found : goal.returns-then-is_same_name-clause-found
 returns-then-is_same_name-clause-found g c =
-    λ _. found c.args.nodes.now.items c.loop-k.k c.index.result.now (search rules) c.index.ensures c.args.wanted (λ b. (goal.Node-dyn g (b.vtable, b.value)).name b.value) (sym c.name_of.ensures.value ∙ c.is_same_name.ensures.0 c.if-is_same_name.true)
+    λ _. found c.args.nodes.now.items c.loop-k.k c.index.result.now (search rules) c.index.ensures c.args.wanted (λ b. (goal.Node-dyn g (b.vtable, b.value)).name b.value)
+    (sym c.name_of.ensures.value ∙ c.is_same_name.ensures.0 c.if-is_same_name.true)
 
 pub returns-clause-none : goal.returns-clause-none
 returns-clause-none g c =

@@ -78,7 +78,8 @@ loop-turn-preserved g c =
           let took_all = rw (c.loop-turn.invariant.2, c.loop-turn.invariant.3) at done.took in
           let took = took_all (g.N.PortSentinel.core c.args.sentinel.now) (g.S.ConfStore.held c.args.store.now) so_far.0 so_far.1 so_far.4 in
           let input = so_far.0 ++ take w.in-Ok.count c.read.new.buf in
-          let longer : length input ≤ (c.loop-turn.turn + 1) * 16384 = omega (arith, so_far.5, length-append so_far.0 (take w.in-Ok.count c.read.new.buf), length-take w.in-Ok.count c.read.new.buf, w.in-Ok.ensures) in
+          let longer : length input ≤ (c.loop-turn.turn + 1) * 16384 =
+          omega (arith, so_far.5, length-append so_far.0 (take w.in-Ok.count c.read.new.buf), length-take w.in-Ok.count c.read.new.buf, w.in-Ok.ensures) in
           let counted = answers_counted plan c.args.now core held input (so_far.1 ++ took.0) _ _ _ _ _ took.2.answered in (
             rw w.connection-is (omega (arith, counted, longer)),
             (
@@ -96,7 +97,15 @@ loop-turn-preserved g c =
           )
       | in-Err+else-ne w ↦ (
         rw w.connection-is (omega (arith, c.loop-turn.invariant.0)),
-        (so_far.0, so_far.1, read_none _ _ _ _ so_far.2 (rw w.in-Err.is at c.read.ensures.bytes), rw w.writer-is so_far.3, rw (w.connection-is, w.sentinel-is, w.store-is) so_far.4, omega (arith, so_far.5)),
+        (
+          so_far.0,
+          so_far.1,
+          read_none _ _ _ _ so_far.2 (rw w.in-Err.is at c.read.ensures.bytes),
+          rw w.writer-is so_far.3,
+          rw (w.connection-is, w.sentinel-is, w.store-is)
+              so_far.4,
+          omega (arith, so_far.5),
+        ),
         rw w.connection-is c.loop-turn.invariant.2,
         rw w.sentinel-is c.loop-turn.invariant.3,
         rw w.sentinel-is c.loop-turn.invariant.4,

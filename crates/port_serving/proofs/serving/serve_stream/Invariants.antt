@@ -13,7 +13,8 @@ invariant-loop-turn g l =
     × (written : List ℕ)
     × Consumes (g.R.Read.remaining l.fn.reader) (g.R.Read.remaining l.reader) input
     × Appends (g.W.Write.contents l.fn.writer) (g.W.Write.contents l.writer) written
-    × IsIdle (g.N.PortSentinel.plan l.fn.sentinel) l.fn.now (g.N.PortSentinel.core l.fn.sentinel) (g.S.ConfStore.held l.fn.store) input written l.connection.frames (g.N.PortSentinel.core l.sentinel) l.connection.text l.connection.answers (g.S.ConfStore.held l.store)
+    × IsIdle (g.N.PortSentinel.plan l.fn.sentinel) l.fn.now (g.N.PortSentinel.core l.fn.sentinel) (g.S.ConfStore.held l.fn.store) input written l.connection.frames
+    (g.N.PortSentinel.core l.sentinel) l.connection.text l.connection.answers (g.S.ConfStore.held l.store)
     × (length input ≤ l.turn * 16384))
     × (l.connection.clock ≡ l.fn.now)
     × (g.N.PortSentinel.plan l.sentinel ≡ g.N.PortSentinel.plan l.fn.sentinel)

@@ -7,4 +7,5 @@ use Rattle.resp2_frames.specs.Stream.{reading, Parts}
 use Rattle.resp2_frames.proofs.pieces.read_pieces.Given as goal
 
 abbrev pub invariant-loop-piece : goal.invariant-loop-piece
-invariant-loop-piece l = (rest : List ℕ) × (l.frames ≡ reading rest) × Parts (flat_map (λ piece. piece.items) (take l.piece-index l.pieces)) (map view l.values.items) rest × (frame_at rest ≡ Err NeedsMore)
+invariant-loop-piece l = (rest : List ℕ) × (l.frames ≡ reading rest) × Parts (flat_map (λ piece. piece.items) (take l.piece-index l.pieces)) (map view l.values.items) rest ×
+    (frame_at rest ≡ Err NeedsMore)

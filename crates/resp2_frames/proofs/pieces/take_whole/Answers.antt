@@ -8,7 +8,8 @@ use Rattle.resp2_frames.proofs.pieces.take_whole.Goals as goal
 pub returns-in_err-value : goal.returns-in_err-value
 returns-in_err-value c = λ stream so_far.
     let p = err_from_is_err_and c.from_residual.result c.from_residual.ensures.1 in
-    rw (p.1, p.2) (fault_drains stream (map view c.loop-value.values.items) c.loop-value.frames c.in_err-value.field-0.0 c.next.new.self (c.loop-value.invariant stream so_far) c.in_err-value.ensures.exact)
+    rw (p.1, p.2) (fault_drains stream (map view c.loop-value.values.items) c.loop-value.frames c.in_err-value.field-0.0 c.next.new.self (c.loop-value.invariant stream so_far)
+    c.in_err-value.ensures.exact)
 
 pub loop-value-preserved : goal.loop-value-preserved
 loop-value-preserved c = λ stream so_far.

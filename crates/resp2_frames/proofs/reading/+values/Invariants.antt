@@ -15,4 +15,5 @@ abbrev pub decreases-values_of : goal.decreases-values_of
 decreases-values_of l = 3 * l.depth + 1
 
 abbrev pub invariant-values_of-loop : goal.invariant-values_of-loop
-invariant-values_of-loop l = with_front (map view l.values.items) (values_at (value_at 1024 l.more l.depth) (l.count - l.counter) l.rest) ≡ values_at (value_at 1024 l.more l.depth) l.count l.bytes
+invariant-values_of-loop l = with_front (map view l.values.items) (values_at (value_at 1024 l.more l.depth) (l.count - l.counter) l.rest) ≡ values_at
+    (value_at 1024 l.more l.depth) l.count l.bytes

@@ -51,5 +51,6 @@ push_values-returns-in_err-push_value g t c =
     let behind = spelled (drop (i + 1) xs) in
     adds_both c.from_residual.result (bytes c.args.sink.now) (bytes c.loop-item.sink) (bytes c.push_value.new.sink)
     (spelled (take i xs)) (next ++ behind) (spelled c.args.items.now.items) _ c.loop-item.invariant
-    (adds_part c.from_residual.result (bytes c.loop-item.sink) (bytes c.push_value.new.sink) next behind (next ++ behind) _ c.from_residual.ensures.0 c.in_err-push_value.ensures refl)
+    (adds_part c.from_residual.result (bytes c.loop-item.sink) (bytes c.push_value.new.sink) next behind (next ++ behind) _ c.from_residual.ensures.0 c.in_err-push_value.ensures
+    refl)
     (spelled_around xs i v (omega arith) c.item-item.is ∙ ap spelled c.deref-item-items.ensures.value)

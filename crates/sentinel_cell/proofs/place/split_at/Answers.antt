@@ -16,4 +16,5 @@ split_seat-requires g c = let n = c.load.ensures.2 in (
 )
 
 pub returns-clause-halves : goal.returns-clause-halves
-returns-clause-halves g c = let n = c.load.ensures.2 in let e = c.split_seat.ensures in halves c.args.place.now.me c.load.new.seat.me _ _ n.0 n.1 n.2 c.requires.rest.1 e.2 e.4 n.3 n.4 n.5
+returns-clause-halves g c = let n = c.load.ensures.2 in let e = c.split_seat.ensures in
+    halves c.args.place.now.me c.load.new.seat.me _ _ n.0 n.1 n.2 c.requires.rest.1 e.2 e.4 n.3 n.4 n.5

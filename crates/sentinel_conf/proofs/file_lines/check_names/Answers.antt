@@ -10,6 +10,7 @@ loop-rest-preserved c =
     let none : unknown_fault c.args.names.now (line_of c.split_line.result.0.now) ≡ None = cc in
     record {
       faults = c.loop-rest.invariant.faults
-          ∙ unknown_more c.args.names.now c.loop-rest.number c.split_line.result.0.now (lines c.loop-rest.rest.now) (lines c.split_line.result.1.now) c.split_line.ensures.lines none;
+          ∙ unknown_more c.args.names.now c.loop-rest.number c.split_line.result.0.now (lines c.loop-rest.rest.now) (lines c.split_line.result.1.now) c.split_line.ensures.lines
+          none;
       counted = omega arith;
     }

@@ -36,7 +36,8 @@ returns c =
     let names = c.deref-2.ensures.value ∙ c.in_ok-names.ensures ∙ ap (filter_map name_of) (c.deref.ensures.value ∙ c.in_ok-file.ensures.states) in
     let held = c.deref-3.ensures.value ∙ c.in_ok-file.ensures.states in
     let some : first_given my_id_of c.deref-3.result.now ≡ Some id = cc in
-    let whole = whole_is texts (lines file.kept.items) file.states.items file.settings.items id (kept_lines_again c.args.bytes.now file.kept.items c.requires c.in_ok-file.ensures.kept)
+    let whole = whole_is texts (lines file.kept.items) file.states.items file.settings.items id
+    (kept_lines_again c.args.bytes.now file.kept.items c.requires c.in_ok-file.ensures.kept)
     c.in_ok-file.ensures.states c.in_ok-file.ensures.settings in
     let read = with_this_id texts c.deref-2.result.now names c.in_ok-file.ensures.fits c.in_default.ensures.fits c.deref-3.result.now held id some in
     match_map (λ (parts : ConfPlan). (fault_of parts.roster ≡ None) × (parts ≡ conf)) (λ (parts : ConfPlan). conf_of_lines texts ≡ sized parts)

@@ -14,7 +14,8 @@ returns-in-CurrentEpoch c =
 
 pub returns-in-LeaderEpoch : goal.returns-in-LeaderEpoch
 returns-in-LeaderEpoch c =
-    two_adds c.args.out.now (codes "sentinel leader-epoch") (32 ∷ (c.in-LeaderEpoch.name ++ 32 ∷ decimal c.in-LeaderEpoch.epoch)) c.add-in-LeaderEpoch.new.self c.add_epoch-in-LeaderEpoch.new.out
+    two_adds c.args.out.now (codes "sentinel leader-epoch") (32 ∷ (c.in-LeaderEpoch.name ++ 32 ∷ decimal c.in-LeaderEpoch.epoch)) c.add-in-LeaderEpoch.new.self
+    c.add_epoch-in-LeaderEpoch.new.out
     c.add-in-LeaderEpoch.ensures c.add_epoch-in-LeaderEpoch.ensures
     ∙ ap (λ s. bounded (c.args.out.now ++ spelled s)) (sym c.in-LeaderEpoch.is)
 
@@ -42,7 +43,8 @@ returns-in-KnownSentinel c =
     let ip = ip_text c.in-KnownSentinel.addr.ip in
     let port = decimal c.in-KnownSentinel.addr.port in
     let id = 32 ∷ id_text c.in-KnownSentinel.id in
-    three_adds c.args.out.now (codes "sentinel known-sentinel") (32 ∷ (name ++ 32 ∷ (ip ++ 32 ∷ port))) id c.add-in-KnownSentinel.new.self c.add_node-in-KnownSentinel.new.out c.add_id-in-KnownSentinel.new.out
+    three_adds c.args.out.now (codes "sentinel known-sentinel") (32 ∷ (name ++ 32 ∷ (ip ++ 32 ∷ port))) id c.add-in-KnownSentinel.new.self c.add_node-in-KnownSentinel.new.out
+    c.add_id-in-KnownSentinel.new.out
     c.add-in-KnownSentinel.ensures c.add_node-in-KnownSentinel.ensures c.add_id-in-KnownSentinel.ensures
     ∙ ap (λ t. bounded (c.args.out.now ++ (codes "sentinel known-sentinel" ++ t))) (node_more name ip port id)
     ∙ ap (λ s. bounded (c.args.out.now ++ spelled s)) (sym c.in-KnownSentinel.is)

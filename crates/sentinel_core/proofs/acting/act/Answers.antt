@@ -13,7 +13,8 @@ pub returns-clause-ahead : goal.returns-clause-ahead
 returns-clause-ahead c =
     let input = c.args.input.now in
     let e = c.act_on.ensures.core ∙ ap (λ (s : Core). (next_at c.args.state.now.plan (clock input.now) input.event s).core) c.forget_win.ensures in
-    λ h. subst IsAhead (sym e) (c.law_inputs_change_one_card.ensures.greater c.args.state.now.plan c.args.state.now.core input.now input.event c.requires.plan c.requires.sound c.requires.within h).0
+    λ h. subst IsAhead (sym e) (c.law_inputs_change_one_card.ensures.greater c.args.state.now.plan c.args.state.now.core input.now input.event c.requires.plan c.requires.sound
+    c.requires.within h).0
 
 pub returns-clause-former : goal.returns-clause-former
 returns-clause-former c =
@@ -22,7 +23,8 @@ returns-clause-former c =
     let old = c.args.state.now.core in
     let e = c.act_on.ensures.core ∙ ap (λ (s : Core). (next_at plan (clock input.now) input.event s).core) c.forget_win.ensures in
     let f = c.act_on.ensures.former ∙ ap (λ (s : Core). former_of s.kept (concerned plan input.event s.kept)) c.forget_win.ensures in
-    let sound : IsSound plan (next plan old input.now input.event).core = (c.law_inputs_keep_sound.ensures plan old input.now input.event c.requires.plan c.requires.sound c.requires.within).0 in
+    let sound : IsSound plan (next plan old input.now input.event).core =
+    (c.law_inputs_keep_sound.ensures plan old input.now input.event c.requires.plan c.requires.sound c.requires.within).0 in
     let long = sound.kept_masters ∙ sym c.requires.sound.kept_masters in
     ap (λ (s : Core). put_back s.kept c.act_on.new.former) e
     ∙ ap (λ (f : Former). put_back (next plan old input.now input.event).core.kept f) f

@@ -14,7 +14,8 @@ loop-left-init c =
     let empty = ap (λ (held : List Output). length held) none in
     let all = c.as_slice-left.ensures in
     let long = ap (λ (frames : List Frame). length frames) all in (
-      ap (λ (held : List Output). held ++ map (output_of state.plan state.core) c.as_slice-left.result.now) none ∙ ap (λ (frames : List Frame). map (output_of state.plan state.core) frames) all,
+      ap (λ (held : List Output). held ++ map (output_of state.plan state.core) c.as_slice-left.result.now) none ∙
+          ap (λ (frames : List Frame). map (output_of state.plan state.core) frames) all,
       subst (λ (frames : List Frame). AllByRecursion (IsNamed state.plan) frames) (sym all) c.requires.named,
       omega (arith, empty, long, c.requires.few),
       omega (arith, empty, room.held),

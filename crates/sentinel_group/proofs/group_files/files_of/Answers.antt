@@ -7,4 +7,5 @@ pub loop-path-preserved : goal.loop-path-preserved
 loop-path-preserved c =
     let P : ℕ → Type 0 = λ store. store < 2 ^ 64 - 1 in
     let fresh : P c.in_ok-conf.store = subst P (sym c.in_ok-conf.ensures) (omega arith) in
-    subst (All P) (sym c.in_default.ensures.items) (All-append P c.loop-path.stores.items (c.in_ok-conf.store ∷ []) c.loop-path.invariant (All-cons P c.in_ok-conf.store [] fresh (All-nil P)))
+    subst (All P) (sym c.in_default.ensures.items) (All-append P c.loop-path.stores.items (c.in_ok-conf.store ∷ []) c.loop-path.invariant
+    (All-cons P c.in_ok-conf.store [] fresh (All-nil P)))

@@ -42,5 +42,6 @@ returns-clause-state c =
     ∙ ap (λ (f : Failover). unwrap_or (epoch_of f.state) 0) (c.turn-act.ensures.failover ∙ ap (λ b. (turn b).failover) odown)
     ∙ start_opens old.plan old.core m now idle starts in
     ap (with_core c.turn-act.new.state) c.set_current.ensures
-    ∙ ap (λ (state : State). with_core state (with_current state.core epoch)) (c.turn-act.ensures.state ∙ ap (λ b. with_core old (with_failover old.core m (turn b).failover)) odown)
+    ∙ ap (λ (state : State). with_core state (with_current state.core epoch))
+    (c.turn-act.ensures.state ∙ ap (λ b. with_core old (with_failover old.core m (turn b).failover)) odown)
     ∙ opened old m now epoch idle starts next

@@ -29,4 +29,5 @@ returns c =
     let end : c.loop-k.k ≡ n = omega (arith, c.loop-k.auto.k-end, c.loop-k-test.false) in
     replicas_whole c.args.plan.now c.args.core.now (clock c.args.now) c.args.m own n c.loop-k.text c.card_place-own.ensures.value c.node_count-count.ensures.value
     c.node_count-count.ensures.few (λ k h. c.loop-k.invariant.fits k (omega (arith, h, end)))
-    (subst (λ (k : ℕ). c.loop-k.text ≡ bounded (header (length (places_but own 0 n)) ++ text_below (text_but own (λ k. spelling (replica_frame (row_of k)))) k)) end c.loop-k.invariant.written)
+    (subst (λ (k : ℕ). c.loop-k.text ≡ bounded (header (length (places_but own 0 n)) ++ text_below (text_but own (λ k. spelling (replica_frame (row_of k)))) k)) end
+    c.loop-k.invariant.written)

@@ -12,6 +12,7 @@ abbrev pub invariant-loop-k : goal.invariant-loop-k
 invariant-loop-k l =
     record {
       written : l.text
-          ≡ bounded (header (length (places_but l.own 0 l.count)) ++ text_below (text_but l.own (λ k. spelling (replica_frame (replica_row l.plan l.core (clock l.now) l.m k)))) l.k);
+          ≡ bounded (header (length (places_but l.own 0 l.count)) ++
+          text_below (text_but l.own (λ k. spelling (replica_frame (replica_row l.plan l.core (clock l.now) l.m k)))) l.k);
       fits : (k : ℕ) → k < l.k → IsReplicaRow (replica_row l.plan l.core (clock l.now) l.m k);
     }

@@ -29,4 +29,5 @@ returns c =
     let end : c.loop-place.place ≡ n = omega (arith, c.loop-place.auto.place-end, c.loop-place-test.false) in
     sentinels_whole c.args.plan.now c.args.core.now (clock c.args.now) own n c.loop-place.text c.place-own.ensures c.group_size-count.ensures.value
     c.group_size-count.ensures.few (λ k h. c.loop-place.invariant.fits k (omega (arith, h, end)))
-    (subst (λ (k : ℕ). c.loop-place.text ≡ bounded (header (length (places_but own 0 n)) ++ text_below (text_but own (λ k. spelling (sentinel_frame (row_of k)))) k)) end c.loop-place.invariant.written)
+    (subst (λ (k : ℕ). c.loop-place.text ≡ bounded (header (length (places_but own 0 n)) ++ text_below (text_but own (λ k. spelling (sentinel_frame (row_of k)))) k)) end
+    c.loop-place.invariant.written)

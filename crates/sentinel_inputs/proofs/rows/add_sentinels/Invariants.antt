@@ -12,6 +12,7 @@ abbrev pub invariant-loop-place : goal.invariant-loop-place
 invariant-loop-place l =
     record {
       written : l.text
-          ≡ bounded (header (length (places_but l.own 0 l.count)) ++ text_below (text_but l.own (λ k. spelling (sentinel_frame (sentinel_row l.plan l.core (clock l.now) k)))) l.place);
+          ≡ bounded (header (length (places_but l.own 0 l.count)) ++
+          text_below (text_but l.own (λ k. spelling (sentinel_frame (sentinel_row l.plan l.core (clock l.now) k)))) l.place);
       fits : (k : ℕ) → k < l.place → IsPlace (sentinel_row l.plan l.core (clock l.now) k).addr;
     }

@@ -12,7 +12,8 @@ use Rattle.sentinel_inputs.proofs.ticks.fail_over.Goals as goal
 pub ask_others-requires : goal.ask_others-requires
 ask_others-requires c =
     c.requires.down
-    ∙ sym (seen_after_row c.args.state.now c.start_failover-started.new.state c.advance_failover.new.state c.args.m (clock c.args.now) c.start_failover-started.ensures.state c.advance_failover.ensures)
+    ∙ sym (seen_after_row c.args.state.now c.start_failover-started.new.state c.advance_failover.new.state c.args.m (clock c.args.now) c.start_failover-started.ensures.state
+    c.advance_failover.ensures)
 
 pub returns : goal.returns
 returns c =

@@ -26,4 +26,5 @@ returns c =
     then_parts old c.find_odown.new.state c.fail_over.new.state (odown_part old.plan m now old.core) (λ (plan : Plan) (core : Core). failover_part plan m now core)
     c.find_odown.ensures c.fail_over.ensures
     ∙ ap (λ (p : Part). with_part old p)
-    (sym (part_unless (is_tilted old.core) old.core (λ core. then_part (odown_part old.plan m now core) (failover_part old.plan m now)) (sym c.is_tilted.ensures ∙ c.if-is_tilted.false)))
+    (sym (part_unless (is_tilted old.core) old.core (λ core. then_part (odown_part old.plan m now core) (failover_part old.plan m now))
+    (sym c.is_tilted.ensures ∙ c.if-is_tilted.false)))

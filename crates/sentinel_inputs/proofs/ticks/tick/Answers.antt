@@ -17,4 +17,5 @@ returns-then-m-master_count c =
     let read = with_reading now c.args.random old.core in
     c.tick_master.ensures
     ∙ ap (λ (core : Core). let x : State = record old { core = core } in with_part x (master_part old.plan m now core)) c.read_clock.ensures
-    ∙ ap (λ (p : Part). with_part old p) (sym (part_below m c.master_count.result (master_count old.plan) read (master_part old.plan m now) c.if-m-master_count.true c.master_count.ensures.value))
+    ∙ ap (λ (p : Part). with_part old p) (sym (part_below m c.master_count.result (master_count old.plan) read (master_part old.plan m now) c.if-m-master_count.true
+    c.master_count.ensures.value))

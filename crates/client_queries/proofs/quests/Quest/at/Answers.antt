@@ -7,7 +7,8 @@ use Rattle.client_queries.specs.Queries.{Query}
 use Rattle.client_queries.proofs.quests.Quest.at.Goals as goal
 
 -- what a list gives at a place, copied, is the element there, or none past the end
-copied_at : (xs : List Addr) (i : ℕ) (found : Option (Bor Addr)) → IfSome found (λ x. x.now ≡ get_or xs i x.now) → MatchOption found (length xs ≤ i) (λ x. (i < length xs) × HoldsAt (λ y. x.now ≡ y) xs i)
+copied_at : (xs : List Addr) (i : ℕ) (found : Option (Bor Addr)) → IfSome found (λ x. x.now ≡ get_or xs i x.now) →
+    MatchOption found (length xs ≤ i) (λ x. (i < length xs) × HoldsAt (λ y. x.now ≡ y) xs i)
     → option_copied found ≡ slice_get xs i
 copied_at xs i (Some x) same within = sym (slice_get_read xs (length xs) i x.now refl within.0 same)
 copied_at xs i None same past = sym (slice_get_past xs i past)

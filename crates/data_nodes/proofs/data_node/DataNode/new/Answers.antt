@@ -25,7 +25,8 @@ ready number addr sentinels server = record { number = number; addr = addr; sent
 
 -- a node that is ready is the one that stands at this place as it begins
 begun : (conf : ConfPlan) (number : ℕ) (at : NodePlace) (addr : Addr) (sentinels : ℕ) (server : Server) → node_numbered conf.roster.masters 0 number ≡ Some at
-    → addr ≡ addr_in conf.roster at → sentinels ≡ length conf.roster.sentinels → server ≡ first_server number (first_followed (addr_in conf.roster at) (card_of conf.kept at.master).addr)
+    → addr ≡ addr_in conf.roster at → sentinels ≡ length conf.roster.sentinels →
+    server ≡ first_server number (first_followed (addr_in conf.roster at) (card_of conf.kept at.master).addr)
     → Some (ready number addr sentinels server) ≡ node_of conf number
 begun conf number at addr sentinels server stands own many first =
     ap (λ a. Some (ready number a sentinels server)) own
@@ -57,7 +58,8 @@ new-requires c =
     let known : c.in_ok-at.at.master < length c.roster-roster.result.now.masters = c.in_ok-at.ensures.known in
     elim c.if-is_same.branch [
       | then-is_same w ↦ subst (λ f. IfSome f IsAddr) (sym w.follows-is) tt
-      | else-is_same w ↦ subst (λ f. IfSome f IsAddr) (sym w.follows-is) (card_addr conf c.as_slice.result.now c.in_ok-at.at.master _ c.roster-roster.ensures.sound kept (omega arith))
+      | else-is_same w ↦ subst (λ f. IfSome f IsAddr) (sym w.follows-is)
+          (card_addr conf c.as_slice.result.now c.in_ok-at.at.master _ c.roster-roster.ensures.sound kept (omega arith))
     ]
 
 pub returns-clause-fresh : goal.returns-clause-fresh

@@ -5,12 +5,14 @@ use Rattle.ballot_law.specs.declared.messages.Message.{Message}
 use Rattle.fault_world.proofs.fault_world.FaultWorld.message.Goals as goal
 
 -- what a list gives at a place is the element there
-found_at : (xs : List Message) (i : ℕ) (found : Option (Bor Message)) → IfSome found (λ x. x.now ≡ get_or xs i x.now) → MatchOption found (length xs ≤ i) (λ x. (i < length xs) × HoldsAt (λ y. x.now ≡ y) xs i)
+found_at : (xs : List Message) (i : ℕ) (found : Option (Bor Message)) → IfSome found (λ x. x.now ≡ get_or xs i x.now) →
+    MatchOption found (length xs ≤ i) (λ x. (i < length xs) × HoldsAt (λ y. x.now ≡ y) xs i)
     → IfSome found (λ x. slice_get xs i ≡ Some x.now)
 found_at xs i (Some x) same within = slice_get_read xs (length xs) i x.now refl within.0 same
 found_at xs i None same past = tt
 
-none_past : (xs : List Message) (i : ℕ) (found : Option (Bor Message)) → MatchOption found (length xs ≤ i) (λ x. (i < length xs) × HoldsAt (λ y. x.now ≡ y) xs i) → IfNone found (length xs ≤ i)
+none_past : (xs : List Message) (i : ℕ) (found : Option (Bor Message)) → MatchOption found (length xs ≤ i) (λ x. (i < length xs) × HoldsAt (λ y. x.now ≡ y) xs i) →
+    IfNone found (length xs ≤ i)
 none_past xs i (Some x) within = tt
 none_past xs i None past = past
 

@@ -11,4 +11,5 @@ returns-clause-since g c =
 
 pub returns-clause-since_refused : goal.returns-clause-since_refused
 returns-clause-since_refused g c =
-    first_told c.make.result c.args.self.now.roster c.args.steps.now _ _ c.law_one_leader.ensures c.law_one_address.ensures c.law_never_falls.ensures.each_step c.make.ensures.memory
+    first_told c.make.result c.args.self.now.roster c.args.steps.now _ _ c.law_one_leader.ensures c.law_one_address.ensures c.law_never_falls.ensures.each_step
+    c.make.ensures.memory

@@ -20,7 +20,8 @@ image_releases (OfSentinel s) = (refl, refl)
 image_releases (OfOther o) = (refl, refl)
 
 -- a member whose node was released stands for what the node stands for, where it then holds nothing, and what it held joined the list
-released_seat : {N : Type 0} (name : N → NodeName) (shows : N → Shows) (node lent : N) (result : Result (Unit {0}) ReleaseFault) (named own_after : NodeName) (after : Shows) (held held_after list list_after : List Output) (told : Bool)
+released_seat : {N : Type 0} (name : N → NodeName) (shows : N → Shows) (node lent : N) (result : Result (Unit {0}) ReleaseFault) (named own_after : NodeName) (after : Shows)
+    (held held_after list list_after : List Output) (told : Bool)
     → is_ok result ≡ true → lent ≡ node → Releases result (shows lent) after → own_after ≡ name lent → held_after ≡ [] → list_after ≡ list ++ held
     → SeatReleases list list_after (IsSeat named (name node) (shows node) held told) (IsSeat named own_after after held_after told)
 released_seat name shows node lent result named own_after after held held_after list list_after told ok same release same_name empty joined =
@@ -28,7 +29,8 @@ released_seat name shows node lent result named own_after after held held_after 
       stored = λ roster image seat is.
           let shown = (release.stored roster image (subst (λ n. shows n roster image) (sym same) seat.shows_it) is).1 in
           let releases = image_releases image in (
-            empty_seat named own_after after held_after told roster (released_image image) (same_name ∙ ap name same ∙ seat.goes_by) shown releases.1 empty (seat.told ∙ ap is_stopped is ∙ sym releases.0),
+            empty_seat named own_after after held_after told roster (released_image image) (same_name ∙ ap name same ∙ seat.goes_by) shown releases.1 empty
+                (seat.told ∙ ap is_stopped is ∙ sym releases.0),
             joined ∙ ap (λ outputs. list ++ outputs) (sym seat.held_is),
           );
       other = λ roster image seat not.
@@ -44,5 +46,6 @@ returns-then-is_ok-clause-releases g c =
     let release = c.release.ensures in
     let shown : c.release.new.outbox.shown ≡ self.outbox.held = no_error c.release.result _ ok release.1.0 ∙ ap (λ outputs. outputs ++ self.outbox.held) self.quiet in
     let empty : c.release.new.outbox.held ≡ [] = no_error c.release.result _ ok release.1.1.0 in
-    released_seat (λ v. (goal.Node-dyn g v).name v.1) (λ v. (goal.Node-dyn g v).shows v.1) (self.node.vtable, self.node.value) _ c.release.result self.name _ _ self.outbox.held _ list _ self.stopped ok (search rules) release.0 release.1.1.1.1
+    released_seat (λ v. (goal.Node-dyn g v).name v.1) (λ v. (goal.Node-dyn g v).shows v.1) (self.node.vtable, self.node.value) _ c.release.result self.name _ _ self.outbox.held _
+    list _ self.stopped ok (search rules) release.0 release.1.1.1.1
     (ap (λ (outbox : Outputs). outbox.held) c.move_shown.ensures.left ∙ empty) (c.move_shown.ensures.moved ∙ ap (λ outputs. list ++ outputs) shown)

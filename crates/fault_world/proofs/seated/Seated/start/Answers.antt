@@ -27,7 +27,8 @@ image_starts roster (OfSentinel s) = (refl, refl)
 image_starts roster (OfOther o) = (refl, refl)
 
 -- a member that was marked as stopped, whose node was started, stands for what the node stands for, where it holds nothing
-started_seat : {N E : Type 0} (name : N → NodeName) (shows : N → Shows) (node lent : N) (result : Result (Unit {0}) E) (named own_after : NodeName) (after : Shows) (held held_after : List Output) (told : Bool)
+started_seat : {N E : Type 0} (name : N → NodeName) (shows : N → Shows) (node lent : N) (result : Result (Unit {0}) E) (named own_after : NodeName) (after : Shows)
+    (held held_after : List Output) (told : Bool)
     → told ≡ true → is_err result ≡ false → lent ≡ node
     → OnOk result (Starts (shows lent) after) × (OnErr result (Stays (shows lent) after) × IsNamed (shows lent) (name lent) own_after)
     → held_after ≡ []
@@ -45,5 +46,6 @@ started_seat name shows node lent result named own_after after held held_after t
 pub returns-clause-ok : goal.returns-clause-ok
 returns-clause-ok g c =
     let self = c.args.self.now in
-    started_seat (λ v. (goal.Node-dyn g v).name v.1) (λ v. (goal.Node-dyn g v).shows v.1) (self.node.vtable, self.node.value) _ c.start.result self.name _ _ self.outbox.held _ self.stopped
+    started_seat (λ v. (goal.Node-dyn g v).name v.1) (λ v. (goal.Node-dyn g v).shows v.1) (self.node.vtable, self.node.value) _ c.start.result self.name _ _ self.outbox.held _
+    self.stopped
     c.if-not-self.false (sym c.is_err.ensures.value ∙ c.if-is_err.false) (search rules) c.start.ensures c.drop_held.ensures.held

@@ -19,7 +19,8 @@ image_stops left (OfSentinel s) = sentinel_stops s s.state left
 image_stops left (OfOther o) = (refl, refl)
 
 -- a member that is marked as stopped stands for what its node, which was stopped, stands for
-stopped_seat : {N : Type 0} (name : N → NodeName) (shows : N → Shows) (node lent : N) (left : KeptText) (named own_after : NodeName) (after : Shows) (held : List Output) (told : Bool)
+stopped_seat : {N : Type 0} (name : N → NodeName) (shows : N → Shows) (node lent : N) (left : KeptText) (named own_after : NodeName) (after : Shows) (held : List Output)
+    (told : Bool)
     → name node ≡ named → lent ≡ node → Stops left (shows lent) after × (own_after ≡ name lent)
     → Stops left (IsSeat named (name node) (shows node) held told) (IsSeat named own_after after held true)
 stopped_seat name shows node lent left named own_after after held told goes_by same stops =
@@ -41,4 +42,5 @@ stopped_seat name shows node lent left named own_after after held told goes_by s
 pub returns-clause-stops : goal.returns-clause-stops
 returns-clause-stops g c =
     let self = c.args.self.now in
-    stopped_seat (λ v. (goal.Node-dyn g v).name v.1) (λ v. (goal.Node-dyn g v).shows v.1) (self.node.vtable, self.node.value) _ c.args.left self.name _ _ self.outbox.held self.stopped c.requires (search rules) c.stop.ensures
+    stopped_seat (λ v. (goal.Node-dyn g v).name v.1) (λ v. (goal.Node-dyn g v).shows v.1) (self.node.vtable, self.node.value) _ c.args.left self.name _ _ self.outbox.held
+    self.stopped c.requires (search rules) c.stop.ensures

@@ -33,7 +33,8 @@ image_stores RefusedOld image = image_refused Old image
 image_stores RefusedNew image = image_refused New image
 
 -- a member whose node's store ended in an error stands for what the node stands for, and no election is told
-refused_seat : {N : Type 0} (name : N → NodeName) (shows : N → Shows) (node lent : N) (how : HowStored) (fault : StoreFault) (won : Option (ℕ × ℕ)) (named own_after : NodeName) (after : Shows) (held : List Output) (told : Bool)
+refused_seat : {N : Type 0} (name : N → NodeName) (shows : N → Shows) (node lent : N) (how : HowStored) (fault : StoreFault) (won : Option (ℕ × ℕ)) (named own_after : NodeName)
+    (after : Shows) (held : List Output) (told : Bool)
     → lent ≡ node → Stores how (Err fault) (shows lent) after × (own_after ≡ name lent) → won ≡ None
     → SeatStores how won (IsSeat named (name node) (shows node) held told) (IsSeat named own_after after held told)
 refused_seat name shows node lent how fault won named own_after after held told same store none =
@@ -75,4 +76,5 @@ returns-in-Err-clause-stores g c =
     let self = c.args.self.now in
     let won : Option (ℕ × ℕ) = None in
     let no_win : won ≡ None = refl in
-    refused_seat (λ v. (goal.Node-dyn g v).name v.1) (λ v. (goal.Node-dyn g v).shows v.1) (self.node.vtable, self.node.value) _ c.args.how c.in-Err.field-0 _ self.name _ _ self.outbox.held self.stopped (search rules) c.in-Err.ensures no_win
+    refused_seat (λ v. (goal.Node-dyn g v).name v.1) (λ v. (goal.Node-dyn g v).shows v.1) (self.node.vtable, self.node.value) _ c.args.how c.in-Err.field-0 _ self.name _ _
+    self.outbox.held self.stopped (search rules) c.in-Err.ensures no_win

@@ -5,4 +5,5 @@ use Rattle.port_answers.proofs.answer_text.AnswerText.add_quorum_reached.Goals a
 
 pub returns : goal.returns
 returns c =
-    line_of c.args.self.now c.add_counted.new.self (codes "+OK ") (decimal c.args.usable) (codes " usable Sentinels, quorum and majority can be reached") line_end c.add_counted.ensures
+    line_of c.args.self.now c.add_counted.new.self (codes "+OK ") (decimal c.args.usable) (codes " usable Sentinels, quorum and majority can be reached") line_end
+    c.add_counted.ensures

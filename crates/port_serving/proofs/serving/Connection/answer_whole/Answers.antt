@@ -21,7 +21,8 @@ loop-asked-preserved g c =
       λ first before input written a.
           let here = so_far.1 first before input written a in
           rw (done.frames, taken, answered, done.answers)
-          (value_answered plan clock first before input written self.frames core self.text self.answers _ c.in-Ok-Some.asked c.next_command.new.frames here given _ (rw taken at (stored first.kept before here.stored_is))),
+          (value_answered plan clock first before input written self.frames core self.text self.answers _ c.in-Ok-Some.asked c.next_command.new.frames here given _
+          (rw taken at (stored first.kept before here.stored_is))),
       done.clock ∙ so_far.2,
       done.plan ∙ so_far.3,
       done.phase,
@@ -42,7 +43,8 @@ returns-in_err-answer-in-Ok-Some-clause-answered g c = λ first before input wri
     let refused = rw so_far.3 at done.refused in
     let p = err_from_is_err_and c.from_residual.result c.from_residual.ensures.1 in
     rw (p.1, p.2)
-    (breaks_answer plan clock first before input written self.frames core self.text self.answers _ c.in-Ok-Some.asked c.next_command.new.frames _ _ _ c.in_err-answer-in-Ok-Some.field-0.0 done.fault here given done.text cores
+    (breaks_answer plan clock first before input written self.frames core self.text self.answers _ c.in-Ok-Some.asked c.next_command.new.frames _ _ _
+    c.in_err-answer-in-Ok-Some.field-0.0 done.fault here given done.text cores
     (refused first.kept before here.stored_is))
 
 pub returns-in-Err-clause-answered : goal.returns-in-Err-clause-answered
@@ -52,4 +54,5 @@ returns-in-Err-clause-answered g c = λ first before input written a.
     let self = c.loop-asked.self in
     let core = g.N.PortSentinel.core c.loop-asked.sentinel in
     rw c.of_frame.ensures
-    (breaks_frame plan clock first before input written self.frames core self.text self.answers _ c.in-Err.fault c.next_command.new.frames (c.loop-asked.invariant.1 first before input written a) (rw c.in-Err.fault-is at c.in-Err.ensures.exact))
+    (breaks_frame plan clock first before input written self.frames core self.text self.answers _ c.in-Err.fault c.next_command.new.frames
+    (c.loop-asked.invariant.1 first before input written a) (rw c.in-Err.fault-is at c.in-Err.ensures.exact))

@@ -9,8 +9,10 @@ abbrev pub invariant-loop-asked : goal.invariant-loop-asked
 invariant-loop-asked g l =
     (l.self.answers + held_size l.self.frames ≤ l.initial.self.answers + held_size l.initial.self.frames)
     × ((first : Core) (before : Option (List ℕ)) (input written : List ℕ)
-    → IsAnswered (g.N.PortSentinel.plan l.initial.sentinel) l.initial.self.clock first before input written l.initial.self.frames (g.N.PortSentinel.core l.initial.sentinel) l.initial.self.text l.initial.self.answers (g.S.ConfStore.held l.initial.store)
-    → IsAnswered (g.N.PortSentinel.plan l.initial.sentinel) l.initial.self.clock first before input written l.self.frames (g.N.PortSentinel.core l.sentinel) l.self.text l.self.answers (g.S.ConfStore.held l.store))
+    → IsAnswered (g.N.PortSentinel.plan l.initial.sentinel) l.initial.self.clock first before input written l.initial.self.frames (g.N.PortSentinel.core l.initial.sentinel)
+    l.initial.self.text l.initial.self.answers (g.S.ConfStore.held l.initial.store)
+    → IsAnswered (g.N.PortSentinel.plan l.initial.sentinel) l.initial.self.clock first before input written l.self.frames (g.N.PortSentinel.core l.sentinel) l.self.text
+    l.self.answers (g.S.ConfStore.held l.store))
     × (l.self.clock ≡ l.initial.self.clock)
     × (g.N.PortSentinel.plan l.sentinel ≡ g.N.PortSentinel.plan l.initial.sentinel)
     × (g.N.PortSentinel.phase l.sentinel ≡ Ready)

@@ -11,7 +11,8 @@ returns-in-Ok-clause-took g c = λ first before input written idle.
     let plan = g.N.PortSentinel.plan c.args.sentinel.now in
     let clock = c.args.self.now.clock in
     let piece = c.args.piece.now in
-    let fed = fed_by plan clock first before c.feed.result input piece written _ _ _ _ _ c.feed.new.self idle.answered (sym c.is_err.ensures.value ∙ c.if-is_err.false) c.feed.ensures in
+    let fed = fed_by plan clock first before c.feed.result input piece written _ _ _ _ _ c.feed.new.self idle.answered (sym c.is_err.ensures.value ∙ c.if-is_err.false)
+    c.feed.ensures in
     let done = c.in-Ok.ensures.answered first before (input ++ piece) written fed in
     let out = c.write_answers.ensures in
     wrote_by plan clock first before c.write_answers.result (input ++ piece) written _ _ _ _ _ _ _ _ _ _
@@ -22,5 +23,6 @@ returns-in-Err-clause-took g c = λ first before input written idle.
     let plan = g.N.PortSentinel.plan c.args.sentinel.now in
     let clock = c.args.self.now.clock in
     let piece = c.args.piece.now in
-    let fed = fed_by plan clock first before c.feed.result input piece written _ _ _ _ _ c.feed.new.self idle.answered (sym c.is_err.ensures.value ∙ c.if-is_err.false) c.feed.ensures in
+    let fed = fed_by plan clock first before c.feed.result input piece written _ _ _ _ _ c.feed.new.self idle.answered (sym c.is_err.ensures.value ∙ c.if-is_err.false)
+    c.feed.ensures in
     c.end.ensures.ended plan clock first before (input ++ piece) written _ _ (c.in-Err.ensures.answered first before (input ++ piece) written fed)

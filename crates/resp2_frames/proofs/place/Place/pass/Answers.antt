@@ -14,7 +14,8 @@ returns-in-Some-clause-stands c =
     let some : place.left ≡ suc (place.left - 1) = omega arith in
     let room : length place.outer.items < 8 = omega arith in
     rw c.push.ensures.items
-    (stands_inside c.args.bytes.now h.0 c.in-Some.after.now place.outer.items place.left (place.left - 1) place.at c.in-Some.count some (sym c.split_at.ensures.back ∙ h.1) room h.3 c.requires.stands)
+    (stands_inside c.args.bytes.now h.0 c.in-Some.after.now place.outer.items place.left (place.left - 1) place.at c.in-Some.count some (sym c.split_at.ensures.back ∙ h.1) room
+    h.3 c.requires.stands)
 
 pub returns-in_err-after-clause-waits : goal.returns-in_err-after-clause-waits
 returns-in_err-after-clause-waits c = λ waits.
@@ -23,13 +24,15 @@ returns-in_err-after-clause-waits c = λ waits.
     let some : place.left ≡ suc (place.left - 1) = omega arith in
     let same : c.in_err-after.field-0.0 ≡ At NeedsMore = let q = p.1 in let s = p.2 in cc in
     let read = fails_at _ c.in_err-after.field-0.0 NeedsMore NeedsMore c.in_err-after.ensures same refl in
-    stands_waits c.args.bytes.now place.outer.items place.left (place.left - 1) place.at c.args.more NeedsMore some (rw (c.len-2.ensures.value, c.split_at.ensures.back) at read) c.requires.stands
+    stands_waits c.args.bytes.now place.outer.items place.left (place.left - 1) place.at c.args.more NeedsMore some (rw (c.len-2.ensures.value, c.split_at.ensures.back) at read)
+    c.requires.stands
 
 pub overflow_sub-self-3 : goal.overflow_sub-self-3
 overflow_sub-self-3 c =
     let place = c.args.self.now in
     let read = rw c.split_at.ensures.back at c.in_ok-after.ensures in
-    let shorter = item_gets_on c.args.bytes.now c.in_ok-after.after.now (8 - c.len-2.result) place.at c.args.more (view c.in_ok-after.field-0-0) c.requires.short read c.requires.stands.0 in
+    let shorter = item_gets_on c.args.bytes.now c.in_ok-after.after.now (8 - c.len-2.result) place.at c.args.more (view c.in_ok-after.field-0-0) c.requires.short read
+    c.requires.stands.0 in
     omega (arith, shorter)
 
 pub returns-clause-stands : goal.returns-clause-stands
@@ -37,13 +40,15 @@ returns-clause-stands c =
     let place = c.args.self.now in
     let some : place.left ≡ suc (place.left - 1) = omega arith in
     let read = rw (c.len-2.ensures.value, c.split_at.ensures.back) at c.in_ok-after.ensures in
-    stands_behind c.args.bytes.now c.in_ok-after.after.now place.outer.items place.left (place.left - 1) place.at c.args.more (view c.in_ok-after.field-0-0) some c.requires.short read c.requires.stands
+    stands_behind c.args.bytes.now c.in_ok-after.after.now place.outer.items place.left (place.left - 1) place.at c.args.more (view c.in_ok-after.field-0-0) some c.requires.short
+    read c.requires.stands
 
 pub returns-clause-less : goal.returns-clause-less
 returns-clause-less c = λ goes.
     let place = c.args.self.now in
     let read = rw c.split_at.ensures.back at c.in_ok-after.ensures in
-    let shorter = item_gets_on c.args.bytes.now c.in_ok-after.after.now (8 - c.len-2.result) place.at c.args.more (view c.in_ok-after.field-0-0) c.requires.short read c.requires.stands.0 in
+    let shorter = item_gets_on c.args.bytes.now c.in_ok-after.after.now (8 - c.len-2.result) place.at c.args.more (view c.in_ok-after.field-0-0) c.requires.short read
+    c.requires.stands.0 in
     omega (arith, shorter)
 
 pub returns-then-is_open_line-clause-waits : goal.returns-then-is_open_line-clause-waits

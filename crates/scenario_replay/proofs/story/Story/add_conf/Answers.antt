@@ -6,7 +6,8 @@ use Rattle.scenario_replay.specs.Refusals.{IsConfFault}
 use Rattle.scenario_replay.proofs.story.Story.add_conf.Goals as goal
 
 -- the fault of the bytes that were read is passed on as it is
-passed_on : {X : Type 0} (result : Result X ConfFault) (fault : ConfFault) (read : List ℕ) → IsErrAnd result (λ told. told ≡ fault) → IsConfFault read fault → IfErr result (IsConfFault read)
+passed_on : {X : Type 0} (result : Result X ConfFault) (fault : ConfFault) (read : List ℕ) → IsErrAnd result (λ told. told ≡ fault) → IsConfFault read fault →
+    IfErr result (IsConfFault read)
 passed_on result fault read told of_read =
     let p = err_from_is_err_and result told in
     rw p.1 (rw p.2 of_read)

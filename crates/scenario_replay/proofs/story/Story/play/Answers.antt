@@ -14,12 +14,15 @@ loop-number-preserved c =
 
 pub tell-requires : goal.tell-requires
 tell-requires c =
-    begun_in c.in_ok-roster.roster c.in-Ok-new.world.roster c.in-Ok-new.world.members.items c.in-Ok-new.world.messages.items c.in-Ok-new.ensures.roster _ _ c.in-Ok-new.ensures.since
+    begun_in c.in_ok-roster.roster c.in-Ok-new.world.roster c.in-Ok-new.world.members.items c.in-Ok-new.world.messages.items c.in-Ok-new.ensures.roster _ _
+    c.in-Ok-new.ensures.since
 
 pub trace-requires : goal.trace-requires
 trace-requires c =
-    begun_in c.in_ok-roster.roster c.in-Ok-new.world.roster c.in-Ok-new.world.members.items c.in-Ok-new.world.messages.items c.in-Ok-new.ensures.roster _ _ c.in-Ok-new.ensures.since
+    begun_in c.in_ok-roster.roster c.in-Ok-new.world.roster c.in-Ok-new.world.members.items c.in-Ok-new.world.messages.items c.in-Ok-new.ensures.roster _ _
+    c.in-Ok-new.ensures.since
 
 pub tell_stopped-requires : goal.tell_stopped-requires
 tell_stopped-requires c =
-    begun_in c.in_ok-roster.roster c.in-Ok-new.world.roster c.in-Ok-new.world.members.items c.in-Ok-new.world.messages.items c.in-Ok-new.ensures.roster _ _ c.in-Ok-new.ensures.since
+    begun_in c.in_ok-roster.roster c.in-Ok-new.world.roster c.in-Ok-new.world.members.items c.in-Ok-new.world.messages.items c.in-Ok-new.ensures.roster _ _
+    c.in-Ok-new.ensures.since

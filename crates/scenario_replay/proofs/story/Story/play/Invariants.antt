@@ -5,4 +5,5 @@ use Rattle.scenario_replay.proofs.story.Story.play.OwnLists.{own-1, lawful-own-1
 use Rattle.scenario_replay.proofs.story.Story.play.Given as goal
 
 abbrev pub invariant-loop-number : goal.invariant-loop-number
-invariant-loop-number l = All (λ b. IsFresh (((dyn-1-ghosts (own-1, lawful-own-1)).0.entry b.vtable).1.is_known b.value) (((dyn-1-ghosts (own-1, lawful-own-1)).0.entry b.vtable).1.shows b.value)) l.nodes.items
+invariant-loop-number l = All (λ b. IsFresh (((dyn-1-ghosts (own-1, lawful-own-1)).0.entry b.vtable).1.is_known b.value)
+    (((dyn-1-ghosts (own-1, lawful-own-1)).0.entry b.vtable).1.shows b.value)) l.nodes.items

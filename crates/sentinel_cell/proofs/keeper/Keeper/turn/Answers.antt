@@ -25,15 +25,18 @@ returns-then-is_err-clause-step g c = λ w number left.
     let s = c.store.ensures in
     let refused = refused_of c.store.result (sym c.is_err.ensures.value ∙ c.if-is_err.true)
     (λ none. true≢false (sym (ap is_pending e.phase) ∙ s.nothing.0 none)) in
-    refused_turn held count w i k left number (record { sentinel = c.store.new.self; store = c.store.new.store }) c.take.new.self c.in-Ok.field-0.changed c.args.outbox.now.shown c.drop_held.new.self.shown
+    refused_turn held count w i k left number (record { sentinel = c.store.new.self; store = c.store.new.store }) c.take.new.self c.in-Ok.field-0.changed c.args.outbox.now.shown
+    c.drop_held.new.self.shown
     (runs held count w i k left (λ h. ran c.take.result c.in-Ok.field-0 c.in-Ok.is (c.take.ensures.halted.1 h)))
-    c.requires.within e.plan e.core e.stored (change_taken c.args.self.now.sentinel c.take.new.self c.is_whole.ensures c.is_whole-2.ensures e.plan e.card e.other_cards) e.changed (c.drop_held.ensures.shown ∙ e.shown) (s.halted refused)
+    c.requires.within e.plan e.core e.stored (change_taken c.args.self.now.sentinel c.take.new.self c.is_whole.ensures c.is_whole-2.ensures e.plan e.card e.other_cards) e.changed
+    (c.drop_held.ensures.shown ∙ e.shown) (s.halted refused)
     (pends c.store.result (c.in-Ok.field-0.changed || is_flush i.event) refused (λ f. s.untouched (e.phase ∙ ap Pending f)))
     (s.either refused) (s.refused refused)
 
 -- where the input was taken, there was no halt before
 running : (g : Over) (c : In-Ok-release g) (w : World) → IsLeft g.S.ConfStore.held g.S.ConfStore.failure_count w c.args.self.now → w.halted ≡ false
-running g c w left = runs g.S.ConfStore.held g.S.ConfStore.failure_count w c.args.input.now c.args.self.now left (λ h. ran c.take.result c.in-Ok.field-0 c.in-Ok.is (c.take.ensures.halted.1 h))
+running g c w left = runs g.S.ConfStore.held g.S.ConfStore.failure_count w c.args.input.now c.args.self.now left
+    (λ h. ran c.take.result c.in-Ok.field-0 c.in-Ok.is (c.take.ensures.halted.1 h))
 
 pub returns-clause-step : goal.returns-clause-step
 returns-clause-step g at = λ w number left.
@@ -45,9 +48,11 @@ returns-clause-step g at = λ w number left.
     let fine = sym c.is_err.ensures.value ∙ c.if-is_err.false in
     let kept = on_ok c.store.result fine s.stored in
     let released = c.in-Ok-release.ensures in
-    stored_turn held count w c.args.input.now c.args.self.now left number (record { sentinel = c.release.new.self; store = c.store.new.store }) c.take.new.self c.in-Ok.field-0.changed c.args.outbox.now.shown c.take.new.outbox.held c.release.new.outbox.shown
+    stored_turn held count w c.args.input.now c.args.self.now left number (record { sentinel = c.release.new.self; store = c.store.new.store }) c.take.new.self
+    c.in-Ok.field-0.changed c.args.outbox.now.shown c.take.new.outbox.held c.release.new.outbox.shown
     (running g c w left)
-    c.requires.within e.plan e.core e.changed c.is_whole-2.ensures.core.kept (change_taken c.args.self.now.sentinel c.take.new.self c.is_whole.ensures c.is_whole-2.ensures e.plan e.card e.other_cards) e.outputs
+    c.requires.within e.plan e.core e.changed c.is_whole-2.ensures.core.kept
+    (change_taken c.args.self.now.sentinel c.take.new.self c.is_whole.ensures c.is_whole-2.ensures e.plan e.card e.other_cards) e.outputs
     (released.shown ∙ ap (λ xs. xs ++ c.take.new.outbox.held) e.shown)
     (released.ready ∙ ap (λ (x : Whole). let y : Whole = record x { phase = Ready } in y) kept)
     (λ f. ap held (on_ok c.store.result fine (s.untouched (e.phase ∙ ap Pending f)).0))

@@ -25,8 +25,14 @@ acted g c =
     let w = c.act_at-acted.new.place.me.0 in
     let none : drop (length c.args.outbox.now.shown) c.args.outbox.now.shown ≡ [] = grind (arith, common_steps, drop-length c.args.outbox.now.shown) in
     let told = as_told (start g c) v c.args.input.now (outputs g c) w c.act_at-acted.result (length c.outputs-first.result.now) (length c.outputs.result.now)
-    (subst (λ (n : ℕ). IfOk c.act_at-acted.result (λ o. Adds (start g c) v c.args.input.now o.0 (drop n c.act_at-acted.new.outbox.shown) w)) (ap length c.reserve.ensures.shown) c.act_at-acted.ensures.added)
-    (err_more c.act_at-acted.result _ _ (λ s. (s.0, s.1, shown_none c.act_at-acted.new.outbox c.reserve.new.self (length c.args.outbox.now.shown) c.args.outbox.now.shown s.2 c.reserve.ensures.shown none)) c.act_at-acted.ensures.spent) in
+    (subst (λ (n : ℕ). IfOk c.act_at-acted.result (λ o. Adds (start g c) v c.args.input.now o.0 (drop n c.act_at-acted.new.outbox.shown) w)) (ap length c.reserve.ensures.shown)
+    c.act_at-acted.ensures.added)
+    (err_more c.act_at-acted.result _ _ (λ s. (
+      s.0,
+      s.1,
+      shown_none c.act_at-acted.new.outbox c.reserve.new.self (length c.args.outbox.now.shown) c.args.outbox.now.shown s.2
+          c.reserve.ensures.shown none,
+    )) c.act_at-acted.ensures.spent) in
     acted_between (start g c) c.args.input.now (outputs g c) c.answer.result v w c.args.seat.now c.seat.inside.badge.table_id c.seat.inside.badge.views c.into_badge.result.views
     c.seat.view_is (search rules) c.into_badge.ensures.2
     (subst (Acted (start g c) v c.args.input.now (outputs g c) w) (sym c.answer.ensures) told)
