@@ -45,7 +45,7 @@ impl ReadBuffer {
     pub(crate) fn is_empty(&self) -> bool
         ensures { IsTrue result ↔ (self.now ≡ []) }
     {
-        self.from >= self.to
+        self.all().is_empty()
     }
 
     /// Reads once: how many bytes came, 0 at the end of the stream. The error is the reader's, and nothing was read.
