@@ -10,6 +10,7 @@ module _ {T : Type 0} where
 
   -- a write through `get_mut(key)` leaves as many values
   pub kept_few : (s : Slab T) (key : ℕ) (before after : T) (most : ℕ) → get s key ≡ Some before → slab_len s ≤ most → slab_len (with_value s key after) ≤ most
+  unfolding counted
   kept_few s key before after most found few =
       let present : ContainsKey s key = grind (arith, found) in
       let within : key < length s.slots = ContainsKey-within s key present in
@@ -23,5 +24,6 @@ module _ {T : Type 0} where
       (Updates-with_value s key after present).others other differs
 
   -- also where the value is removed after that
-  pub others_left : (s left : Slab T) (key : ℕ) (before after : T) (other : ℕ) → get s key ≡ Some before → Updates (with_value s key after) left key None → other ≢ key → get left other ≡ get s other
+  pub others_left : (s left : Slab T) (key : ℕ) (before after : T) (other : ℕ) → get s key ≡ Some before → Updates (with_value s key after) left key None → other ≢ key →
+      get left other ≡ get s other
   others_left s left key before after other found removed differs = removed.others other differs ∙ others_kept s key before after other found differs

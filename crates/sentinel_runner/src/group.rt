@@ -169,7 +169,8 @@ impl<S: ConfStore + Drop + Send> Group<S> {
     }
 }
 
-/// Runs all threads, beside which this one follows the orders of the input to its end. Then they end too.
+/// Runs all threads, beside which this one follows the orders of the input to its end. Then they end too. Many parameters: the threads borrow
+/// the parts of a group one by one.
 fn follow_beside<'a, S, I: Read, R>(
     rt: &'a R,
     threads: Beginning<S>,

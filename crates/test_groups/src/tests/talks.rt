@@ -146,7 +146,8 @@ fn look_at_files<R: Clock>(rt: &R, told: (&Told, &Told), seen: &AtomicU64, endin
     ending.store(1, Ordering::SeqCst);
 }
 
-/// Runs a group from its opening to its end while its files are looked at: how it ended.
+/// Runs a group from its opening to its end while its files are looked at: how it ended. Many parameters: those of `run_group`, and what the
+/// other thread looks at.
 fn run_watched<'a, C: Clock + Sync, R: Threads + Wait + Net + Clock + Log + Sync>(
     clock: &'a C,
     rt: &'a R,
