@@ -41,8 +41,8 @@ pub fn run_timer<J: Which, S: ConfStore, R: Wait + Clock + Log>(
     }
 }
 
-/// Has the Sentinel take each message that comes, until `ending` isn't 0, the Sentinel is halted, or nobody is left who could send. Many
-/// parameters, as those of `run_timer`.
+/// Has the Sentinel take each message that comes, until `ending` isn't 0, the Sentinel is halted, or nobody is left who could send.
+/// Many parameters: as those of `run_timer`.
 pub fn run_link<J: Which, S: ConfStore, R: Wait + Clock + Log>(
     rt: &R,
     state: &RunState,

@@ -3,7 +3,7 @@
 ghost use Rattle.std.specs.Prelude.{IfOk};
 ghost use Rattle.ballot_law.specs.Hellos.{IsHello};
 ghost use Rattle.messages.specs.MessageTexts.{IsWritable};
-ghost use Rattle.sentinel_rules.specs.Limits.{IsWithinBody};
+ghost use Rattle.sentinel_rules.specs.Limits.{AnswersWithin, HasEpochWithin, IsWithinBody};
 
 use crate::given::{addr, maybe_addr, maybe_id, number, number_16, says, text};
 use crate::told::Unplayed;
@@ -16,6 +16,7 @@ use std::alloc::Global;
 /// A question about a master: its number and address, the epoch, and the candidate.
 fn ask(words: &[Vec<u8>]) -> Result<Body, Unplayed>
     ensures within { IfOk result IsWithinBody }
+    ensures epochs { IfOk result AnswersWithin }
     ensures writable { IfOk result IsWritable }
 {
     let [master, about, epoch, candidate] = words else {
@@ -36,6 +37,7 @@ fn ask(words: &[Vec<u8>]) -> Result<Body, Unplayed>
 /// The answer to it: the number and address of the master, whether it is down, the vote and its epoch.
 fn answer(words: &[Vec<u8>]) -> Result<Body, Unplayed>
     ensures within { IfOk result IsWithinBody }
+    ensures epochs { IfOk result AnswersWithin }
     ensures writable { IfOk result IsWritable }
 {
     let [master, about, down, leader, epoch] = words else {
@@ -57,6 +59,7 @@ fn answer(words: &[Vec<u8>]) -> Result<Body, Unplayed>
 /// The answer to a PING, which begins with `+` or `-`.
 fn ping_text(word: &[u8]) -> Result<Body, Unplayed>
     ensures within { IfOk result IsWithinBody }
+    ensures epochs { IfOk result AnswersWithin }
     ensures writable { IfOk result IsWritable }
 {
     let [mark, line @ ..] = word else {
@@ -77,6 +80,7 @@ fn ping_text(word: &[u8]) -> Result<Body, Unplayed>
 /// The INFO of these bytes.
 fn info(bytes: &[u8]) -> Result<Body, Unplayed>
     ensures within { IfOk result IsWithinBody }
+    ensures epochs { IfOk result AnswersWithin }
     ensures writable { IfOk result IsWritable }
 {
     match read_info(bytes) {
@@ -96,14 +100,20 @@ fn hello(bytes: &[u8]) -> Result<Hello, Unplayed>
 }
 
 /// The configuration of a master with a number: its epoch and address.
-fn shown(words: &[Vec<u8>]) -> Result<Shown, Unplayed> {
+fn shown(words: &[Vec<u8>]) -> Result<Shown, Unplayed>
+    ensures { IfOk result HasEpochWithin }
+{
     let [master, epoch, at] = words else {
         return Err(Unplayed::WrongWords);
     };
+    let epoch = number(epoch)?;
+    if epoch > MAX_EPOCH {
+        return Err(Unplayed::OutOfRange);
+    }
     Ok(Shown {
         master: number_16(master)?,
         card: Card {
-            epoch: number(epoch)?,
+            epoch,
             addr: addr(at)?,
         },
     })
@@ -112,6 +122,7 @@ fn shown(words: &[Vec<u8>]) -> Result<Shown, Unplayed> {
 /// The answer of a port with these bytes, which shows no configuration or one.
 fn port_reply(alloc: Global, bytes: &[u8], words: &[Vec<u8>]) -> Result<Body, Unplayed>
     ensures within { IfOk result IsWithinBody }
+    ensures epochs { IfOk result AnswersWithin }
     ensures writable { IfOk result IsWritable }
 {
     let mut list = Vec::new(alloc);
@@ -127,6 +138,7 @@ fn port_reply(alloc: Global, bytes: &[u8], words: &[Vec<u8>]) -> Result<Body, Un
 /// The role of a master, or of a replica of the one at an address, with an offset.
 fn role(words: &[Vec<u8>]) -> Result<Body, Unplayed>
     ensures within { IfOk result IsWithinBody }
+    ensures epochs { IfOk result AnswersWithin }
     ensures writable { IfOk result IsWritable }
 {
     let role = match words {
@@ -148,6 +160,7 @@ fn role(words: &[Vec<u8>]) -> Result<Body, Unplayed>
 /// What a message says: the kind of it, and what goes with that.
 pub(crate) fn body(alloc: Global, words: &[Vec<u8>]) -> Result<Body, Unplayed>
     ensures within { IfOk result IsWithinBody }
+    ensures epochs { IfOk result AnswersWithin }
     ensures writable { IfOk result IsWritable }
 {
     let [kind, words @ ..] = words else {
