@@ -1,6 +1,7 @@
 //! What an outlet is handed.
 
 ghost use Rattle.std.specs.Prelude.{Some};
+ghost use Rattle.boxed_nodes.specs.Sendable.{IsSendableOutput};
 
 use ballot_law::{Addr, Body, Card, Message, NodeName, Note, Output};
 use group_sentinels::{Outlet, send_all};
@@ -29,7 +30,9 @@ impl<R: Abort> Outlet for Recorder<R> {
 }
 
 /// A PING of the first Sentinel.
-fn ping(target: NodeName) -> Output {
+fn ping(target: NodeName) -> Output
+    ensures { IsSendableOutput result }
+{
     Output::Send(Message {
         sender: NodeName::SentinelAt(0),
         target,
@@ -38,7 +41,9 @@ fn ping(target: NodeName) -> Output {
 }
 
 /// The note of a new address.
-fn note() -> Output {
+fn note() -> Output
+    ensures { IsSendableOutput result }
+{
     let old = Addr {
         ip: 2_130_706_433,
         port: 6379,
