@@ -26,9 +26,21 @@ fn conf_files<'a>(alloc: Global) -> Arg<'a> {
 
 /// The words of `check`.
 fn check<'a>(alloc: Global) -> Result<Command<'a>, AllocError> {
+    let mend = Arg::new(alloc, "mend")
+        .long("mend")
+        .value_name("folder")
+        .help(
+            "Writes the files anew into this folder, each with the newest configuration of each master, so that a group goes on with them",
+        );
     Command::new(alloc, "check")
         .about("Tells what group conf files make, and what is wrong with it")
+        .arg(mend)?
         .arg(conf_files(alloc))
+}
+
+/// The words of `new-id`.
+fn new_id<'a>(alloc: Global) -> Command<'a> {
+    Command::new(alloc, "new-id").about("Prints a run id for a new file, made of random digits")
 }
 
 /// The words of `serve`.
@@ -81,6 +93,7 @@ pub(crate) fn command<'a>(alloc: Global) -> Result<Command<'a>, AllocError> {
         .subcommand_required(true)
         .subcommand(answer(alloc)?)?
         .subcommand(check(alloc)?)?
+        .subcommand(new_id(alloc))?
         .subcommand(replay(alloc)?)?
         .subcommand(serve(alloc)?)
 }

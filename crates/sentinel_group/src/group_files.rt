@@ -3,7 +3,7 @@
 ghost use Rattle.std.specs.Prelude.{◌≡◌, ◌<◌, ◌-◌, ◌^◌, All, IfOk};
 
 use crate::failures::{fail, refuse_conf, refuse_file};
-use conf_store::{ConfStore, FileStore, LoadFault};
+use conf_store::{ConfStore, FileStore, FileText, LoadFault};
 use port_serving::ServeFault;
 use sentinel_conf::{Conf, read};
 use std::process::ExitCode;
@@ -15,6 +15,23 @@ pub(crate) struct GroupFiles {
     pub(crate) stores: Vec<FileStore<HostRuntime>>,
 }
 
+/// The file at the path as a store, and its text. A file that can't be read is told, and the status tells it too.
+pub(crate) fn text_at(
+    rt: HostRuntime,
+    path: &str,
+) -> Result<(FileText, FileStore<HostRuntime>), ExitCode>
+    ensures { IfOk result (λ r. r.1 ≡ 0) }
+{
+    let Ok(mut store) = FileStore::at(rt, rt.alloc(), path) else {
+        return Err(fail(&rt, ServeFault::NoMemory));
+    };
+    match store.load() {
+        Ok(text) => Ok((text, store)),
+        Err(LoadFault::NoMemory) => Err(fail(&rt, ServeFault::NoMemory)),
+        Err(LoadFault::Failed) => Err(refuse_file(&rt, path, 0, "Unreadable")),
+    }
+}
+
 /// The file at the path as a store, and what it says. A file that is refused is told, and the status tells it too.
 pub(crate) fn file_of(
     rt: HostRuntime,
@@ -22,14 +39,7 @@ pub(crate) fn file_of(
 ) -> Result<(Conf, FileStore<HostRuntime>), ExitCode>
     ensures { IfOk result (λ r. r.1 ≡ 0) }
 {
-    let Ok(mut store) = FileStore::at(rt, rt.alloc(), path) else {
-        return Err(fail(&rt, ServeFault::NoMemory));
-    };
-    let text = match store.load() {
-        Ok(text) => text,
-        Err(LoadFault::NoMemory) => return Err(fail(&rt, ServeFault::NoMemory)),
-        Err(LoadFault::Failed) => return Err(refuse_file(&rt, path, 0, "Unreadable")),
-    };
+    let (text, store) = text_at(rt, path)?;
     match read(rt.alloc(), text.as_slice()) {
         Ok(conf) => Ok((conf, store)),
         Err(fault) => Err(refuse_conf(&rt, path, fault)),

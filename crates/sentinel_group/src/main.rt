@@ -1,5 +1,5 @@
 //! The program `sentinel_group`: `answer` serves the commands of standard input on standard output, `serve` runs a group with its ports,
-//! `replay` plays a story of a group, `check` tells what group files make.
+//! `replay` plays a story of a group, `check` tells what group files make, `new-id` prints a run id for a new one.
 #![tactic(auto)]
 
 ghost use Rattle.std.specs.Prelude.{◌<◌, ◌-◌, ◌^◌};
@@ -8,13 +8,17 @@ mod checking;
 mod command_line;
 mod failures;
 mod group_files;
+mod mending;
+mod new_ids;
 mod replaying;
 mod serving;
+mod telling;
 
 use crate::checking::check;
 use crate::command_line::{command, refuse_unread, tell_words, words};
 use crate::failures::fail;
 use crate::group_files::file_of;
+use crate::new_ids::new_id;
 use crate::replaying::replay;
 use crate::serving::{level_of, serve as serve_group};
 use clap::ArgMatches;
@@ -84,6 +88,7 @@ fn main(rt: HostRuntime) -> ExitCode {
     match command.try_get_matches_from(words.as_slice()) {
         Ok(matches) => match matches.subcommand() {
             Some(("check", words)) => check(rt, words),
+            Some(("new-id", _)) => new_id(rt),
             Some(("replay", words)) => replay(&rt, words),
             Some(("serve", words)) => {
                 let noting = Logged::new(rt, level_of(words), Console(rt));

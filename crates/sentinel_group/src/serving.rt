@@ -4,6 +4,7 @@ ghost use Rattle.std.specs.Prelude.{◌<◌, ◌-◌, ◌^◌, All};
 
 use crate::failures::fail_ordered;
 use crate::group_files::{GroupFiles, files_of};
+use crate::telling::tell_paths;
 use clap::ArgMatches;
 use log::{LevelFilter, Log};
 use sentinel_runner::{Group, OrderedFault};
@@ -41,10 +42,12 @@ pub(crate) fn serve<R>(rt: HostRuntime, noting: &R, words: &ArgMatches) -> ExitC
 where
     R: Threads + Wait + Net + Clock + Log + Input + Sync,
 {
-    let files = match files_of(rt, words.get_strs("conf").unwrap_or(&[])) {
+    let paths = words.get_strs("conf").unwrap_or(&[]);
+    let files = match files_of(rt, paths) {
         Ok(files) => files,
         Err(status) => return status,
     };
+    tell_paths(rt, paths);
     match run(noting, rt.alloc(), files) {
         Ok(()) => ExitCode::SUCCESS,
         Err(fault) => fail_ordered(&rt, fault),
