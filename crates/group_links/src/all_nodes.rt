@@ -4,12 +4,13 @@ ghost use Rattle.std.specs.Prelude.{◌≡◌, []};
 ghost use Rattle.std.specs.List.{AllByRecursion};
 ghost use Rattle.boxed_nodes.specs.Sendable.{IsSendableOutput, IsTakeable};
 
-use crate::errand::{Deed, Errand};
-use crate::group_state::GroupState;
+use crate::links::Links;
+use crate::node_orders::{Action, NodeOrder};
 use ballot_law::{Event, Input, KeptText};
 use boxed_nodes::{HowStored, Node};
 use crossbeam_channel::{Receiver, RecvTimeoutError};
 use data_nodes::DataNode;
+use group_sentinels::{RunState, send_all};
 use sentinel_conf::Conf;
 use sentinel_outbox::Outbox;
 use std::alloc::{AllocError, Global};
@@ -18,8 +19,8 @@ use std::sync::Wait;
 use std::sync::atomic::{AtomicU64, Ordering};
 use std::time::Duration;
 
-/// How long the nodes wait for an errand before they look whether the group ends, in milliseconds.
-const ERRAND_MS: u64 = 50;
+/// How long the nodes wait for an order before they look whether the group ends, in milliseconds.
+const ORDER_MS: u64 = 50;
 
 /// The data nodes of a group, by their numbers, with the room for what one of them says.
 #[derive(Drop)]
@@ -70,13 +71,13 @@ impl DataNodes {
     }
 
     /// Has the node with this number take an event, and sends what it says.
-    fn take<R: Wait>(&mut self, rt: &R, group: &GroupState, number: u16, now: u64, event: Event)
+    fn take<R: Wait>(&mut self, rt: &R, links: &Links, number: u16, now: u64, event: Event)
         requires { IsTakeable event }
     {
         if let Some(node) = self.nodes.get_mut(number as usize) {
             let input = Input { now, event };
             carry_out(node, &input, &mut self.outbox);
-            group.links.send_all(rt, self.outbox.outputs());
+            send_all(&mut links.outlet(rt), self.outbox.outputs());
         }
     }
 
@@ -94,31 +95,38 @@ impl DataNodes {
         }
     }
 
-    /// Runs an errand; nothing where no node has its number.
-    pub fn run_errand<R: Wait + Clock>(&mut self, rt: &R, group: &GroupState, errand: Errand) {
-        let now = group.clock.now(rt);
-        let Errand { number, deed } = errand;
-        match deed {
-            Deed::Take(takeable) => self.take(rt, group, number, now, takeable.into_event()),
-            Deed::Stop => self.stop(number),
-            Deed::Start => self.start(number, now),
+    /// Has the node with the order's number do what it is to; nothing where no node has it.
+    pub fn obey<R: Wait + Clock>(
+        &mut self,
+        rt: &R,
+        state: &RunState,
+        links: &Links,
+        order: NodeOrder,
+    ) {
+        let now = state.clock.now(rt);
+        let NodeOrder { number, action } = order;
+        match action {
+            Action::Take(takeable) => self.take(rt, links, number, now, takeable.into_event()),
+            Action::Stop => self.stop(number),
+            Action::Start => self.start(number, now),
         }
     }
 
-    /// Runs each errand that comes, until `ending` isn't 0 or nobody is left who could send one.
+    /// Obeys each order that comes, until `ending` isn't 0 or nobody is left who could send one.
     pub fn run<R: Wait + Clock>(
         &mut self,
         rt: &R,
-        group: &GroupState,
-        errands: &Receiver<Errand>,
+        state: &RunState,
+        links: &Links,
+        orders: &Receiver<NodeOrder>,
         ending: &AtomicU64,
     ) {
         for _ in rt.forever() {
             if ending.load(Ordering::SeqCst) != 0 {
                 return;
             }
-            match errands.recv_timeout(rt, Duration::from_millis(ERRAND_MS)) {
-                Ok(errand) => self.run_errand(rt, group, errand),
+            match orders.recv_timeout(rt, Duration::from_millis(ORDER_MS)) {
+                Ok(order) => self.obey(rt, state, links, order),
                 Err(RecvTimeoutError::Timeout) => {}
                 Err(RecvTimeoutError::Disconnected) => return,
             }

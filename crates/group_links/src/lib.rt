@@ -1,4 +1,4 @@
-//! The links between the nodes of a group that runs: what travels on them, and where a message goes; its data nodes, and what its threads share.
+//! A group in one process: the channels between its nodes, its data nodes, and what two threads of each Sentinel do.
 //!
 //! Each Sentinel has a channel, and the data nodes have one together. A message becomes the event that it is at its target before it is
 //! sent, so what comes out of a channel may be taken. Channels have no bound, and a message that can't be sent is lost. All data nodes,
@@ -6,15 +6,15 @@
 #![tactic(auto)]
 
 mod all_nodes;
-mod clock;
-mod errand;
-mod group_state;
-mod letter;
+mod delivery;
+mod dispatch;
 mod links;
+mod node_orders;
+mod workers;
 
 pub use all_nodes::DataNodes;
-pub use clock::{GroupClock, millis_of};
-pub use errand::{Deed, Errand, Takeable};
-pub use group_state::GroupState;
-pub use letter::Letter;
-pub use links::{Ends, Links};
+pub use delivery::Delivery;
+pub use dispatch::{Dispatch, dispatch_of};
+pub use links::{ChannelOutlet, Links};
+pub use node_orders::{Action, GREATEST, NodeOrder, Takeable};
+pub use workers::{run_link, run_timer};

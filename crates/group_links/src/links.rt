@@ -1,106 +1,87 @@
-//! Where a message goes.
+//! The channels between the nodes of a group.
 
-ghost use Rattle.std.specs.List.{AllByRecursion};
-ghost use Rattle.boxed_nodes.specs.Sendable.{IsSendable, IsSendableOutput};
+ghost use Rattle.boxed_nodes.specs.Sendable.{IsSendable};
 
-use crate::errand::Errand;
-use crate::letter::Letter;
-use ballot_law::{Message, NodeName, Output};
+use crate::delivery::Delivery;
+use crate::dispatch::{Dispatch, dispatch_of};
+use crate::node_orders::NodeOrder;
+use ballot_law::Message;
 use crossbeam_channel::{Receiver, Sender, unbounded};
-use messages::{copy_of, event_of};
+use group_sentinels::Outlet;
 use std::alloc::{AllocError, Global};
 use std::sync::Wait;
 
-/// The ends at which messages go in: a channel for each Sentinel, in the roster's order, and one for all data nodes.
+/// The ends at which messages go in: a channel for each Sentinel that is connected, by its place in the roster, and one for all data nodes.
 #[derive(Drop)]
 pub struct Links {
-    sentinels: Vec<Sender<Letter>>,
-    stores: Sender<Errand>,
+    sentinels: Vec<Option<Sender<Delivery>>>,
+    nodes: Sender<NodeOrder>,
     alloc: Global,
 }
 
-/// The ends at which they come out: that of each Sentinel, in the roster's order, until it is taken, and that of all data nodes.
-#[derive(Drop)]
-pub struct Ends {
-    sentinels: Vec<Option<Receiver<Letter>>>,
-    pub stores: Receiver<Errand>,
-}
-
-impl Ends {
-    /// The end of the Sentinel at this place of the roster; none where it was taken before.
-    pub fn take(&mut self, place: u16) -> Option<Receiver<Letter>> {
-        self.sentinels.get_mut(place as usize)?.take()
-    }
-}
-
 impl Links {
-    /// The channels of a group with so many Sentinels.
-    pub fn open(alloc: Global, sentinels: u16) -> Result<(Links, Ends), AllocError> {
-        let (stores, errands) = unbounded(alloc)?;
+    /// The links of a group with so many Sentinels, none of which is connected, and the end at which orders of the data nodes come out.
+    pub fn open(
+        alloc: Global,
+        sentinels: usize,
+    ) -> Result<(Links, Receiver<NodeOrder>), AllocError> {
+        let (to_nodes, nodes) = unbounded(alloc)?;
         let mut links = Links {
             sentinels: Vec::new(alloc),
-            stores,
+            nodes: to_nodes,
             alloc,
         };
-        let mut letters = Vec::new(alloc);
         for _ in 0..sentinels {
-            let (to, from) = unbounded(alloc)?;
-            links.sentinels.push(to)?;
-            letters.push(Some(from))?;
+            links.sentinels.push(None)?;
         }
-        let ends = Ends {
-            sentinels: letters,
-            stores: errands,
-        };
-        Ok((links, ends))
+        Ok((links, nodes))
     }
 
-    /// A further end for errands of the data nodes.
-    pub fn errands(&self) -> Result<Sender<Errand>, AllocError> {
-        self.stores.clone()
-    }
-
-    /// Sends a message to a Sentinel as the event that it is there; nothing where it isn't for Sentinels.
-    fn send_letter<R: Wait>(&self, rt: &R, place: u16, message: &Message)
-        requires { IsSendable message.now }
-    {
-        let Some(to) = self.sentinels.get(place as usize) else {
-            return;
-        };
-        if let Ok(Some(event)) = event_of(self.alloc, message) {
-            drop(to.send(rt, Letter::of(event)));
+    /// Connects the Sentinel at this place of the roster: the end at which what is for it comes out. An earlier end gets nothing more.
+    pub fn connect(&mut self, place: u16) -> Result<Receiver<Delivery>, AllocError> {
+        let (to, from) = unbounded(self.alloc)?;
+        if let Some(end) = self.sentinels.get_mut(place as usize) {
+            *end = Some(to);
         }
+        Ok(from)
     }
 
-    /// Sends a copy of a message to a data node.
-    fn send_errand<R: Wait>(&self, rt: &R, number: u16, message: &Message)
-        requires { IsSendable message.now }
-    {
-        if let Ok(copy) = copy_of(self.alloc, message) {
-            drop(self.stores.send(rt, Errand::handed(number, copy)));
-        }
+    /// A further end for orders of the data nodes.
+    pub fn node_orders(&self) -> Result<Sender<NodeOrder>, AllocError> {
+        self.nodes.clone()
     }
 
-    /// Sends a message on the link to its target, which has to be a Sentinel or a data node. It is lost where there is no such node,
-    /// where its end is gone, and where there is no memory.
-    pub fn send<R: Wait>(&self, rt: &R, message: &Message)
-        requires { IsSendable message.now }
-    {
-        match message.target {
-            NodeName::SentinelAt(place) => self.send_letter(rt, place, message),
-            NodeName::StoreAt(number) => self.send_errand(rt, number, message),
-            NodeName::ClientAt(_) | NodeName::PortAt(_) => {}
-        }
-    }
-
-    /// Sends all messages among these outputs, in their order.
-    pub fn send_all<R: Wait>(&self, rt: &R, outputs: &[Output])
-        requires { AllByRecursion IsSendableOutput outputs.now }
-    {
-        for output in outputs {
-            if let Output::Send(message) = output {
-                self.send(rt, message);
+    /// Puts a message into the channel of its target. It is lost where that isn't connected, where there is no such node, and where its end is
+    /// gone.
+    fn dispatch<R: Wait>(&self, rt: &R, dispatch: Dispatch) {
+        match dispatch {
+            Dispatch::ToSentinel(place, delivery) => {
+                if let Some(Some(to)) = self.sentinels.get(place as usize) {
+                    drop(to.send(rt, delivery));
+                }
             }
+            Dispatch::ToNode(order) => drop(self.nodes.send(rt, order)),
+        }
+    }
+
+    /// The channels as the place where messages go.
+    pub fn outlet<'a, R: Wait>(&'a self, rt: &'a R) -> ChannelOutlet<'a, R> {
+        ChannelOutlet { links: self, rt }
+    }
+}
+
+/// The channels of a group as the place where messages go. A message is lost where it isn't for its target, where there is no such node, where
+/// its end is gone, and where there is no memory.
+#[derive(Clone, Copy)]
+pub struct ChannelOutlet<'a, R: Wait> {
+    links: &'a Links,
+    rt: &'a R,
+}
+
+impl<R: Wait> Outlet for ChannelOutlet<'_, R> {
+    fn send(&mut self, message: &Message) {
+        if let Ok(Some(dispatch)) = dispatch_of(self.links.alloc, message) {
+            self.links.dispatch(self.rt, dispatch);
         }
     }
 }

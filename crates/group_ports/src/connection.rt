@@ -3,8 +3,7 @@
 ghost use Rattle.std.specs.Prelude.{◌≤◌, IfOk};
 
 use conf_store::ConfStore;
-use group_links::GroupState;
-use group_sentinels::{RunningSentinel, Switch, ThreadSeat, Which};
+use group_sentinels::{RunState, RunningSentinel, Switch, ThreadSeat, Which};
 use mio::net::TcpStream;
 use port_serving::ServeFault;
 use port_sessions::Session;
@@ -91,7 +90,7 @@ impl Connection {
     fn take_piece<J: Which, S: ConfStore, R: Wait + Clock>(
         &mut self,
         rt: &R,
-        group: &GroupState,
+        group: &RunState,
         member: &RunningSentinel<J, S>,
         seat: &mut ThreadSeat<J>,
         piece: &[u8],
@@ -175,7 +174,7 @@ impl Connection {
     pub(crate) fn turn<J: Which, S: ConfStore, R: Wait + Clock>(
         &mut self,
         rt: &R,
-        group: &GroupState,
+        group: &RunState,
         member: &RunningSentinel<J, S>,
         seat: &mut ThreadSeat<J>,
         room: &mut [u8; PIECE],

@@ -2,8 +2,7 @@
 
 use crate::connection::{Connection, Fate, PIECE};
 use conf_store::ConfStore;
-use group_links::GroupState;
-use group_sentinels::{RunningSentinel, Switch, ThreadSeat, Which};
+use group_sentinels::{RunState, RunningSentinel, Switch, ThreadSeat, Which};
 use mio::net::{TcpListener, TcpStream};
 use mio::{Events, Interest, Poll, Token};
 use slab::Slab;
@@ -86,7 +85,7 @@ impl Port {
     fn serve_one<J: Which, S: ConfStore, R: Wait + Clock>(
         &mut self,
         rt: &R,
-        group: &GroupState,
+        group: &RunState,
         member: &RunningSentinel<J, S>,
         seat: &mut ThreadSeat<J>,
         key: usize,
@@ -120,7 +119,7 @@ impl Port {
     fn serve_busy<J: Which, S: ConfStore, R: Wait + Clock>(
         &mut self,
         rt: &R,
-        group: &GroupState,
+        group: &RunState,
         member: &RunningSentinel<J, S>,
         seat: &mut ThreadSeat<J>,
     ) {
@@ -191,7 +190,7 @@ impl Port {
     fn serve_told<J: Which, S: ConfStore, R: Wait + Clock>(
         &mut self,
         rt: &R,
-        group: &GroupState,
+        group: &RunState,
         member: &RunningSentinel<J, S>,
         seat: &mut ThreadSeat<J>,
         events: &Events<Global>,
@@ -216,7 +215,7 @@ impl Port {
     pub fn serve<J: Which, S: ConfStore, R: Wait + Clock>(
         &mut self,
         rt: &R,
-        group: &GroupState,
+        group: &RunState,
         member: &RunningSentinel<J, S>,
         seat: &mut ThreadSeat<J>,
         ending: &AtomicU64,

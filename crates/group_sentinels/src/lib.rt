@@ -1,16 +1,25 @@
-//! A Sentinel of a group that runs, and what two of its threads do: the timer ticks each master, and the link takes what other nodes sent.
+//! A Sentinel that runs, without its transport: its threads share it, each by a seat of its own, what it says goes to an outlet, and what is
+//! heard for it and its ticks are handed to it here.
 //!
-//! The threads share the Sentinel, each by a seat of its own. What an input gives goes to the links at once.
+//! - `RunningSentinel` is the shared Sentinel, `ThreadSeat` a thread's seat of it, and `RunState` what all threads share.
+//! - An `Outlet` is where messages go, as channels or connections.
+//! - A `Ticker` tells when ticks are due and has them taken, and `hear` has the Sentinel take what was heard.
 #![tactic(auto)]
 
+mod clock;
 mod lookout;
 mod named;
 mod notes;
+mod outlet;
 mod rows;
+mod run_state;
 mod running_sentinel;
 mod switches;
-mod workers;
+mod ticking;
 
+pub use clock::{GroupClock, millis_of};
+pub use outlet::{Outlet, send_all};
+pub use run_state::RunState;
 pub use running_sentinel::{RunningSentinel, ThreadSeat, Which};
 pub use switches::Switch;
-pub use workers::{run_link, run_timer};
+pub use ticking::{TICK_MS, Ticker, hear};

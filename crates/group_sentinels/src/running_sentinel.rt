@@ -6,12 +6,12 @@ ghost use Rattle.boxed_nodes.specs.Sendable.{IsSendableOutput};
 ghost use Rattle.sentinel_rules.specs.Facts.{IsWithinEvent};
 
 use crate::notes::note_all;
+use crate::outlet::{Outlet, send_all};
 use crate::switches::{Switch, Switches};
 use ballot_law::{
     Addr, Body, Card, Command, Event, Input, Name, NoMemory, NodeName, Output, Roster,
 };
 use conf_store::ConfStore;
-use group_links::GroupState;
 use log::kv::With;
 use log::{Level, Log, Span, log_enabled};
 use port_serving::ServeFault;
@@ -41,6 +41,7 @@ impl Which for Brand {
 pub struct RunningSentinel<J: Which, S: ConfStore> {
     cell: SharedSentinel<S>,
     masters: u16,
+    place: u16,
     port: u16,
     switches: Switches,
     of: PhantomData<J>,
@@ -84,11 +85,12 @@ impl<J: Which> ThreadSeat<J> {
 }
 
 impl<J: Which, S: ConfStore> RunningSentinel<J, S> {
-    /// The Sentinel whose clients come to this port, with its first seat.
+    /// The Sentinel at this place of the roster, whose clients come to this port, with its first seat.
     pub fn with_seat(
         alloc: Global,
         cell: SharedSentinel<S>,
         seat: Seat,
+        place: u16,
         port: u16,
     ) -> (RunningSentinel<J, S>, ThreadSeat<J>)
         requires { (cell.id ≡ J.cell) × (seat.cell ≡ J.cell) }
@@ -97,6 +99,7 @@ impl<J: Which, S: ConfStore> RunningSentinel<J, S> {
         let member = RunningSentinel {
             cell,
             masters,
+            place,
             port,
             switches: Switches::new(alloc),
             of: PhantomData,
@@ -138,13 +141,13 @@ impl<J: Which, S: ConfStore> RunningSentinel<J, S> {
         }
     }
 
-    /// One input at a reading of the clock in milliseconds. What the Sentinel says, once it is stored, goes to its links, and what it notes to
+    /// One input at a reading of the clock in milliseconds. What the Sentinel says, once it is stored, goes to the outlet, and what it notes to
     /// the log and to the subscribers of its port. At a fault it says nothing.
-    pub fn carry_out<R: Wait + Log>(
+    pub fn carry_out<O: Outlet, R: Wait + Log>(
         &self,
         rt: &R,
         seat: &mut ThreadSeat<J>,
-        group: &GroupState,
+        outlet: &mut O,
         now: u64,
         event: Event,
     ) -> Result<(), ActFault>
@@ -153,7 +156,7 @@ impl<J: Which, S: ConfStore> RunningSentinel<J, S> {
         let input = Input { now, event };
         let entry = self.turn(rt, seat, &input)?;
         let outputs = seat.outbox.outputs();
-        group.links.send_all(rt, outputs);
+        send_all(outlet, outputs);
         self.switches.add_all(rt, outputs, entry);
         if log_enabled!(rt; Level::Info) {
             note_all(&self.noting(rt), self.roster(), &input.event, outputs);
@@ -167,21 +170,16 @@ impl<J: Which, S: ConfStore> RunningSentinel<J, S> {
     }
 
     /// The Sentinels and the masters of the group.
-    pub(crate) fn roster(&self) -> &Roster {
+    pub fn roster(&self) -> &Roster {
         self.cell.roster()
     }
 
-    /// How far its ticks stand behind those of the first Sentinel, where two ticks are so far apart: each Sentinel has its share of the time
-    /// between. So the first one that begins a failover is heard by the others before their own ticks, and has their votes; Redis's Sentinel
-    /// varies its timer for that.
+    /// How far its ticks stand after those of the first Sentinel, where two ticks are so far apart: each Sentinel has its share of the time
+    /// between, by its place in the roster. So the first one that begins a failover is heard by the others before their own ticks, and has
+    /// their votes; Redis's Sentinel varies its timer for that.
     pub(crate) fn phase(&self, period: u64) -> u64 {
-        let sentinels = self.cell.roster().sentinels();
-        for place in 0..sentinels.len() {
-            if sentinels[place].addr.port == self.port {
-                return period.saturating_mul(place as u64) / sentinels.len() as u64;
-            }
-        }
-        0
+        let sentinels = self.cell.roster().sentinels().len() as u64;
+        period.saturating_mul(u64::from(self.place)) / sentinels.max(1)
     }
 
     /// The name of the master with this number.

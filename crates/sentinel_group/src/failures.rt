@@ -1,10 +1,13 @@
 //! Why the program ends early: a line on standard error, and the exit status.
 
+ghost use Rattle.std.specs.Prelude.{◌≡◌};
+ghost use Rattle.sentinel_group.specs.Statuses.{status_of, status_of_group};
+
 use conf_lines::{ConfFault, ConfKind};
 use port_serving::ServeFault;
 use scenario_replay::ReplayFault;
 use scenarios::{ScenarioFault, ScenarioKind};
-use sentinel_runner::GroupFault;
+use sentinel_runner::{GroupFault, OrderedFault};
 use std::fmt::Display;
 use std::process::ExitCode;
 
@@ -12,7 +15,9 @@ use std::process::ExitCode;
 const REFUSED_FILE: u8 = 3;
 
 /// The exit status that tells the fault.
-fn status_of(fault: ServeFault) -> u8 {
+fn status_of(fault: ServeFault) -> u8
+    ensures { result ≡ status_of fault }
+{
     match fault {
         ServeFault::Frame(_) | ServeFault::Read | ServeFault::Write => 4,
         ServeFault::Halted => 5,
@@ -27,7 +32,9 @@ pub(crate) fn fail(rt: &impl Eprint, fault: ServeFault) -> ExitCode {
 }
 
 /// The exit status that tells why a group doesn't run, or didn't run whole.
-fn status_of_group(fault: GroupFault) -> u8 {
+fn status_of_group(fault: GroupFault) -> u8
+    ensures { result ≡ status_of_group fault }
+{
     match fault {
         GroupFault::NotOneRoster => REFUSED_FILE,
         GroupFault::PortRefused => 4,
@@ -40,6 +47,14 @@ fn status_of_group(fault: GroupFault) -> u8 {
 pub(crate) fn fail_group(rt: &impl Eprint, fault: GroupFault) -> ExitCode {
     let _ = eprintln!(rt; "sentinel_group: {fault}");
     ExitCode::from(status_of_group(fault))
+}
+
+/// Tells why a group that takes orders doesn't run, or didn't run whole, in one line and in the exit status.
+pub(crate) fn fail_ordered(rt: &impl Eprint, fault: OrderedFault) -> ExitCode {
+    match fault {
+        OrderedFault::Group(fault) => fail_group(rt, fault),
+        OrderedFault::Read => fail(rt, ServeFault::Read),
+    }
 }
 
 /// Tells what is wrong with a file, and at which line; line 0 is the file as a whole.

@@ -2,11 +2,11 @@
 
 ghost use Rattle.std.specs.Prelude.{◌<◌, ◌-◌, ◌^◌, All};
 
-use crate::failures::fail_group;
+use crate::failures::fail_ordered;
 use crate::group_files::{GroupFiles, files_of};
 use clap::ArgMatches;
 use log::{LevelFilter, Log};
-use sentinel_runner::{Group, GroupFault};
+use sentinel_runner::{Group, OrderedFault};
 use std::alloc::Global;
 use std::io::Input;
 use std::net::Net;
@@ -26,7 +26,7 @@ pub(crate) fn level_of(words: &ArgMatches) -> LevelFilter {
 }
 
 /// Runs the group of these files, and obeys the lines of standard input, until that ends.
-fn run<R>(rt: &R, alloc: Global, files: GroupFiles) -> Result<(), GroupFault>
+fn run<R>(rt: &R, alloc: Global, files: GroupFiles) -> Result<(), OrderedFault>
 where
     R: Threads + Wait + Net + Clock + Log + Input + Sync,
     requires { All (λ store. store < 2 ^ 64 - 1) files.stores.items }
@@ -47,6 +47,6 @@ where
     };
     match run(noting, rt.alloc(), files) {
         Ok(()) => ExitCode::SUCCESS,
-        Err(fault) => fail_group(&rt, fault),
+        Err(fault) => fail_ordered(&rt, fault),
     }
 }

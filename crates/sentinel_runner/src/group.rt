@@ -1,14 +1,17 @@
 //! A group of Sentinels and data nodes that runs.
 
-ghost use Rattle.std.specs.Prelude.{◌<◌, ◌-◌, ◌^◌, All};
+ghost use Rattle.std.specs.Prelude.{◌≢◌, ◌<◌, ◌-◌, ◌^◌, All, IfErr, IsErrOf};
+ghost use Rattle.sentinel_runner.specs.declared.group_fault.GroupFault.TheVariants.{NotOneRoster};
+ghost use Rattle.sentinel_runner.specs.Groups.{AreOneGroup};
 
-use crate::group_fault::GroupFault;
-use crate::orders::Orders;
+use crate::group_fault::{GroupFault, OrderedFault};
+use crate::orders::{Orders, ReadFailed};
 use crate::started::Started;
 use conf_store::ConfStore;
 use crossbeam_channel::Receiver;
 use group_checks::is_one_group;
-use group_links::{DataNodes, Ends, Errand, GroupClock, GroupState, Links};
+use group_links::{DataNodes, Links, NodeOrder};
+use group_sentinels::{GroupClock, RunState};
 use log::Log;
 use sentinel_conf::Conf;
 use std::alloc::Global;
@@ -24,7 +27,7 @@ use std::thread::{self, Threads};
 struct Beginning<S: ConfStore> {
     sentinels: Vec<Started<S>>,
     nodes: DataNodes,
-    errands: Receiver<Errand>,
+    node_orders: Receiver<NodeOrder>,
     alloc: Global,
 }
 
@@ -32,7 +35,8 @@ struct Beginning<S: ConfStore> {
 #[derive(Drop)]
 pub struct Group<S: ConfStore> {
     threads: Beginning<S>,
-    state: GroupState,
+    links: Links,
+    state: RunState,
 }
 
 /// Opens the Sentinel of each conf with the store at the same place.
@@ -41,54 +45,60 @@ fn open_all<S: ConfStore + Drop, R: Net + Log>(
     alloc: Global,
     mut confs: Vec<Conf>,
     mut stores: Vec<S>,
-    ends: &mut Ends,
+    links: &mut Links,
 ) -> Result<Vec<Started<S>>, GroupFault>
-    requires { All (λ s. S.failure_count s < 2 ^ 64 - 1) stores.items }
+    requires room { All (λ s. S.failure_count s < 2 ^ 64 - 1) stores.items }
+    ensures roster { IfErr result (λ fault. fault ≢ NotOneRoster) }
 {
     let mut sentinels = Vec::new(alloc);
     while let (Some(conf), Some(store)) = (confs.pop(), stores.pop()) {
-        sentinels.push(Started::open(rt, alloc, conf, store, ends)?)?;
+        sentinels.push(Started::open(rt, alloc, conf, store, links)?)?;
     }
     Ok(sentinels)
 }
 
 impl<S: ConfStore + Drop> Group<S> {
     /// Opens each Sentinel with the store at its place in the list, and its port, and makes the data nodes of the roster and the links.
+    ///
+    /// `NotOneRoster` comes exactly where the confs aren't those of one group, or there is another number of stores.
     pub fn open<R: Net + Clock + Log>(
         rt: &R,
         alloc: Global,
         confs: Vec<Conf>,
         stores: Vec<S>,
     ) -> Result<Group<S>, GroupFault>
-        requires { All (λ s. S.failure_count s < 2 ^ 64 - 1) stores.items }
+        requires room { All (λ s. S.failure_count s < 2 ^ 64 - 1) stores.items }
+        ensures group { AreOneGroup confs.items stores.items → IfErr result (λ fault. fault ≢ NotOneRoster) }
+        ensures other { ¬ (AreOneGroup confs.items stores.items) → IsErrOf result NotOneRoster }
     {
-        if !is_one_group(confs.as_slice()) || stores.len() != confs.len() {
+        if stores.len() != confs.len() || !is_one_group(confs.as_slice()) {
             return Err(GroupFault::NotOneRoster);
         }
-        let (Some(first), Ok(count)) = (confs.first(), u16::try_from(confs.len())) else {
+        let Some(first) = confs.first() else {
             return Err(GroupFault::NotOneRoster);
         };
         let nodes = DataNodes::of(alloc, first)?;
-        let (links, mut ends) = Links::open(alloc, count)?;
-        let Ok(clock) = GroupClock::start(rt) else {
-            return Err(GroupFault::NoMemory);
-        };
-        let sentinels = open_all(rt, alloc, confs, stores, &mut ends)?;
+        let (mut links, node_orders) = Links::open(alloc, confs.len())?;
+        let clock = GroupClock::start(rt);
+        let sentinels = open_all(rt, alloc, confs, stores, &mut links)?;
         Ok(Group {
             threads: Beginning {
                 sentinels,
                 nodes,
-                errands: ends.stores,
+                node_orders,
                 alloc,
             },
-            state: GroupState::new(links, clock),
+            links,
+            state: RunState::new(clock),
         })
     }
 
     /// Takes lines that stop, start or set a data node while the group runs.
-    fn orders(&self) -> Result<Orders, GroupFault> {
-        let errands = self.state.links.errands()?;
-        Ok(Orders::new(self.threads.alloc, errands, self.threads.nodes.count()))
+    fn orders(&self) -> Result<Orders, GroupFault>
+        ensures roster { IfErr result (λ fault. fault ≢ NotOneRoster) }
+    {
+        let node_orders = self.links.node_orders()?;
+        Ok(Orders::new(node_orders, self.threads.nodes.count()))
     }
 }
 
@@ -98,51 +108,69 @@ impl<S: ConfStore + Drop + Send> Group<S> {
         self,
         rt: &R,
         ending: &AtomicU64,
-    ) -> Result<(), GroupFault> {
-        let Group { threads, state } = self;
-        run_threads(rt, threads, &state, ending);
+    ) -> Result<(), GroupFault>
+        ensures roster { IfErr result (λ fault. fault ≢ NotOneRoster) }
+    {
+        let Group {
+            threads,
+            links,
+            state,
+        } = self;
+        run_threads(rt, threads, &state, &links, ending);
         outcome(&state)
     }
 
     /// Runs each Sentinel and the data nodes, and obeys the lines of the input until its end, which ends the group. The stores are gone then.
+    ///
+    /// `Read` where the input couldn't be read to its end and nothing of the group was at fault.
     pub fn run_by_orders<I: Read, R: Threads + Wait + Clock + Log + Sync>(
         self,
         rt: &R,
         input: &mut I,
         ending: &AtomicU64,
-    ) -> Result<(), GroupFault> {
+    ) -> Result<(), OrderedFault> {
         let orders = self.orders()?;
-        let Group { threads, state } = self;
-        follow_beside(rt, threads, orders, input, &state, ending);
-        outcome(&state)
+        let Group {
+            threads,
+            links,
+            state,
+        } = self;
+        let read = follow_beside(rt, threads, orders, input, &state, &links, ending);
+        outcome(&state)?;
+        read.map_err(|_| OrderedFault::Read)
     }
 }
 
-/// Runs all threads, beside which this one follows the orders of the input to its end.
+/// Runs all threads, beside which this one follows the orders of the input to its end. Then they end too.
 fn follow_beside<'a, S, I: Read, R>(
     rt: &'a R,
     threads: Beginning<S>,
     mut orders: Orders,
     input: &mut I,
-    state: &'a GroupState,
+    state: &'a RunState,
+    links: &'a Links,
     ending: &'a AtomicU64,
-)
+) -> Result<(), ReadFailed>
 where
     S: ConfStore + Drop + Send,
     R: Threads + Wait + Clock + Log + Sync,
 {
     thread::scope(thread::scope_env(), rt, |scope| {
-        let begun = scope.spawn(move || run_threads(rt, threads, state, ending));
+        let begun = scope.spawn(move || run_threads(rt, threads, state, links, ending));
         if begun.is_err() {
             state.note_lacking_thread();
-            return;
+            return Ok(());
         }
-        orders.follow(rt, input, ending);
+        let read = orders.follow(rt, input);
+        ending.store(1, Ordering::SeqCst);
+        read
     })
 }
 
 /// How a group ended.
-fn outcome(state: &GroupState) -> Result<(), GroupFault> {
+fn outcome(state: &RunState) -> Result<(), GroupFault>
+    ensures roster { IfErr result (λ fault. fault ≢ NotOneRoster) }
+{
     if state.lacked_a_thread() {
         return Err(GroupFault::NoMemory);
     }
@@ -159,22 +187,23 @@ fn outcome(state: &GroupState) -> Result<(), GroupFault> {
 fn run_threads<'a, S: ConfStore + Drop + Send, R: Threads + Wait + Clock + Log + Sync>(
     rt: &'a R,
     threads: Beginning<S>,
-    state: &'a GroupState,
+    state: &'a RunState,
+    links: &'a Links,
     ending: &'a AtomicU64,
 ) {
     let Beginning {
         sentinels,
         mut nodes,
-        errands,
+        node_orders,
         alloc,
     } = threads;
     thread::scope(thread::scope_env(), rt, |scope| {
         let mut refused = scope
-            .spawn(move || nodes.run(rt, state, &errands, ending))
+            .spawn(move || nodes.run(rt, state, links, &node_orders, ending))
             .is_err();
         for started in sentinels {
             refused |= scope
-                .spawn(move || started.run(rt, alloc, state, ending))
+                .spawn(move || started.run(rt, alloc, state, links, ending))
                 .is_err();
         }
         if refused {
@@ -196,7 +225,9 @@ pub fn run_group<S: ConfStore + Drop + Send, R: Threads + Wait + Net + Clock + L
     stores: Vec<S>,
     ending: &AtomicU64,
 ) -> Result<(), GroupFault>
-    requires { All (λ s. S.failure_count s < 2 ^ 64 - 1) stores.items }
+    requires room { All (λ s. S.failure_count s < 2 ^ 64 - 1) stores.items }
+    ensures group { AreOneGroup confs.items stores.items → IfErr result (λ fault. fault ≢ NotOneRoster) }
+    ensures other { ¬ (AreOneGroup confs.items stores.items) → IsErrOf result NotOneRoster }
 {
     Group::open(rt, alloc, confs, stores)?.run(rt, ending)
 }

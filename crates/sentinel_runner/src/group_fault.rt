@@ -22,13 +22,45 @@ pub enum GroupFault {
 }
 
 impl From<AllocError> for GroupFault {
+    ghost use Rattle.std.specs.Prelude.{◌≡◌};
+    ghost use Rattle.sentinel_runner.specs.declared.group_fault.GroupFault.TheVariants.{NoMemory};
+
+    ghost from_gives = { λ _ fault. fault ≡ NoMemory };
+
     fn from(_error: AllocError) -> GroupFault {
         GroupFault::NoMemory
     }
 }
 
 impl<T: Drop> From<AllocFailed<T>> for GroupFault {
+    ghost use Rattle.std.specs.Prelude.{◌≡◌};
+    ghost use Rattle.sentinel_runner.specs.declared.group_fault.GroupFault.TheVariants.{NoMemory};
+
+    ghost from_gives = { λ _ fault. fault ≡ NoMemory };
+
     fn from(_error: AllocFailed<T>) -> GroupFault {
         GroupFault::NoMemory
+    }
+}
+
+/// Why a group that takes orders from an input didn't run, or didn't run whole. Where both fit, that of the group is told.
+#[derive(Clone, Copy, Debug, PartialEq, Eq, Error)]
+pub enum OrderedFault {
+    /// That of the group.
+    #[error(transparent)]
+    Group(GroupFault),
+    /// The input couldn't be read to its end. The orders before that were obeyed, and the group has ended.
+    #[error("Read")]
+    Read,
+}
+
+impl From<GroupFault> for OrderedFault {
+    ghost use Rattle.std.specs.Prelude.{◌≡◌};
+    ghost use Rattle.sentinel_runner.specs.declared.group_fault.OrderedFault.TheVariants.{Group};
+
+    ghost from_gives = { λ fault ordered. ordered ≡ Group fault };
+
+    fn from(fault: GroupFault) -> OrderedFault {
+        OrderedFault::Group(fault)
     }
 }

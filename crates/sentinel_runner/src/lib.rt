@@ -4,8 +4,10 @@
 
 mod group;
 mod group_fault;
+mod line_reader;
+mod opened;
 mod orders;
 mod started;
 
 pub use group::{Group, run_group};
-pub use group_fault::GroupFault;
+pub use group_fault::{GroupFault, OrderedFault};

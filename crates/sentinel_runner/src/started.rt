@@ -1,19 +1,18 @@
-//! A Sentinel of a group before its threads run.
+//! A Sentinel of a group in one process, and its threads.
 
-ghost use Rattle.std.specs.Prelude.{◌≡◌, ◌<◌, ◌-◌, ◌^◌};
+ghost use Rattle.std.specs.Prelude.{◌≡◌, ◌≢◌, ◌<◌, ◌-◌, ◌^◌, IfErr};
+ghost use Rattle.sentinel_runner.specs.declared.group_fault.GroupFault.TheVariants.{NotOneRoster};
 
 use crate::group_fault::GroupFault;
+use crate::opened::{Opened, fault_of};
 use conf_store::ConfStore;
 use crossbeam_channel::Receiver;
-use group_links::{Ends, GroupState, Letter};
+use group_links::{Delivery, Links, run_link, run_timer};
 use group_ports::Port;
-use group_sentinels::{RunningSentinel, ThreadSeat, Which, run_link, run_timer};
-use log::{Log, warn};
-use sentinel_cell::{Seat, SharedSentinel};
+use group_sentinels::{RunState, RunningSentinel, ThreadSeat, Which};
+use log::Log;
 use sentinel_conf::Conf;
-use sentinel_core::Sentinel;
-use std::alloc::{AllocError, Global};
-use std::io::{self, ErrorKind};
+use std::alloc::Global;
 use std::marker::Brand;
 use std::net::Net;
 use std::rt::Clock;
@@ -24,60 +23,28 @@ use std::thread::{self, Threads};
 /// How many threads use a Sentinel: its timer, its link and its port.
 const SEATS: u64 = 3;
 
-/// A Sentinel that is open, with its port, that port's number, and the end of its channel.
+/// A Sentinel that is open, and the end of its channel.
 #[derive(Drop)]
 pub(crate) struct Started<S: ConfStore> {
-    cell: SharedSentinel<S>,
-    seat: Seat,
-    port: Port,
-    number: u16,
-    letters: Receiver<Letter>,
-    ghost own: { seat.cell ≡ cell.id },
-}
-
-/// What an error of the system is to a group.
-fn fault_of(error: &io::Error) -> GroupFault {
-    if error.kind() == ErrorKind::OutOfMemory {
-        return GroupFault::NoMemory;
-    }
-    GroupFault::PortRefused
+    opened: Opened<S>,
+    deliveries: Receiver<Delivery>,
 }
 
 impl<S: ConfStore + Drop> Started<S> {
-    /// Opens the Sentinel of this conf at clock 0, and its port. The conf's place has an end in `ends`.
+    /// Opens the Sentinel of this conf at clock 0, and its port, and connects it.
     pub(crate) fn open<R: Net + Log>(
         rt: &R,
         alloc: Global,
         conf: Conf,
         store: S,
-        ends: &mut Ends,
+        links: &mut Links,
     ) -> Result<Started<S>, GroupFault>
-        requires { S.failure_count store < 2 ^ 64 - 1 }
+        requires room { S.failure_count store < 2 ^ 64 - 1 }
+        ensures roster { IfErr result (λ fault. fault ≢ NotOneRoster) }
     {
-        let number = conf.port();
-        let port = match Port::open(rt, alloc, number) {
-            Ok(port) => port,
-            Err(error) => {
-                warn!(rt; "port {number} of 127.0.0.1 can't be had");
-                return Err(fault_of(&error));
-            }
-        };
-        let Some(letters) = ends.take(conf.place()) else {
-            return Err(GroupFault::NotOneRoster);
-        };
-        let Ok(sentinel) = Sentinel::open(alloc, conf, 0) else {
-            return Err(GroupFault::NoMemory);
-        };
-        let Ok((cell, seat)) = SharedSentinel::new(alloc, sentinel, store, SEATS) else {
-            return Err(GroupFault::NoMemory);
-        };
-        Ok(Started {
-            cell,
-            seat,
-            port,
-            number,
-            letters,
-        })
+        let opened = Opened::open(rt, alloc, conf, store, SEATS)?;
+        let deliveries = links.connect(opened.place)?;
+        Ok(Started { opened, deliveries })
     }
 
     /// Runs its threads until `ending` isn't 0; this thread serves the port.
@@ -85,20 +52,15 @@ impl<S: ConfStore + Drop> Started<S> {
         self,
         rt: &R,
         alloc: Global,
-        group: &GroupState,
+        state: &RunState,
+        links: &Links,
         ending: &AtomicU64,
     )
     where
         S: Send,
     {
-        let Started {
-            cell,
-            seat,
-            port,
-            number,
-            letters,
-        } = self;
-        run_named::<Brand, S, R>(rt, alloc, group, cell, seat, port, number, letters, ending);
+        let Started { opened, deliveries } = self;
+        run_named::<Brand, S, R>(rt, alloc, state, links, opened, deliveries, ending);
     }
 }
 
@@ -108,19 +70,24 @@ impl<S: ConfStore + Drop> Started<S> {
 fn run_named<J: Which + Send + Sync, S: ConfStore + Drop + Send, R>(
     rt: &R,
     alloc: Global,
-    group: &GroupState,
-    cell: SharedSentinel<S>,
-    seat: Seat,
-    port: Port,
-    number: u16,
-    letters: Receiver<Letter>,
+    state: &RunState,
+    links: &Links,
+    opened: Opened<S>,
+    deliveries: Receiver<Delivery>,
     ending: &AtomicU64,
 )
 where
     R: Threads + Wait + Clock + Log + Sync,
-    requires { (cell.id ≡ J.cell) × (seat.cell ≡ J.cell) }
+    requires named { opened.cell.id ≡ J.cell }
 {
-    let (member, seat) = RunningSentinel::<J, S>::with_seat(alloc, cell, seat, number);
+    let Opened {
+        cell,
+        seat,
+        place,
+        port,
+        number,
+    } = opened;
+    let (member, seat) = RunningSentinel::<J, S>::with_seat(alloc, cell, seat, place, number);
     let Some((first, timer)) = member.split(alloc, seat) else {
         return;
     };
@@ -128,7 +95,7 @@ where
         return;
     };
     run_threads(
-        rt, alloc, group, &member, own, timer, link, port, letters, ending,
+        rt, alloc, state, links, &member, own, timer, link, port, deliveries, ending,
     );
 }
 
@@ -138,13 +105,14 @@ where
 fn run_threads<'a, J: Which + Send + Sync, S: ConfStore + Drop + Send, R>(
     rt: &'a R,
     alloc: Global,
-    group: &'a GroupState,
+    state: &'a RunState,
+    links: &'a Links,
     member: &'a RunningSentinel<J, S>,
     mut own: ThreadSeat<J>,
     mut timer: ThreadSeat<J>,
     mut link: ThreadSeat<J>,
     mut port: Port,
-    letters: Receiver<Letter>,
+    deliveries: Receiver<Delivery>,
     ending: &'a AtomicU64,
 )
 where
@@ -152,18 +120,26 @@ where
 {
     thread::scope(thread::scope_env(), rt, |scope| {
         let mut refused = scope
-            .spawn(move || run_timer(rt, alloc, group, member, &mut timer, ending))
+            .spawn(move || run_timer(rt, alloc, state, links, member, &mut timer, ending))
             .is_err();
         refused |= scope
-            .spawn(move || run_link(rt, group, member, &mut link, &letters, ending))
+            .spawn(move || run_link(rt, state, links, member, &mut link, &deliveries, ending))
             .is_err();
         if refused {
-            group.note_lacking_thread();
+            state.note_lacking_thread();
             ending.store(1, Ordering::SeqCst);
             return;
         }
-        if port.serve(rt, group, member, &mut own, ending).is_err() {
-            group.note_lost_port();
+        if let Err(error) = port.serve(rt, state, member, &mut own, ending) {
+            note_lost(state, &error);
         }
     })
+}
+
+/// Notes why a port serves no more: want of memory, or the system.
+fn note_lost(state: &RunState, error: &std::io::Error) {
+    match fault_of(error) {
+        GroupFault::NoMemory => state.note_lacking_thread(),
+        _ => state.note_lost_port(),
+    }
 }

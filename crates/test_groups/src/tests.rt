@@ -3,6 +3,8 @@
 mod clients;
 mod confs;
 mod groups;
+mod orders;
+mod outlets;
 mod ports;
 mod stores_held;
 mod talks;

@@ -6,9 +6,11 @@ use crate::tests::clients::{MASTER, REPLICAS, SENTINELS, connected, shows_down};
 use crate::tests::confs::{Paired, both_of, free_port};
 use crate::tests::told_files::{MOST_LOOKS, Told, ToldFile, wait_for};
 use log::Log;
-use sentinel_runner::{Group, GroupFault};
+use sentinel_conf::Conf;
+use sentinel_runner::{Group, GroupFault, run_group};
 use std::alloc::Global;
 use std::io::{self, Read, Write};
+use std::net::Net;
 use std::rt::Clock;
 use std::sync::Wait;
 use std::sync::atomic::{AtomicU64, Ordering};
@@ -133,5 +135,59 @@ fn group_talks(rt: HostRuntime) -> Result<(), Fail> {
     };
     assert_eq!(rt; seen?, wanted);
     assert_eq!(rt; ended, Ok(()));
+    Ok(())
+}
+
+/// Looks at the files of a group's Sentinels, and ends the group.
+fn look_at_files<R: Clock>(rt: &R, told: (&Told, &Told), seen: &AtomicU64, ending: &AtomicU64) {
+    if wait_for(rt, &told.0.current, 5) && wait_for(rt, &told.1.voted, 5) {
+        seen.store(1, Ordering::SeqCst);
+    }
+    ending.store(1, Ordering::SeqCst);
+}
+
+/// Runs a group from its opening to its end while its files are looked at: how it ended.
+fn run_watched<'a, C: Clock + Sync, R: Threads + Wait + Net + Clock + Log + Sync>(
+    clock: &'a C,
+    rt: &'a R,
+    alloc: Global,
+    confs: Vec<Conf>,
+    stores: Vec<ToldFile<'a, C>>,
+    told: (&'a Told, &'a Told),
+    seen: &'a AtomicU64,
+    ending: &'a AtomicU64,
+) -> Result<(), GroupFault>
+    requires { All (λ store. store.file.failed ≡ 0) stores.items }
+{
+    thread::scope(thread::scope_env(), rt, |scope| {
+        let begun = scope.spawn(move || look_at_files(clock, told, seen, ending));
+        if begun.is_err() {
+            return Err(GroupFault::NoMemory);
+        }
+        run_group(rt, alloc, confs, stores, ending)
+    })
+}
+
+#[test]
+fn run_group_talks(rt: HostRuntime) -> Result<(), Fail> {
+    let alloc = rt.alloc();
+    let one = Paired::at((free_port(&rt)?, free_port(&rt)?), 50);
+    let other = Paired {
+        after_ms: 4_294_967_295,
+        epoch: 5,
+        ..one.counterpart()
+    };
+    let confs = both_of(alloc, one, other).ok_or("no confs")?;
+    let (first, second) = (Told::new(), Told::new());
+    let stores = files(alloc, &first, &second).ok_or("no files")?;
+    let (seen, ending) = (AtomicU64::new(0), AtomicU64::new(0));
+    let told = (&first, &second);
+    let ended = run_watched(&rt, &rt, alloc, confs, stores, told, &seen, &ending);
+    assert_eq!(rt; ended, Ok(()));
+    assert_eq!(rt;
+        seen.load(Ordering::SeqCst),
+        1,
+        "a hello and a question were heard"
+    );
     Ok(())
 }

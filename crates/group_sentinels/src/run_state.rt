@@ -1,24 +1,21 @@
-//! What all threads of a group share.
+//! What the threads of Sentinels that run share.
 
 use crate::clock::GroupClock;
-use crate::links::Links;
 use std::sync::atomic::{AtomicU64, Ordering};
 
-/// What all threads of a group share: its links, its clock, and what went wrong so far.
+/// What all threads of the Sentinels of one process share: their clock, and what went wrong so far. It names no transport.
 #[derive(Drop)]
-pub struct GroupState {
-    pub links: Links,
+pub struct RunState {
     pub clock: GroupClock,
     halted: AtomicU64,
     lacked_thread: AtomicU64,
     lost_port: AtomicU64,
 }
 
-impl GroupState {
-    /// A group in which nothing went wrong.
-    pub fn new(links: Links, clock: GroupClock) -> GroupState {
-        GroupState {
-            links,
+impl RunState {
+    /// By this clock, where nothing went wrong yet.
+    pub fn new(clock: GroupClock) -> RunState {
+        RunState {
             clock,
             halted: AtomicU64::new(0),
             lacked_thread: AtomicU64::new(0),

@@ -1,26 +1,29 @@
 //! The clock of a group.
 
-use std::io;
 use std::rt::Clock;
 use std::time::{Duration, Instant};
 
 /// The clock that all threads of a group read.
 #[derive(Clone, Copy)]
 pub struct GroupClock {
-    start: Instant,
+    start: Option<Instant>,
 }
 
 impl GroupClock {
-    /// A clock that stands at 0 now; the error is the system's, where it gives no time.
-    pub fn start<R: Clock>(rt: &R) -> io::Result<GroupClock> {
-        Ok(GroupClock {
-            start: Instant::now(rt)?,
-        })
+    /// A clock that stands at 0 now. Where the system gives no time it stays there.
+    pub fn start<R: Clock>(rt: &R) -> GroupClock {
+        GroupClock {
+            start: Instant::now(rt).ok(),
+        }
     }
 
     /// How long the group runs. 0 where the system gives no time: a clock that falls puts a Sentinel in TILT.
     pub fn elapsed<R: Clock>(&self, rt: &R) -> Duration {
-        self.start.elapsed(rt).unwrap_or(Duration::from_millis(0))
+        let none = Duration::from_millis(0);
+        match self.start {
+            Some(start) => start.elapsed(rt).unwrap_or(none),
+            None => none,
+        }
     }
 
     /// The milliseconds that the group runs.

@@ -1,0 +1,154 @@
+//! When a Sentinel's ticks are due, and what its threads have it take.
+
+ghost use Rattle.std.specs.Prelude.{◌≡◌, ◌⊎◌, ◌↔◌, ◌<◌, ◌≤◌, ◌+◌, ◌-◌, ◌^◌, ◌%◌, IsTrue, IsOk, IsErrOf};
+ghost use Rattle.sentinel_cell.specs.declared.fault.ActFault.{ActFault};
+ghost use Rattle.sentinel_rules.specs.Facts.{IsWithinEvent};
+
+use crate::clock::millis_of;
+use crate::lookout::Lookout;
+use crate::outlet::Outlet;
+use crate::run_state::RunState;
+use crate::running_sentinel::{RunningSentinel, ThreadSeat, Which};
+use ballot_law::Event;
+use conf_store::ConfStore;
+use log::{Level, Log, log_enabled, warn};
+use sentinel_cell::ActFault;
+use std::alloc::Global;
+use std::rt::Clock;
+use std::sync::Wait;
+
+/// How long it is between two ticks of a master, in milliseconds.
+pub const TICK_MS: u64 = 100;
+
+/// Whether the Sentinel goes on after this: a refused allocation loses the input alone, and all else halts it.
+fn goes_on(acted: Result<(), ActFault>) -> bool
+    ensures { IsTrue result ↔ (IsOk acted ⊎ IsErrOf acted ActFault.NoMemory) }
+{
+    match acted {
+        Ok(()) | Err(ActFault::NoMemory) => true,
+        Err(ActFault::StoreRefused | ActFault::Halted | ActFault::Spent) => false,
+    }
+}
+
+/// Whether the Sentinel goes on after this. Where it doesn't, all threads know it, and a refused store is noted.
+fn goes_on_noted<R: Log>(rt: &R, state: &RunState, acted: Result<(), ActFault>) -> bool
+    ensures { IsTrue result ↔ (IsOk acted ⊎ IsErrOf acted ActFault.NoMemory) }
+{
+    if let Err(ActFault::StoreRefused) = acted {
+        warn!(rt; "a store was refused: the Sentinel is halted");
+    }
+    let goes_on = goes_on(acted);
+    if !goes_on {
+        state.note_halted();
+    }
+    goes_on
+}
+
+/// How long it is from a reading of the clock to the next ticks of a Sentinel with this phase, in milliseconds: they are due each 100 ms, where
+/// what is left of the reading is what is left of the phase.
+fn until_tick(now: u64, phase: u64) -> u64
+    ensures soon { (0 < result) × (result ≤ TICK_MS) }
+    ensures phase { (now + result) % TICK_MS ≡ phase % TICK_MS }
+{
+    let (passed, at) = (now % TICK_MS, phase % TICK_MS);
+    if at > passed {
+        at - passed
+    } else {
+        TICK_MS - passed + at
+    }
+}
+
+/// When the next ticks of a Sentinel's masters are due, and what the last ones showed.
+#[derive(Drop)]
+pub struct Ticker {
+    lookout: Lookout,
+    phase: u64,
+    due: u64,
+}
+
+impl Ticker {
+    /// The ticks of this Sentinel's masters, of which the first are due at once.
+    pub fn new<J: Which, S: ConfStore>(alloc: Global, member: &RunningSentinel<J, S>) -> Ticker {
+        Ticker {
+            lookout: Lookout::new(alloc, member.masters()),
+            phase: member.phase(TICK_MS),
+            due: 0,
+        }
+    }
+
+    /// How long it is from this reading of the clock until the next ticks are due, in milliseconds.
+    pub fn until_due(&self, now: u64) -> u64
+        ensures { result ≡ self.now.due - now }
+    {
+        self.due.saturating_sub(now)
+    }
+
+    /// The ticks are over at this reading of the clock: the next ones are due at the next time of the Sentinel's phase.
+    fn plan_next(&mut self, now: u64)
+        ensures due { now + TICK_MS < 2 ^ 64 → (now < self.new.due) × (self.new.due ≤ now + TICK_MS)
+            × (self.new.due % TICK_MS ≡ self.old.phase % TICK_MS) }
+        ensures phase { self.new.phase ≡ self.old.phase }
+    {
+        self.due = now.saturating_add(until_tick(now, self.phase));
+    }
+
+    /// Ticks each master once, where that is due: whether the Sentinel goes on. What it says goes to the outlet.
+    pub fn tick<J: Which, S: ConfStore, O: Outlet, R: Wait + Clock + Log>(
+        &mut self,
+        rt: &R,
+        state: &RunState,
+        member: &RunningSentinel<J, S>,
+        seat: &mut ThreadSeat<J>,
+        outlet: &mut O,
+    ) -> bool {
+        if state.clock.now(rt) < self.due {
+            return true;
+        }
+        let goes_on = self.tick_all(rt, state, member, seat, outlet);
+        self.plan_next(state.clock.now(rt));
+        goes_on
+    }
+
+    /// Ticks each master once: whether the Sentinel goes on. The random number of a tick is the part of a second that the clock shows, in
+    /// nanoseconds, which differs from tick to tick and from Sentinel to Sentinel.
+    fn tick_all<J: Which, S: ConfStore, O: Outlet, R: Wait + Clock + Log>(
+        &mut self,
+        rt: &R,
+        state: &RunState,
+        member: &RunningSentinel<J, S>,
+        seat: &mut ThreadSeat<J>,
+        outlet: &mut O,
+    ) -> bool {
+        for master in 0..member.masters() {
+            let elapsed = state.clock.elapsed(rt);
+            let (now, random) = (millis_of(elapsed), u64::from(elapsed.subsec_nanos()));
+            let event = Event::Tick { master, random };
+            let acted = member.carry_out(rt, seat, outlet, now, event);
+            let ticked = acted.is_ok();
+            if !goes_on_noted(rt, state, acted) {
+                return false;
+            }
+            if ticked && log_enabled!(rt; Level::Info) {
+                self.lookout
+                    .look(&member.noting(rt), member, seat, now, master);
+            }
+        }
+        true
+    }
+}
+
+/// Has the Sentinel take what was heard for it: whether it goes on. What it says goes to the outlet.
+pub fn hear<J: Which, S: ConfStore, O: Outlet, R: Wait + Clock + Log>(
+    rt: &R,
+    state: &RunState,
+    member: &RunningSentinel<J, S>,
+    seat: &mut ThreadSeat<J>,
+    outlet: &mut O,
+    event: Event,
+) -> bool
+    requires { IsWithinEvent event }
+{
+    let now = state.clock.now(rt);
+    let acted = member.carry_out(rt, seat, outlet, now, event);
+    goes_on_noted(rt, state, acted)
+}

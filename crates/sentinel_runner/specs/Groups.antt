@@ -1,0 +1,8 @@
+-- Of what a group is made.
+use Rattle.std.specs.Prelude.{◌≡◌, List, length}
+use Rattle.sentinel_conf.specs.Meaning.{ConfPlan}
+use Rattle.group_checks.specs.Groups.{IsOneGroup}
+
+-- the confs are those of one group, as `check` finds them, and each has a store
+abbrev pub AreOneGroup : {S : Type 0} → List ConfPlan → List S → Type 0
+AreOneGroup confs stores = (length stores ≡ length confs) × IsOneGroup (λ conf. conf) confs
