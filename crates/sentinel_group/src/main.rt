@@ -10,12 +10,15 @@ mod failures;
 mod group_files;
 mod replaying;
 mod serving;
+mod watch_lines;
+mod watching;
 
 use crate::checking::check;
 use crate::command_line::{command, refuse_unread, tell_words, words};
 use crate::failures::fail;
 use crate::group_files::file_of;
 use crate::replaying::replay;
+use crate::watching::{watch, watch_level};
 use crate::serving::{level_of, serve as serve_group};
 use clap::ArgMatches;
 use conf_store::{ConfStore, MemoryStore};
@@ -88,6 +91,10 @@ fn main(rt: HostRuntime) -> ExitCode {
             Some(("serve", words)) => {
                 let noting = Logged::new(rt, level_of(words), Console(rt));
                 serve_group(rt, &noting, words)
+            }
+            Some(("watch", words)) => {
+                let noting = Logged::new(rt, watch_level(words), Console(rt));
+                watch(rt, &noting, words)
             }
             Some((_, words)) => answer(rt, words),
             None => answer_in_memory(rt),
