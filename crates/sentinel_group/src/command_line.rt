@@ -53,7 +53,9 @@ fn watch<'a>(alloc: Global) -> Result<Command<'a>, AllocError> {
         .required(true)
         .help("The sentinel.conf of the Sentinel");
     Command::new(alloc, "watch")
-        .about("Runs one Sentinel, which watches Redis servers and speaks to the other Sentinels over TCP")
+        .about(
+            "Runs one Sentinel, which watches Redis servers and speaks to the other Sentinels over TCP",
+        )
         .arg(quiet)?
         .arg(conf)
 }

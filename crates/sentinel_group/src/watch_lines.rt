@@ -32,7 +32,11 @@ pub(crate) fn logins_of(alloc: Global, roster: &Roster, text: &[u8]) -> Result<L
     let mut logins = Logins::new(alloc);
     for master in roster.masters() {
         let name = master.name.as_slice();
-        logins.add(alloc, last_of(text, b"auth-user", name), last_of(text, b"auth-pass", name))?;
+        logins.add(
+            alloc,
+            last_of(text, b"auth-user", name),
+            last_of(text, b"auth-pass", name),
+        )?;
     }
     Ok(logins)
 }

@@ -29,7 +29,11 @@ pub(crate) fn watch_level(words: &ArgMatches) -> LevelFilter {
 }
 
 /// The logins of the file, read a second time.
-fn logins_in(rt: HostRuntime, conf: &Conf, store: &mut FileStore<HostRuntime>) -> Result<Logins, ExitCode> {
+fn logins_in(
+    rt: HostRuntime,
+    conf: &Conf,
+    store: &mut FileStore<HostRuntime>,
+) -> Result<Logins, ExitCode> {
     let Ok(text) = store.load() else {
         return Err(fail(&rt, ServeFault::Read));
     };

@@ -45,7 +45,12 @@ fn prove_store<S: ConfStore>(alloc: Global, conf: &Conf, store: &mut S) -> Resul
 }
 
 /// The connections of the Sentinel of this conf.
-fn wires_of<R: Net>(rt: &R, alloc: Global, conf: &Conf, logins: Logins) -> Result<Wires, GroupFault> {
+fn wires_of<R: Net>(
+    rt: &R,
+    alloc: Global,
+    conf: &Conf,
+    logins: Logins,
+) -> Result<Wires, GroupFault> {
     let Ok(roster) = conf.roster().copy(alloc) else {
         return Err(GroupFault::NoMemory);
     };
@@ -133,7 +138,9 @@ where
     let Some((own, link)) = member.split(alloc, seat) else {
         return;
     };
-    run_threads(rt, net, alloc, state, &member, port, own, link, wires, ending);
+    run_threads(
+        rt, net, alloc, state, &member, port, own, link, wires, ending,
+    );
 }
 
 /// Serves the port until `ending` isn't 0.

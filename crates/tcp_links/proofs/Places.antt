@@ -1,15 +1,17 @@
 -- Which node is at a place.
-use Rattle.std.proofs.Common.{◌≡◌, ℕ, ◌+◌, ◌*◌, ◌-◌, ◌<◌, ◌≤◌, Bool, true, false, cond, List, [], ◌∷◌, length, Option, Some, None, refl, ap, sym, ◌∙◌, subst, arith, inl, inr, nat_lt}
+use Rattle.std.proofs.Common.{◌≡◌, ◌≢◌, ◌⊎◌, ℕ, zero, ◌+◌, ◌*◌, ◌-◌, ◌/◌, ◌%◌, ◌<◌, ◌≤◌, Bool, true, false, cond, List, [], ◌∷◌, length, Option, Some, None, refl, ap, sym, ◌∙◌, subst, arith, inl, inr, nat_lt}
+use Rattle.std.specs.Prelude.{IfSome, IfNone}
 use Rattle.std.specs.Int.{from_bool}
 use Rattle.std.specs.List.{sum_by}
 use Rattle.std.proofs.lemmas.Bool.{ltb-true, ltb-false}
+use Rattle.std.proofs.Math.Nat.{div-add-mod, mod-lt}
 use Rattle.ballot_law.specs.declared.messages.NodeName.{NodeName}
 use Rattle.ballot_law.specs.declared.messages.NodeName.TheVariants.{SentinelAt, StoreAt, ClientAt, PortAt}
 use Rattle.ballot_law.specs.declared.node_places.NodePlace.{NodePlace}
 use Rattle.ballot_law.specs.NodePlaces.{node_count, node_numbered}
 use Rattle.ballot_law.specs.Rosters.{Roster, MasterPlan, size}
 use Rattle.tcp_links.specs.declared.target.Target.{Target}
-use Rattle.tcp_links.specs.Targets.{place_of, IsOf}
+use Rattle.tcp_links.specs.Targets.{place_of, connection_count, IsStore, IsOf}
 
 -- the place of a Sentinel, where it is within the roster
 sentinel_place : (count p place : ℕ) (within : Bool) → nat_lt p count ≡ within → cond within (Some p) None ≡ Some place → (p ≡ place) × (p < count)
@@ -75,3 +77,39 @@ numbered (master ∷ masters) first number e =
 
 pub is_numbered : (roster : Roster) (number : ℕ) → node_numbered roster.masters 0 number ≡ None → node_count roster ≤ number
 is_numbered roster number e = numbered roster.masters 0 number e
+
+-- a number by its half, and whether it is odd
+halves : (n : ℕ) (odd : Bool) → nat_lt (2 * (n / 2)) n ≡ odd → n ≡ 2 * (n / 2) + from_bool odd
+halves n true e =
+    let whole = div-add-mod n 2 in
+    let small : n % 2 < 2 = mod-lt n (omega arith) in
+    let more : 2 * (n / 2) < n = ltb-true (2 * (n / 2)) n e in
+    omega (arith, whole, small, more)
+halves n false e =
+    let whole = div-add-mod n 2 in
+    let no_more : n ≤ 2 * (n / 2) = ltb-false (2 * (n / 2)) n e in
+    omega (arith, whole, no_more)
+
+at_place : (sentinels place after : ℕ) (odd : Bool) → sentinels ≤ place → after ≡ place - sentinels → nat_lt (2 * (after / 2)) after ≡ odd
+    → place ≡ sentinels + (2 * (after / 2) + from_bool odd)
+at_place sentinels place after odd past is e =
+    let h = halves after odd e in
+    omega (arith, past, is, h)
+
+-- the connections to data nodes stand after those to Sentinels, two to each
+pub is_at : (roster : Roster) (place after : ℕ) (found : Option Target) → size roster ≤ place → after ≡ place - size roster
+    → IfSome found (IsStore roster (after / 2)) → IfSome found (λ target. target.listens ≡ nat_lt (2 * (after / 2)) after) → IfSome found (IsOf roster place)
+is_at roster place after None past is store listens = tt
+is_at roster place after (Some target) past is store listens = inr (after / 2, at_place (size roster) place after target.listens past is (sym listens), store)
+
+pub is_past : (roster : Roster) (own place after : ℕ) (found : Option Target) → size roster ≤ place → after ≡ place - size roster
+    → IfNone found (node_count roster ≤ after / 2) → IfNone found ((place ≡ own) ⊎ (connection_count roster ≤ place))
+is_past roster own place after None past is most =
+    let whole = div-add-mod after 2 in
+    inr (omega (arith, past, is, most, whole))
+is_past roster own place after (Some target) past is most = tt
+
+pub is_other : (roster : Roster) (own number : ℕ) (found : Option Target) → IfSome found (IsStore roster number)
+    → IfSome found (λ target. target.node ≢ SentinelAt own)
+is_other roster own number None store = tt
+is_other roster own number (Some target) store = λ e. let both = sym store.node ∙ e in let no : ⊥ = cc in no

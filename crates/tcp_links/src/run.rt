@@ -15,6 +15,7 @@ use std::sync::atomic::{AtomicU64, Ordering};
 
 /// How often it hears after it stood still, before it ticks again, and for how long each time, in milliseconds.
 const HEARINGS: u32 = 6;
+
 const HEARING_MS: u64 = 25;
 
 /// Has the Sentinel take what its connections hear within so many milliseconds: whether it goes on.

@@ -25,6 +25,14 @@ pub fn connection_count(roster: &Roster) -> usize
     roster.sentinels().len() + 2 * roster.node_count()
 }
 
+/// The place of the connection that takes what is for the data node with this number, after those of so many Sentinels.
+fn store_place(sentinels: usize, number: u16) -> usize
+    requires { sentinels ≤ 64 }
+    ensures { result ≡ sentinels + 2 * number }
+{
+    sentinels + 2 * number as usize
+}
+
 /// The place of the connection that takes what is for this node; none where no connection is to it.
 ///
 /// The connection there, of whatever Sentinel of the roster, is to this node and to no other, and doesn't listen to hellos.
@@ -39,7 +47,7 @@ pub fn place_of(roster: &Roster, node: NodeName) -> Option<usize>
         NodeName::SentinelAt(place) if (place as usize) < sentinels => Some(place as usize),
         NodeName::StoreAt(number) if (number as usize) < roster.node_count() => {
             roster.is_made();
-            Some(sentinels + 2 * number as usize)
+            Some(store_place(sentinels, number))
         }
         _ => None,
     }
@@ -67,6 +75,7 @@ fn store_target(roster: &Roster, number: usize, listens: bool) -> Option<Target>
 }
 
 /// Which node the connection at this place is to, of the Sentinel at the place `own` of the roster; none at its own place, and past the last one.
+#[tactic(auto, using(crate::proofs::Places::is_at, crate::proofs::Places::is_past, crate::proofs::Places::is_other))]
 pub fn target_at(roster: &Roster, own: u16, place: usize) -> Option<Target>
     ensures target { IfSome result (IsOf roster.now place) }
     ensures other { IfSome result (λ target. target.node ≢ SentinelAt own) }
@@ -85,5 +94,5 @@ pub fn target_at(roster: &Roster, own: u16, place: usize) -> Option<Target>
         });
     }
     let after = place - sentinels.len();
-    store_target(roster, after / 2, after % 2 == 1)
+    store_target(roster, after / 2, 2 * (after / 2) < after)
 }
