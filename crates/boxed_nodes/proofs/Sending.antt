@@ -10,7 +10,7 @@ use Rattle.ballot_law.specs.declared.messages.Output.TheVariants.{Send, Tell}
 use Rattle.boxed_nodes.specs.Sendable.{IsSendableOutput, IsTakeable}
 use Rattle.messages.specs.MessageTexts.{IsWritableOutput}
 use Rattle.sentinel_rules.specs.Facts.{IsWithinEvent}
-use Rattle.sentinel_rules.specs.Limits.{IsWithinOutput}
+use Rattle.sentinel_rules.specs.Limits.{IsWithinOutput, ShowsWithin}
 
 -- What is taken
 
@@ -26,13 +26,13 @@ within_event (Handed message) h = tt
 
 -- Outputs
 
-output_sendable : (output : Output) → IsWithinOutput output → IsWritableOutput output → IsSendableOutput output
-output_sendable (Send message) within writable = record { within = within; writable = writable }
-output_sendable (Tell note) within writable = tt
+output_sendable : (output : Output) → IsWithinOutput output → ShowsWithin output → IsWritableOutput output → IsSendableOutput output
+output_sendable (Send message) within epochs writable = record { within = within; epochs = epochs; writable = writable }
+output_sendable (Tell note) within epochs writable = epochs
 
-pub outputs_sendable : (outputs : List Output) → All IsWithinOutput outputs → AllByRecursion IsWritableOutput outputs → AllByRecursion IsSendableOutput outputs
-outputs_sendable [] within writable = tt
-outputs_sendable (output ∷ outputs) within writable = (
-  output_sendable output (All-head IsWithinOutput output outputs within) writable.0,
-  outputs_sendable outputs (All-tail IsWithinOutput output outputs within) writable.1,
+pub outputs_sendable : (outputs : List Output) → All IsWithinOutput outputs → All ShowsWithin outputs → AllByRecursion IsWritableOutput outputs → AllByRecursion IsSendableOutput outputs
+outputs_sendable [] within epochs writable = tt
+outputs_sendable (output ∷ outputs) within epochs writable = (
+  output_sendable output (All-head IsWithinOutput output outputs within) (All-head ShowsWithin output outputs epochs) writable.0,
+  outputs_sendable outputs (All-tail IsWithinOutput output outputs within) (All-tail ShowsWithin output outputs epochs) writable.1,
 )

@@ -1,6 +1,7 @@
 -- What each call of a node ensures, for each image that the node stands for.
-use Rattle.std.specs.Prelude.{◌≡◌, ◌≢◌, ℕ, ◌<◌, Option, Some, None, IfSome, List, [], ◌∷◌, length, Result, Ok, Err}
+use Rattle.std.specs.Prelude.{◌≡◌, ◌≢◌, ℕ, ◌<◌, ◌≤◌, Option, Some, None, IfSome, List, [], ◌∷◌, length, Result, Ok, Err}
 use Rattle.ballot_law.specs.declared.cards.Card.{Card}
+use Rattle.ballot_law.specs.declared.cards.TheConstants.{MAX_EPOCH}
 use Rattle.ballot_law.specs.declared.events.Event.{Event}
 use Rattle.ballot_law.specs.declared.messages.NodeName.{NodeName}
 use Rattle.ballot_law.specs.declared.messages.Output.{Output}
@@ -73,9 +74,9 @@ abbrev pub wins_told : Option (ℕ × ℕ) → List Win
 wins_told None = []
 wins_told (Some won) = (record { master = won.0; epoch = won.1 }) ∷ []
 
--- it is of a master of the roster
+-- it is of a master of the roster, and its epoch is within the limit
 abbrev pub IsWonIn : Roster → Option (ℕ × ℕ) → Type 0
-IsWonIn roster won = IfSome won (λ w. w.0 < length roster.masters)
+IsWonIn roster won = IfSome won (λ w. (w.0 < length roster.masters) × (w.1 ≤ MAX_EPOCH))
 
 pub record ShowsWin (won : Option (ℕ × ℕ)) (shows : Shows) : Type 0 where
   pub each : (roster : Roster) (image : Image) → shows roster image → wins_of image ≡ wins_told won

@@ -17,16 +17,17 @@ use Rattle.ballot_law.specs.Rosters.{Roster}
 use Rattle.messages.specs.MessageTexts.{IsWritable}
 use Rattle.sentinel_outbox.specs.Outboxes.{IsOfOther}
 use Rattle.sentinel_rules.specs.Facts.{IsWithinEvent}
-use Rattle.sentinel_rules.specs.Limits.{IsWithinBody}
+use Rattle.sentinel_rules.specs.Limits.{IsWithinBody, AnswersWithin, ShowsWithin}
 
--- its numbers are within the limits, and it has a spelling
+-- its numbers are within the limits, the epochs of the votes and configurations that it shows among them, and it has a spelling
 pub record IsSendable (message : Message) : Type 0 where
   pub within : IsWithinBody message.body
+  pub epochs : AnswersWithin message.body
   pub writable : IsWritable message.body
 
 abbrev pub IsSendableOutput : Output → Type 0
 IsSendableOutput (Send message) = IsSendable message
-IsSendableOutput (Tell note) = Unit {0}
+IsSendableOutput (Tell note) = ShowsWithin (Tell note)
 
 -- an answer of the port shows one configuration of each master at most
 abbrev pub IsFewIn : Body → Type 0

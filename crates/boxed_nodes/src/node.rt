@@ -53,14 +53,15 @@ pub trait Node: Drop {
     fn card(&self, m: u16) -> Option<Card>
         ensures { ShowsCard m result (shows self.now) };
 
-    /// Master and epoch of the election that the last take brought a Sentinel; a take brings one at most, and the master is one of the
-    /// roster.
+    /// Master and epoch of the election that the last take brought a Sentinel; a take brings one at most, the master is one of the
+    /// roster, and the epoch is at most `MAX_EPOCH`.
     fn won(&self) -> Option<(u16, u64)>
         ensures { ShowsWin result (shows self.now) };
 
     /// Takes an input. Its outputs stand in the outbox as held: those of a Sentinel rest on what it keeps at the end of the take and
     /// advertise configurations of masters of the roster alone; those of another node are messages under its own name, none publishes a
-    /// hello, and a hello is passed on only where it was handed to the node in this very take.
+    /// hello, and a hello is passed on only where it was handed to the node in this very take. Each epoch that an output shows, of a
+    /// question, a vote, a configuration or a note, is at most `MAX_EPOCH`.
     ///
     /// The fault is that of the node's state; `NoRoom` is told by a ready node alone, exactly where the outbox doesn't fit `room`. Then
     /// nothing has changed.

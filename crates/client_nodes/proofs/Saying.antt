@@ -62,6 +62,6 @@ all_of_client group k search event = each_said IsOfOther group (ClientAt k) (λ 
 pub all_sendable : (group : Group) (k : ℕ) (search : Search) (event : Event) → AllByRecursion IsSendableOutput (said group (ClientAt k) search event)
 all_sendable group k search event =
     each_said IsSendableOutput group (ClientAt k)
-    (λ target. record { within = tt; writable = tt })
-    (λ target. record { within = tt; writable = tt })
+    (λ target. record { within = tt; epochs = tt; writable = tt })
+    (λ target. record { within = tt; epochs = tt; writable = tt })
     search event

@@ -150,12 +150,12 @@ sendable : (k : ℕ) (server : Server) (message : Message) → IsServer server �
 sendable k server message s h = record {
   passed = λ hello e i.
       let published_now : IsSendable (record message { body = Publish hello }) = subst (λ body. IsSendable (record message { body = body })) (is_published message.body hello e) h in
-      record { within = published_now.within; writable = published_now.writable };
+      record { within = published_now.within; epochs = tt; writable = published_now.writable };
   replied = λ answer e. each_reply (λ body. IsSendableOutput (send (StoreAt k) message.sender body)) server
-      (record { within = tt; writable = pong_line })
-      (record { within = tt; writable = readable_info server s })
-      (record { within = tt; writable = readable_role server s server.follows refl })
-      (record { within = tt; writable = tt })
+      (record { within = tt; epochs = tt; writable = pong_line })
+      (record { within = tt; epochs = tt; writable = readable_info server s })
+      (record { within = tt; epochs = tt; writable = readable_role server s server.follows refl })
+      (record { within = tt; epochs = tt; writable = tt })
       message.body answer e;
 }
 

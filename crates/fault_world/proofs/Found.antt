@@ -1,5 +1,5 @@
 -- In the words of the calls: the member x at place k has the step's name, and becomes m2.
-use Rattle.std.proofs.Common.{append_assoc, inl, inr, ◌≡◌, ◌≢◌, ℕ, suc, ◌<◌, ◌≤◌, ◌+◌, Bool, Option, Some, None, List, [], ◌∷◌, ◌++◌, length, slice_get, get_or, take, set, map, refl, sym, ◌∙◌, ap, subst, append-nil, arith, Result, Ok, Err, OnOk, OnErr}
+use Rattle.std.proofs.Common.{inl, inr, ◌≡◌, ◌≢◌, ℕ, suc, ◌<◌, ◌≤◌, ◌+◌, Bool, Option, Some, None, List, [], ◌∷◌, ◌++◌, length, slice_get, get_or, take, set, map, refl, sym, ◌∙◌, ap, subst, append-nil, arith, Result, Ok, Err, OnOk, OnErr}
 use Rattle.std.specs.Prelude.{IfSome}
 use Rattle.std.specs.List.{AllByRecursion}
 use Rattle.std.proofs.Math.Seq.{take-suc}
@@ -28,6 +28,7 @@ use Rattle.fault_world.specs.declared.entry.Entry.{Entry}
 use Rattle.fault_world.specs.Told.{entry_of_election, entry_of_said}
 use Rattle.fault_world.specs.News.{news_of, elected_told, said_told, IsInGroup}
 use Rattle.fault_world.specs.Runs.{Ran, RunsTo, RunsOn, Keeps, Leads, Tells, stored_by}
+use Rattle.fault_world.proofs.Joining.{reports_join}
 use Rattle.fault_world.proofs.Lists.{slice_get_at, held_at, none_at_all, all_get}
 use Rattle.ballot_law.proofs.States.{pending_or_not, stored_or_not}
 use Rattle.fault_world.proofs.Running.{still, shown_still, take_runs, deliver_runs, stop_runs, start_runs, store_runs, refused_runs, release_runs}
@@ -119,6 +120,12 @@ is_node w (StoreAt k) state at' = at'.0
 is_node w (ClientAt k) state at' = at'.0
 is_node w (PortAt k) state at' = at'.0
 
+-- an input that only a message brings changes nothing
+pub take_unfree : {M : Type 0} (members : List M) (node : NodeName) (input : Input) (roster : Roster) (messages : List Message) → ¬ IsFree input.event →
+    (name : M → NodeName) (seat : M → Roster → Image → Type 0) → Leads roster (step.Take node input ∷ []) (IsShown name seat roster members messages) (IsShown name seat roster members messages)
+take_unfree members node input roster messages brought name seat w g =
+    still roster w (step.Take node input) (IsShown name seat roster members messages) g (inr (λ a. brought a.1, refl))
+
 pub take_none : {M : Type 0} (members : List M) (node : NodeName) (input : Input) (roster : Roster) (messages : List Message) →
     (name : M → NodeName) (seat : M → Roster → Image → Type 0) → ((k : ℕ) → k < length members → IfSome (slice_get members k) (λ m. name m ≢ node)) →
     Leads roster (step.Take node input ∷ []) (IsShown name seat roster members messages) (IsShown name seat roster members messages)
@@ -202,17 +209,11 @@ left_step s2 r roster before after old new {node} {left} h e is told = same_step
 
 -- Runs one after the other
 
-ran_on : (roster : Roster) (steps : List Step) (s : Step) (w middle last : World) (news more : List Entry) → Ran roster steps w news middle → Ran roster (s ∷ []) middle more last → Ran roster (steps ++ s ∷ []) w (news ++ more) last
-ran_on roster [] s w middle last news more r next =
-    subst (λ v. Ran roster (s ∷ []) v (news ++ more) last) (sym r.0) (subst (λ ns. Ran roster (s ∷ []) middle (ns ++ more) last) (sym r.1) next)
-ran_on roster (t ∷ steps) s w middle last news more r next =
-    (r.0, r.1, r.2 ++ more, r.3, ran_on roster steps s r.0 middle last r.2 more r.4 next, ap (λ ns. ns ++ more) r.5 ∙ append_assoc r.1 r.2 more)
-
 pub runs_more : (roster : Roster) (steps : List Step) (s : Step) (w : World) (news after : List Entry) (shown shown2 : World → Type 0) → RunsTo roster steps w news shown → Tells roster (s ∷ []) news after shown shown2 → RunsTo roster (steps ++ s ∷ []) w after shown2
 runs_more roster steps s w news after shown shown2 r next =
     let n = next r.last r.shows in
     subst (λ ns. RunsTo roster (steps ++ s ∷ []) w ns shown2) (sym n.joins)
-    (record { last = n.runs.last; ran = ran_on roster steps s w r.last n.runs.last news n.news r.ran n.runs.ran; shows = n.runs.shows })
+    (record { last = n.runs.last; ran = reports_join roster steps (s ∷ []) w r.last n.runs.last news n.news r.ran n.runs.ran; shows = n.runs.shows })
 
 take_one_more : (steps : List Step) (k : ℕ) (x : Step) → k < length steps → x ≡ get_or steps k x → take k steps ++ x ∷ [] ≡ take (k + 1) steps
 take_one_more steps k x within is = ap (λ y. take k steps ++ y ∷ []) is ∙ sym (take-suc steps k x within) ∙ ap (λ n. take n steps) (sym (add_one k))
@@ -240,10 +241,9 @@ pub run_stays : {M : Type 0} (roster roster1 : Roster) (steps : List Step) (ms0 
     (name : M → NodeName) (seat : M → Roster → Image → Type 0) →
     ((w : World) → IsShown name seat roster ms0 ls0 w → RunsTo roster steps w news (IsShown name seat roster ms1 ls1)) →
     Keeps (IsShown name seat roster1 ms1 ls1) (IsShown name seat roster1 ms2 ls2) →
-    (w : World) → IsShown name seat roster ms0 ls0 w → (told : List Entry) × RunsTo roster steps w told (IsShown name seat roster ms2 ls2)
-run_stays roster roster1 steps ms0 ms1 ms2 ls0 ls1 ls2 news e name seat before next w g =
-    let r = before w g in
-    (news, record { last = r.last; ran = r.ran; shows = subst (λ q. Keeps (IsShown name seat q ms1 ls1) (IsShown name seat q ms2 ls2)) e next r.last r.shows })
+    (told : List Entry) × ((w : World) → IsShown name seat roster ms0 ls0 w → RunsTo roster steps w told (IsShown name seat roster ms2 ls2))
+run_stays roster roster1 steps ms0 ms1 ms2 ls0 ls1 ls2 news e name seat before next =
+    (news, λ w g. (let r = before w g in record { last = r.last; ran = r.ran; shows = subst (λ q. Keeps (IsShown name seat q ms1 ls1) (IsShown name seat q ms2 ls2)) e next r.last r.shows }))
 
 -- From a start
 
@@ -262,6 +262,9 @@ reached_on roster steps w news last r ran =
 pub stands_on : (roster : Roster) (steps : List Step) (shown shown2 : World → Type 0) → Stands roster shown → ((w : World) → shown w → (news : List Entry) × RunsTo roster steps w news shown2) → Stands roster shown2
 stands_on roster steps shown shown2 s next =
     let n = next s.world s.shows in record { world = n.1.last; reached = reached_on roster steps s.world n.0 n.1.last s.reached n.1.ran; shows = n.1.shows }
+
+pub stands_after : (roster : Roster) (steps : List Step) (shown shown2 : World → Type 0) → Stands roster shown → (news : List Entry) × ((w : World) → shown w → RunsTo roster steps w news shown2) → Stands roster shown2
+stands_after roster steps shown shown2 s next = stands_on roster steps shown shown2 s (λ w g. (next.0, next.1 w g))
 
 pub shown_in : {M : Type 0} (roster roster1 : Roster) (steps : List Step) (w : World) (ms : List M) (ls : List Message) (news : List Entry) → roster1 ≡ roster →
     (name : M → NodeName) (seat : M → Roster → Image → Type 0) → RunsTo roster steps w news (IsShown name seat roster ms ls) → (v : World) × IsShown name seat roster1 ms ls v

@@ -4,6 +4,8 @@ mod NamedMembers
 mod FiledVotes
 mod Beginning
 mod Holding
+mod Joining
+mod Limiting
 mod MadeMembers
 mod Answering
 mod Found

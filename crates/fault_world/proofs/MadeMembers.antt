@@ -1,17 +1,18 @@
 -- The members that are made of a group's nodes stand for the world with which it begins.
-use Rattle.std.proofs.Common.{◌≡◌, ℕ, Bool, Option, Some, None, List, [], map, slice_get, refl, sym, ◌∙◌, ap, subst}
+use Rattle.std.proofs.Common.{◌≡◌, ◌<◌, ℕ, Bool, Option, Some, None, List, [], map, slice_get, refl, sym, ◌∙◌, ap, subst, arith}
 use Rattle.std.specs.Prelude.{All, option_map}
 use Rattle.std.proofs.lemmas.Option.{none-some, same_Some, slice_get-map}
 use Rattle.ballot_law.specs.declared.messages.NodeName.{NodeName}
 use Rattle.ballot_law.specs.declared.messages.Output.{Output}
 use Rattle.ballot_law.specs.Rosters.{Roster, HasDistinctIds, HasDistinctNames}
 use Rattle.ballot_law.specs.Worlds.{World, Ready, IsNode}
-use Rattle.ballot_law.specs.Law.{IsStart}
+use Rattle.ballot_law.specs.Law.{IsStart, HasOneLeader, HasOneAddress}
 use Rattle.boxed_nodes.specs.Images.{Image, OfSentinel, OfOther, image_at, state_of, held_of, is_stopped, IsFreshImage}
 use Rattle.boxed_nodes.specs.Moves.{Shows, ShowsKind, IsFresh}
 use Rattle.fault_world.specs.Seats.{IsSeat}
 use Rattle.fault_world.specs.Standing.{IsShown, Begins, Stands}
 use Rattle.fault_world.specs.Groups.{IsGroupOf, BeginAlike, IsPlaced}
+use Rattle.fault_world.specs.Laws.{HasBegun}
 use Rattle.fault_world.specs.NewMembers.{IsNewMember}
 use Rattle.fault_world.proofs.Holding.{empty_seat}
 use Rattle.fault_world.proofs.Beginning.{Begun, beginning, named_here, seated, starts}
@@ -109,3 +110,28 @@ stands roster shown distinct b =
       reached = record { distinct = distinct; start = b.world; begins = b.begins; steps = []; run = refl };
       shows = b.shows;
     }
+
+-- no run yet, so nothing is elected or said
+pub begun_runs : (roster : Roster) (shown : World → Type 0) → HasDistinctIds roster → Begins roster shown → HasBegun roster shown
+begun_runs roster shown distinct b = (
+  b.world,
+  record {
+    distinct = distinct;
+    begins = b.begins;
+    last = b.world;
+    ran = (refl, refl);
+    shows = b.shows;
+    one_leader = subst HasOneLeader (sym b.begins.elected) none_elected;
+    one_address = subst HasOneAddress (sym b.begins.said) none_said;
+    never_falls = refl;
+  },
+)
+  where
+    none_below : (k : ℕ) → k < 0 → ⊥
+    none_below k less = omega (arith, less)
+
+    none_elected : HasOneLeader []
+    none_elected i j m e one other = absurd (none_below one.0 one.1)
+
+    none_said : HasOneAddress []
+    none_said i j m c d one other same = absurd (none_below one.0 one.1)

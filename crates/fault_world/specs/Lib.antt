@@ -8,5 +8,6 @@ pub mod Refusals
 pub mod News
 pub mod Runs
 pub mod Laws
+pub mod Limits
 pub mod Faults
 pub mod Shown

@@ -1,15 +1,14 @@
 //! The group of boxed nodes, and its steps.
 
-ghost use Rattle.std.specs.Prelude.{List, All, IfOk, IfErr, IfSome, IfNone, OnOk, OnErr, Some, take, length, slice_get, ◌≡◌, ◌≢◌, ◌<◌, ◌+◌, ◌≤◌, ◌∷◌, [], ℕ, vec_len, vec_capacity};
+ghost use Rattle.std.specs.Prelude.{List, All, IfOk, IfErr, IfSome, IfNone, IsTrue, OnOk, OnErr, Some, map, take, length, slice_get, ◌≡◌, ◌≢◌, ◌↔◌, ◌<◌, ◌+◌, ◌≤◌, ◌∷◌, [], ℕ, vec_len, vec_capacity};
 ghost use Rattle.ballot_law.specs.Worlds.{World, IsFree};
 ghost use Rattle.boxed_nodes.specs.Images.{how_left};
-ghost use Rattle.boxed_nodes.specs.Sendable.{IsTakeable};
-ghost use Rattle.scenarios.specs.Within.{IsWithinStep};
 ghost use Rattle.boxed_nodes.specs.Moves.{IsFresh};
 ghost use Rattle.fault_world.specs.Standing.{IsReached, Begins, Stands};
 ghost use Rattle.fault_world.specs.Groups.{IsGroupOf, BeginAlike};
 ghost use Rattle.fault_world.specs.Refusals.{IsRefusal};
-ghost use Rattle.fault_world.specs.Laws.{RunsSafely};
+ghost use Rattle.fault_world.specs.Laws.{RunsSafely, HasBegun, GoesOn};
+ghost use Rattle.fault_world.specs.Limits.{IsWithinInput, IsWithinLimits};
 ghost use Rattle.fault_world.specs.declared.entry.Entry.{Entry};
 ghost use Rattle.fault_world.specs.Faults.{steps_done};
 ghost use Rattle.fault_world.specs.Shown.{Shown};
@@ -22,8 +21,8 @@ use crate::sending::send_all;
 use crate::starts::members_of;
 use crate::telling::{tell_released, tell_said, tell_won};
 use ballot_law::{
-    Advertisement, Input, KeptText, Message, NoMemory, NodeName, Output, Roster, SHOWN_MAX, Step,
-    law_never_falls, law_one_address, law_one_leader,
+    Advertisement, Event, Input, KeptText, Message, NoMemory, NodeName, Output, Roster, SHOWN_MAX,
+    Step, law_never_falls, law_one_address, law_one_leader,
 };
 use boxed_nodes::{HowStored, Node};
 use messages::event_of;
@@ -41,6 +40,22 @@ fn place_of(members: &Vec<Seated>, node: NodeName) -> Option<usize>
         }
     }
     None
+}
+
+/// Whether no message has to bring the event: answers, hellos and what other nodes are handed come by delivery alone.
+fn is_free(event: &Event) -> bool
+    ensures { IsTrue result ↔ IsFree event.now }
+{
+    match event {
+        Event::Tick { .. } => true,
+        Event::Command { .. } => true,
+        Event::Answered { .. } => false,
+        Event::Pinged { .. } => true,
+        Event::InfoRead { .. } => true,
+        Event::HelloRead { .. } => false,
+        Event::Become { .. } => true,
+        Event::Handed(_) => false,
+    }
 }
 
 /// How a store ends that is refused with this text.
@@ -70,6 +85,8 @@ impl FaultWorld {
     /// `NotTheRoster` is told exactly where the nodes aren't each Sentinel and each data node of the roster, once each, and clients of
     /// different names, or where one of them doesn't know the roster; `DifferentStart` of others, exactly where two Sentinels begin with
     /// different configurations of a master; `NoMemory` of none of these. A refusal hands the nodes back as they were.
+    ///
+    /// Many clauses: of a world, how it begins, what it has, and which nodes it is of; of a refusal, when it comes and what it leaves.
     pub fn new(
         alloc: Global,
         roster: Roster,
@@ -80,6 +97,9 @@ impl FaultWorld {
             (Shown (λ m. m.node) (λ b. name b) (λ b. shows b) roster world.members.items world.messages.items)) }
         ensures stands { IfOk result (λ world. Stands roster
             (Shown (λ m. m.node) (λ b. name b) (λ b. shows b) roster world.members.items world.messages.items)) }
+        ensures since { IfOk result (λ world. HasBegun roster
+            (Shown (λ m. m.node) (λ b. name b) (λ b. shows b) roster world.members.items world.messages.items)) }
+        ensures nodes { IfOk result (λ world. map (λ m. m.node) world.members.items ≡ nodes.items) }
         ensures roster { IfOk result (λ world. world.roster ≡ roster) }
         ensures messages { IfOk result (λ world. world.messages.items ≡ []) }
         ensures group { IfOk result (λ _. IsGroupOf (λ b. name b) (λ b. is_known b roster) roster nodes.items) }
@@ -101,11 +121,10 @@ impl FaultWorld {
         }
     }
 
-    /// The node takes an input that no message brings, if it is ready.
+    /// The node takes an input that no message has to bring, if it is ready.
     fn take(&mut self, node: NodeName, input: &Input) -> Result<(), NoMemory>
         requires shown { (w : World) × Shown (λ m. m.node) (λ b. name b) (λ b. shows b) self.old.roster self.old.members.items self.old.messages.items w }
-        requires within { IsTakeable input.now.event }
-        requires free { IsFree input.now.event }
+        requires within { IsWithinInput input.now.event }
         ensures ok { OnOk result (Leads self.old.roster (Step.Take node input.entry.now ∷ [])
             (Shown (λ m. m.node) (λ b. name b) (λ b. shows b) self.old.roster self.old.members.items self.old.messages.items)
             (Shown (λ m. m.node) (λ b. name b) (λ b. shows b) self.old.roster self.new.members.items self.new.messages.items)) }
@@ -114,6 +133,9 @@ impl FaultWorld {
             (Shown (λ m. m.node) (λ b. name b) (λ b. shows b) self.old.roster self.new.members.items self.new.messages.items)) }
         ensures roster { self.new.roster ≡ self.old.roster }
     {
+        if !is_free(&input.event) {
+            return Ok(());
+        }
         let Some(k) = place_of(&self.members, node) else {
             return Ok(());
         };
@@ -268,7 +290,7 @@ impl FaultWorld {
 
     /// Makes a step, whole or not at all, and tells of what it adds.
     fn step(&mut self, step: &Step, report: &mut Report) -> Result<(), NoMemory>
-        requires within { IsWithinStep step.now }
+        requires within { IsWithinLimits step.now }
         requires shown { (w : World) × Shown (λ m. m.node) (λ b. name b) (λ b. shows b) self.old.roster self.old.members.items self.old.messages.items w }
         ensures ok { OnOk result (Tells self.old.roster (step.now ∷ []) report.old.entries report.new.entries
             (Shown (λ m. m.node) (λ b. name b) (λ b. shows b) self.old.roster self.old.members.items self.old.messages.items)
@@ -296,17 +318,18 @@ impl FaultWorld {
 
     /// Makes the steps, one after the other.
     fn make(&mut self, steps: &[Step]) -> Result<Report, RunFault>
-        requires within { All IsWithinStep steps.now }
+        requires within { All IsWithinLimits steps.now }
         requires stands { Stands self.old.roster
             (Shown (λ m. m.node) (λ b. name b) (λ b. shows b) self.old.roster self.old.members.items self.old.messages.items) }
         ensures run { IfOk result (λ report. (w : World)
             → Shown (λ m. m.node) (λ b. name b) (λ b. shows b) self.old.roster self.old.members.items self.old.messages.items w
             → RunsTo self.old.roster steps.now w report.entries
             (Shown (λ m. m.node) (λ b. name b) (λ b. shows b) self.old.roster self.new.members.items self.new.messages.items)) }
-        ensures memory { IfErr result (λ fault. (w : World)
+        ensures memory { IfErr result (λ fault. (news : List Entry) × ((w : World)
             → Shown (λ m. m.node) (λ b. name b) (λ b. shows b) self.old.roster self.old.members.items self.old.messages.items w
-            → (news : List Entry) × RunsTo self.old.roster (take (steps_done fault) steps.now) w news
-            (Shown (λ m. m.node) (λ b. name b) (λ b. shows b) self.old.roster self.new.members.items self.new.messages.items)) }
+            → RunsTo self.old.roster (take (steps_done fault) steps.now) w news
+            (Shown (λ m. m.node) (λ b. name b) (λ b. shows b) self.old.roster self.new.members.items self.new.messages.items))) }
+        ensures below { IfErr result (λ fault. steps_done fault < length steps.now) }
         ensures stands { Stands self.old.roster
             (Shown (λ m. m.node) (λ b. name b) (λ b. shows b) self.old.roster self.new.members.items self.new.messages.items) }
         ensures roster { self.new.roster ≡ self.old.roster }
@@ -323,13 +346,17 @@ impl FaultWorld {
     /// Makes the steps, one after the other, and tells of the elections and advertisements that they add, in their order.
     ///
     /// Each step is one of the model of the whole group, so that for every list of steps, with what they lose, delay, repeat and refuse, and
-    /// whatever stops and starts: in all reports since the start together at most one Sentinel is elected for a master in an epoch, two
-    /// advertisements of a master with one epoch have one address, and no file's epoch falls. A step moves one node at most, the one that it
-    /// names or its message's target, and one that doesn't apply changes nothing.
+    /// whatever stops and starts: in all that was run since the start, by this call and those before it, at most one Sentinel is elected for
+    /// a master in an epoch, two advertisements of a master with one epoch have one address, and no file's epoch falls. A step moves one node
+    /// at most, the one that it names or its message's target, and one that doesn't apply changes nothing: so it is with an input that only a
+    /// message brings. Of the steps nothing is asked but that their numbers are within the limits: a command's epoch is at most `MAX_EPOCH`,
+    /// and an INFO can show the numbers of a change.
     ///
-    /// `NoMemory` says how many of the steps were made: the others weren't, and no report is given.
+    /// `NoMemory` says how many of the steps were made, which is fewer than all: the others weren't, and no report is given.
+    ///
+    /// Many clauses: of a report and of `NoMemory` each, what this call ran, and that all runs since the start go on by it.
     pub fn run(&mut self, steps: &[Step]) -> Result<Report, RunFault>
-        requires within { All IsWithinStep steps.now }
+        requires within { All IsWithinLimits steps.now }
         requires stands { Stands self.old.roster
             (Shown (λ m. m.node) (λ b. name b) (λ b. shows b) self.old.roster self.old.members.items self.old.messages.items) }
         ensures run { IfOk result (λ report. (w : World)
@@ -340,9 +367,16 @@ impl FaultWorld {
             → Shown (λ m. m.node) (λ b. name b) (λ b. shows b) self.old.roster self.old.members.items self.old.messages.items w
             → RunsSafely self.old.roster steps.now w report.entries
             (Shown (λ m. m.node) (λ b. name b) (λ b. shows b) self.old.roster self.new.members.items self.new.messages.items)) }
-        ensures memory { IfErr result (λ fault. (w : World)
+        ensures memory { IfErr result (λ fault. (news : List Entry) × ((w : World)
             → Shown (λ m. m.node) (λ b. name b) (λ b. shows b) self.old.roster self.old.members.items self.old.messages.items w
-            → (news : List Entry) × RunsTo self.old.roster (take (steps_done fault) steps.now) w news
+            → RunsTo self.old.roster (take (steps_done fault) steps.now) w news
+            (Shown (λ m. m.node) (λ b. name b) (λ b. shows b) self.old.roster self.new.members.items self.new.messages.items))) }
+        ensures below { IfErr result (λ fault. steps_done fault < length steps.now) }
+        ensures since { IfOk result (λ report. GoesOn self.old.roster steps.now report.entries
+            (Shown (λ m. m.node) (λ b. name b) (λ b. shows b) self.old.roster self.old.members.items self.old.messages.items)
+            (Shown (λ m. m.node) (λ b. name b) (λ b. shows b) self.old.roster self.new.members.items self.new.messages.items)) }
+        ensures since_refused { IfErr result (λ fault. (news : List Entry) × GoesOn self.old.roster (take (steps_done fault) steps.now) news
+            (Shown (λ m. m.node) (λ b. name b) (λ b. shows b) self.old.roster self.old.members.items self.old.messages.items)
             (Shown (λ m. m.node) (λ b. name b) (λ b. shows b) self.old.roster self.new.members.items self.new.messages.items)) }
         ensures stands { Stands self.old.roster
             (Shown (λ m. m.node) (λ b. name b) (λ b. shows b) self.old.roster self.new.members.items self.new.messages.items) }
@@ -354,9 +388,10 @@ impl FaultWorld {
         self.make(steps)
     }
 
-    /// The message with this number, counted from 0 in the order of release.
+    /// The message with this number, counted from 0 in the order of release. None where fewer were released.
     pub fn message(&self, k: usize) -> Option<&Message>
-        ensures { IfSome result (λ m. slice_get self.now.messages.items k ≡ Some m.now) }
+        ensures some { IfSome result (λ m. slice_get self.now.messages.items k ≡ Some m.now) }
+        ensures none { IfNone result (length self.now.messages.items ≤ k) }
     {
         self.messages.get(k)
     }

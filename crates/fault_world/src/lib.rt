@@ -12,7 +12,7 @@
 //! The definitions read from below: `Seats` (what a member stands for, and what a call makes of it), `Standing` (the world for which all
 //! members stand, and how a world is reached from a start), `Groups` (which nodes are a roster's group, and when they begin alike), `Told`
 //! (the text of a report's entry, and of what it tells), `News` (what a report tells of a step), `Runs` (what a run is), `Laws` (what holds
-//! of every run).
+//! of every run, and of all runs since the start together), `Limits` (which numbers may stand in the steps of a run).
 #![tactic(auto)]
 
 mod alike;
@@ -21,6 +21,7 @@ mod entry;
 mod fault_world;
 mod faults;
 mod groups;
+mod laws;
 mod lines;
 mod names;
 mod report;
@@ -37,6 +38,7 @@ pub use data_nodes::DataNode;
 pub use entry::Entry;
 pub use fault_world::FaultWorld;
 pub use faults::{RunFault, WorldFault};
+pub use laws::{law_reports_join, law_scenarios_are_within};
 pub use report::Report;
 pub use scenarios::{ScenarioFault, ScenarioKind, read_scenario};
 pub use seated::Seated;

@@ -5,6 +5,7 @@ ghost use Rattle.boxed_nodes.specs.Moves.{IsFresh, ShowsKind};
 ghost use Rattle.fault_world.specs.Seats.{IsSeat};
 ghost use Rattle.fault_world.specs.Standing.{IsShown, Begins, Stands};
 ghost use Rattle.fault_world.specs.Groups.{IsGroupOf, BeginAlike};
+ghost use Rattle.fault_world.specs.Laws.{HasBegun};
 ghost use Rattle.fault_world.specs.NewMembers.{IsNewMember};
 ghost use Rattle.fault_world.specs.Refusals.{IsRefusal};
 
@@ -43,6 +44,8 @@ pub fn members_of(
     ensures begins { IfOk result (λ members. Begins roster.now
         (IsShown (λ m. m.name) (λ m. IsSeat m.name (name m.node) (shows m.node) m.outbox.held m.stopped) roster.now members.items [])) }
     ensures stands { IfOk result (λ members. Stands roster.now
+        (IsShown (λ m. m.name) (λ m. IsSeat m.name (name m.node) (shows m.node) m.outbox.held m.stopped) roster.now members.items [])) }
+    ensures since { IfOk result (λ members. HasBegun roster.now
         (IsShown (λ m. m.name) (λ m. IsSeat m.name (name m.node) (shows m.node) m.outbox.held m.stopped) roster.now members.items [])) }
     ensures nodes { IfOk result (λ members. map (λ m. m.node) members.items ≡ nodes.items) }
     ensures group { IfOk result (λ _. IsGroupOf (λ b. name b) (λ b. is_known b roster.now) roster.now nodes.items) }

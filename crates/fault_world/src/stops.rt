@@ -3,6 +3,7 @@
 ghost use Rattle.std.specs.Prelude.{◌≡◌, ◌≤◌, ◌++◌, ◌∷◌, All, IfOk, OnOk, length, take, drop};
 ghost use Rattle.ballot_law.specs.declared.messages.NodeName.TheVariants.{SentinelAt};
 ghost use Rattle.scenarios.specs.Within.{IsWithinStep};
+ghost use Rattle.fault_world.specs.Limits.{IsWithinLimits};
 
 use ballot_law::{Event, Input, KeptText, NoMemory, NodeName, Step, Text};
 use messages::copy_of;
@@ -123,6 +124,7 @@ pub fn with_stop(
     ensures steps { IfOk result (λ made. made.items
         ≡ take k steps.now ++ Step.Stop (SentinelAt s) kept ∷ Step.Start (SentinelAt s) now ∷ drop k steps.now) }
     ensures within { All IsWithinStep steps.now → IfOk result (λ made. All IsWithinStep made.items) }
+    ensures limits { All IsWithinLimits steps.now → IfOk result (λ made. All IsWithinLimits made.items) }
 {
     let node = NodeName::SentinelAt(s);
     let mut made = Vec::new(alloc);

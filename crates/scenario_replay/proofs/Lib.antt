@@ -1,2 +1,3 @@
 mod Messages
 mod Groups
+mod Tracing

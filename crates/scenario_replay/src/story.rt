@@ -5,7 +5,7 @@ ghost use Rattle.conf_lines.specs.Faults.{no_memory};
 ghost use Rattle.sentinel_conf.specs.Reading.{conf_of_bytes};
 ghost use Rattle.boxed_nodes.specs.Moves.{IsFresh};
 ghost use Rattle.fault_world.specs.Shown.{Shown};
-ghost use Rattle.fault_world.specs.Standing.{Stands};
+ghost use Rattle.fault_world.specs.Laws.{HasBegun};
 ghost use Rattle.scenario_replay.specs.Playing.{IsTold};
 ghost use Rattle.scenario_replay.specs.Refusals.{IsScenarioFault, IsConfFault};
 
@@ -17,7 +17,7 @@ use boxed_nodes::Node;
 use client_nodes::ClientNode;
 use conf_lines::{ConfFault, ConfKind};
 use data_nodes::DataNode;
-use fault_world::{FaultWorld, with_stop};
+use fault_world::{FaultWorld, law_scenarios_are_within, with_stop};
 use resp2_frames::OutText;
 use scenarios::{ScenarioFault, read_scenario};
 use sentinel_conf::{Conf, read};
@@ -76,12 +76,13 @@ fn add(nodes: &mut Vec<Box<dyn Node>>, node: Box<dyn Node>) -> Result<(), NoMemo
     Ok(())
 }
 
-/// Plays the scenario in the world, and gives the lines of the elections and advertisements that it brings.
+/// Plays the scenario in a world that has begun, and gives the lines of the elections and advertisements that it brings.
 fn tell(alloc: Global, world: &mut FaultWorld, scenario: &[u8]) -> Result<OutText, ReplayFault>
-    requires { Stands world.old.roster
+    requires { HasBegun world.old.roster
         (Shown (λ m. (m.node.vtable, m.node.value)) (λ b. name b) (λ b. shows b) world.old.roster world.old.members.items world.old.messages.items) }
     ensures { IfOk result (IsTold world.old.roster scenario.now) }
 {
+    law_scenarios_are_within();
     let steps = read_scenario(alloc, scenario)?;
     let report = world.run(&steps)?;
     let mut text = OutText::new(alloc);
@@ -89,16 +90,17 @@ fn tell(alloc: Global, world: &mut FaultWorld, scenario: &[u8]) -> Result<OutTex
     Ok(text)
 }
 
-/// Plays the scenario with a stop in it in the world, and gives the lines of the elections and advertisements that it brings.
+/// Plays the scenario with a stop in it in a world that has begun, and gives the lines of the elections and advertisements that it brings.
 fn tell_stopped(
     alloc: Global,
     world: &mut FaultWorld,
     scenario: &[u8],
     stop: Stop,
 ) -> Result<OutText, ReplayFault>
-    requires { Stands world.old.roster
+    requires { HasBegun world.old.roster
         (Shown (λ m. (m.node.vtable, m.node.value)) (λ b. name b) (λ b. shows b) world.old.roster world.old.members.items world.old.messages.items) }
 {
+    law_scenarios_are_within();
     let told = read_scenario(alloc, scenario)?;
     let behind = stop.behind.min(told.len());
     let steps = with_stop(alloc, &told, behind, stop.sentinel, stop.kept, stop.now)?;

@@ -1,11 +1,14 @@
 //! Traces: a scenario with what each of its lines caused.
 
+ghost use Rattle.std.specs.Prelude.{IfOk};
 ghost use Rattle.fault_world.specs.Shown.{Shown};
 ghost use Rattle.fault_world.specs.Standing.{Stands};
+ghost use Rattle.fault_world.specs.Laws.{HasBegun};
+ghost use Rattle.scenario_replay.specs.Playing.{IsTraced};
 
 use crate::faults::ReplayFault;
 use ballot_law::NoMemory;
-use fault_world::{FaultWorld, Report};
+use fault_world::{FaultWorld, Report, law_scenarios_are_within};
 use resp2_frames::OutText;
 use scenarios::{add_comment, add_message, read_scenario};
 use std::alloc::Global;
@@ -43,15 +46,19 @@ fn add_report(alloc: Global, text: &mut OutText, report: &Report) -> Result<(), 
     Ok(())
 }
 
-/// Plays the scenario in the world line by line, and gives its lines, each with what it caused as comments behind it.
+/// Plays the scenario in a world that has begun, line by line, and gives its lines, each with what it caused as comments after it. All that
+/// is run so is one run from the start.
 pub(crate) fn trace(
     alloc: Global,
     world: &mut FaultWorld,
     scenario: &[u8],
 ) -> Result<OutText, ReplayFault>
-    requires { Stands world.old.roster
+    requires { HasBegun world.old.roster
         (Shown (λ m. (m.node.vtable, m.node.value)) (λ b. name b) (λ b. shows b) world.old.roster world.old.members.items world.old.messages.items) }
+    ensures { IfOk result (λ _. IsTraced world.old.roster scenario.now
+        (Shown (λ m. (m.node.vtable, m.node.value)) (λ b. name b) (λ b. shows b) world.old.roster world.new.members.items world.new.messages.items)) }
 {
+    law_scenarios_are_within();
     let mut text = OutText::new(alloc);
     let mut sent = 0;
     let mut rest = scenario;

@@ -38,7 +38,7 @@ use Rattle.sentinel_outbox.specs.declared.faults.TakeFault.{TakeFault}
 use Rattle.sentinel_nodes.specs.Kinds.{IsSentinelImage, IsImageOf, IsPendingAs, IsWinOf, state_in, is_running}
 use Rattle.sentinel_nodes.proofs.Fresh.{well_formed}
 use Rattle.sentinel_nodes.proofs.Listed.{outputs_listed}
-use Rattle.sentinel_nodes.proofs.Wins.{won_of}
+use Rattle.sentinel_nodes.proofs.Wins.{won_of, parts_within}
 
 -- A take
 
@@ -102,7 +102,8 @@ taken_sentinel before after text now event changed outputs took roster s h =
         stored_is = λ _. h.stored_is (λ e. (let f : phase.Ready ≡ phase.Stopped = sym took.ready ∙ e in cc)) ∙ ap (λ k. h.before ++ k ∷ []) (sym took.stored);
         parts_of = t.parts_after;
         won = won_of roster before.plan.place event t.ballots s.parts t.moved_to after.core
-            (subst (λ r. Moved r before.plan.place event t.ballots (record s.parts { casts = []; wins = [] }) t.moved_to) h.has_roster t.moved) t.parts_after;
+            (subst (λ r. Moved r before.plan.place event t.ballots (record s.parts { casts = []; wins = [] }) t.moved_to) h.has_roster t.moved) t.parts_after
+            (parts_within before.plan before.core s.parts h.whole_ok.core h.parts_of);
         pending = pending_as after (taken s choice) after.phase (changed || is_flush event) took.phase_is refl
             (λ none. took.unchanged (or_parts changed (is_flush event) none).0 ∙ same ∙ sym took.stored);
       };

@@ -5,6 +5,12 @@ use Rattle.conf_store.specs.Stores.{Outcome}
 use Rattle.sentinel_conf.specs.Reading.{FILE_MAX}
 use Rattle.boxed_nodes.specs.declared.calls.HowStored.{HowStored}
 use Rattle.boxed_nodes.specs.declared.calls.HowStored.TheVariants as how
+use Rattle.ballot_law.specs.declared.steps.KeptText.{KeptText}
+use Rattle.ballot_law.specs.declared.steps.KeptText.TheVariants.{New}
+use Rattle.sentinel_conf.specs.Rewritten.{rewritten}
+use Rattle.sentinel_core.specs.Sentinels.{Whole}
+use Rattle.sentinel_outbox.specs.declared.phase.Phase.{Phase}
+use Rattle.sentinel_outbox.specs.declared.phase.Phase.TheVariants as phase
 
 pub record File : Type 0 where
   pub text : List ℕ
@@ -25,3 +31,12 @@ outcome_with (Some true) old new = record { is_stored = false; text = new }
 abbrev pub outcome_of : File → List ℕ → Outcome
 outcome_of file text =
     if nat_lt FILE_MAX (length text) then record { is_stored = false; text = file.text } else outcome_with file.refusal file.text text
+
+-- the text after a stop: only a stop of a Sentinel that has something to store can leave a new one
+abbrev pub text_at_stop : Phase → KeptText → (old new : List ℕ) → List ℕ
+text_at_stop (phase.Pending true) New old new = new
+text_at_stop _ _ old new = old
+
+abbrev pub text_left : KeptText → Whole → File → List ℕ
+text_left left whole file =
+    text_at_stop whole.phase left file.text (outcome_of (record file { refusal = None }) (rewritten whole.plan.conf whole.core.kept)).text

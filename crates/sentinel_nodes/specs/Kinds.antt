@@ -1,6 +1,7 @@
 -- What a Sentinel in memory stands for.
-use Rattle.std.specs.Prelude.{◌≡◌, ◌≢◌, ℕ, ◌<◌, Bool, true, false, Option, IfSome, List, [], ◌∷◌, ◌++◌, Ok, length}
+use Rattle.std.specs.Prelude.{◌≡◌, ◌≢◌, ℕ, ◌<◌, ◌≤◌, Bool, true, false, Option, IfSome, List, [], ◌∷◌, ◌++◌, Ok, length}
 use Rattle.ballot_law.specs.declared.cards.Kept.{Kept}
+use Rattle.ballot_law.specs.declared.cards.TheConstants.{MAX_EPOCH}
 use Rattle.ballot_law.specs.declared.records.Win.{Win}
 use Rattle.ballot_law.specs.Rosters.{Roster}
 use Rattle.ballot_law.specs.Worlds.{Sentinel, State, Ready, Pending, Stored, Halted, Stopped}
@@ -32,9 +33,9 @@ abbrev pub IsPendingAs : Phase → Whole → Sentinel → Type 0
 IsPendingAs (phase.Pending must_store) whole s = (s.must_store ≡ must_store) × (must_store ≡ false → whole.core.kept ≡ whole.stored)
 IsPendingAs phase whole s = Unit {0}
 
--- an election is of a master of the roster
+-- an election is of a master of the roster, and its epoch is within the limit
 abbrev pub IsWinOf : Roster → Option Win → Type 0
-IsWinOf roster won = IfSome won (λ win. win.master < length roster.masters)
+IsWinOf roster won = IfSome won (λ win. (win.master < length roster.masters) × (win.epoch ≤ MAX_EPOCH))
 
 -- the Sentinel of the model for which one in memory stands, with the text of its file
 pub record IsSentinelImage (whole : Whole) (text : List ℕ) (roster : Roster) (s : Sentinel) : Type 0 where

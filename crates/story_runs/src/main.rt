@@ -4,15 +4,28 @@
 //! A word is the path of a story's files without their endings. The Sentinels of a story are the conf files of its folder. Behind the word
 //! `stops:` each story is run again and again, with each Sentinel stopped and started behind each of its steps, and leaving the old text of
 //! its file and the new one. It says how many runs these were, and how often they broke the laws of a group.
+//!
+//! After the word `calls:` each story is played by the public calls of a world, once step by step and once as a whole with a stop at its end; a
+//! call that lacked memory is made once more on what it left. After the word `refused:` a word is a folder whose conf files make no group: it
+//! says how a world of them is refused, and how a story is.
 #![tactic(auto)]
+
+ghost use Rattle.std.specs.Prelude.{All, IfSome};
+ghost use Rattle.fault_world.specs.Limits.{IsWithinLimits};
 
 mod laws;
 mod stops;
+mod worlds;
 
 use crate::stops::{Stopped, stop_behind_each};
+use crate::worlds::{Refusal, begin, lines_one_by_one, lines_with_a_stop};
+use ballot_law::Step;
+use fault_world::{WorldFault, law_scenarios_are_within};
 use resp2_frames::OutText;
-use scenario_replay::{Printed, Story};
+use scenario_replay::{Printed, ReplayFault, Story};
 use scenarios::read_scenario;
+use sentinel_conf::{Conf, read};
+use std::alloc::Global;
 use std::{env, fs, io};
 
 /// The names that the conf files of a folder have, as many as there are.
@@ -24,6 +37,17 @@ fn bytes_of(rt: &HostRuntime, path: &str, ending: &str) -> Option<Vec<u8>> {
         return None;
     };
     fs::read(rt, path.as_str()).ok()
+}
+
+/// The conf files of the folder.
+fn files_of(rt: &HostRuntime, folder: &str) -> Option<Vec<Vec<u8>>> {
+    let mut files = Vec::new(rt.alloc());
+    for conf in CONFS {
+        if let Some(file) = bytes_of(rt, folder, conf) {
+            files.push(file).ok()?;
+        }
+    }
+    Some(files)
 }
 
 /// A story of these bytes, with the Sentinels of the folder, and how many these are.
@@ -82,6 +106,76 @@ fn stopped_at(rt: &HostRuntime, path: &str) -> Option<Stopped> {
     Some(all)
 }
 
+/// A story, its conf files, and what it is to bring.
+#[derive(Drop)]
+struct Told {
+    conf: Conf,
+    files: Vec<Vec<u8>>,
+    steps: Vec<Step>,
+    expected: Vec<u8>,
+}
+
+/// The story at this path; none where it can't be read.
+fn told_at(rt: &HostRuntime, path: &str) -> Option<Told>
+    ensures { IfSome result (λ told. All IsWithinLimits told.steps.items) }
+{
+    law_scenarios_are_within();
+    let (folder, _) = path.rsplit_once('/')?;
+    let expected = bytes_of(rt, path, ".expected")?;
+    let text = bytes_of(rt, path, ".scenario")?;
+    let files = files_of(rt, folder)?;
+    let Ok(conf) = read(rt.alloc(), files.first()?.as_slice()) else {
+        return None;
+    };
+    let Ok(steps) = read_scenario(rt.alloc(), text.as_slice()) else {
+        return None;
+    };
+    Some(Told {
+        conf,
+        files,
+        steps,
+        expected,
+    })
+}
+
+/// Whether a story, played by the public calls of a world, brings what it is to bring; none where such a call was refused twice.
+fn is_as_called(alloc: Global, told: &Told) -> Option<bool>
+    requires { All IsWithinLimits told.now.steps.items }
+{
+    let Ok(mut world) = begin(alloc, &told.conf, &told.files) else {
+        return None;
+    };
+    let lines = lines_one_by_one(alloc, &mut world, &told.steps)?;
+    let Ok(mut world) = begin(alloc, &told.conf, &told.files) else {
+        return None;
+    };
+    let rest = lines_with_a_stop(alloc, &mut world, &told.steps)?;
+    let is_told = lines.as_slice() == told.expected.as_slice();
+    Some(is_told && told.expected.as_slice().ends_with(rest.as_slice()))
+}
+
+/// The same of the story at this path; none also where it can't be read.
+fn is_called_at(rt: &HostRuntime, path: &str) -> Option<bool> {
+    match told_at(rt, path) {
+        Some(told) => is_as_called(rt.alloc(), &told),
+        None => is_as_called(rt.alloc(), &told_at(rt, path)?),
+    }
+}
+
+/// How a world of the folder's conf files is refused, and how a story over them is.
+fn refused_at(rt: &HostRuntime, folder: &str) -> Option<(WorldFault, ReplayFault)> {
+    let files = files_of(rt, folder)?;
+    let conf = read(rt.alloc(), files.first()?.as_slice()).ok()?;
+    let Err(Refusal::NoWorld(fault)) = begin(rt.alloc(), &conf, &files) else {
+        return None;
+    };
+    let (story, _) = story_of(rt, folder, Vec::new(rt.alloc()))?;
+    let Err(played) = story.play(Printed::Report) else {
+        return None;
+    };
+    Some((fault, played))
+}
+
 /// Says what came of the runs of a story with stops in it.
 fn tell_stopped(rt: &HostRuntime, path: &str, stopped: &Stopped) -> io::Result<()> {
     println!(rt;
@@ -105,23 +199,69 @@ fn tell_stopped(rt: &HostRuntime, path: &str, stopped: &Stopped) -> io::Result<(
     println!(rt; "  lines that tell nothing: {}", stopped.breaches.unread)
 }
 
+/// What is done with the stories that are named.
+#[derive(Clone, Copy, PartialEq, Eq)]
+enum Play {
+    Whole,
+    Stopped,
+    Called,
+    Refused,
+}
+
+/// The word after which this is done.
+fn play_named(word: &str) -> Option<Play> {
+    match word {
+        "stops:" => Some(Play::Stopped),
+        "calls:" => Some(Play::Called),
+        "refused:" => Some(Play::Refused),
+        _ => None,
+    }
+}
+
+/// Plays the story at this path whole, and says what came of it.
+fn tell_whole(rt: &HostRuntime, path: &str) -> io::Result<()> {
+    match is_as_told(rt, path) {
+        Some(true) => println!(rt; "{path}"),
+        Some(false) => println!(rt; "{path} tells something else"),
+        None => println!(rt; "{path} can't be played"),
+    }
+}
+
+/// Plays the story at this path by the calls of a world, and says what came of it.
+fn tell_called(rt: &HostRuntime, path: &str) -> io::Result<()> {
+    match is_called_at(rt, path) {
+        Some(true) => println!(rt; "{path} by the calls of a world"),
+        Some(false) => println!(rt; "{path} tells something else by the calls of a world"),
+        None => println!(rt; "{path} can't be played by the calls of a world"),
+    }
+}
+
+/// Says how the conf files of this folder are refused.
+fn tell_refused(rt: &HostRuntime, folder: &str) -> io::Result<()> {
+    match refused_at(rt, folder) {
+        Some((fault, played)) => println!(rt;
+            "{folder}: a world is refused by {fault}, a story by {played}"
+        ),
+        None => println!(rt; "{folder} isn't refused"),
+    }
+}
+
 fn main(rt: HostRuntime) -> io::Result<()> {
-    let mut is_stopped = false;
+    let mut play = Play::Whole;
     for path in env::args(&rt)?.skip(1) {
         let path = path.as_str();
-        if path == "stops:" {
-            is_stopped = true;
-        } else if is_stopped {
-            match stopped_at(&rt, path) {
+        if let Some(next) = play_named(path) {
+            play = next;
+            continue;
+        }
+        match play {
+            Play::Whole => tell_whole(&rt, path)?,
+            Play::Stopped => match stopped_at(&rt, path) {
                 Some(stopped) => tell_stopped(&rt, path, &stopped)?,
                 None => println!(rt; "{path} can't be played")?,
-            }
-        } else {
-            match is_as_told(&rt, path) {
-                Some(true) => println!(rt; "{path}")?,
-                Some(false) => println!(rt; "{path} tells something else")?,
-                None => println!(rt; "{path} can't be played")?,
-            }
+            },
+            Play::Called => tell_called(&rt, path)?,
+            Play::Refused => tell_refused(&rt, path)?,
         }
     }
     Ok(())

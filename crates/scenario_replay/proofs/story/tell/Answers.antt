@@ -1,16 +1,18 @@
 use Rattle.std.proofs.Common.{◌∙◌, ◌++◌, ap, subst, sym, Ok, ◌≡◌}
 use Rattle.scenarios.specs.Scenarios.{scenario}
 use Rattle.fault_world.specs.Told.{report_text}
+use Rattle.scenario_replay.proofs.Groups.{begun_reached, begun_shows}
 use Rattle.scenario_replay.proofs.story.tell.Goals as goal
 
 pub returns : goal.returns
 returns g c =
-    let runs = c.in_ok-report.ensures.safe c.requires.world c.requires.reached c.requires.shows in
+    let runs = c.in_ok-report.ensures.safe c.requires.0 (begun_reached _ _ c.requires) (begun_shows _ _ c.requires) in
     record {
       steps = c.deref.result.now;
       read = subst (λ steps. scenario c.args.scenario.now ≡ Ok steps) (sym c.deref.ensures.value) c.in_ok-steps.ensures.steps;
-      first = c.requires.world;
-      begins = c.requires.reached;
+      distinct = c.requires.1.distinct;
+      first = c.requires.0;
+      begins = c.requires.1.begins;
       news = c.in_ok-report.report.entries;
       last = runs.last;
       ran = runs.ran;

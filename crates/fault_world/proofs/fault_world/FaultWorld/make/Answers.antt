@@ -1,5 +1,5 @@
 use Rattle.std.proofs.Common.{rules, ◌∙◌, take}
-use Rattle.fault_world.proofs.Found.{run_more, run_stays, run_whole, shown_in, stands_on}
+use Rattle.fault_world.proofs.Found.{run_more, run_stays, run_whole, shown_in, stands_after, stands_on}
 use Rattle.fault_world.proofs.fault_world.FaultWorld.make.Goals as goal
 
 pub loop-k-init : goal.loop-k-init
@@ -29,5 +29,5 @@ returns-in_default-clause-memory g c =
 
 pub returns-in_default-clause-stands : goal.returns-in_default-clause-stands
 returns-in_default-clause-stands g c =
-    stands_on c.args.self.now.roster (take c.loop-k.k c.args.steps.now) _ _ c.requires.stands
+    stands_after c.args.self.now.roster (take c.loop-k.k c.args.steps.now) _ _ c.requires.stands
     (run_stays c.args.self.now.roster c.loop-k.self.roster (take c.loop-k.k c.args.steps.now) c.args.self.now.members.items c.loop-k.self.members.items c.step.new.self.members.items c.args.self.now.messages.items c.loop-k.self.messages.items c.step.new.self.messages.items c.loop-k.report.entries c.loop-k.invariant.roster _ _ c.loop-k.invariant.run c.in_default.ensures.err)

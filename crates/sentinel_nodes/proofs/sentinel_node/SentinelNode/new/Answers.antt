@@ -7,3 +7,6 @@ returns-clause-fresh c =
     fresh_of c.law_opening_is_sound.ensures c.in-Ok-open.sentinel c.args.bytes.now c.in-Ok.file.text c.in_ok-conf.conf c.args.now
     (record { read = c.in_ok-conf.ensures; plan = e.plan; core = e.core; stored = e.stored; phase_is = e.phase; whole = c.is_whole.ensures })
     c.in-Ok.ensures.text
+
+pub returns-clause-core : goal.returns-clause-core
+returns-clause-core c = c.in-Ok-open.ensures.core

@@ -16,3 +16,6 @@ returns-clause-name c =
     let e = c.in_ok-sentinel.ensures in
     named_of c.args.self.now.sentinel c.in_ok-sentinel.sentinel c.args.self.now.file.text c.in-Ok.conf c.args.now
     (record { read = ap conf_of_bytes (sym c.text.ensures) ∙ c.in-Ok.ensures; plan = e.plan; core = e.core; stored = e.stored; phase_is = e.phase; whole = c.is_whole.ensures })
+
+pub returns-clause-core : goal.returns-clause-core
+returns-clause-core c = c.in_ok-sentinel.ensures.core
