@@ -18,7 +18,7 @@ mod stops;
 mod worlds;
 
 use crate::stops::{Stopped, stop_behind_each};
-use crate::worlds::{Refusal, begin, lines_one_by_one, lines_with_a_stop};
+use crate::worlds::{Calls, Refusal, lines_of};
 use ballot_law::Step;
 use fault_world::{WorldFault, law_scenarios_are_within};
 use resp2_frames::OutText;
@@ -138,20 +138,30 @@ fn told_at(rt: &HostRuntime, path: &str) -> Option<Told>
     })
 }
 
-/// Whether a story, played by the public calls of a world, brings what it is to bring; none where such a call was refused twice.
+/// What a story brings by these calls; where a node or a roster lacked memory, all is made once more.
+fn called(alloc: Global, told: &Told, calls: Calls) -> Result<OutText, Refusal>
+    requires { All IsWithinLimits told.now.steps.items }
+{
+    match lines_of(alloc, &told.conf, &told.files, &told.steps, calls) {
+        Ok(lines) => Ok(lines),
+        Err(Refusal::NoNodes) => lines_of(alloc, &told.conf, &told.files, &told.steps, calls),
+        Err(refusal) => Err(refusal),
+    }
+}
+
+/// Whether a story, played by the public calls of a world, brings what it is to bring; none where it is refused. Where memory was refused in
+/// a call of many steps, the lines are those of the last ones.
 fn is_as_called(alloc: Global, told: &Told) -> Option<bool>
     requires { All IsWithinLimits told.now.steps.items }
 {
-    let Ok(mut world) = begin(alloc, &told.conf, &told.files) else {
+    let Ok(lines) = called(alloc, told, Calls::OneByOne) else {
         return None;
     };
-    let lines = lines_one_by_one(alloc, &mut world, &told.steps)?;
-    let Ok(mut world) = begin(alloc, &told.conf, &told.files) else {
+    let Ok(last) = called(alloc, told, Calls::WithLastStop) else {
         return None;
     };
-    let rest = lines_with_a_stop(alloc, &mut world, &told.steps)?;
-    let is_told = lines.as_slice() == told.expected.as_slice();
-    Some(is_told && told.expected.as_slice().ends_with(rest.as_slice()))
+    let expected = told.expected.as_slice();
+    Some(lines.as_slice() == expected && expected.ends_with(last.as_slice()))
 }
 
 /// The same of the story at this path; none also where it can't be read.
@@ -165,8 +175,11 @@ fn is_called_at(rt: &HostRuntime, path: &str) -> Option<bool> {
 /// How a world of the folder's conf files is refused, and how a story over them is.
 fn refused_at(rt: &HostRuntime, folder: &str) -> Option<(WorldFault, ReplayFault)> {
     let files = files_of(rt, folder)?;
-    let conf = read(rt.alloc(), files.first()?.as_slice()).ok()?;
-    let Err(Refusal::NoWorld(fault)) = begin(rt.alloc(), &conf, &files) else {
+    let Ok(conf) = read(rt.alloc(), files.first()?.as_slice()) else {
+        return None;
+    };
+    let Err(Refusal::NoWorld(fault)) = lines_of(rt.alloc(), &conf, &files, &[], Calls::OneByOne)
+    else {
         return None;
     };
     let (story, _) = story_of(rt, folder, Vec::new(rt.alloc()))?;

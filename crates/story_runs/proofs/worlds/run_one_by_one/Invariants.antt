@@ -1,6 +1,6 @@
 use Rattle.fault_world.specs.Standing.{IsShown, Stands}
 use Rattle.fault_world.specs.Seats.{IsSeat}
-use Rattle.story_runs.proofs.worlds.lines_one_by_one.Given as goal
+use Rattle.story_runs.proofs.worlds.run_one_by_one.Given as goal
 
 abbrev pub invariant-loop-k : goal.invariant-loop-k
 invariant-loop-k g l =
