@@ -1,3 +1,4 @@
 mod Messages
 mod Groups
+pub mod Limits
 mod Tracing

@@ -7,6 +7,7 @@
 
 mod faults;
 mod seats;
+mod steps;
 mod story;
 mod traces;
 

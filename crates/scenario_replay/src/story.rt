@@ -11,13 +11,14 @@ ghost use Rattle.scenario_replay.specs.Refusals.{IsScenarioFault, IsConfFault};
 
 use crate::faults::ReplayFault;
 use crate::seats::{Seat, Seats};
+use crate::steps::steps_of;
 use crate::traces::trace;
 use ballot_law::{KeptText, NoMemory};
 use boxed_nodes::Node;
 use client_nodes::ClientNode;
 use conf_lines::{ConfFault, ConfKind};
 use data_nodes::DataNode;
-use fault_world::{FaultWorld, law_scenarios_are_within, with_stop};
+use fault_world::{FaultWorld, with_stop};
 use resp2_frames::OutText;
 use scenarios::{ScenarioFault, read_scenario};
 use sentinel_conf::{Conf, read};
@@ -82,8 +83,7 @@ fn tell(alloc: Global, world: &mut FaultWorld, scenario: &[u8]) -> Result<OutTex
         (Shown (λ m. (m.node.vtable, m.node.value)) (λ b. name b) (λ b. shows b) world.old.roster world.old.members.items world.old.messages.items) }
     ensures { IfOk result (IsTold world.old.roster scenario.now) }
 {
-    law_scenarios_are_within();
-    let steps = read_scenario(alloc, scenario)?;
+    let steps = steps_of(alloc, scenario)?;
     let report = world.run(&steps)?;
     let mut text = OutText::new(alloc);
     report.lines(&mut text)?;
@@ -100,8 +100,7 @@ fn tell_stopped(
     requires { HasBegun world.old.roster
         (Shown (λ m. (m.node.vtable, m.node.value)) (λ b. name b) (λ b. shows b) world.old.roster world.old.members.items world.old.messages.items) }
 {
-    law_scenarios_are_within();
-    let told = read_scenario(alloc, scenario)?;
+    let told = steps_of(alloc, scenario)?;
     let behind = stop.behind.min(told.len());
     let steps = with_stop(alloc, &told, behind, stop.sentinel, stop.kept, stop.now)?;
     let report = world.run(&steps)?;

@@ -7,10 +7,11 @@ ghost use Rattle.fault_world.specs.Laws.{HasBegun};
 ghost use Rattle.scenario_replay.specs.Playing.{IsTraced};
 
 use crate::faults::ReplayFault;
+use crate::steps::steps_of;
 use ballot_law::NoMemory;
-use fault_world::{FaultWorld, Report, law_scenarios_are_within};
+use fault_world::{FaultWorld, Report};
 use resp2_frames::OutText;
-use scenarios::{add_comment, add_message, read_scenario};
+use scenarios::{add_comment, add_message};
 use std::alloc::Global;
 use words::split_line;
 
@@ -58,13 +59,12 @@ pub(crate) fn trace(
     ensures { IfOk result (λ _. IsTraced world.old.roster scenario.now
         (Shown (λ m. (m.node.vtable, m.node.value)) (λ b. name b) (λ b. shows b) world.old.roster world.new.members.items world.new.messages.items)) }
 {
-    law_scenarios_are_within();
     let mut text = OutText::new(alloc);
     let mut sent = 0;
     let mut rest = scenario;
     while !rest.is_empty() {
         let (line, behind) = split_line(rest);
-        let steps = read_scenario(alloc, line)?;
+        let steps = steps_of(alloc, line)?;
         text.add(line)?;
         text.add(b"\n")?;
         let report = world.run(&steps)?;

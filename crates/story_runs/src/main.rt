@@ -18,9 +18,9 @@ mod stops;
 mod worlds;
 
 use crate::stops::{Stopped, stop_behind_each};
-use crate::worlds::{Calls, Refusal, lines_of};
+use crate::worlds::{Calls, Refusal, lines_of, steps_of};
 use ballot_law::Step;
-use fault_world::{WorldFault, law_scenarios_are_within};
+use fault_world::WorldFault;
 use resp2_frames::OutText;
 use scenario_replay::{Printed, ReplayFault, Story};
 use scenarios::read_scenario;
@@ -119,7 +119,6 @@ struct Told {
 fn told_at(rt: &HostRuntime, path: &str) -> Option<Told>
     ensures { IfSome result (λ told. All IsWithinLimits told.steps.items) }
 {
-    law_scenarios_are_within();
     let (folder, _) = path.rsplit_once('/')?;
     let expected = bytes_of(rt, path, ".expected")?;
     let text = bytes_of(rt, path, ".scenario")?;
@@ -127,9 +126,7 @@ fn told_at(rt: &HostRuntime, path: &str) -> Option<Told>
     let Ok(conf) = read(rt.alloc(), files.first()?.as_slice()) else {
         return None;
     };
-    let Ok(steps) = read_scenario(rt.alloc(), text.as_slice()) else {
-        return None;
-    };
+    let steps = steps_of(rt.alloc(), text.as_slice())?;
     Some(Told {
         conf,
         files,

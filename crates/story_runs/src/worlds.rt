@@ -10,7 +10,8 @@ use ballot_law::{KeptText, NoMemory, Roster, Step};
 use boxed_nodes::Node;
 use conf_lines::ConfFault;
 use fault_world::{
-    ClientNode, DataNode, FaultWorld, Report, RunFault, SentinelNode, WorldFault, with_stop,
+    ClientNode, DataNode, FaultWorld, Report, RunFault, SentinelNode, WorldFault,
+    law_scenarios_are_within, read_scenario, with_stop,
 };
 use resp2_frames::OutText;
 use sentinel_conf::Conf;
@@ -49,6 +50,17 @@ impl From<ConfFault> for Refusal {
 impl From<RunFault> for Refusal {
     fn from(_error: RunFault) -> Refusal {
         Refusal::NoRun
+    }
+}
+
+/// The steps of a scenario, which a world can run; none where it can't be read.
+pub(crate) fn steps_of(alloc: Global, text: &[u8]) -> Option<Vec<Step>>
+    ensures { IfSome result (λ steps. All IsWithinLimits steps.items) }
+{
+    law_scenarios_are_within();
+    match read_scenario(alloc, text) {
+        Ok(steps) => Some(steps),
+        Err(_) => None,
     }
 }
 

@@ -1,7 +1,7 @@
 use Rattle.std.proofs.Common.{◌∙◌, ◌++◌, ap, subst, sym, Ok, ◌≡◌}
 use Rattle.scenarios.specs.Scenarios.{scenario}
 use Rattle.fault_world.specs.Told.{report_text}
-use Rattle.scenario_replay.proofs.Groups.{begun_reached, begun_shows}
+use Rattle.scenario_replay.proofs.Groups.{begun_reached, begun_shows, begun_stands}
 use Rattle.scenario_replay.proofs.story.tell.Goals as goal
 
 pub returns : goal.returns
@@ -21,3 +21,6 @@ returns g c =
       one_address = runs.one_address;
       never_falls = runs.never_falls;
     }
+
+pub run-requires-clause-stands : goal.run-requires-clause-stands
+run-requires-clause-stands g c = begun_stands _ _ c.requires

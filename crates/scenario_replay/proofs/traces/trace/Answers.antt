@@ -1,13 +1,11 @@
-use Rattle.std.proofs.Common.{rules, refl, ◌∙◌}
+use Rattle.std.proofs.Common.{◌≡◌, Ok, rules, refl, ◌∙◌, subst, sym}
+use Rattle.scenarios.specs.Scenarios.{scenario}
 use Rattle.scenario_replay.proofs.Groups.{stands_after, stands_in}
 use Rattle.scenario_replay.proofs.Tracing.{traced_begin, traced_end, traced_more}
 use Rattle.scenario_replay.proofs.traces.trace.Goals as goal
 
 pub loop-rest-init : goal.loop-rest-init
 loop-rest-init g c = record { traced = traced_begin c.args.world.now.roster c.args.scenario.now _ c.requires; roster = refl }
-
-pub run-requires-clause-within : goal.run-requires-clause-within
-run-requires-clause-within g c = c.law_scenarios_are_within.ensures _ (search rules)
 
 pub run-requires-clause-stands : goal.run-requires-clause-stands
 run-requires-clause-stands g c = let t = c.loop-rest.invariant.traced in stands_after c.loop-rest.world.roster t.start t.steps t.entries _ t.run
@@ -16,7 +14,8 @@ pub loop-rest-preserved : goal.loop-rest-preserved
 loop-rest-preserved g c =
     record {
       traced = traced_more c.loop-rest.world.roster c.run.new.self.roster c.args.scenario.now c.loop-rest.rest c.split_line.result.0.now c.split_line.result.1.now c.deref.result.now c.in_ok-report.report.entries
-          c.loop-rest.world.members.items c.run.new.self.members.items c.loop-rest.world.messages.items c.run.new.self.messages.items c.run.ensures.roster c.split_line.ensures.lines (search rules) _ _ c.loop-rest.invariant.traced c.in_ok-report.ensures.since;
+          c.loop-rest.world.members.items c.run.new.self.members.items c.loop-rest.world.messages.items c.run.new.self.messages.items c.run.ensures.roster c.split_line.ensures.lines
+          (subst (λ steps. scenario c.split_line.result.0.now ≡ Ok steps) (sym c.deref.ensures.value) c.in_ok-steps.ensures.steps) _ _ c.loop-rest.invariant.traced c.in_ok-report.ensures.since;
       roster = c.run.ensures.roster ∙ c.loop-rest.invariant.roster;
     }
 
