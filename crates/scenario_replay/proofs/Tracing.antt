@@ -1,5 +1,5 @@
 -- What was run of a story, line by line.
-use Rattle.std.proofs.Common.{◌≡◌, ℕ, ◌+◌, ◌==◌, Bool, true, false, List, [], ◌∷◌, ◌++◌, Result, Ok, Err, cond, refl, ap, sym, ◌∙◌, subst, append-nil}
+use Rattle.std.proofs.Common.{◌≡◌, ℕ, ◌+◌, ◌==◌, length, arith, Bool, true, false, List, [], ◌∷◌, ◌++◌, Result, Ok, Err, cond, refl, ap, sym, ◌∙◌, subst, append-nil, append_assoc}
 use Rattle.ballot_law.specs.declared.messages.Message.{Message}
 use Rattle.ballot_law.specs.declared.messages.NodeName.{NodeName}
 use Rattle.ballot_law.specs.declared.steps.Step.{Step}
@@ -13,7 +13,6 @@ use Rattle.scenarios.specs.declared.faults.ScenarioKind.{ScenarioKind}
 use Rattle.scenarios.specs.declared.faults.ScenarioKind.TheVariants.{NotUtf8}
 use Rattle.scenarios.specs.Scenarios.{at_line, behind, fault_at, line_of, scenario, steps_from}
 use Rattle.std.specs.Str.{is_utf8}
-use Rattle.scenarios.proofs.Following.{one_more}
 use Rattle.fault_world.specs.declared.entry.Entry.{Entry}
 use Rattle.fault_world.specs.Laws.{GoesOn, HasBegun, HasRun}
 use Rattle.fault_world.specs.Standing.{IsShown}
@@ -86,6 +85,13 @@ line_told : (text line : List ℕ) (rest : List (List ℕ)) (steps : List Step) 
 line_told text line rest steps first told =
     one_line line steps (first_line text line rest first) (of_utf8 (is_utf8 line) (steps_from 1 (lines line)) (fault_at 0 NotUtf8) steps told)
 
+behind_both : (xs ys : List Step) (told : Told) → behind xs (behind ys told) ≡ behind (xs ++ ys) told
+behind_both xs ys (Ok steps) = ap (λ zs. let r : Told = Ok zs in r) (sym (append_assoc xs ys steps))
+behind_both xs ys (Err fault) = refl
+
+one_more : (n : ℕ) (line : List ℕ) (rest : List (List ℕ)) (xs ys : List Step) → line_of line ≡ Ok ys → behind xs (steps_from n (line ∷ rest)) ≡ behind (xs ++ ys) (steps_from (n + 1) rest)
+one_more n line rest xs ys told = ap (λ l. behind xs (at_line n l >>= λ steps. behind steps (steps_from (n + 1) rest))) told ∙ behind_both xs ys (steps_from (n + 1) rest)
+
 -- The run so far
 
 pub record TracedTo (roster : Roster) (story rest : List ℕ) (shown : World → Type 0) : Type 0 where
@@ -117,13 +123,17 @@ traced_more old new story rest line more steps news members members2 messages me
       run = next before.start before.steps before.entries before.run;
     })
 
-pub traced_end : {M : Type 0} (old new : Roster) (story rest : List ℕ) (members : List M) (messages : List Message) → new ≡ old → rest ≡ [] →
+nothing : (text : List ℕ) → length text ≡ 0 → text ≡ []
+nothing [] none = refl
+nothing (b ∷ bs) none = absurd (omega (arith, none))
+
+pub traced_end : {M : Type 0} (old new : Roster) (story rest : List ℕ) (members : List M) (messages : List Message) → new ≡ old → length rest ≡ 0 →
     (name : M → NodeName) (seat : M → Roster → Image → Type 0) → TracedTo new story rest (IsShown name seat new members messages) → IsTraced old story (IsShown name seat old members messages)
 traced_end old new story rest members messages same empty name seat traced =
     let t = subst (λ r. TracedTo r story rest (IsShown name seat r members messages)) same traced in
     record {
       steps = t.steps;
-      read = t.read ∙ ap (λ text. behind t.steps (steps_from t.number (lines text))) empty ∙ ap (λ xs. let r : Told = Ok xs in r) (append-nil t.steps);
+      read = t.read ∙ ap (λ text. behind t.steps (steps_from t.number (lines text))) (nothing rest empty) ∙ ap (λ xs. let r : Told = Ok xs in r) (append-nil t.steps);
       start = t.start;
       entries = t.entries;
       run = t.run;

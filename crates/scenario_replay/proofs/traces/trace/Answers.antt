@@ -1,4 +1,5 @@
-use Rattle.std.proofs.Common.{◌≡◌, Ok, rules, refl, ◌∙◌, subst, sym}
+use Rattle.std.proofs.Common.{◌≡◌, Ok, refl, ◌∙◌, subst, sym, arith}
+use Rattle.std.proofs.lemmas.Grind.{common_steps}
 use Rattle.scenarios.specs.Scenarios.{scenario}
 use Rattle.scenario_replay.proofs.Groups.{stands_after, stands_in}
 use Rattle.scenario_replay.proofs.Tracing.{traced_begin, traced_end, traced_more}
@@ -13,7 +14,7 @@ run-requires-clause-stands g c = let t = c.loop-rest.invariant.traced in stands_
 pub loop-rest-preserved : goal.loop-rest-preserved
 loop-rest-preserved g c =
     record {
-      traced = traced_more c.loop-rest.world.roster c.run.new.self.roster c.args.scenario.now c.loop-rest.rest c.split_line.result.0.now c.split_line.result.1.now c.deref.result.now c.in_ok-report.report.entries
+      traced = traced_more c.loop-rest.world.roster c.run.new.self.roster c.args.scenario.now c.loop-rest.rest.now c.split_line.result.0.now c.split_line.result.1.now c.deref.result.now c.in_ok-report.report.entries
           c.loop-rest.world.members.items c.run.new.self.members.items c.loop-rest.world.messages.items c.run.new.self.messages.items c.run.ensures.roster c.split_line.ensures.lines
           (subst (λ steps. scenario c.split_line.result.0.now ≡ Ok steps) (sym c.deref.ensures.value) c.in_ok-steps.ensures.steps) _ _ c.loop-rest.invariant.traced c.in_ok-report.ensures.since;
       roster = c.run.ensures.roster ∙ c.loop-rest.invariant.roster;
@@ -23,4 +24,4 @@ pub add_messages-requires : goal.add_messages-requires
 add_messages-requires g c = stands_in c.loop-rest.world.roster c.run.new.self.roster c.run.new.self.members.items c.run.new.self.messages.items c.run.ensures.roster _ _ c.run.ensures.stands
 
 pub returns : goal.returns
-returns g c = traced_end c.args.world.now.roster c.loop-rest.world.roster c.args.scenario.now c.loop-rest.rest c.loop-rest.world.members.items c.loop-rest.world.messages.items c.loop-rest.invariant.roster (search rules) _ _ c.loop-rest.invariant.traced
+returns g c = traced_end c.args.world.now.roster c.loop-rest.world.roster c.args.scenario.now c.loop-rest.rest.now c.loop-rest.world.members.items c.loop-rest.world.messages.items c.loop-rest.invariant.roster (grind (arith, common_steps)) _ _ c.loop-rest.invariant.traced
