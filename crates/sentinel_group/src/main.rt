@@ -16,12 +16,13 @@ use crate::command_line::{command, refuse_unread, tell_words, words};
 use crate::failures::fail;
 use crate::group_files::file_of;
 use crate::replaying::replay;
-use crate::serving::{level_of, serve as serve_group};
+use crate::serving::{serve as serve_group, tell_end};
 use clap::ArgMatches;
 use conf_store::{ConfStore, MemoryStore};
-use log::Logged;
-use log::sink::Console;
+use log::sink::Discard;
+use log::{LevelFilter, Logged};
 use port_serving::ServeFault;
+use queued_notes::NoteQueue;
 use sentinel_conf::{Conf, read};
 use sentinel_core::Sentinel;
 use std::process::ExitCode;
@@ -85,9 +86,18 @@ fn main(rt: HostRuntime) -> ExitCode {
         Ok(matches) => match matches.subcommand() {
             Some(("check", words)) => check(rt, words),
             Some(("replay", words)) => replay(&rt, words),
+            Some(("serve", words)) if words.get_flag("notes") => {
+                let Ok((queue, writer)) = NoteQueue::open(rt, rt.alloc()) else {
+                    return fail(&rt, ServeFault::NoMemory);
+                };
+                let noting = Logged::new(rt, LevelFilter::Info, queue);
+                let ended = serve_group(rt, &noting, words);
+                drop(noting);
+                tell_end(rt, ended, writer.wait(&rt))
+            }
             Some(("serve", words)) => {
-                let noting = Logged::new(rt, level_of(words), Console(rt));
-                serve_group(rt, &noting, words)
+                let noting = Logged::new(rt, LevelFilter::Off, Discard);
+                tell_end(rt, serve_group(rt, &noting, words), true)
             }
             Some((_, words)) => answer(rt, words),
             None => answer_in_memory(rt),

@@ -2,10 +2,10 @@
 
 ghost use Rattle.std.specs.Prelude.{◌<◌, ◌-◌, ◌^◌, All};
 
-use crate::failures::fail_ordered;
+use crate::failures::{fail_ordered, status_of_ordered};
 use crate::group_files::{GroupFiles, files_of};
 use clap::ArgMatches;
-use log::{LevelFilter, Log};
+use log::Log;
 use sentinel_runner::{Group, OrderedFault};
 use std::alloc::Global;
 use std::io::Input;
@@ -16,13 +16,13 @@ use std::sync::Wait;
 use std::sync::atomic::AtomicU64;
 use std::thread::Threads;
 
-/// Which notes go to standard error: those of a group where the words ask for them, and else none.
-pub(crate) fn level_of(words: &ArgMatches) -> LevelFilter {
-    if words.get_flag("notes") {
-        LevelFilter::Info
-    } else {
-        LevelFilter::Off
-    }
+/// Why a group didn't run, or didn't run whole.
+#[derive(Drop)]
+pub(crate) enum Unserved {
+    /// A file was refused, which was told; the status tells it too.
+    Told(ExitCode),
+    /// A fault of the group, or of its orders.
+    Fault(OrderedFault),
 }
 
 /// Runs the group of these files, and obeys the lines of standard input, until that ends.
@@ -37,16 +37,26 @@ where
 }
 
 /// Serves the group of the conf files that the words name; its notes go to the log of `noting`.
-pub(crate) fn serve<R>(rt: HostRuntime, noting: &R, words: &ArgMatches) -> ExitCode
+pub(crate) fn serve<R>(rt: HostRuntime, noting: &R, words: &ArgMatches) -> Result<(), Unserved>
 where
     R: Threads + Wait + Net + Clock + Log + Input + Sync,
 {
     let files = match files_of(rt, words.get_strs("conf").unwrap_or(&[])) {
         Ok(files) => files,
-        Err(status) => return status,
+        Err(status) => return Err(Unserved::Told(status)),
     };
     match run(noting, rt.alloc(), files) {
+        Ok(()) => Ok(()),
+        Err(fault) => Err(Unserved::Fault(fault)),
+    }
+}
+
+/// Tells how a group ended: by a line, where standard error takes one, and by the status.
+pub(crate) fn tell_end(rt: HostRuntime, ended: Result<(), Unserved>, takes_lines: bool) -> ExitCode {
+    match ended {
         Ok(()) => ExitCode::SUCCESS,
-        Err(fault) => fail_ordered(&rt, fault),
+        Err(Unserved::Told(status)) => status,
+        Err(Unserved::Fault(fault)) if takes_lines => fail_ordered(&rt, fault),
+        Err(Unserved::Fault(fault)) => ExitCode::from(status_of_ordered(fault)),
     }
 }
