@@ -1,5 +1,9 @@
 //! What is told of a group.
 
+ghost use Rattle.std.specs.Prelude.{◌≡◌, ◌⊎◌, [], IfOk, IsTrue, IsFalse};
+ghost use Rattle.group_checks.specs.declared.report.NamedConf.{NamedConf};
+ghost use Rattle.group_checks.specs.Groups.{IsOneGroup};
+
 use crate::differences::{Difference, difference_of};
 use crate::one_group::{HoldsConf, is_one_group};
 use ballot_law::{Addr, Name, NoMemory, Roster, RunId};
@@ -25,36 +29,67 @@ impl HoldsConf for NamedConf {
 /// Lines that tell of a group, and whether it would be refused.
 #[derive(Drop)]
 pub struct Report {
-    text: Vec<u8>,
+    lines: Lines,
     refused: bool,
 }
 
 impl Report {
     /// What these files make, in the roster's order: each Sentinel with its file, each master with its quorum and the votes that it
-    /// needs, each data node, and what is wrong. The roster is that of the first file.
-    pub fn of(alloc: Global, files: &[NamedConf]) -> Result<Report, NoMemory> {
-        let mut report = Report {
-            text: Vec::new(alloc),
-            refused: !files.is_empty() && !is_one_group(files),
-        };
-        let Some(first) = files.first() else {
-            return Ok(report);
-        };
-        report.add_sentinels(first.conf.roster(), files)?;
-        report.add_masters(&first.conf)?;
-        report.add_differences(first, files)?;
-        report.add_verdict()?;
-        Ok(report)
+    /// needs, each data node, and what is wrong. The roster is that of the first file. They are refused exactly where there are some and they
+    /// aren't those of one group. `NoMemory` leaves nothing.
+    pub fn of(alloc: Global, files: &[NamedConf]) -> Result<Report, NoMemory>
+        ensures refused { IfOk result (λ report. IsTrue report.refused → ¬ (IsOneGroup (λ (file : NamedConf). file.conf) files.now)) }
+        ensures other { IfOk result (λ report. IsFalse report.refused → (files.now ≡ []) ⊎ IsOneGroup (λ (file : NamedConf). file.conf) files.now) }
+    {
+        let refused = is_refused(files);
+        let lines = Lines::of(alloc, files, refused)?;
+        Ok(Report { lines, refused })
     }
 
     /// The lines, each ended by LF.
     pub fn text(&self) -> &[u8] {
-        self.text.as_slice()
+        self.lines.text.as_slice()
     }
 
     /// Whether the group would be refused.
-    pub fn is_refused(&self) -> bool {
+    pub fn is_refused(&self) -> bool
+        ensures { result ≡ self.now.refused }
+    {
         self.refused
+    }
+}
+
+/// Whether there are files, and they aren't those of one group.
+fn is_refused(files: &[NamedConf]) -> bool
+    ensures refused { IsTrue result → ¬ (IsOneGroup (λ (file : NamedConf). file.conf) files.now) }
+    ensures other { IsFalse result → (files.now ≡ []) ⊎ IsOneGroup (λ (file : NamedConf). file.conf) files.now }
+{
+    if files.is_empty() {
+        return false;
+    }
+    !is_one_group(files)
+}
+
+/// The lines of a report.
+#[derive(Drop)]
+struct Lines {
+    text: Vec<u8>,
+}
+
+impl Lines {
+    /// What is told of these files, which are refused or not.
+    fn of(alloc: Global, files: &[NamedConf], refused: bool) -> Result<Lines, NoMemory> {
+        let mut lines = Lines {
+            text: Vec::new(alloc),
+        };
+        let Some(first) = files.first() else {
+            return Ok(lines);
+        };
+        lines.add_sentinels(first.conf.roster(), files)?;
+        lines.add_masters(&first.conf)?;
+        lines.add_differences(first, files)?;
+        lines.add_verdict(refused)?;
+        Ok(lines)
     }
 
     /// Adds words.
@@ -216,8 +251,8 @@ impl Report {
     }
 
     /// Adds whether the group would run.
-    fn add_verdict(&mut self) -> Result<(), NoMemory> {
-        if self.refused {
+    fn add_verdict(&mut self, refused: bool) -> Result<(), NoMemory> {
+        if refused {
             self.add("these files are refused: they are not those of one group\n")
         } else {
             self.add("these files are those of one group\n")

@@ -166,7 +166,7 @@ impl Port {
         rt: &R,
         member: &RunningSentinel<J, S>,
     ) {
-        for switch in &member.take_switches(rt) {
+        for switch in &member.take_switches(rt, 0) {
             self.tell_all(member, switch);
         }
     }

@@ -14,7 +14,8 @@ use Rattle.sentinel_cell.specs.declared.entry.Entry.{Entry}
 use Rattle.sentinel_cell.specs.declared.entry.Outcome.TheVariants.{Stored}
 use Rattle.sentinel_cell.specs.declared.view.View.{View}
 use Rattle.sentinel_cell.specs.Histories.{World, IsGood, IsOutcome, IsStep, IsLegal, after_outcome, replay, next_of}
-use Rattle.sentinel_cell.specs.Standing.{Adds}
+use Rattle.sentinel_cell.specs.declared.fault.ActFault.{ActFault}
+use Rattle.sentinel_cell.specs.Standing.{Adds, Faulted}
 use Rattle.sentinel_cell.proofs.Acts.{first_steps, last_step}
 use Rattle.sentinel_cell.proofs.Cards.{good_after, good_replay}
 
@@ -40,3 +41,11 @@ added_sendable within start v w input outputs a takeable =
 pub shown_sendable : OutputsAreWithin → (start : World) (v w : View) (input : Input) (before shown : List Output) → before ≡ [] → Adds start v input Stored (drop (length before) shown) w → IsWithinEvent input.event → AllByRecursion IsSendableOutput shown
 shown_sendable within start v w input before shown none a event =
     added_sendable within start v w input shown (subst (λ (b : List Output). Adds start v input Stored (drop (length b) shown) w) none a) event
+
+-- where nothing was shown before, all that a stored turn shows is its own
+pub added_shown : (start : World) (v w : View) (input : Input) (before shown : List Output) → before ≡ [] → Adds start v input Stored (drop (length before) shown) w → Adds start v input Stored shown w
+added_shown start v w input before shown none a = subst (λ (b : List Output). Adds start v input Stored (drop (length b) shown) w) none a
+
+-- so it is at a fault
+pub faulted_shown : (start : World) (v w : View) (input : Input) (fault : ActFault) (before shown : List Output) → before ≡ [] → Faulted start v input (drop (length before) shown) w fault → Faulted start v input shown w fault
+faulted_shown start v w input fault before shown none f = subst (λ (b : List Output). Faulted start v input (drop (length b) shown) w fault) none f

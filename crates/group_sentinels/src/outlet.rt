@@ -25,7 +25,6 @@ pub trait Outlet {
 }
 
 /// Sends each message among these outputs once, in their order, and nothing else.
-#[tactic(auto, using(crate::proofs::Handing::handed_send, crate::proofs::Handing::handed_tell))]
 pub fn send_all<O: Outlet>(outlet: &mut O, outputs: &[Output])
     requires sendable { AllByRecursion IsSendableOutput outputs.now }
     ensures handed { IfSome (O.handed outlet.old) (λ before. O.handed outlet.new ≡ Some (before ++ sent outputs.now)) }

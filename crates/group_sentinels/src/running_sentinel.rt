@@ -1,8 +1,15 @@
 //! A Sentinel that threads share, with the seats that are known to be of it.
 
-ghost use Rattle.std.specs.Prelude.{◌≡◌, [], OnOk};
+ghost use Rattle.std.specs.Prelude.{◌≡◌, ◌+◌, ◌++◌, ◌<◌, ◌≤◌, [], List, ℕ, Some, None, Ok, Err, OnOk, OnErr, IfOk, IfErr, IfSome, length, false};
 ghost use Rattle.std.specs.List.{AllByRecursion};
+ghost use Rattle.ballot_law.specs.Messages.{sent};
 ghost use Rattle.boxed_nodes.specs.Sendable.{IsSendableOutput};
+ghost use Rattle.group_sentinels.specs.Running.{input_of};
+ghost use Rattle.port_sessions.specs.Talks.{Receives, party};
+ghost use Rattle.port_sessions.specs.Notes.{Notifies};
+ghost use Rattle.sentinel_cell.specs.declared.entry.Outcome.TheVariants.{Stored};
+ghost use Rattle.sentinel_cell.specs.Standing.{Adds, Faulted};
+ghost use Rattle.sentinel_rules.specs.Plans.{roster_of};
 ghost use Rattle.sentinel_rules.specs.Facts.{IsWithinEvent};
 
 use crate::notes::note_all;
@@ -19,7 +26,7 @@ use port_sessions::Session;
 use sentinel_cell::{ActFault, Seat, SharedSentinel};
 use sentinel_outbox::Outbox;
 use sentinel_rules::law_outputs_are_within;
-use std::alloc::Global;
+use std::alloc::{AllocError, Global};
 use std::marker::{Brand, PhantomData};
 use std::sync::Wait;
 
@@ -85,15 +92,18 @@ impl<J: Which> ThreadSeat<J> {
 }
 
 impl<J: Which, S: ConfStore> RunningSentinel<J, S> {
-    /// The Sentinel at this place of the roster, whose clients come to this port, with its first seat.
+    /// The Sentinel at this place of the roster, with its first seat. Its clients come to this port, which so many threads serve.
     pub fn with_seat(
         alloc: Global,
         cell: SharedSentinel<S>,
         seat: Seat,
         place: u16,
         port: u16,
-    ) -> (RunningSentinel<J, S>, ThreadSeat<J>)
-        requires { (cell.id ≡ J.cell) × (seat.cell ≡ J.cell) }
+        port_threads: u16,
+    ) -> Result<(RunningSentinel<J, S>, ThreadSeat<J>), AllocError>
+    where
+        S: Drop,
+        requires named { (cell.id ≡ J.cell) × (seat.cell ≡ J.cell) }
     {
         let masters = cell.roster().masters().len().min(u16::MAX as usize) as u16;
         let member = RunningSentinel {
@@ -101,10 +111,10 @@ impl<J: Which, S: ConfStore> RunningSentinel<J, S> {
             masters,
             place,
             port,
-            switches: Switches::new(alloc),
+            switches: Switches::new(alloc, port_threads)?,
             of: PhantomData,
         };
-        (member, with_outbox(alloc, seat))
+        Ok((member, with_outbox(alloc, seat)))
     }
 
     /// How many masters it watches.
@@ -130,8 +140,11 @@ impl<J: Which, S: ConfStore> RunningSentinel<J, S> {
         seat: &mut ThreadSeat<J>,
         input: &Input,
     ) -> Result<u64, ActFault>
-        requires { IsWithinEvent input.now.event }
-        ensures { OnOk result (AllByRecursion IsSendableOutput seat.new.outbox.shown) }
+        requires within { IsWithinEvent input.now.event }
+        ensures sendable { OnOk result (AllByRecursion IsSendableOutput seat.new.outbox.shown) }
+        ensures added { IfOk result (λ entry. Adds self.now.cell.start seat.old.seat.view input.entry.now Stored seat.new.outbox.shown seat.new.seat.view
+            × (entry + 1 ≡ length seat.new.seat.view.front)) }
+        ensures fault { IfErr result (λ fault. Faulted self.now.cell.start seat.old.seat.view input.entry.now seat.new.outbox.shown seat.new.seat.view fault) }
     {
         law_outputs_are_within();
         seat.outbox.clear();
@@ -151,7 +164,11 @@ impl<J: Which, S: ConfStore> RunningSentinel<J, S> {
         now: u64,
         event: Event,
     ) -> Result<(), ActFault>
-        requires { IsWithinEvent event }
+        requires within { IsWithinEvent event }
+        ensures added { OnOk result (Adds self.now.cell.start seat.old.seat.view (input_of now event) Stored seat.new.outbox.shown seat.new.seat.view) }
+        ensures fault { IfErr result (λ fault. Faulted self.now.cell.start seat.old.seat.view (input_of now event) seat.new.outbox.shown seat.new.seat.view fault) }
+        ensures handed { OnOk result (IfSome (O.handed outlet.old) (λ before. O.handed outlet.new ≡ Some (before ++ sent seat.new.outbox.shown))) }
+        ensures silent { OnErr result (outlet.new ≡ outlet.old) }
     {
         let input = Input { now, event };
         let entry = self.turn(rt, seat, &input)?;
@@ -221,13 +238,18 @@ impl<J: Which, S: ConfStore> RunningSentinel<J, S> {
         seat.answer()
     }
 
-    /// The notes for the subscribers of the port that nobody took yet, in the order in which they came.
-    pub fn take_switches<R: Wait>(&self, rt: &R) -> Vec<Switch> {
-        self.switches.take(rt)
+    /// The notes for the subscribers of the port that its thread with this number didn't take yet, in the order in which they came. Each of
+    /// its threads gets all notes.
+    pub fn take_switches<R: Wait>(&self, rt: &R, port_thread: u16) -> Vec<Switch> {
+        self.switches.take(rt, port_thread)
     }
 
     /// Tells a session of a note: whether it is told, which joins what it sends. `NoMemory` changes nothing.
-    pub fn notify(&self, session: &mut Session, switch: &Switch) -> Result<bool, NoMemory> {
+    pub fn notify(&self, session: &mut Session, switch: &Switch) -> Result<bool, NoMemory>
+        ensures told { let roster = roster_of self.now.cell.start.plan in switch.now.note.master < length roster.masters
+            → Notifies roster switch.now.note switch.now.entry session.old result session.new }
+        ensures other { length (roster_of self.now.cell.start.plan).masters ≤ switch.now.note.master → (result ≡ Ok false) × (session.new ≡ session.old) }
+    {
         let roster = self.cell.roster();
         if switch.note.master as usize >= roster.masters().len() {
             return Ok(false);
@@ -255,7 +277,8 @@ impl<J: Which, S: ConfStore> RunningSentinel<J, S> {
         seat.answer()
     }
 
-    /// Hands a session the next piece of its stream, at a reading of the clock in milliseconds.
+    /// Hands a session the next piece of its stream, at a reading of the clock in milliseconds: all that `Session::received` says of it holds of this
+    /// Sentinel.
     pub fn receive<R: Wait>(
         &self,
         rt: &R,
@@ -263,7 +286,15 @@ impl<J: Which, S: ConfStore> RunningSentinel<J, S> {
         session: &mut Session,
         now: u64,
         piece: &[u8],
-    ) -> Result<(), ServeFault> {
+    ) -> Result<(), ServeFault>
+        ensures received { session.old.ended ≡ None → (more : List ℕ) × (session.new.unsent ≡ session.old.unsent ++ more)
+            × Receives self.now.cell.start now (session.old.held ++ piece.now) (party seat.old.seat.view session.old.listens) result session.new.held more
+            (party seat.new.seat.view session.new.listens) }
+        ensures told { session.new.told ≡ session.old.told }
+        ensures open { OnOk result (session.new.ended ≡ None) }
+        ensures closed { IfErr result (λ fault. session.new.ended ≡ Some fault) }
+        ensures ended { IfSome session.old.ended (λ fault. (result ≡ Err fault) × (session.new ≡ session.old) × (seat.new.seat ≡ seat.old.seat)) }
+    {
         session.received(rt, &self.cell, &mut seat.seat, now, piece)
     }
 }

@@ -1,9 +1,12 @@
 //! The notes of new addresses that wait for the subscribers of a Sentinel's port.
 
 use ballot_law::{Note, Output};
-use std::alloc::Global;
+use std::alloc::{AllocError, Global};
 use std::mem;
 use std::sync::{Mutex, Wait};
+
+/// How many notes wait at most for a thread of a port that takes none; a further one is lost.
+const WAITING_MAX: usize = 1024;
 
 /// A note, and how many calls of the Sentinel's threads stand before the one that showed it.
 #[derive(Clone, Copy)]
@@ -12,24 +15,31 @@ pub struct Switch {
     pub entry: u64,
 }
 
-/// The notes that the threads of a Sentinel showed, until its port takes them.
+/// The notes that the threads of a Sentinel showed: each thread of its port has a list of its own, until it takes them.
 #[derive(Drop)]
 pub(crate) struct Switches {
-    waiting: Mutex<Vec<Switch>>,
+    lists: Vec<Mutex<Vec<Switch>>>,
+    alloc: Global,
 }
 
 impl Switches {
-    /// None wait.
-    pub(crate) fn new(alloc: Global) -> Switches {
-        Switches {
-            waiting: Mutex::new(Vec::new(alloc)),
+    /// None wait for any of so many threads.
+    pub(crate) fn new(alloc: Global, threads: u16) -> Result<Switches, AllocError> {
+        let mut lists = Vec::new(alloc);
+        for _ in 0..threads {
+            lists.push(Mutex::new(Vec::new(alloc)))?;
         }
+        Ok(Switches { lists, alloc })
     }
 
-    /// Adds a note. It is lost where there is no memory.
+    /// Adds a note for each thread. It is lost where there is no memory.
     fn add<R: Wait>(&self, rt: &R, switch: Switch) {
-        let mut waiting = self.waiting.lock(rt);
-        drop(waiting.push(switch));
+        for list in &self.lists {
+            let mut waiting = list.lock(rt);
+            if waiting.len() < WAITING_MAX {
+                drop(waiting.push(switch));
+            }
+        }
     }
 
     /// Adds the notes among what a call showed.
@@ -41,10 +51,12 @@ impl Switches {
         }
     }
 
-    /// Takes those that wait, in the order in which they came.
-    pub(crate) fn take<R: Wait>(&self, rt: &R) -> Vec<Switch> {
-        let mut waiting = self.waiting.lock(rt);
-        let none = Vec::new(*waiting.allocator());
-        mem::replace(&mut *waiting, none)
+    /// Takes those that wait for the thread with this number, in the order in which they came.
+    pub(crate) fn take<R: Wait>(&self, rt: &R, thread: u16) -> Vec<Switch> {
+        let none = Vec::new(self.alloc);
+        match self.lists.get(thread as usize) {
+            Some(list) => mem::replace(&mut *list.lock(rt), none),
+            None => none,
+        }
     }
 }

@@ -1,7 +1,7 @@
 //! Why the program ends early: a line on standard error, and the exit status.
 
 ghost use Rattle.std.specs.Prelude.{◌≡◌};
-ghost use Rattle.sentinel_group.specs.Statuses.{status_of, status_of_group};
+ghost use Rattle.sentinel_group.specs.Statuses.{status_of, status_of_group, status_of_ordered};
 
 use conf_lines::{ConfFault, ConfKind};
 use port_serving::ServeFault;
@@ -49,12 +49,20 @@ pub(crate) fn fail_group(rt: &impl Eprint, fault: GroupFault) -> ExitCode {
     ExitCode::from(status_of_group(fault))
 }
 
+/// The exit status that tells why a group that takes orders doesn't run, or didn't run whole.
+pub(crate) fn status_of_ordered(fault: OrderedFault) -> u8
+    ensures { result ≡ status_of_ordered fault }
+{
+    match fault {
+        OrderedFault::Group(fault) => status_of_group(fault),
+        OrderedFault::Read => status_of(ServeFault::Read),
+    }
+}
+
 /// Tells why a group that takes orders doesn't run, or didn't run whole, in one line and in the exit status.
 pub(crate) fn fail_ordered(rt: &impl Eprint, fault: OrderedFault) -> ExitCode {
-    match fault {
-        OrderedFault::Group(fault) => fail_group(rt, fault),
-        OrderedFault::Read => fail(rt, ServeFault::Read),
-    }
+    let _ = eprintln!(rt; "sentinel_group: {fault}");
+    ExitCode::from(status_of_ordered(fault))
 }
 
 /// Tells what is wrong with a file, and at which line; line 0 is the file as a whole.

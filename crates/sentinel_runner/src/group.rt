@@ -1,6 +1,6 @@
 //! A group of Sentinels and data nodes that runs.
 
-ghost use Rattle.std.specs.Prelude.{◌≢◌, ◌<◌, ◌-◌, ◌^◌, All, IfErr, IsErrOf};
+ghost use Rattle.std.specs.Prelude.{◌≢◌, ◌<◌, ◌-◌, ◌^◌, All, IfErr, IsErrOf, IsFalse, IsTrue};
 ghost use Rattle.sentinel_runner.specs.declared.group_fault.GroupFault.TheVariants.{NotOneRoster};
 ghost use Rattle.sentinel_runner.specs.Groups.{AreOneGroup};
 
@@ -40,7 +40,7 @@ pub struct Group<S: ConfStore> {
 }
 
 /// Opens the Sentinel of each conf with the store at the same place.
-fn open_all<S: ConfStore + Drop, R: Net + Log>(
+fn start_all<S: ConfStore + Drop, R: Net + Log>(
     rt: &R,
     alloc: Global,
     mut confs: Vec<Conf>,
@@ -57,6 +57,17 @@ fn open_all<S: ConfStore + Drop, R: Net + Log>(
     Ok(sentinels)
 }
 
+/// Whether there is a store for each conf, and the confs are those of one group.
+fn are_one_group<S>(confs: &[Conf], stores: &[S]) -> bool
+    ensures group { IsTrue result → AreOneGroup confs.now stores.now }
+    ensures other { IsFalse result → ¬ (AreOneGroup confs.now stores.now) }
+{
+    if stores.len() != confs.len() {
+        return false;
+    }
+    is_one_group(confs)
+}
+
 impl<S: ConfStore + Drop> Group<S> {
     /// Opens each Sentinel with the store at its place in the list, and its port, and makes the data nodes of the roster and the links.
     ///
@@ -71,16 +82,30 @@ impl<S: ConfStore + Drop> Group<S> {
         ensures group { AreOneGroup confs.items stores.items → IfErr result (λ fault. fault ≢ NotOneRoster) }
         ensures other { ¬ (AreOneGroup confs.items stores.items) → IsErrOf result NotOneRoster }
     {
-        if stores.len() != confs.len() || !is_one_group(confs.as_slice()) {
+        if !are_one_group(confs.as_slice(), stores.as_slice()) {
             return Err(GroupFault::NotOneRoster);
         }
+        Self::open_all(rt, alloc, confs, stores)
+    }
+
+    /// Opens what `open` opens, of confs that are those of one group.
+    fn open_all<R: Net + Clock + Log>(
+        rt: &R,
+        alloc: Global,
+        confs: Vec<Conf>,
+        stores: Vec<S>,
+    ) -> Result<Group<S>, GroupFault>
+        requires room { All (λ s. S.failure_count s < 2 ^ 64 - 1) stores.items }
+        requires group { AreOneGroup confs.items stores.items }
+        ensures roster { IfErr result (λ fault. fault ≢ NotOneRoster) }
+    {
         let Some(first) = confs.first() else {
-            return Err(GroupFault::NotOneRoster);
+            unreachable!()
         };
         let nodes = DataNodes::of(alloc, first)?;
         let (mut links, node_orders) = Links::open(alloc, confs.len())?;
         let clock = GroupClock::start(rt);
-        let sentinels = open_all(rt, alloc, confs, stores, &mut links)?;
+        let sentinels = start_all(rt, alloc, confs, stores, &mut links)?;
         Ok(Group {
             threads: Beginning {
                 sentinels,

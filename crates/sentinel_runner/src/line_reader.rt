@@ -1,6 +1,6 @@
 //! The lines of an input that comes in pieces.
 
-ghost use Rattle.std.specs.Prelude.{◌≡◌, ◌≢◌, None, Some, []};
+ghost use Rattle.std.specs.Prelude.{◌≡◌, None, Some, [], IfSome};
 ghost use Rattle.sentinel_runner.specs.Orders.{with_byte};
 
 use arrayvec::ArrayVec;

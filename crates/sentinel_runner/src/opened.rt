@@ -1,7 +1,8 @@
 //! A Sentinel that is open, before its threads run.
 
 ghost use Rattle.std.specs.Prelude.{◌≡◌, ◌≢◌, ◌<◌, ◌-◌, ◌^◌, IfErr};
-ghost use Rattle.sentinel_runner.specs.declared.group_fault.GroupFault.TheVariants.{NotOneRoster};
+ghost use Rattle.std.specs.IoError.{error_kind};
+ghost use Rattle.sentinel_runner.specs.declared.group_fault.GroupFault.TheVariants.{NoMemory, NotOneRoster, PortRefused};
 
 use crate::group_fault::GroupFault;
 use conf_store::ConfStore;
@@ -27,6 +28,8 @@ pub(crate) struct Opened<S: ConfStore> {
 
 /// What an error of the system is: want of memory, or a port that can't be had.
 pub(crate) fn fault_of(error: &io::Error) -> GroupFault
+    ensures memory { error_kind error.now ≡ ErrorKind.OutOfMemory → result ≡ NoMemory }
+    ensures port { error_kind error.now ≢ ErrorKind.OutOfMemory → result ≡ PortRefused }
     ensures roster { result ≢ NotOneRoster }
 {
     if error.kind() == ErrorKind::OutOfMemory {

@@ -64,12 +64,16 @@ fn set_order(number: u16, priority: &[u8], offset: &[u8], link_down: &[u8]) -> O
 }
 
 /// What a line of more than two words orders.
+#[tactic(auto, using(crate::proofs::Cutting::too_many_words))]
 fn long_order(verb: &[u8], node: &[u8], rest: &[u8], nodes: u16) -> Option<NodeOrder>
     ensures { result ≡ order_of_words nodes (verb.now ∷ node.now ∷ cut_at 32 rest.now) }
 {
     let (priority, rest) = split_at_byte(rest, b' ')?;
     let (offset, link_down) = split_at_byte(rest, b' ')?;
-    if split_at_byte(link_down, b' ').is_some() || !is_same_bytes(verb, b"set") {
+    if let Some(_) = split_at_byte(link_down, b' ') {
+        return None;
+    }
+    if !is_same_bytes(verb, b"set") {
         return None;
     }
     set_order(node_of(node, nodes)?, priority, offset, link_down)

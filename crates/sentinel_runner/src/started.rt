@@ -13,12 +13,16 @@ use group_sentinels::{RunState, RunningSentinel, ThreadSeat, Which};
 use log::Log;
 use sentinel_conf::Conf;
 use std::alloc::Global;
+use std::io;
 use std::marker::Brand;
 use std::net::Net;
 use std::rt::Clock;
 use std::sync::Wait;
 use std::sync::atomic::{AtomicU64, Ordering};
 use std::thread::{self, Threads};
+
+/// How many threads serve a Sentinel's port.
+const PORT_THREADS: u16 = 1;
 
 /// How many threads use a Sentinel: its timer, its link and its port.
 const SEATS: u64 = 3;
@@ -87,7 +91,12 @@ where
         port,
         number,
     } = opened;
-    let (member, seat) = RunningSentinel::<J, S>::with_seat(alloc, cell, seat, place, number);
+    let made = RunningSentinel::<J, S>::with_seat(alloc, cell, seat, place, number, PORT_THREADS);
+    let Ok((member, seat)) = made else {
+        state.note_lacking_thread();
+        ending.store(1, Ordering::SeqCst);
+        return;
+    };
     let Some((first, timer)) = member.split(alloc, seat) else {
         return;
     };
@@ -137,7 +146,7 @@ where
 }
 
 /// Notes why a port serves no more: want of memory, or the system.
-fn note_lost(state: &RunState, error: &std::io::Error) {
+fn note_lost(state: &RunState, error: &io::Error) {
     match fault_of(error) {
         GroupFault::NoMemory => state.note_lacking_thread(),
         _ => state.note_lost_port(),

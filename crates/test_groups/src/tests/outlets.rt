@@ -6,6 +6,7 @@ use ballot_law::{Addr, Body, Card, Message, NodeName, Note, Output};
 use group_sentinels::{Outlet, send_all};
 use messages::copy_of;
 use std::alloc::Global;
+use std::process::Abort;
 use std::test::Fail;
 
 /// An outlet that keeps all messages that it was handed.

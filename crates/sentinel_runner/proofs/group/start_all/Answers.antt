@@ -1,7 +1,7 @@
-use Rattle.std.proofs.Common.{◌<◌, ◌-◌, ◌^◌, ℕ, subst, sym}
+use Rattle.std.proofs.Common.{◌<◌, ◌-◌, ◌^◌, subst, sym}
 use Rattle.std.specs.Prelude.{All}
 use Rattle.std.proofs.lemmas.List.Elements.{All-take}
-use Rattle.sentinel_runner.proofs.group.open_all.Goals as goal
+use Rattle.sentinel_runner.proofs.group.start_all.Goals as goal
 
 pub loop-conf-preserved : goal.loop-conf-preserved
 loop-conf-preserved g c =
