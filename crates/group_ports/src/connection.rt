@@ -1,10 +1,12 @@
 //! One client's connection.
 
-ghost use Rattle.std.specs.Prelude.{◌≤◌, IfOk};
+ghost use Rattle.std.specs.Prelude.{◌≡◌, ◌≢◌, ◌<◌, ◌↔◌, ◌⊎◌, ◌++◌, ℕ, List, [], None, IsTrue, false, true, length};
+ghost use Rattle.std.specs.Io.KnownBytes.{Consumes};
+ghost use Rattle.group_ports.specs.Sending.{IsSent, IsHanded};
 
+use crate::read_buffer::{PIECE, ReadBuffer};
 use conf_store::ConfStore;
 use group_sentinels::{RunState, RunningSentinel, Switch, ThreadSeat, Which};
-use mio::net::TcpStream;
 use port_serving::ServeFault;
 use port_sessions::Session;
 use std::alloc::Global;
@@ -12,149 +14,102 @@ use std::io::{ErrorKind, Read, Write};
 use std::rt::Clock;
 use std::sync::Wait;
 
-/// How many bytes one read asks for.
-pub(crate) const PIECE: usize = 16_384;
+/// How many times a connection reads, or hands bytes over, before the others have their turn.
+const STEPS_MAX: u32 = 16;
 
-/// How many reads a connection makes before the next one has its turn.
-const READS_MAX: u32 = 16;
+/// How many bytes may wait to be sent before the connection is read no further, and no more of what was read is answered.
+pub(crate) const UNSENT_MAX: usize = 1_048_576;
 
-/// How many bytes may wait to be sent before the connection is read no further.
-const UNSENT_MAX: usize = 1_048_576;
-
-/// What a connection does next.
-#[derive(Clone, Copy, PartialEq, Eq)]
-pub(crate) enum Fate {
-    /// It waits until the system says that it can be read or written.
-    Waits,
-    /// It has more to read, and goes on after the others.
-    GoesOn,
-    /// It is closed.
-    Closes,
-}
-
-/// What became of one read.
-#[derive(Clone, Copy, PartialEq, Eq)]
-enum Heard {
-    /// A piece was taken in, and more may wait.
-    Piece,
-    /// A piece was taken in that was all there was to read.
-    LastPiece,
-    /// There is nothing to read now.
-    Nothing,
-    /// No more is read: the client ended its stream, or the session ended.
-    End,
-    /// The connection is broken.
-    Broken,
-}
-
-/// A client's connection with its session. `half` is whether its client has ended its stream or broken off, as the system told: then the end is
-/// still to be read behind the last piece.
+/// A client's connection with its session.
+///
+/// `readable` is whether the system told of bytes that may not be read yet. `half` is whether its client has ended its stream or broken off, as the
+/// system told: then the end is still to be read after the last piece. `votes` is whether it may have asked for a vote. `ends` is whether
+/// no more of it is read or answered: it is closed once all is sent.
 #[derive(Drop)]
-pub(crate) struct Connection {
-    stream: TcpStream,
+pub(crate) struct Connection<T: Read + Write + Drop> {
+    stream: T,
     session: Session,
+    buffer: ReadBuffer,
+    readable: bool,
     half: bool,
+    votes: bool,
     ends: bool,
-    goes_on: bool,
 }
 
-impl Connection {
+impl<T: Read + Write + Drop> Connection<T> {
     /// A connection from which nothing was read.
-    pub(crate) fn new(alloc: Global, stream: TcpStream) -> Connection {
+    pub(crate) fn new(alloc: Global, stream: T) -> Connection<T> {
         Connection {
             stream,
             session: Session::new(alloc),
+            buffer: ReadBuffer::new(),
+            readable: false,
             half: false,
+            votes: false,
             ends: false,
-            goes_on: false,
         }
     }
 
-    /// The client has ended its stream, or broken off.
-    pub(crate) fn note_half(&mut self) {
-        self.half = true;
+    /// The system told of bytes to read, and whether its client has ended its stream or broken off.
+    pub(crate) fn note_readable(&mut self, half: bool) {
+        self.readable = true;
+        self.half |= half;
     }
 
-    /// Reads one piece into the room: how long it is, or what became of the read where there is none.
-    fn read_piece(&mut self, room: &mut [u8; PIECE]) -> Result<usize, Heard>
-        ensures { IfOk result (λ count. count ≤ PIECE) }
+    /// Whether it may have asked for a vote, which is stored before it is answered.
+    pub(crate) fn asks_for_votes(&self) -> bool {
+        self.votes
+    }
+
+    /// Whether a turn has something to do: there is something to read or to answer, it doesn't end, and not too much is unsent.
+    pub(crate) fn wants_turn(&self) -> bool
+        ensures { IsTrue result ↔ ((self.now.ends ≡ false) × ((self.now.readable ≡ true) ⊎ (self.now.buffer ≢ [])) × (length self.now.session.unsent < UNSENT_MAX)) }
     {
-        match self.stream.read(room) {
-            Ok(0) => Err(Heard::End),
-            Ok(count) => Ok(count),
-            Err(error) => Err(heard_of(error.kind())),
-        }
+        !self.ends
+            && (self.readable || !self.buffer.is_empty())
+            && self.session.unsent().len() < UNSENT_MAX
     }
 
-    /// Has the session answer a piece. One that left room was the last, unless the stream has ended.
-    fn take_piece<J: Which, S: ConfStore, R: Wait + Clock>(
-        &mut self,
-        rt: &R,
-        group: &RunState,
-        member: &RunningSentinel<J, S>,
-        seat: &mut ThreadSeat<J>,
-        piece: &[u8],
-    ) -> Heard {
-        let now = group.clock.now(rt);
-        match member.receive(rt, seat, &mut self.session, now, piece) {
-            Ok(()) if piece.len() < PIECE && !self.half => Heard::LastPiece,
-            Ok(()) => Heard::Piece,
-            Err(ServeFault::Halted) => {
-                group.note_halted();
-                Heard::End
+    /// Whether it ends and all is sent.
+    pub(crate) fn is_done(&self) -> bool
+        ensures { IsTrue result ↔ ((self.now.ends ≡ true) × (self.now.session.unsent ≡ [])) }
+    {
+        self.ends && self.session.unsent().is_empty()
+    }
+
+    /// Writes once of what is unsent; the error says why nothing was taken.
+    #[tactic(auto, using(crate::proofs::Sends::sent_none, crate::proofs::Sends::sent_some))]
+    fn write(&mut self) -> Result<(), ErrorKind>
+        ensures sent { IsSent (T.contents self.old.stream) (T.contents self.new.stream) self.old.session.unsent self.new.session.unsent }
+        ensures read { self.new.buffer ≡ self.old.buffer }
+    {
+        match self.stream.write(self.session.unsent()) {
+            Ok(0) => Err(ErrorKind::WriteZero),
+            Ok(count) => {
+                self.session.sent(count);
+                Ok(())
             }
-            Err(_) => Heard::End,
+            Err(error) => Err(error.kind()),
         }
     }
 
-    /// Sends what is unsent until it would wait: whether the connection is whole.
-    fn send(&mut self) -> bool {
+    /// Sends what is unsent until it would wait: whether the connection is whole. What its client gets is what was taken away of the front.
+    #[tactic(auto, using(crate::proofs::Sends::sent_none, crate::proofs::Sends::sent_twice, crate::proofs::Sends::sent_nothing))]
+    pub(crate) fn send(&mut self) -> bool
+        ensures sent { IsSent (T.contents self.old.stream) (T.contents self.new.stream) self.old.session.unsent self.new.session.unsent }
+        ensures read { self.new.buffer ≡ self.old.buffer }
+    {
         for _ in 0..u64::MAX {
             if self.session.unsent().is_empty() {
                 return true;
             }
-            match self.stream.write(self.session.unsent()) {
-                Ok(0) => return false,
-                Ok(count) => self.session.sent(count),
-                Err(error) => match error.kind() {
-                    ErrorKind::WouldBlock => return true,
-                    ErrorKind::Interrupted => {}
-                    _ => return false,
-                },
+            match self.write() {
+                Ok(()) | Err(ErrorKind::Interrupted) => {}
+                Err(ErrorKind::WouldBlock) => return true,
+                Err(_) => return false,
             }
         }
         true
-    }
-
-    /// Whether it has more to read, and goes on after the others.
-    pub(crate) fn goes_on(&self) -> bool {
-        self.goes_on
-    }
-
-    /// What it does next, once all was sent that could be.
-    fn fate(&mut self, goes_on: bool) -> Fate {
-        self.goes_on = goes_on;
-        if self.ends && self.session.unsent().is_empty() {
-            return Fate::Closes;
-        }
-        if goes_on {
-            return Fate::GoesOn;
-        }
-        Fate::Waits
-    }
-
-    /// Sends what can be sent. There is nothing more to read.
-    fn last_piece_taken(&mut self) -> Fate {
-        if self.send() {
-            self.fate(false)
-        } else {
-            Fate::Closes
-        }
-    }
-
-    /// Whether it is read on: not once it ends, and not while too much is unsent.
-    fn may_read(&self) -> bool {
-        !self.ends && self.session.unsent().len() < UNSENT_MAX
     }
 
     /// Tells its client of a master's new address where it has subscribed: whether the connection is whole, and had memory for it.
@@ -170,43 +125,88 @@ impl Connection {
         }
     }
 
-    /// Reads and sends until it would wait, or until others have their turn.
+    /// Reads once: whether the connection is whole. A read that leaves room has read all that there was, unless the stream has ended.
+    #[tactic(auto, using(crate::proofs::Sends::consumes_nothing))]
+    fn read(&mut self) -> bool
+        requires { self.old.buffer ≡ [] }
+        ensures read { Consumes (T.remaining self.old.stream) (T.remaining self.new.stream) self.new.buffer }
+        ensures session { self.new.session ≡ self.old.session }
+    {
+        match self.buffer.fill(&mut self.stream) {
+            Ok(0) => self.ends = true,
+            Ok(count) => self.readable = self.half || count == PIECE,
+            Err(error) => match error.kind() {
+                ErrorKind::WouldBlock => self.readable = false,
+                ErrorKind::Interrupted => {}
+                _ => return false,
+            },
+        }
+        true
+    }
+
+    /// Hands the session the bytes that are next, at a reading of the clock.
+    fn hand_over<J: Which, S: ConfStore, R: Wait + Clock>(
+        &mut self,
+        rt: &R,
+        state: &RunState,
+        member: &RunningSentinel<J, S>,
+        seat: &mut ThreadSeat<J>,
+        now: u64,
+    )
+        ensures handed { (bytes : List ℕ) × (self.old.buffer ≡ bytes ++ self.new.buffer) × (self.old.session.ended ≡ None
+            → IsHanded member.now.cell.start now self.old.session seat.old.seat.view bytes self.new.session seat.new.seat.view) }
+        ensures stream { self.new.stream ≡ self.old.stream }
+    {
+        let bytes = self.buffer.next();
+        let count = bytes.len();
+        let dotted = bytes.last() == Some(&b'.');
+        if let Err(fault) = member.receive(rt, seat, &mut self.session, now, bytes) {
+            if let ServeFault::Halted = fault {
+                state.note_halted();
+            }
+            self.ends = true;
+        }
+        self.votes |= dotted;
+        self.buffer.take(count);
+    }
+
+    /// Reads where nothing is left to hand over, and hands over what is next: whether the connection is whole.
+    fn step<J: Which, S: ConfStore, R: Wait + Clock>(
+        &mut self,
+        rt: &R,
+        state: &RunState,
+        member: &RunningSentinel<J, S>,
+        seat: &mut ThreadSeat<J>,
+        now: u64,
+    ) -> bool {
+        if self.buffer.is_empty() && !self.read() {
+            return false;
+        }
+        if !self.buffer.is_empty() {
+            self.hand_over(rt, state, member, seat, now);
+        }
+        true
+    }
+
+    /// Reads and answers until it would wait, or until others have their turn: after the step in which the clock's millisecond ended, or from which on it
+    /// may ask for votes. The answer is whether it is whole.
     pub(crate) fn turn<J: Which, S: ConfStore, R: Wait + Clock>(
         &mut self,
         rt: &R,
-        group: &RunState,
+        state: &RunState,
         member: &RunningSentinel<J, S>,
         seat: &mut ThreadSeat<J>,
-        room: &mut [u8; PIECE],
-    ) -> Fate {
-        for _ in 0..READS_MAX {
-            if !self.send() {
-                return Fate::Closes;
+    ) -> bool {
+        let began = state.clock.now(rt);
+        let asked_for_votes = self.votes;
+        for _ in 0..STEPS_MAX {
+            if !self.step(rt, state, member, seat, began) {
+                return false;
             }
-            if !self.may_read() {
-                return self.fate(false);
-            }
-            let heard = match self.read_piece(room) {
-                Ok(count) => self.take_piece(rt, group, member, seat, &room[..count]),
-                Err(heard) => heard,
-            };
-            match heard {
-                Heard::Piece => {}
-                Heard::LastPiece => return self.last_piece_taken(),
-                Heard::Nothing => return self.fate(false),
-                Heard::End => self.ends = true,
-                Heard::Broken => return Fate::Closes,
+            if !self.wants_turn() || self.votes != asked_for_votes || state.clock.now(rt) != began {
+                break;
             }
         }
-        self.fate(true)
-    }
-}
-
-/// What an error of a read says of the connection.
-fn heard_of(kind: ErrorKind) -> Heard {
-    match kind {
-        ErrorKind::WouldBlock => Heard::Nothing,
-        ErrorKind::Interrupted => Heard::Piece,
-        _ => Heard::Broken,
+        true
     }
 }

@@ -5,6 +5,7 @@ ghost use Rattle.sentinel_runner.specs.declared.group_fault.GroupFault.TheVarian
 ghost use Rattle.sentinel_runner.specs.Groups.{AreOneGroup};
 
 use crate::group_fault::{GroupFault, OrderedFault};
+use crate::opened::connections_of;
 use crate::orders::{Orders, ReadFailed};
 use crate::started::Started;
 use conf_store::ConfStore;
@@ -46,13 +47,14 @@ fn start_all<S: ConfStore + Drop, R: Net + Log>(
     mut confs: Vec<Conf>,
     mut stores: Vec<S>,
     links: &mut Links,
+    most: usize,
 ) -> Result<Vec<Started<S>>, GroupFault>
     requires room { All (λ s. S.failure_count s < 2 ^ 64 - 1) stores.items }
     ensures roster { IfErr result (λ fault. fault ≢ NotOneRoster) }
 {
     let mut sentinels = Vec::new(alloc);
     while let (Some(conf), Some(store)) = (confs.pop(), stores.pop()) {
-        sentinels.push(Started::open(rt, alloc, conf, store, links)?)?;
+        sentinels.push(Started::open(rt, alloc, conf, store, links, most)?)?;
     }
     Ok(sentinels)
 }
@@ -105,7 +107,8 @@ impl<S: ConfStore + Drop> Group<S> {
         let nodes = DataNodes::of(alloc, first)?;
         let (mut links, node_orders) = Links::open(alloc, confs.len())?;
         let clock = GroupClock::start(rt);
-        let sentinels = start_all(rt, alloc, confs, stores, &mut links)?;
+        let most = connections_of(rt, alloc, confs.len())?;
+        let sentinels = start_all(rt, alloc, confs, stores, &mut links, most)?;
         Ok(Group {
             threads: Beginning {
                 sentinels,

@@ -6,7 +6,7 @@ ghost use Rattle.sentinel_runner.specs.declared.group_fault.GroupFault.TheVarian
 
 use crate::group_fault::GroupFault;
 use conf_store::ConfStore;
-use group_ports::Port;
+use group_ports::{Port, connections_of_each};
 use log::{Log, warn};
 use sentinel_cell::{Seat, SharedSentinel};
 use sentinel_conf::Conf;
@@ -38,20 +38,36 @@ pub(crate) fn fault_of(error: &io::Error) -> GroupFault
     GroupFault::PortRefused
 }
 
+/// How many connections each of so many ports keeps. `PortRefused` where the process may have too few descriptors for any.
+pub(crate) fn connections_of<R: Net>(
+    rt: &R,
+    alloc: Global,
+    ports: usize,
+) -> Result<usize, GroupFault>
+    ensures roster { IfErr result (λ fault. fault ≢ NotOneRoster) }
+{
+    match connections_of_each(rt, alloc, ports) {
+        Ok(0) => Err(GroupFault::PortRefused),
+        Ok(most) => Ok(most),
+        Err(error) => Err(fault_of(&error)),
+    }
+}
+
 impl<S: ConfStore + Drop> Opened<S> {
-    /// Opens the port of this conf and its Sentinel at clock 0, for as many threads as there are to be seats.
+    /// Opens the port of this conf for at most so many connections, and its Sentinel at clock 0, for as many threads as there are to be seats.
     pub(crate) fn open<R: Net + Log>(
         rt: &R,
         alloc: Global,
         conf: Conf,
         store: S,
         seats: u64,
+        most: usize,
     ) -> Result<Opened<S>, GroupFault>
         requires room { S.failure_count store < 2 ^ 64 - 1 }
         ensures roster { IfErr result (λ fault. fault ≢ NotOneRoster) }
     {
         let (number, place) = (conf.port(), conf.place());
-        let port = match Port::open(rt, alloc, number) {
+        let port = match Port::open(rt, alloc, number, most) {
             Ok(port) => port,
             Err(error) => {
                 warn!(rt; "port {number} of 127.0.0.1 can't be had");

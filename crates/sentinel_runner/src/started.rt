@@ -35,18 +35,19 @@ pub(crate) struct Started<S: ConfStore> {
 }
 
 impl<S: ConfStore + Drop> Started<S> {
-    /// Opens the Sentinel of this conf at clock 0, and its port, and connects it.
+    /// Opens the Sentinel of this conf at clock 0, and its port for at most so many connections, and connects it.
     pub(crate) fn open<R: Net + Log>(
         rt: &R,
         alloc: Global,
         conf: Conf,
         store: S,
         links: &mut Links,
+        most: usize,
     ) -> Result<Started<S>, GroupFault>
         requires room { S.failure_count store < 2 ^ 64 - 1 }
         ensures roster { IfErr result (λ fault. fault ≢ NotOneRoster) }
     {
-        let opened = Opened::open(rt, alloc, conf, store, SEATS)?;
+        let opened = Opened::open(rt, alloc, conf, store, SEATS, most)?;
         let deliveries = links.connect(opened.place)?;
         Ok(Started { opened, deliveries })
     }

@@ -1,6 +1,17 @@
-use Rattle.std.proofs.Common.{◌≤◌, ℕ, List, length, subst}
+use Rattle.std.proofs.Common.{◌∙◌}
+use Rattle.group_ports.proofs.Sends.{sent_twice}
 use Rattle.group_ports.proofs.connection.Connection.send.Goals as goal
 
--- no more is taken away than the connection took
-pub sent-requires : goal.sent-requires
-sent-requires c = subst (λ (unsent : List ℕ). c.in-Ok.count ≤ length unsent) c.unsent-in-loop.ensures c.in-Ok.ensures.bound
+-- what the last write sent comes after what was sent before it
+pub returns-in-Err-WouldBlock-clause-sent : goal.returns-in-Err-WouldBlock-clause-sent
+returns-in-Err-WouldBlock-clause-sent g c = sent_twice _ _ _ _ _ _ c.loop.invariant.0 c.write.ensures.sent
+
+pub returns-in-Err : goal.returns-in-Err
+returns-in-Err g c =
+    record {
+      sent = sent_twice _ _ _ _ _ _ c.loop.invariant.0 c.write.ensures.sent;
+      read = c.write.ensures.read ∙ c.loop.invariant.1;
+    }
+
+pub loop-preserved : goal.loop-preserved
+loop-preserved g c = (sent_twice _ _ _ _ _ _ c.loop.invariant.0 c.write.ensures.sent, c.write.ensures.read ∙ c.loop.invariant.1)

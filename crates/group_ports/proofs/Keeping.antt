@@ -1,0 +1,27 @@
+-- A slab whose value at a key changes.
+use Rattle.std.proofs.Common.{◌≡◌, ◌≢◌, ◌∙◌, ℕ, ◌+◌, ◌≤◌, ◌<◌, Option, Some, None, is_some, cond, length, subst, sym, ap, arith}
+use Rattle.std.proofs.lemmas.List.Sums.{sum_by-set}
+use Rattle.slab.specs.Slab.{Slab, get, ContainsKey, with_value, slab_len, Updates}
+use Rattle.slab.proofs.SlabLemmas.{ContainsKey-within, Updates-with_value}
+
+module _ {T : Type 0} where
+  counted : Option T → ℕ
+  counted slot = cond (is_some slot) 1 0
+
+  -- a write through `get_mut(key)` leaves as many values
+  pub kept_few : (s : Slab T) (key : ℕ) (before after : T) (most : ℕ) → get s key ≡ Some before → slab_len s ≤ most → slab_len (with_value s key after) ≤ most
+  kept_few s key before after most found few =
+      let present : ContainsKey s key = grind (arith, found) in
+      let within : key < length s.slots = ContainsKey-within s key present in
+      let one : counted (get s key) ≡ 1 = ap counted found in
+      omega (arith, few, one, sum_by-set counted s.slots key (Some after) None within)
+
+  -- and each other key's value
+  pub others_kept : (s : Slab T) (key : ℕ) (before after : T) (other : ℕ) → get s key ≡ Some before → other ≢ key → get (with_value s key after) other ≡ get s other
+  others_kept s key before after other found differs =
+      let present : ContainsKey s key = grind (arith, found) in
+      (Updates-with_value s key after present).others other differs
+
+  -- also where the value is removed after that
+  pub others_left : (s left : Slab T) (key : ℕ) (before after : T) (other : ℕ) → get s key ≡ Some before → Updates (with_value s key after) left key None → other ≢ key → get left other ≡ get s other
+  others_left s left key before after other found removed differs = removed.others other differs ∙ others_kept s key before after other found differs

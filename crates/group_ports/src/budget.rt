@@ -1,0 +1,54 @@
+//! How many connections each port of a process keeps, so that descriptors are left for the files that are stored.
+
+ghost use Rattle.std.specs.Prelude.{◌≡◌, ◌≤◌, ◌<◌, ◌+◌, ◌*◌, ◌⊎◌, IfOk};
+
+use crate::clients::CONNECTIONS_MAX;
+use mio::Poll;
+use std::alloc::Global;
+use std::io::{self, ErrorKind};
+use std::net::Net;
+
+/// How many descriptors each port needs beside its connections: its readiness, its listener, a connection that is accepted only to be closed, and
+/// the file that its Sentinel stores.
+const FOR_A_PORT: u64 = 4;
+
+/// How many descriptors are left for all else.
+const FOR_THE_REST: u64 = 8;
+
+/// How many connections each of these ports may keep, where this many descriptors can still be opened: the most, up to `CONNECTIONS_MAX`, with which
+/// those stay free that the ports and the rest of the process need. 0 where these alone are too many.
+fn share_of(descriptors: u64, ports: usize) -> usize
+    requires { 0 < ports }
+    ensures few { result ≤ CONNECTIONS_MAX }
+    ensures fits { 0 < result → (result + FOR_A_PORT) * ports + FOR_THE_REST ≤ descriptors }
+    ensures most { (result ≡ CONNECTIONS_MAX) ⊎ (descriptors < (result + 1 + FOR_A_PORT) * ports + FOR_THE_REST) }
+{
+    let each = descriptors.saturating_sub(FOR_THE_REST) / ports as u64;
+    each.saturating_sub(FOR_A_PORT).min(CONNECTIONS_MAX as u64) as usize
+}
+
+/// How many descriptors of those that are wanted the system gives: so many are opened, and closed again.
+fn descriptors_of<N: Net>(net: &N, alloc: Global, wanted: u64) -> io::Result<u64> {
+    let poll = Poll::new(net)?;
+    let mut opened = Vec::new(alloc);
+    for count in 0..wanted {
+        match poll.registry().try_clone() {
+            Ok(one) => opened.push(one)?,
+            Err(_) => return Ok(count),
+        }
+    }
+    Ok(wanted)
+}
+
+/// How many connections each of so many ports of this process may keep, at most `CONNECTIONS_MAX`, so that all of them together leave descriptors
+/// for the files that the group stores; 0 where there is room for none. It is asked before the ports are opened, of which there is one at least.
+/// The error is the system's, where it gives no descriptor at all; `OutOfMemory` is a refused allocation.
+pub fn connections_of_each<N: Net>(net: &N, alloc: Global, ports: usize) -> io::Result<usize>
+    ensures { IfOk result (λ share. share ≤ CONNECTIONS_MAX) }
+{
+    let ports = ports.max(1);
+    let wanted = (ports as u64)
+        .saturating_mul(CONNECTIONS_MAX as u64 + FOR_A_PORT)
+        .saturating_add(FOR_THE_REST);
+    Ok(share_of(descriptors_of(net, alloc, wanted)?, ports))
+}
