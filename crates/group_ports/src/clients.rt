@@ -14,9 +14,10 @@ use slab::Slab;
 use std::alloc::Global;
 use std::io::{self, ErrorKind};
 use std::net::{Ipv4Addr, Net, SocketAddr};
+use std::os::fd::AsFd;
 use std::rt::Clock;
-use std::sync::Wait;
 use std::sync::atomic::{AtomicU64, Ordering};
+use std::sync::{Arc, Wait};
 use std::time::Duration;
 
 /// The token of the listener; a connection's token is its key in the slab.
@@ -34,13 +35,16 @@ const WAIT_MS: u64 = 100;
 /// A listener with the connections that it accepted.
 ///
 /// `accepts` is whether connections may wait of which the system doesn't tell again, `busy` whether there is something to do before the next wait, and
-/// `last_voter` the key of the connection that asked for a vote last.
+/// `last_voter` the key of the connection that asked for a vote last. Where several threads serve the port, each has such a listener, and `all` counts the
+/// connections of all of them.
 #[derive(Drop)]
 pub(crate) struct Clients {
     poll: Poll,
     listener: TcpListener,
     connections: Slab<Connection<TcpStream>>,
     most: usize,
+    threads: u16,
+    all: Arc<AtomicU64, Global>,
     accepts: bool,
     busy: bool,
     last_voter: usize,
@@ -50,18 +54,41 @@ pub(crate) struct Clients {
 }
 
 impl Clients {
-    /// Listens on 127.0.0.1 at this port, for at most so many connections at once.
+    /// Listens on 127.0.0.1 at this port, which so many threads serve, for at most so many connections of each at once.
     pub(crate) fn open<N: Net>(
         net: &N,
         alloc: Global,
         port: u16,
         most: usize,
+        threads: u16,
+    ) -> io::Result<Clients>
+        requires { most ≤ CONNECTIONS_MAX }
+    {
+        let address = SocketAddr::from((Ipv4Addr::LOCALHOST, port));
+        let listener = TcpListener::bind(net, address)?;
+        let all = Arc::new(alloc, AtomicU64::new(0))?;
+        Clients::of(net, alloc, listener, most, threads, all)
+    }
+
+    /// The same port for one more of its threads.
+    pub(crate) fn another<N: Net>(&self, net: &N) -> io::Result<Clients> {
+        let listener = TcpListener::from(self.listener.as_fd().try_clone_to_owned()?);
+        let all = Arc::try_clone(&self.all)?;
+        Clients::of(net, self.alloc, listener, self.most, self.threads, all)
+    }
+
+    /// A thread's part of the port of this listener.
+    fn of<N: Net>(
+        net: &N,
+        alloc: Global,
+        mut listener: TcpListener,
+        most: usize,
+        threads: u16,
+        all: Arc<AtomicU64, Global>,
     ) -> io::Result<Clients>
         requires { most ≤ CONNECTIONS_MAX }
     {
         let poll = Poll::new(net)?;
-        let address = SocketAddr::from((Ipv4Addr::LOCALHOST, port));
-        let mut listener = TcpListener::bind(net, address)?;
         poll.registry()
             .register(&mut listener, LISTENER, Interest::READABLE)?;
         Ok(Clients {
@@ -69,6 +96,8 @@ impl Clients {
             listener,
             connections: Slab::new(alloc),
             most,
+            threads,
+            all,
             accepts: false,
             busy: false,
             last_voter: 0,
@@ -91,23 +120,32 @@ impl Clients {
         }
     }
 
-    /// Accepts what waits. Where the system has no descriptor or no memory for it, it is tried again after the next wait.
+    /// Whether it is this thread's turn to accept: it has no more connections than the threads of the port have on average.
+    fn has_few(&self) -> bool {
+        let own = self.connections.len() as u64;
+        own.saturating_mul(u64::from(self.threads)) <= self.all.load(Ordering::SeqCst)
+    }
+
+    /// Accepts what waits while it is this thread's turn to do so. Where it isn't, or the system has no descriptor or no memory for it, it is tried again
+    /// after the next wait.
     fn accept_all(&mut self) {
-        self.accepts = false;
+        self.accepts = true;
         for _ in 0..ACCEPTS_MAX {
+            if !self.has_few() {
+                return;
+            }
             match self.listener.accept() {
                 Ok((stream, _)) => drop(self.keep(stream)),
                 Err(error) => match error.kind() {
-                    ErrorKind::WouldBlock => return,
-                    ErrorKind::Interrupted | ErrorKind::ConnectionAborted => {}
-                    _ => {
-                        self.accepts = true;
+                    ErrorKind::WouldBlock => {
+                        self.accepts = false;
                         return;
                     }
+                    ErrorKind::Interrupted | ErrorKind::ConnectionAborted => {}
+                    _ => return,
                 },
             }
         }
-        self.accepts = true;
         self.busy = true;
     }
 
@@ -131,7 +169,15 @@ impl Clients {
         )?;
         self.connections
             .insert(Connection::new(self.alloc, stream))?;
+        self.all.fetch_add(1, Ordering::SeqCst);
         Ok(())
+    }
+
+    /// Closes a connection.
+    fn close(&mut self, key: usize) {
+        if self.connections.try_remove(key).is_some() {
+            self.all.fetch_sub(1, Ordering::SeqCst);
+        }
     }
 
     /// Whether a connection has something to do before the next wait, among those that may have asked for a vote or among the others.
@@ -160,7 +206,7 @@ impl Clients {
             return;
         };
         if !connection.turn(rt, state, member, seat) {
-            drop(self.connections.try_remove(key));
+            self.close(key);
         }
     }
 
@@ -173,7 +219,7 @@ impl Clients {
             return;
         };
         if !client.send() || client.is_done() {
-            drop(self.connections.try_remove(key));
+            self.close(key);
             return;
         }
         self.busy |= client.wants_turn();
@@ -275,7 +321,7 @@ impl Clients {
             return;
         };
         if !connection.tell(member, switch) {
-            drop(self.connections.try_remove(key));
+            self.close(key);
         }
     }
 
@@ -295,8 +341,9 @@ impl Clients {
         &mut self,
         rt: &R,
         member: &RunningSentinel<J, S>,
+        thread: u16,
     ) {
-        for switch in &member.take_switches(rt, 0) {
+        for switch in &member.take_switches(rt, thread) {
             self.tell_all(member, switch);
         }
     }

@@ -14,20 +14,38 @@ use std::sync::atomic::{AtomicU64, Ordering};
 /// How many connections the system tells of at once.
 const EVENTS: usize = 256;
 
-/// A listening port with its connections.
+/// A thread's part of a listening port, with its connections; the threads of a port are numbered from 0 on.
 #[derive(Drop)]
 pub struct Port {
     clients: Clients,
     events: Events<Global>,
+    thread: u16,
 }
 
 impl Port {
-    /// Listens on 127.0.0.1 at this port, and keeps at most so many connections at once, and no more than `CONNECTIONS_MAX`; a further one is
-    /// closed. An error is the system's, as where the port is taken; `OutOfMemory` is a refused allocation.
-    pub fn open<N: Net>(net: &N, alloc: Global, port: u16, most: usize) -> io::Result<Port> {
+    /// Listens on 127.0.0.1 at this port, which so many threads serve, and keeps at most so many connections of each at once; a further one is closed. It is
+    /// the part of the first thread. An error is the system's, as where the port is taken; `OutOfMemory` is a refused allocation.
+    pub fn open<N: Net>(
+        net: &N,
+        alloc: Global,
+        port: u16,
+        most: usize,
+        threads: u16,
+    ) -> io::Result<Port> {
         Ok(Port {
-            clients: Clients::open(net, alloc, port, most.min(CONNECTIONS_MAX))?,
+            clients: Clients::open(net, alloc, port, most.min(CONNECTIONS_MAX), threads)?,
             events: Events::with_capacity(alloc, EVENTS)?,
+            thread: 0,
+        })
+    }
+
+    /// The part of the port's thread with this number, beside that of another one. Connections go to the thread that has the fewest. An error is the
+    /// system's; `OutOfMemory` is a refused allocation.
+    pub fn part_of<N: Net>(&self, net: &N, alloc: Global, thread: u16) -> io::Result<Port> {
+        Ok(Port {
+            clients: self.clients.another(net)?,
+            events: Events::with_capacity(alloc, EVENTS)?,
+            thread,
         })
     }
 
@@ -55,7 +73,7 @@ impl Port {
             }
             self.clients.send_events(&self.events);
             self.clients.serve_busy(rt, state, member, seat, ending);
-            self.clients.tell_switches(rt, member);
+            self.clients.tell_switches(rt, member, self.thread);
         }
         unreachable!()
     }
