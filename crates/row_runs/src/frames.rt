@@ -135,6 +135,7 @@ fn tell_values(alloc: Global, pieces: &[Vec<u8>], told: &mut Told) -> Result<(),
             }
             Ok(())
         }
+        Err(FrameFault::NoMemory) => Err(Unplayed::NoMemory),
         Err(fault) => told.shown(&fault),
     }
 }
