@@ -4,8 +4,6 @@ ghost use Rattle.std.specs.Prelude.{Some};
 
 use ballot_law::{Addr, Body, Card, Message, NodeName, Note, Output};
 use group_sentinels::{Outlet, send_all};
-use messages::copy_of;
-use std::alloc::Global;
 use std::process::Abort;
 use std::test::Fail;
 
@@ -13,7 +11,6 @@ use std::test::Fail;
 #[derive(Drop)]
 struct Recorder<R: Abort> {
     messages: Vec<Message>,
-    alloc: Global,
     rt: R,
 }
 
@@ -23,7 +20,7 @@ impl<R: Abort> Outlet for Recorder<R> {
     ghost handed = { λ recorder. Some recorder.messages.items };
 
     fn send(&mut self, message: &Message) {
-        let copy = copy_of(self.alloc, message).expect(&self.rt, "no memory");
+        let copy = message.clone().expect(&self.rt, "no memory");
         self.messages.push(copy).expect(&self.rt, "no memory");
     }
 }
@@ -61,7 +58,6 @@ fn each_message_goes_out_once_in_order(rt: HostRuntime) -> Result<(), Fail> {
     let outputs = [ping(one), note(), ping(other), ping(one)];
     let mut recorder = Recorder {
         messages: Vec::new(alloc),
-        alloc,
         rt,
     };
     send_all(&mut recorder, &outputs);
