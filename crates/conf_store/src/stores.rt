@@ -36,6 +36,9 @@ pub trait ConfStore {
     // does where it has room for the text, a real file doesn't.
     ghost outcome: { Self → List ℕ → Option Outcome } = { λ _ _. None };
 
+    // How long a text may be for which the type says that there is room: a store in memory does, a real file can't.
+    ghost room: { Self → ℕ } = { λ _. 0 };
+
     /// The text that is held. The store is as it was, but for its failure count at `Failed`.
     fn load(&mut self) -> Result<FileText, LoadFault>
         requires { failure_count self.old < 2 ^ 64 - 1 }
@@ -57,7 +60,8 @@ pub trait ConfStore {
         ensures counted { failure_count self.new
             ≡ (if is_ok result then failure_count self.old else failure_count self.old + 1) }
         ensures known { IfSome (outcome self.old text.now)
-            (λ known. (is_ok result ≡ known.is_stored) × (held self.new ≡ Some known.text)) };
+            (λ known. (is_ok result ≡ known.is_stored) × (held self.new ≡ Some known.text)) }
+        ensures kept_room { room self.old ≤ room self.new };
 
     /// How many calls of `load` and `replace` have failed.
     fn failures(&self) -> u64
@@ -149,6 +153,21 @@ impl MemoryStore {
         self.refusal = Some(Refusal { passes, new });
     }
 
+    /// Has no `replace` be refused, where one was asked to be: what was asked for before is forgotten.
+    pub fn refuse_none(&mut self)
+        ensures { self.new ≡ record self.old { refusal = None } }
+    {
+        self.refusal = None;
+    }
+
+    /// Counts failures from 0 again and refuses nothing, as a store that was made anew over this text.
+    pub fn begin_again(&mut self)
+        ensures { self.new ≡ record self.old { failed = 0; refusal = None } }
+    {
+        self.failed = 0;
+        self.refusal = None;
+    }
+
     /// Counts a replacement that was served.
     fn count_served(&mut self)
         ensures { self.new
@@ -170,6 +189,7 @@ impl MemoryStore {
             (self.new ≡ record self.old { text = text.now; room = self.new.room }) }
         ensures err { OnErr result (self.new ≡ self.old) }
         ensures fits { length text.now ≤ self.old.room → IsOk result }
+        ensures kept_room { self.old.room ≤ self.new.room }
     {
         if text.len() > self.text.capacity() {
             self.text = Vec::from_slice(*self.text.allocator(), text)?;
@@ -186,6 +206,8 @@ impl ConfStore for MemoryStore {
     ghost failure_count = { λ store. store.failed };
 
     ghost outcome = { outcome_of };
+
+    ghost room = { λ store. store.room };
 
     fn load(&mut self) -> Result<FileText, LoadFault>
         requires { self.old.failed < 2 ^ 64 - 1 }
@@ -215,6 +237,7 @@ impl ConfStore for MemoryStore {
             × (self.new.text ≡ text.now))) }
         ensures known { IfSome (outcome_of self.old text.now)
             (λ known. (is_ok result ≡ known.is_stored) × (self.new.text ≡ known.text)) }
+        ensures kept_room { self.old.room ≤ self.new.room }
     {
         match self.refusal {
             Some(Refusal { passes: 0, new }) => {

@@ -306,6 +306,7 @@ impl Sentinel {
         ensures known { self.old.phase ≡ Phase.Pending true
             → IfSome (S.outcome store.old (rewritten self.old.plan.conf self.old.core.kept))
             (λ known. (is_ok result ≡ known.is_stored) × (S.held store.new ≡ Some known.text)) }
+        ensures kept_room { S.room store.old ≤ S.room store.new }
     {
         let Phase::Pending { must_store } = self.phase else {
             return Err(StoreFault::Nothing);

@@ -5,8 +5,6 @@ ghost use Rattle.boxed_nodes.specs.Sendable.{IsSendableOutput};
 
 use ballot_law::{Addr, Body, Card, Message, NodeName, Note, Output};
 use group_sentinels::{Outlet, send_all};
-use messages::copy_of;
-use std::alloc::Global;
 use std::process::Abort;
 use std::test::Fail;
 
@@ -14,7 +12,6 @@ use std::test::Fail;
 #[derive(Drop)]
 struct Recorder<R: Abort> {
     messages: Vec<Message>,
-    alloc: Global,
     rt: R,
 }
 
@@ -24,7 +21,7 @@ impl<R: Abort> Outlet for Recorder<R> {
     ghost handed = { λ recorder. Some recorder.messages.items };
 
     fn send(&mut self, message: &Message) {
-        let copy = copy_of(self.alloc, message).expect(&self.rt, "no memory");
+        let copy = message.clone().expect(&self.rt, "no memory");
         self.messages.push(copy).expect(&self.rt, "no memory");
     }
 }
@@ -66,7 +63,6 @@ fn each_message_goes_out_once_in_order(rt: HostRuntime) -> Result<(), Fail> {
     let outputs = [ping(one), note(), ping(other), ping(one)];
     let mut recorder = Recorder {
         messages: Vec::new(alloc),
-        alloc,
         rt,
     };
     send_all(&mut recorder, &outputs);
