@@ -5,15 +5,106 @@ ghost use Rattle.ballot_law.specs.declared.messages.NodeName.TheVariants.{Sentin
 ghost use Rattle.scenarios.specs.Within.{IsWithinStep};
 ghost use Rattle.fault_world.specs.Limits.{IsWithinLimits};
 
-use ballot_law::{KeptText, NoMemory, NodeName, Step};
+use ballot_law::{Event, Input, KeptText, NoMemory, NodeName, Step, Text};
+use messages::copy_of;
 use std::alloc::Global;
 
+/// A copy of what happens at a node.
+fn copy_of_event(alloc: Global, event: &Event) -> Result<Event, NoMemory>
+    ensures { IfOk result (λ copy. copy ≡ event.now) }
+{
+    match event {
+        Event::Tick { master, random } => Ok(Event::Tick {
+            master: *master,
+            random: *random,
+        }),
+        Event::Command { sender, command } => Ok(Event::Command {
+            sender: *sender,
+            command: *command,
+        }),
+        Event::Answered {
+            voter,
+            master,
+            addr,
+            down,
+            leader,
+            epoch,
+        } => Ok(Event::Answered {
+            voter: *voter,
+            master: *master,
+            addr: *addr,
+            down: *down,
+            leader: *leader,
+            epoch: *epoch,
+        }),
+        Event::Pinged { node, reply } => Ok(Event::Pinged {
+            node: *node,
+            reply: *reply,
+        }),
+        Event::InfoRead { node, text } => Ok(Event::InfoRead {
+            node: *node,
+            text: Text::from_slice(alloc, text.as_slice())?,
+        }),
+        Event::HelloRead { text } => Ok(Event::HelloRead {
+            text: Text::from_slice(alloc, text.as_slice())?,
+        }),
+        Event::Become {
+            priority,
+            offset,
+            link_down,
+        } => Ok(Event::Become {
+            priority: *priority,
+            offset: *offset,
+            link_down: *link_down,
+        }),
+        Event::Handed(message) => Ok(Event::Handed(copy_of(alloc, message)?)),
+    }
+}
+
+/// A copy of a step.
+fn copy_of_step(alloc: Global, step: &Step) -> Result<Step, NoMemory>
+    ensures { IfOk result (λ copy. copy ≡ step.now) }
+{
+    match step {
+        Step::Take { node, input } => {
+            let event = copy_of_event(alloc, &input.event)?;
+            let now = input.now;
+            Ok(Step::Take {
+                node: *node,
+                input: Input { now, event },
+            })
+        }
+        Step::Deliver { message, now } => Ok(Step::Deliver {
+            message: *message,
+            now: *now,
+        }),
+        Step::Store { node } => Ok(Step::Store { node: *node }),
+        Step::StoreRefused { node, left } => Ok(Step::StoreRefused {
+            node: *node,
+            left: *left,
+        }),
+        Step::Release { node } => Ok(Step::Release { node: *node }),
+        Step::Stop { node, left } => Ok(Step::Stop {
+            node: *node,
+            left: *left,
+        }),
+        Step::Start { node, now } => Ok(Step::Start {
+            node: *node,
+            now: *now,
+        }),
+        Step::Answer { node, master } => Ok(Step::Answer {
+            node: *node,
+            master: *master,
+        }),
+    }
+}
+
 /// Adds copies of these steps.
-fn add_copies(made: &mut Vec<Step>, steps: &[Step]) -> Result<(), NoMemory>
+fn add_copies(alloc: Global, made: &mut Vec<Step>, steps: &[Step]) -> Result<(), NoMemory>
     ensures { OnOk result (made.new.items ≡ made.old.items ++ steps.now) }
 {
     for step in steps {
-        made.push(step.clone()?)?;
+        made.push(copy_of_step(alloc, step)?)?;
     }
     Ok(())
 }
@@ -37,9 +128,9 @@ pub fn with_stop(
 {
     let node = NodeName::SentinelAt(s);
     let mut made = Vec::new(alloc);
-    add_copies(&mut made, &steps[..k])?;
+    add_copies(alloc, &mut made, &steps[..k])?;
     made.push(Step::Stop { node, left: kept })?;
     made.push(Step::Start { node, now })?;
-    add_copies(&mut made, &steps[k..])?;
+    add_copies(alloc, &mut made, &steps[k..])?;
     Ok(made)
 }

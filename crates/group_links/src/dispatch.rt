@@ -7,7 +7,7 @@ ghost use Rattle.group_links.specs.Dispatches.{dispatched, dispatched_to, to_sen
 use crate::delivery::Delivery;
 use crate::node_orders::NodeOrder;
 use ballot_law::{Message, NoMemory, NodeName};
-use messages::event_of;
+use messages::{copy_of, event_of};
 use std::alloc::Global;
 
 /// Where a message goes, and as what.
@@ -31,7 +31,7 @@ pub fn dispatch_of(alloc: Global, message: &Message) -> Result<Option<Dispatch>,
             None => Ok(None),
         },
         NodeName::StoreAt(number) => {
-            let copy = message.clone()?;
+            let copy = copy_of(alloc, message)?;
             Ok(Some(Dispatch::ToNode(NodeOrder::handed(number, copy))))
         }
         NodeName::ClientAt(_) | NodeName::PortAt(_) => Ok(None),

@@ -9,6 +9,7 @@ ghost use Rattle.node_texts.specs.Infos.{IsInfo, info_text};
 ghost use Rattle.sentinel_rules.specs.Facts.{IsWithinEvent};
 ghost use Rattle.sentinel_rules.specs.Limits.{IsWithinBody};
 
+use crate::copies::copy_of;
 use ballot_law::{Body, Command, Event, Hello, Info, Message, NoMemory, NodeName, PingReply, Text};
 use node_texts::{write_hello, write_info};
 use resp2_frames::OutText;
@@ -109,6 +110,6 @@ pub fn event_of(alloc: Global, message: &Message) -> Result<Option<Event>, NoMem
 {
     match message.target {
         NodeName::SentinelAt(_) => heard(alloc, message.sender, &message.body),
-        _ => Ok(Some(Event::Handed(message.clone()?))),
+        _ => Ok(Some(Event::Handed(copy_of(alloc, message)?))),
     }
 }

@@ -8,10 +8,12 @@
 
 mod bodies;
 mod commands;
+mod copies;
 mod events;
 mod messages;
 mod replies;
 mod short_answer;
 
+pub use copies::copy_of;
 pub use events::event_of;
 pub use messages::message_text;

@@ -12,7 +12,7 @@ use crate::given::number;
 use crate::told::{Told, Unplayed};
 use crate::writable::can_write;
 use ballot_law::{Body, Event, Message, NodeName, Output, PingReply, Roster, Shown};
-use messages::{event_of, message_text};
+use messages::{copy_of, event_of, message_text};
 use resp2_frames::OutText;
 use scenarios::{add_comment, add_message};
 use std::alloc::Global;
@@ -179,7 +179,7 @@ fn tell_delivered(alloc: Global, message: &Message, told: &mut Told) -> Result<(
     requires within { IsWithinBody message.now.body }
     requires writable { IsWritable message.now.body }
 {
-    let copy = message.clone()?;
+    let copy = copy_of(alloc, message)?;
     match event_of(alloc, &copy)? {
         Some(event) => tell_event(alloc, &event, told),
         None => told.word("None"),

@@ -5,6 +5,8 @@ ghost use Rattle.boxed_nodes.specs.Sendable.{IsSendableOutput};
 
 use ballot_law::{Addr, Body, Card, Message, NodeName, Note, Output};
 use group_sentinels::{Outlet, send_all};
+use messages::copy_of;
+use std::alloc::Global;
 use std::process::Abort;
 use std::test::Fail;
 
@@ -12,6 +14,7 @@ use std::test::Fail;
 #[derive(Drop)]
 struct Recorder<R: Abort> {
     messages: Vec<Message>,
+    alloc: Global,
     rt: R,
 }
 
@@ -21,7 +24,7 @@ impl<R: Abort> Outlet for Recorder<R> {
     ghost handed = { λ recorder. Some recorder.messages.items };
 
     fn send(&mut self, message: &Message) {
-        let copy = message.clone().expect(&self.rt, "no memory");
+        let copy = copy_of(self.alloc, message).expect(&self.rt, "no memory");
         self.messages.push(copy).expect(&self.rt, "no memory");
     }
 }
@@ -63,6 +66,7 @@ fn each_message_goes_out_once_in_order(rt: HostRuntime) -> Result<(), Fail> {
     let outputs = [ping(one), note(), ping(other), ping(one)];
     let mut recorder = Recorder {
         messages: Vec::new(alloc),
+        alloc,
         rt,
     };
     send_all(&mut recorder, &outputs);
