@@ -4,7 +4,7 @@ use crate::told::{Told, Unplayed};
 use bounded_list::BoundedList;
 use std::alloc::Global;
 
-/// Tells a list of at most five bytes behind each of these pieces, the last of which is one byte; then when it is cleared and holds another
+/// Tells a list of at most five bytes after each of these pieces, the last of which is one byte; then when it is cleared and holds another
 /// one, and as an empty list in its room.
 fn tell(
     alloc: Global,

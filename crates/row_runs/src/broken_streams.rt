@@ -12,7 +12,7 @@ use std::io::{self, Cursor, ErrorKind, Read, Write};
 struct Breach {
     /// How many bytes are moved a time.
     size: usize,
-    /// Behind how many bytes the fault comes.
+    /// After how many bytes the fault comes.
     left: usize,
     /// The fault; none where a reader goes on, and a writer takes nothing once.
     fault: Option<ErrorKind>,
@@ -47,7 +47,7 @@ impl Read for BrokenReader<'_> {
     }
 }
 
-/// A reader that is interrupted so many times and then at its end.
+/// A reader that is interrupted this number of times and then at its end.
 #[derive(Drop)]
 struct InterruptedReader {
     /// How many interruptions are left.
@@ -160,7 +160,7 @@ impl BrokenStreams {
         Ok(())
     }
 
-    /// Adds a command, and tells its answer: what a Sentinel writes behind the answers to the commands before it.
+    /// Adds a command, and tells its answer: what a Sentinel writes after the answers to the commands before it.
     fn exchange(&mut self, ask: &[u8], told: &mut Told) -> Result<(), Unplayed> {
         self.asks.extend_from_slice(ask)?;
         let mut lone = Lone::boxed(self.alloc, &self.conf, 0)?;
@@ -181,7 +181,7 @@ impl BrokenStreams {
         Ok(())
     }
 
-    /// How many bytes the answers have to the commands that are whole in so many bytes of the stream.
+    /// How many bytes the answers have to the commands that are whole in the first bytes of the stream, in this number of them.
     fn answered_within(&self, count: usize) -> usize {
         let mut answered = 0;
         for end in &self.ends {
@@ -236,7 +236,7 @@ impl BrokenStreams {
         }
     }
 
-    /// The stream as it is served where a read fails behind so many bytes.
+    /// The stream as it is served where a read fails after this number of bytes.
     fn read_failed(&self, size: usize, left: usize) -> Trial {
         let left = left.min(self.asks.len());
         Trial {
@@ -251,7 +251,7 @@ impl BrokenStreams {
         }
     }
 
-    /// The stream as it is served where a read and a write are interrupted behind so many bytes, which come and go one at a time.
+    /// The stream as it is served where a read and a write are interrupted after this number of bytes, which come and go one at a time.
     fn interrupted(&self, left: usize) -> Trial {
         let breach = Breach {
             size: 1,
@@ -279,7 +279,7 @@ impl BrokenStreams {
         }
     }
 
-    /// How a stream is served behind so many bytes, by a call with these words.
+    /// How a stream is served after this number of bytes, by a call with these words.
     fn trial(&self, call: &str, words: &[Vec<u8>], left: usize) -> Result<Trial, Unplayed> {
         match (call, words) {
             ("each_cut", []) => Ok(self.read_whole(Breach { left, ..WHOLE })),
@@ -312,7 +312,7 @@ impl BrokenStreams {
         }
     }
 
-    /// Serves the stream in each way of a call, behind so many bytes each, up to a place. Tells how many these were, or the first that isn't
+    /// Serves the stream in each way of a call, after each number of bytes, up to a place. Tells how many these were, or the first that isn't
     /// served so.
     fn try_each(
         &self,
@@ -333,7 +333,7 @@ impl BrokenStreams {
         told.number(tried)
     }
 
-    /// Tells how a stream without bytes is served whose reader is interrupted so many times, and how many reads there were.
+    /// Tells how a stream without bytes is served whose reader is interrupted this number of times, and how many reads there were.
     fn tell_interrupted(&self, times: u64, told: &mut Told) -> Result<(), Unplayed> {
         let mut lone = Lone::boxed(self.alloc, &self.conf, 0)?;
         let mut reader = InterruptedReader {

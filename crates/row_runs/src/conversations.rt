@@ -59,7 +59,7 @@ fn opened(alloc: Global, file: &[u8]) -> Result<Sentinel, Unplayed>
     }
 }
 
-/// Tells the share of the first seat of a Sentinel that is shared by so many seats, or why it isn't shared so.
+/// Tells the share of the first seat of a Sentinel that is shared by this number of seats, or why it isn't shared so.
 fn tell_seats(alloc: Global, file: &[u8], seats: u64, told: &mut Told) -> Result<(), Unplayed> {
     let store = store(alloc, file, false)?;
     match SharedSentinel::new(alloc, opened(alloc, file)?, store, seats) {
@@ -169,7 +169,7 @@ impl Talk {
         Ok(())
     }
 
-    /// The first client is sent so many bytes; false where there aren't so many.
+    /// The first client is sent this number of bytes; false where there are fewer.
     fn send(&mut self, count: usize) -> bool {
         if count > self.first.unsent().len() {
             return false;

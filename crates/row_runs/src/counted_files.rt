@@ -49,7 +49,7 @@ impl CountedFile {
         self.writes
     }
 
-    /// Has a write refused behind so many that are served, with the new text left or the old one.
+    /// Has a write refused after this number of served ones, with the new text left or the old one.
     pub(crate) fn refuse_after(&mut self, passes: u32, is_new: bool) {
         self.store.refuse_after(passes, is_new);
     }

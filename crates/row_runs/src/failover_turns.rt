@@ -155,7 +155,7 @@ impl Turns {
         }
     }
 
-    /// A failover of a master with so many nodes begins.
+    /// A failover of a master with this number of nodes begins.
     fn begin(&mut self, nodes: u16) -> Result<(), Unplayed> {
         self.failover = Some(Failover::new(self.alloc, nodes)?);
         self.known = FACTS;

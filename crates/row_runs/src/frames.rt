@@ -8,7 +8,7 @@ use crate::told::{Told, Unplayed};
 use resp2_frames::{FrameFault, Frames, OutText, Value, values_of_pieces, write_value};
 use std::alloc::Global;
 
-/// Tells a value: a line, an integer or a bulk string behind the byte of its kind, and an array as how many items it has and then those.
+/// Tells a value: a line, an integer or a bulk string after the byte of its kind, and an array as how many items it has and then those.
 pub(crate) fn tell_value(value: &Value, told: &mut Told) -> Result<(), Unplayed> {
     match value {
         Value::Simple(text) => told.marked('+', text.as_slice()),
@@ -65,7 +65,7 @@ fn tell_whole(frames: &mut Frames, told: &mut Told) -> Result<(), Unplayed> {
     Ok(())
 }
 
-/// Tells what a reader gives behind each of these pieces, and with which fault it refuses one.
+/// Tells what a reader gives after each of these pieces, and with which fault it refuses one.
 fn tell_pieces(alloc: Global, pieces: &[Vec<u8>], told: &mut Told) -> Result<(), Unplayed> {
     let mut frames = Frames::new(alloc);
     for piece in pieces {

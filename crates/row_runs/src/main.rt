@@ -47,7 +47,7 @@ use std::io::ErrorKind;
 use std::sync::Wait;
 use std::{env, fs, io};
 
-/// Tells what comes of a call with these words, of a family each of whose rows stands alone. The family is the name of the row's file.
+/// Tells what comes of a call with these words, of a family each of whose rows is by itself. The family is the name of the row's file.
 fn play(
     rt: &HostRuntime,
     family: &str,
@@ -87,7 +87,7 @@ fn file(rt: &HostRuntime, name: &str) -> Result<Vec<u8>, Unplayed> {
     }
 }
 
-/// The bytes of a word, or of the file that it names behind an `@`.
+/// The bytes of a word, or of the file that it names after an `@`.
 fn word_of(rt: &HostRuntime, word: &str) -> Result<Vec<u8>, Unplayed> {
     match word.strip_prefix('@') {
         Some(name) => file(rt, name),
@@ -95,7 +95,7 @@ fn word_of(rt: &HostRuntime, word: &str) -> Result<Vec<u8>, Unplayed> {
     }
 }
 
-/// The words behind the first one: their bytes, and those of the files that they name.
+/// The words after the first one: their bytes, and those of the files that they name.
 fn words_of(rt: &HostRuntime, text: &str) -> Result<Vec<Vec<u8>>, Unplayed> {
     let mut words = Vec::new(rt.alloc());
     for word in text.split(' ').skip(1) {

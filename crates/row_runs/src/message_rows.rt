@@ -103,7 +103,7 @@ pub(crate) fn tell_output(
     }
 }
 
-/// Tells the first text with comments behind it.
+/// Tells the first text with comments after it.
 fn tell_comments(alloc: Global, words: &[Vec<u8>], told: &mut Told) -> Result<(), Unplayed> {
     let [first, comments @ ..] = words else {
         return Err(Unplayed::WrongWords);

@@ -58,7 +58,7 @@ fn answer_to(number: u16) -> Message
     }
 }
 
-/// The room that these words tell: for so many messages, or that of a Sentinel.
+/// The room that these words name: for a number of messages, or that of a Sentinel.
 fn room(words: &[Vec<u8>]) -> Result<Room, Unplayed> {
     match words {
         [] => Ok(Room::of_sentinel()),

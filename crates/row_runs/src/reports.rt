@@ -53,7 +53,7 @@ fn said(roster: &Roster, words: &[Vec<u8>]) -> Result<Entry, Unplayed> {
     Ok(Entry::of_said(roster, &said))
 }
 
-/// Adds an entry behind its word, which is `elected` or `said`.
+/// Adds an entry after its word, which is `elected` or `said`.
 fn add_entry(
     report: &mut Report,
     roster: &Roster,
@@ -70,7 +70,7 @@ fn add_entry(
     Ok(())
 }
 
-/// Adds the entries of these words. A word `,` stands between two.
+/// Adds the entries of these words. A word `,` is between two.
 fn add_entries(report: &mut Report, roster: &Roster, words: &[Vec<u8>]) -> Result<(), Unplayed> {
     for entry in words.split(|word| word.as_slice() == b",".as_slice()) {
         if let [kind, words @ ..] = entry {
@@ -80,7 +80,7 @@ fn add_entries(report: &mut Report, roster: &Roster, words: &[Vec<u8>]) -> Resul
     Ok(())
 }
 
-/// Tells the lines of a report behind a text, and how many entries it has.
+/// Tells the lines of a report after a text, and how many entries it has.
 fn tell_lines(
     report: &Report,
     front: &[u8],

@@ -59,7 +59,7 @@ fn split(words: &[Vec<u8>]) -> (&[Vec<u8>], &[Vec<u8>]) {
     words.split_at(words.len())
 }
 
-/// The masters of these words, each behind `master`.
+/// The masters of these words, each after `master`.
 fn masters(alloc: Global, words: &[Vec<u8>]) -> Result<Vec<Watched>, Unplayed> {
     let mut masters = Vec::new(alloc);
     let mut rest = words;

@@ -25,7 +25,7 @@ use std::io::{Cursor, Read, Write};
 /// How many bytes of answers have room before a stream is served.
 const ROOM: usize = 65_536;
 
-/// A Sentinel with its file, and the outputs of its last input. It stands in a box: whatever lets it go then sees one call.
+/// A Sentinel with its file, and the outputs of its last input. It is in a box: what drops it then sees one call.
 #[derive(Drop)]
 pub(crate) struct Lone {
     alloc: Global,

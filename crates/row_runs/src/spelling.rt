@@ -1,4 +1,4 @@
-//! How bytes are spelled in a row: printable ASCII stands for itself, and what else there is stands behind a backslash.
+//! How bytes are spelled in a row: printable ASCII stands for itself, and all else comes after a backslash.
 
 use crate::told::Unplayed;
 use std::alloc::Global;
@@ -38,7 +38,7 @@ fn hex_byte(high: u8, low: u8) -> Option<u8> {
     u8::try_from(high.wrapping_mul(16).wrapping_add(low)).ok()
 }
 
-/// The byte that stands behind a backslash, and what is behind it.
+/// The byte that a backslash spells, and what is after it.
 fn escaped(text: &[u8]) -> Option<(u8, &[u8])> {
     match text {
         [b'r', rest @ ..] => Some((b'\r', rest)),
@@ -70,7 +70,7 @@ pub(crate) fn bytes_of(alloc: Global, word: &str) -> Result<Vec<u8>, Unplayed> {
     Ok(bytes)
 }
 
-/// Adds what a count, a colon, a text and `\)` stand for, and what is behind them.
+/// Adds what a count, a colon, a text and `\)` stand for, and what is after them.
 fn add_repeated(text: &mut String, part: &str) -> Result<(), Unplayed> {
     let Some((count, rest)) = part.split_once(':') else {
         return Err(Unplayed::WrongSpelling);

@@ -21,7 +21,7 @@ use std::sync::Wait;
 pub(crate) enum Stage {
     /// The section begins.
     NotSet,
-    /// Each row stands alone.
+    /// Each row is by itself.
     Empty,
     Votes(Box<Votes>),
     DownStates(Box<DownStates>),

@@ -77,7 +77,7 @@ fn take(store: &mut MemoryStore, turn: &[Vec<u8>], told: &mut Told) -> Result<()
     }
 }
 
-/// Takes turns with a store in memory. A word `,` stands between two.
+/// Takes turns with a store in memory. A word `,` is between two.
 fn take_all(mut store: MemoryStore, turns: &[Vec<u8>], told: &mut Told) -> Result<(), Unplayed> {
     for turn in turns.split(|word| word.as_slice() == b",".as_slice()) {
         take(&mut store, turn, told)?;

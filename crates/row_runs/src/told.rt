@@ -130,14 +130,14 @@ impl Told {
         add_spelling(&mut self.text, bytes)
     }
 
-    /// Adds bytes as a word behind a mark.
+    /// Adds bytes as a word after a mark.
     pub(crate) fn marked(&mut self, mark: char, bytes: &[u8]) -> Result<(), Unplayed> {
         self.begin()?;
         self.text.push(mark)?;
         add_spelling(&mut self.text, bytes)
     }
 
-    /// Adds a number as a word behind a mark.
+    /// Adds a number as a word after a mark.
     pub(crate) fn signed(&mut self, mark: char, number: i64) -> Result<(), Unplayed> {
         self.begin()?;
         write!(self.text, "{mark}{number}")?;

@@ -42,7 +42,7 @@ fn tell_cut(text: &[u8], byte: u8, told: &mut Told) -> Result<(), Unplayed> {
     }
 }
 
-/// Tells the first line of a text, and what is behind it.
+/// Tells the first line of a text, and what is after it.
 fn tell_line(text: &[u8], told: &mut Told) -> Result<(), Unplayed> {
     if text.is_empty() {
         return Err(Unplayed::WrongWords);

@@ -9,7 +9,7 @@ ghost use Rattle.resp2_frames.specs.Frame.{IsLine};
 use crate::{infos, roles};
 use ballot_law::{Addr, Body, Hello, MAX_EPOCH, Name, RunId};
 
-/// Whether no CR or LF stands in the text.
+/// Whether no CR or LF is in the text.
 pub(crate) fn is_line(text: &[u8]) -> bool
     ensures { IsTrue result → IsLine text.now }
 {

@@ -2,7 +2,7 @@
 
 use std::alloc::{AllocError, Global};
 
-/// What a line of a report tells.
+/// What a line of a report says.
 #[derive(Clone, Copy, PartialEq, Eq)]
 enum Entry<'a> {
     /// A Sentinel was elected.
@@ -20,7 +20,7 @@ enum Entry<'a> {
     },
 }
 
-/// What a line tells: `elected <master> <epoch> <runid>` or `said <runid> <master> <epoch> <ip> <port>`; none where it is no such line.
+/// What a line says: `elected <master> <epoch> <runid>` or `said <runid> <master> <epoch> <ip> <port>`; none where it is no such line.
 fn entry_of(line: &str) -> Option<Entry<'_>> {
     let mut words = line.split(' ');
     match words.next()? {
@@ -54,14 +54,14 @@ pub(crate) struct Breaches {
     pub(crate) elections: u64,
     /// Configurations of a master whose epoch was shown with another address.
     pub(crate) addresses: u64,
-    /// Configurations of a master that a Sentinel showed behind one of a greater epoch.
+    /// Configurations of a master that a Sentinel showed after one of a greater epoch.
     pub(crate) fallen: u64,
     /// Lines that tell neither.
     pub(crate) unread: u64,
 }
 
 impl Breaches {
-    /// Counts what a line shows behind an earlier one of its report.
+    /// Counts what a line shows after an earlier one of its report.
     fn compare(&mut self, earlier: Entry<'_>, later: Entry<'_>) {
         match (earlier, later) {
             (
@@ -102,7 +102,7 @@ impl Breaches {
         }
     }
 
-    /// Counts what the lines of a report show, each behind all earlier ones.
+    /// Counts what the lines of a report show, each after all earlier ones.
     pub(crate) fn count(&mut self, alloc: Global, lines: &str) -> Result<(), AllocError> {
         let mut before: Vec<Entry<'_>> = Vec::new(alloc);
         for line in lines.lines() {

@@ -1,8 +1,8 @@
-//! Plays the stories that its words name, and says of each whether it prints the lines that stand beside it, and whether its trace, played
-//! as a story, prints them too. Where a trace stands beside it, its own trace has to be that one.
+//! Plays the stories that its words name, and says of each whether it prints the lines that are beside it, and whether its trace, played
+//! as a story, prints them too. Where a trace is beside it, its own trace has to be that one.
 //!
-//! A word is the path of a story's files without their endings. The Sentinels of a story are the conf files of its folder. Behind the word
-//! `stops:` each story is run again and again, with each Sentinel stopped and started behind each of its steps, and leaving the old text of
+//! A word is the path of a story's files without their endings. The Sentinels of a story are the conf files of its folder. After the word
+//! `stops:` each story is run again and again, with each Sentinel stopped and started after each of its steps, and leaving the old text of
 //! its file and the new one. It says how many runs these were, and how often they broke the laws of a group.
 //!
 //! After the word `refused:` a word is a folder whose conf files make no group, and it says how a story over them is refused.
@@ -47,7 +47,7 @@ fn printed(rt: &HostRuntime, folder: &str, story: Vec<u8>, what: Printed) -> Opt
     story.play(what).ok()
 }
 
-/// Whether the trace is the one that stands beside the story, if one does.
+/// Whether the trace is the one that is beside the story, if one does.
 fn is_as_traced(rt: &HostRuntime, path: &str, trace: &OutText) -> bool {
     match bytes_of(rt, path, ".trace") {
         Some(expected) => trace.as_slice() == expected.as_slice(),
@@ -55,7 +55,7 @@ fn is_as_traced(rt: &HostRuntime, path: &str, trace: &OutText) -> bool {
     }
 }
 
-/// Whether the story at this path, and its trace too, prints what stands beside it; none where it can't be played.
+/// Whether the story at this path, and its trace too, prints what is beside it; none where it can't be played.
 fn is_as_told(rt: &HostRuntime, path: &str) -> Option<bool> {
     let (folder, _) = path.rsplit_once('/')?;
     let expected = bytes_of(rt, path, ".expected")?;
@@ -133,7 +133,7 @@ fn play_named(word: &str) -> Option<Play> {
     }
 }
 
-/// Plays the story at this path, and says whether it prints what stands beside it.
+/// Plays the story at this path, and says whether it prints what is beside it.
 fn tell_whole(rt: &HostRuntime, path: &str) -> io::Result<()> {
     match is_as_told(rt, path) {
         Some(true) => println!(rt; "{path}"),

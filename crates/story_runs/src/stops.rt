@@ -1,4 +1,4 @@
-//! A story with a Sentinel stopped behind each of its steps.
+//! A story with a Sentinel stopped after each of its steps.
 
 ghost use Rattle.std.specs.Prelude.{◌≤◌, length};
 
@@ -24,7 +24,7 @@ pub(crate) struct Stopped {
     pub(crate) breaches: Breaches,
 }
 
-/// The reading of the clocks behind so many steps: that of the last step that has one, or 0.
+/// The reading of the clocks after this number of steps: that of the last step that has one, or 0.
 fn clock_behind(steps: &[Step], count: usize) -> u64
     requires { count ≤ length steps.now }
 {
@@ -53,7 +53,7 @@ impl Stopped {
         }
     }
 
-    /// Runs the story with this Sentinel stopped behind each step in turn, and leaving this text. The story itself brings these lines.
+    /// Runs the story with this Sentinel stopped after each step in turn, and leaving this text. The story itself brings these lines.
     fn stop_everywhere(
         &mut self,
         alloc: Global,
@@ -80,7 +80,7 @@ impl Stopped {
     }
 }
 
-/// Runs the story of these steps with a stop and a start behind each of them, for each of its Sentinels and both texts. The story itself
+/// Runs the story of these steps with a stop and a start after each of them, for each of its Sentinels and both texts. The story itself
 /// brings these lines.
 pub(crate) fn stop_behind_each(
     alloc: Global,
