@@ -1,3 +1,4 @@
 pub mod Heard
+pub mod LateRun
 pub mod Merging
 pub mod Safety

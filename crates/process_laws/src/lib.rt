@@ -3,4 +3,4 @@
 
 mod laws;
 
-pub use laws::{law_processes_are_a_run, law_processes_are_safe};
+pub use laws::{law_late_answers_happen, law_processes_are_a_run, law_processes_are_safe};
