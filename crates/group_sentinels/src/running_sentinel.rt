@@ -29,6 +29,7 @@ use sentinel_rules::law_outputs_are_within;
 use std::alloc::{AllocError, Global};
 use std::marker::{Brand, PhantomData};
 use std::sync::Wait;
+use std::sync::atomic::{AtomicU64, Ordering};
 
 /// Which Sentinel it is. Only proofs read it.
 pub trait Which {
@@ -51,6 +52,7 @@ pub struct RunningSentinel<J: Which, S: ConfStore> {
     place: u16,
     port: u16,
     switches: Switches,
+    halt_noted: AtomicU64,
     of: PhantomData<J>,
     ghost is: { cell.id ≡ J.cell },
 }
@@ -112,6 +114,7 @@ impl<J: Which, S: ConfStore> RunningSentinel<J, S> {
             place,
             port,
             switches: Switches::new(alloc, port_threads)?,
+            halt_noted: AtomicU64::new(0),
             of: PhantomData,
         };
         Ok((member, with_outbox(alloc, seat)))
@@ -179,6 +182,11 @@ impl<J: Which, S: ConfStore> RunningSentinel<J, S> {
             note_all(&self.noting(rt), self.roster(), &input.event, outputs);
         }
         Ok(())
+    }
+
+    /// Whether it is still to be noted that it is halted; a second time it isn't.
+    pub(crate) fn takes_halt_note(&self) -> bool {
+        self.halt_noted.swap(1, Ordering::SeqCst) == 0
     }
 
     /// Where its notes go: each names the Sentinel's port.
