@@ -14,10 +14,9 @@ ghost use Rattle.sentinel_rules.specs.Facts.{IsWithinEvent};
 
 use crate::notes::note_all;
 use crate::outlet::{Outlet, send_all};
+use crate::sight::{Look, Sight};
 use crate::switches::{Switch, Switches};
-use ballot_law::{
-    Addr, Body, Card, Command, Event, Input, Name, NoMemory, NodeName, Output, Roster,
-};
+use ballot_law::{Event, Input, NoMemory, Output, Roster};
 use conf_store::ConfStore;
 use log::kv::With;
 use log::{Level, Log, Span, log_enabled};
@@ -62,6 +61,7 @@ pub struct RunningSentinel<J: Which, S: ConfStore> {
 pub struct ThreadSeat<J: Which> {
     seat: Seat,
     outbox: Outbox,
+    sight: Sight,
     of: PhantomData<J>,
     ghost is: { seat.cell ≡ J.cell },
     ghost held: { outbox.held ≡ [] },
@@ -74,6 +74,7 @@ fn with_outbox<J: Which>(alloc: Global, seat: Seat) -> ThreadSeat<J>
     ThreadSeat {
         seat,
         outbox: Outbox::new(alloc),
+        sight: Sight::none(),
         of: PhantomData,
     }
 }
@@ -84,12 +85,14 @@ impl<J: Which> ThreadSeat<J> {
         self.outbox.outputs()
     }
 
-    /// The answer among them, where the input was a command.
-    fn answer(&self) -> Option<&Body> {
-        match self.outbox.outputs().first() {
-            Some(Output::Send(message)) => Some(&message.body),
-            _ => None,
-        }
+    /// Has the next turn, at this reading of the clock in milliseconds, take down what the Sentinel shows of a master.
+    pub(crate) fn want(&mut self, master: u16, now: u64) {
+        self.sight.want(master, now);
+    }
+
+    /// What the last turn took down.
+    pub(crate) fn take_look(&mut self) -> Option<Look> {
+        self.sight.take()
     }
 }
 
@@ -151,7 +154,7 @@ impl<J: Which, S: ConfStore> RunningSentinel<J, S> {
     {
         law_outputs_are_within();
         seat.outbox.clear();
-        match self.cell.act(rt, &mut seat.seat, input, &mut seat.outbox) {
+        match self.cell.act_observed(rt, &mut seat.seat, input, &mut seat.outbox, &mut seat.sight) {
             Ok(reply) => Ok(reply.entry),
             Err(fault) => Err(fault),
         }
@@ -207,45 +210,6 @@ impl<J: Which, S: ConfStore> RunningSentinel<J, S> {
         period.saturating_mul(u64::from(self.place)) / sentinels.max(1)
     }
 
-    /// The name of the master with this number.
-    pub(crate) fn name_of(&self, master: u16) -> Option<Name> {
-        Some(self.cell.roster().masters().get(master as usize)?.name)
-    }
-
-    /// The stored configuration of the master with this number: its epoch and its address.
-    pub(crate) fn address(&self, seat: &mut ThreadSeat<J>, master: u16) -> Option<(u64, Addr)> {
-        self.cell.address(&mut seat.seat, master)
-    }
-
-    /// Has the Sentinel take a command, whose answer the seat then has.
-    fn give<R: Wait>(
-        &self,
-        rt: &R,
-        seat: &mut ThreadSeat<J>,
-        now: u64,
-        command: Command,
-    ) -> Result<u64, ActFault>
-        requires { IsWithinEvent (Event.Command (NodeName.PortAt 0) command) }
-    {
-        let sender = NodeName::PortAt(0);
-        let event = Event::Command { sender, command };
-        self.turn(rt, seat, &Input { now, event })
-    }
-
-    /// What the Sentinel answers to a command; none at a fault.
-    pub(crate) fn ask<'a, R: Wait>(
-        &self,
-        rt: &R,
-        seat: &'a mut ThreadSeat<J>,
-        now: u64,
-        command: Command,
-    ) -> Option<&'a Body>
-        requires { IsWithinEvent (Event.Command (NodeName.PortAt 0) command) }
-    {
-        self.give(rt, seat, now, command).ok()?;
-        seat.answer()
-    }
-
     /// The notes for the subscribers of the port that its thread with this number didn't take yet, in the order in which they came. Each of
     /// its threads gets all notes.
     pub fn take_switches<R: Wait>(&self, rt: &R, port_thread: u16) -> Vec<Switch> {
@@ -263,26 +227,6 @@ impl<J: Which, S: ConfStore> RunningSentinel<J, S> {
             return Ok(false);
         }
         session.notify(roster, &switch.note, switch.entry)
-    }
-
-    /// What the Sentinel answers to a command about the master with this number, where this is still its configuration after the answer: then
-    /// the answer is of that configuration, since epochs only rise. None else, and at a fault.
-    pub(crate) fn ask_about<'a, R: Wait>(
-        &self,
-        rt: &R,
-        seat: &'a mut ThreadSeat<J>,
-        now: u64,
-        command: Command,
-        master: u16,
-        card: Card,
-    ) -> Option<&'a Body>
-        requires { IsWithinEvent (Event.Command (NodeName.PortAt 0) command) }
-    {
-        self.give(rt, seat, now, command).ok()?;
-        if self.address(seat, master)? != (card.epoch, card.addr) {
-            return None;
-        }
-        seat.answer()
     }
 
     /// Hands a session the next piece of its stream, at a reading of the clock in milliseconds: all that `Session::received` says of it holds of this

@@ -135,15 +135,22 @@ impl Ticker {
         for master in 0..member.masters() {
             let elapsed = state.clock.elapsed(rt);
             let (now, random) = (millis_of(elapsed), u64::from(elapsed.subsec_nanos()));
+            if log_enabled!(rt; Level::Info) {
+                seat.want(master, now);
+            }
             let event = Event::Tick { master, random };
             let acted = member.carry_out(rt, seat, outlet, now, event);
-            let ticked = acted.is_ok();
+            if let Some(look) = seat.take_look() {
+                self.lookout.note(
+                    &member.noting(rt),
+                    member.roster(),
+                    master,
+                    &look,
+                    seat.outputs(),
+                );
+            }
             if !goes_on_noted(rt, state, member, acted) {
                 return false;
-            }
-            if ticked && log_enabled!(rt; Level::Info) {
-                self.lookout
-                    .look(&member.noting(rt), member, seat, now, master);
             }
         }
         true
