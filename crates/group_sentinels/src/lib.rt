@@ -11,9 +11,9 @@ mod lookout;
 mod named;
 mod notes;
 mod outlet;
-mod rows;
 mod run_state;
 mod running_sentinel;
+mod sight;
 mod switches;
 mod ticking;
 

@@ -1,29 +1,12 @@
-//! What the timer of a Sentinel notes: it asks its own Sentinel after each tick as a client would, and tells what became different.
+//! What the timer of a Sentinel notes: after each tick it looks at what its own Sentinel shows of the master, and tells what became different.
 
-ghost use Rattle.std.specs.Prelude.{◌≡◌, ◌<◌, length, Some, IfSome};
-ghost use Rattle.sentinel_rules.specs.Facts.{IsWithinEvent};
-
-use crate::named::{NamedId, NamedMaster, NamedNode};
-use crate::rows::{Row, RowReader};
-use crate::running_sentinel::{RunningSentinel, ThreadSeat, Which};
+use crate::named::{NamedId, NamedMaster, NamedNode, NamedSentinel};
+use crate::sight::{Flags, Look, Vote};
 use ballot_law::{
-    Addr, Body, Card, Command, Event, Message, Name, NodeName, Output, Roster, RunId, Text,
+    Addr, Body, Card, Member, Message, NODES_MAX, NodeName, Output, Roster, SENTINELS_MAX,
 };
-use conf_store::ConfStore;
-use down_detector::Tilt;
 use log::{Log, info};
 use std::alloc::Global;
-use std::str::from_utf8;
-use std::sync::Wait;
-
-/// A master that is looked at: its number and name, its configuration, and how notes name it.
-#[derive(Clone, Copy)]
-struct Subject<'a> {
-    master: u16,
-    name: Name,
-    card: Card,
-    named: NamedMaster<'a>,
-}
 
 /// What the outputs of a tick tell: the greatest epoch in a hello or a question, and the data node that is told to be a master.
 #[derive(Clone, Copy)]
@@ -66,40 +49,6 @@ fn number_of(node: NodeName) -> Option<u16> {
     }
 }
 
-/// What the answer to MASTER flags.
-#[derive(Clone, Copy)]
-struct Flags {
-    down: bool,
-    agreed: bool,
-    failing_over: bool,
-}
-
-impl Flags {
-    /// Nothing is flagged.
-    fn none() -> Flags {
-        Flags {
-            down: false,
-            agreed: false,
-            failing_over: false,
-        }
-    }
-
-    /// The flags of the master that an answer shows.
-    fn of(answer: &str) -> Option<Flags> {
-        let mut reader = RowReader::new();
-        for line in answer.split("\r\n") {
-            if let Some(row) = reader.take(line) {
-                return Some(Flags {
-                    down: row.is_down(),
-                    agreed: row.is_agreed_down(),
-                    failing_over: row.is_failed_over(),
-                });
-            }
-        }
-        None
-    }
-}
-
 /// What was last seen of one master.
 #[derive(Drop)]
 struct Seen {
@@ -110,21 +59,27 @@ struct Seen {
     begun: u64,
     epoch: u64,
     voted: Option<u64>,
-    silent: Vec<Text>,
+    replicas: [bool; NODES_MAX],
+    sentinels: [bool; SENTINELS_MAX],
 }
 
 impl Seen {
     /// Nothing was seen yet: no node is down, no failover runs, no vote was given.
-    fn new(alloc: Global) -> Seen {
+    fn new() -> Seen {
         Seen {
             addr: None,
-            flags: Flags::none(),
+            flags: Flags {
+                down: false,
+                agreed: false,
+                failing_over: false,
+            },
             promoting: false,
             campaign: None,
             begun: 0,
             epoch: 0,
             voted: None,
-            silent: Vec::new(alloc),
+            replicas: [false; NODES_MAX],
+            sentinels: [false; SENTINELS_MAX],
         }
     }
 
@@ -134,7 +89,8 @@ impl Seen {
             self.addr = Some(card.addr);
             self.flags.down = false;
             self.flags.agreed = false;
-            self.silent.clear();
+            self.replicas = [false; NODES_MAX];
+            self.sentinels = [false; SENTINELS_MAX];
         }
         self.epoch = card.epoch;
     }
@@ -203,133 +159,110 @@ impl Seen {
         self.flags.failing_over = flags.failing_over;
     }
 
-    /// Notes whether a replica or another Sentinel is down. A note is lost where there is no memory.
-    fn note_row<R: Log>(&mut self, rt: &R, kind: &str, row: &Row<'_>, master: NamedMaster<'_>) {
-        let Row { name, ip, port, .. } = *row;
-        match (place_in(self.silent.as_slice(), name), row.is_down()) {
-            (None, true) => if self.keep_silent(name) {
-                info!(rt; "+sdown {kind} {name} {ip} {port} @ {master}");
-            },
-            (Some(place), false) => {
-                drop(self.silent.remove(place));
-                info!(rt; "-sdown {kind} {name} {ip} {port} @ {master}");
+    /// Notes how far a failover of the master has come, and for whom the Sentinel voted.
+    fn note_failover<R: Log>(
+        &mut self,
+        rt: &R,
+        look: &Look,
+        promoted: Option<NamedNode>,
+        master: NamedMaster<'_>,
+    ) {
+        self.note_start(rt, look.flags, master);
+        self.note_vote(rt, look.vote);
+        if let Some(node) = promoted {
+            self.note_choice(rt, node, master);
+        }
+        self.note_end(rt, look.flags, master);
+    }
+
+    /// Notes which replicas of the master are down.
+    fn note_replicas<R: Log>(
+        &mut self,
+        rt: &R,
+        look: &Look,
+        nodes: &[Addr],
+        master: NamedMaster<'_>,
+    ) {
+        for place in 0..nodes.len().min(NODES_MAX) {
+            let down = look.replicas[place];
+            if down != self.replicas[place] {
+                note_replica(rt, NamedNode::at(nodes[place]), down, master);
+                self.replicas[place] = down;
             }
-            _ => {}
         }
     }
 
-    /// Adds a name to those that are down, where there is memory.
-    fn keep_silent(&mut self, name: &str) -> bool {
-        match Text::from_slice(*self.silent.allocator(), name.as_bytes()) {
-            Ok(name) => self.silent.push(name).is_ok(),
-            Err(_) => false,
-        }
-    }
-
-    /// Notes which of the nodes in an answer are down.
-    fn note_rows<R: Log>(&mut self, rt: &R, kind: &str, answer: &str, master: NamedMaster<'_>) {
-        let mut reader = RowReader::new();
-        for line in answer.split("\r\n") {
-            if let Some(row) = reader.take(line) {
-                self.note_row(rt, kind, &row, master);
+    /// Notes which other Sentinels are down.
+    fn note_sentinels<R: Log>(
+        &mut self,
+        rt: &R,
+        look: &Look,
+        sentinels: &[Member],
+        master: NamedMaster<'_>,
+    ) {
+        for place in 0..sentinels.len().min(SENTINELS_MAX) {
+            let down = look.sentinels[place];
+            if down != self.sentinels[place] {
+                note_sentinel(rt, NamedSentinel::of(sentinels[place]), down, master);
+                self.sentinels[place] = down;
             }
         }
     }
 }
 
-/// The place of a name in a list.
-fn place_in(names: &[Text], name: &str) -> Option<usize>
-    ensures { IfSome result (λ place. place < length names.now) }
-{
-    for place in 0..names.len() {
-        if names[place].as_slice() == name.as_bytes() {
-            return Some(place);
-        }
-    }
-    None
-}
-
-/// The text of an answer.
-fn text_of(answer: Option<&Body>) -> &str {
-    match answer {
-        Some(Body::PortReply { text, .. }) => from_utf8(text.as_slice()).unwrap_or(""),
-        _ => "",
+/// Notes that a replica is down, or no longer.
+fn note_replica<R: Log>(rt: &R, node: NamedNode, down: bool, master: NamedMaster<'_>) {
+    if down {
+        info!(rt; "+sdown slave {node} @ {master}");
+    } else {
+        info!(rt; "-sdown slave {node} @ {master}");
     }
 }
 
-/// The vote that a Sentinel keeps, by its answer to a question for it.
-#[derive(Clone, Copy)]
-struct Vote {
-    leader: Option<RunId>,
-    epoch: u64,
-}
-
-impl Vote {
-    /// The vote that an answer tells; an answer that tells none has epoch 0.
-    fn of(answer: Option<&Body>) -> Vote {
-        match answer {
-            Some(Body::Answer { leader, epoch, .. }) => Vote {
-                leader: *leader,
-                epoch: *epoch,
-            },
-            _ => Vote {
-                leader: None,
-                epoch: 0,
-            },
-        }
+/// Notes that another Sentinel is down, or no longer.
+fn note_sentinel<R: Log>(rt: &R, sentinel: NamedSentinel, down: bool, master: NamedMaster<'_>) {
+    if down {
+        info!(rt; "+sdown sentinel {sentinel} @ {master}");
+    } else {
+        info!(rt; "-sdown sentinel {sentinel} @ {master}");
     }
 }
 
-/// The question for the vote about the master at an address. In epoch 0 no vote is given.
-fn vote_question(addr: Addr) -> Command
-    ensures within { IsWithinEvent (Event.Command (NodeName.PortAt 0) result) }
-    ensures none { result ≡ Command.IsMasterDownByAddr addr 0 (Some (record { hi = 0; lo = 0 })) }
-{
-    let epoch = 0;
-    Command::IsMasterDownByAddr {
-        addr,
-        epoch,
-        candidate: Some(RunId { hi: 0, lo: 0 }),
-    }
-}
-
-/// What the timer of a Sentinel last saw of it, by its answers.
+/// What the timer of a Sentinel last saw of it.
 #[derive(Drop)]
 pub(crate) struct Lookout {
     masters: Vec<Seen>,
-    tilt: Tilt,
+    is_tilted: bool,
     epoch: u64,
     began: bool,
 }
 
 impl Lookout {
-    /// A lookout over so many masters of a Sentinel that was opened at clock 0. Where there is no memory it has fewer.
+    /// A lookout over so many masters of a Sentinel. Where there is no memory it has fewer.
     pub(crate) fn new(alloc: Global, masters: u16) -> Lookout {
         let mut seen = Vec::new(alloc);
         for _ in 0..masters {
-            if seen.push(Seen::new(alloc)).is_err() {
+            if seen.push(Seen::new()).is_err() {
                 break;
             }
         }
         Lookout {
             masters: seen,
-            tilt: Tilt::new(0),
+            is_tilted: false,
             epoch: 0,
             began: false,
         }
     }
 
-    /// Notes whether TILT holds, which the readings of the ticks alone decide.
-    fn note_tilt<R: Log>(&mut self, rt: &R, now: u64) -> bool {
-        let before = self.tilt.holds();
-        let holds = self.tilt.turn(now);
-        if holds && !before {
+    /// Notes whether TILT holds.
+    fn note_tilt<R: Log>(&mut self, rt: &R, is_tilted: bool) {
+        if is_tilted && !self.is_tilted {
             info!(rt; "+tilt #tilt mode entered");
         }
-        if before && !holds {
+        if self.is_tilted && !is_tilted {
             info!(rt; "-tilt #tilt mode exited");
         }
-        holds
+        self.is_tilted = is_tilted;
     }
 
     /// Notes an epoch that wasn't known; the first one is that of the start.
@@ -343,112 +276,40 @@ impl Lookout {
         self.began = true;
     }
 
-    /// Looks at a master after its tick, whose outputs stand in the seat's outbox.
-    pub(crate) fn look<J: Which, S: ConfStore, R: Wait + Log>(
+    /// Notes what became different of a master by its tick, which gave these outputs. In TILT that is noted alone.
+    pub(crate) fn note<R: Log>(
         &mut self,
         rt: &R,
-        member: &RunningSentinel<J, S>,
-        seat: &mut ThreadSeat<J>,
-        now: u64,
+        roster: &Roster,
         master: u16,
+        look: &Look,
+        outputs: &[Output],
     ) {
-        let told = Told::by(seat.outputs());
-        if self.note_tilt(rt, now) {
+        self.note_tilt(rt, look.is_tilted);
+        if look.is_tilted {
             return;
         }
-        let Some((epoch, addr)) = member.address(seat, master) else {
+        let Some(named) = NamedMaster::of(roster, master, look.card.addr) else {
             return;
         };
-        let Some(name) = member.name_of(master) else {
+        let told = Told::by(outputs);
+        self.note_master(rt, master, look, named);
+        self.note_epoch(rt, told.epoch.max(look.vote.epoch));
+        let Some(seen) = self.masters.get_mut(master as usize) else {
             return;
         };
-        let Some(named) = NamedMaster::of(member.roster(), master, addr) else {
-            return;
-        };
-        let answer = member.ask(rt, seat, now, Command::Master(Some(name)));
-        let Some(flags) = Flags::of(text_of(answer)) else {
-            return;
-        };
-        let vote = Vote::of(member.ask(rt, seat, now, vote_question(addr)));
-        let card = Card { epoch, addr };
-        self.note_master(rt, master, card, flags, named);
-        self.note_epoch(rt, told.epoch.max(vote.epoch));
-        let promoted = node_of(member.roster(), told.promoted);
-        self.note_failover(rt, master, flags, vote, promoted, named);
-        let subject = Subject {
-            master,
-            name,
-            card,
-            named,
-        };
-        self.look_around(rt, member, seat, now, subject);
+        let promoted = node_of(roster, told.promoted);
+        seen.note_failover(rt, look, promoted, named);
+        seen.note_replicas(rt, look, roster.nodes(master), named);
+        seen.note_sentinels(rt, look, roster.sentinels(), named);
     }
 
-    /// Notes whether a master with this configuration is down.
-    fn note_master<R: Log>(
-        &mut self,
-        rt: &R,
-        master: u16,
-        card: Card,
-        flags: Flags,
-        named: NamedMaster<'_>,
-    ) {
+    /// Notes whether a master is down.
+    fn note_master<R: Log>(&mut self, rt: &R, master: u16, look: &Look, named: NamedMaster<'_>) {
         if let Some(seen) = self.masters.get_mut(master as usize) {
-            seen.turn_to(card);
-            seen.note_down(rt, flags, named);
+            seen.turn_to(look.card);
+            seen.note_down(rt, look.flags, named);
         }
-    }
-
-    /// Notes how far a failover of a master has come, and for whom the Sentinel voted.
-    fn note_failover<R: Log>(
-        &mut self,
-        rt: &R,
-        master: u16,
-        flags: Flags,
-        vote: Vote,
-        promoted: Option<NamedNode>,
-        named: NamedMaster<'_>,
-    ) {
-        let Some(seen) = self.masters.get_mut(master as usize) else {
-            return;
-        };
-        seen.note_start(rt, flags, named);
-        seen.note_vote(rt, vote);
-        if let Some(node) = promoted {
-            seen.note_choice(rt, node, named);
-        }
-        seen.note_end(rt, flags, named);
-    }
-
-    /// Notes which replicas of a master, and which other Sentinels, are down, unless another thread brought a new configuration meanwhile.
-    fn look_around<J: Which, S: ConfStore, R: Wait + Log>(
-        &mut self,
-        rt: &R,
-        member: &RunningSentinel<J, S>,
-        seat: &mut ThreadSeat<J>,
-        now: u64,
-        subject: Subject<'_>,
-    ) {
-        let Subject {
-            master,
-            name,
-            card,
-            named,
-        } = subject;
-        let Some(seen) = self.masters.get_mut(master as usize) else {
-            return;
-        };
-        let replicas = member.ask_about(rt, seat, now, Command::Replicas(Some(name)), master, card);
-        seen.note_rows(rt, "slave", text_of(replicas), named);
-        let sentinels = member.ask_about(
-            rt,
-            seat,
-            now,
-            Command::Sentinels(Some(name)),
-            master,
-            card,
-        );
-        seen.note_rows(rt, "sentinel", text_of(sentinels), named);
     }
 }
 

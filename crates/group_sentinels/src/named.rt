@@ -1,6 +1,6 @@
 //! How notes name masters, data nodes and Sentinels.
 
-use ballot_law::{Addr, Roster, RunId};
+use ballot_law::{Addr, Member, Roster, RunId};
 use std::fmt;
 use std::net::Ipv4Addr;
 use std::str::from_utf8;
@@ -72,5 +72,30 @@ pub(crate) struct NamedId(pub(crate) RunId);
 impl fmt::Display for NamedId {
     fn fmt<W: fmt::Write>(&self, f: &mut fmt::Formatter<W>) -> fmt::Result {
         write!(f, "{:032x}{:08x}", self.0.hi, self.0.lo)
+    }
+}
+
+/// A Sentinel, as its run id, its ip and its port.
+#[derive(Clone, Copy)]
+pub(crate) struct NamedSentinel {
+    id: RunId,
+    ip: Ipv4Addr,
+    port: u16,
+}
+
+impl NamedSentinel {
+    /// This Sentinel of the roster.
+    pub(crate) fn of(sentinel: Member) -> NamedSentinel {
+        NamedSentinel {
+            id: sentinel.id,
+            ip: Ipv4Addr::from(sentinel.addr.ip),
+            port: sentinel.addr.port,
+        }
+    }
+}
+
+impl fmt::Display for NamedSentinel {
+    fn fmt<W: fmt::Write>(&self, f: &mut fmt::Formatter<W>) -> fmt::Result {
+        write!(f, "{} {} {}", NamedId(self.id), self.ip, self.port)
     }
 }

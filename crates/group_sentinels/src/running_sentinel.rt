@@ -14,10 +14,9 @@ ghost use Rattle.sentinel_rules.specs.Facts.{IsWithinEvent};
 
 use crate::notes::note_all;
 use crate::outlet::{Outlet, send_all};
+use crate::sight::{Look, Sight};
 use crate::switches::{Switch, Switches};
-use ballot_law::{
-    Addr, Body, Card, Command, Event, Input, Name, NoMemory, NodeName, Output, Roster,
-};
+use ballot_law::{Event, Input, NoMemory, Output, Roster};
 use conf_store::ConfStore;
 use log::kv::With;
 use log::{Level, Log, Span, log_enabled};
@@ -29,6 +28,7 @@ use sentinel_rules::law_outputs_are_within;
 use std::alloc::{AllocError, Global};
 use std::marker::{Brand, PhantomData};
 use std::sync::Wait;
+use std::sync::atomic::{AtomicU64, Ordering};
 
 /// Which Sentinel it is. Only proofs read it.
 pub trait Which {
@@ -51,6 +51,7 @@ pub struct RunningSentinel<J: Which, S: ConfStore> {
     place: u16,
     port: u16,
     switches: Switches,
+    halt_noted: AtomicU64,
     of: PhantomData<J>,
     ghost is: { cell.id ≡ J.cell },
 }
@@ -60,6 +61,7 @@ pub struct RunningSentinel<J: Which, S: ConfStore> {
 pub struct ThreadSeat<J: Which> {
     seat: Seat,
     outbox: Outbox,
+    sight: Sight,
     of: PhantomData<J>,
     ghost is: { seat.cell ≡ J.cell },
     ghost held: { outbox.held ≡ [] },
@@ -72,6 +74,7 @@ fn with_outbox<J: Which>(alloc: Global, seat: Seat) -> ThreadSeat<J>
     ThreadSeat {
         seat,
         outbox: Outbox::new(alloc),
+        sight: Sight::none(),
         of: PhantomData,
     }
 }
@@ -82,12 +85,14 @@ impl<J: Which> ThreadSeat<J> {
         self.outbox.outputs()
     }
 
-    /// The answer among them, where the input was a command.
-    fn answer(&self) -> Option<&Body> {
-        match self.outbox.outputs().first() {
-            Some(Output::Send(message)) => Some(&message.body),
-            _ => None,
-        }
+    /// Has the next turn, at this reading of the clock in milliseconds, take down what the Sentinel shows of a master.
+    pub(crate) fn want(&mut self, master: u16, now: u64) {
+        self.sight.want(master, now);
+    }
+
+    /// What the last turn took down.
+    pub(crate) fn take_look(&mut self) -> Option<Look> {
+        self.sight.take()
     }
 }
 
@@ -112,6 +117,7 @@ impl<J: Which, S: ConfStore> RunningSentinel<J, S> {
             place,
             port,
             switches: Switches::new(alloc, port_threads)?,
+            halt_noted: AtomicU64::new(0),
             of: PhantomData,
         };
         Ok((member, with_outbox(alloc, seat)))
@@ -148,7 +154,7 @@ impl<J: Which, S: ConfStore> RunningSentinel<J, S> {
     {
         law_outputs_are_within();
         seat.outbox.clear();
-        match self.cell.act(rt, &mut seat.seat, input, &mut seat.outbox) {
+        match self.cell.act_observed(rt, &mut seat.seat, input, &mut seat.outbox, &mut seat.sight) {
             Ok(reply) => Ok(reply.entry),
             Err(fault) => Err(fault),
         }
@@ -181,6 +187,11 @@ impl<J: Which, S: ConfStore> RunningSentinel<J, S> {
         Ok(())
     }
 
+    /// Whether it is still to be noted that it is halted; a second time it isn't.
+    pub(crate) fn takes_halt_note(&self) -> bool {
+        self.halt_noted.swap(1, Ordering::SeqCst) == 0
+    }
+
     /// Where its notes go: each names the Sentinel's port.
     pub(crate) fn noting<'a, R: Log>(&self, rt: &'a R) -> Span<'a, &'a R, With<'a, (), u16>> {
         rt.span("sentinel").with("port", self.port)
@@ -197,45 +208,6 @@ impl<J: Which, S: ConfStore> RunningSentinel<J, S> {
     pub(crate) fn phase(&self, period: u64) -> u64 {
         let sentinels = self.cell.roster().sentinels().len() as u64;
         period.saturating_mul(u64::from(self.place)) / sentinels.max(1)
-    }
-
-    /// The name of the master with this number.
-    pub(crate) fn name_of(&self, master: u16) -> Option<Name> {
-        Some(self.cell.roster().masters().get(master as usize)?.name)
-    }
-
-    /// The stored configuration of the master with this number: its epoch and its address.
-    pub(crate) fn address(&self, seat: &mut ThreadSeat<J>, master: u16) -> Option<(u64, Addr)> {
-        self.cell.address(&mut seat.seat, master)
-    }
-
-    /// Has the Sentinel take a command, whose answer the seat then has.
-    fn give<R: Wait>(
-        &self,
-        rt: &R,
-        seat: &mut ThreadSeat<J>,
-        now: u64,
-        command: Command,
-    ) -> Result<u64, ActFault>
-        requires { IsWithinEvent (Event.Command (NodeName.PortAt 0) command) }
-    {
-        let sender = NodeName::PortAt(0);
-        let event = Event::Command { sender, command };
-        self.turn(rt, seat, &Input { now, event })
-    }
-
-    /// What the Sentinel answers to a command; none at a fault.
-    pub(crate) fn ask<'a, R: Wait>(
-        &self,
-        rt: &R,
-        seat: &'a mut ThreadSeat<J>,
-        now: u64,
-        command: Command,
-    ) -> Option<&'a Body>
-        requires { IsWithinEvent (Event.Command (NodeName.PortAt 0) command) }
-    {
-        self.give(rt, seat, now, command).ok()?;
-        seat.answer()
     }
 
     /// The notes for the subscribers of the port that its thread with this number didn't take yet, in the order in which they came. Each of
@@ -255,26 +227,6 @@ impl<J: Which, S: ConfStore> RunningSentinel<J, S> {
             return Ok(false);
         }
         session.notify(roster, &switch.note, switch.entry)
-    }
-
-    /// What the Sentinel answers to a command about the master with this number, where this is still its configuration after the answer: then
-    /// the answer is of that configuration, since epochs only rise. None else, and at a fault.
-    pub(crate) fn ask_about<'a, R: Wait>(
-        &self,
-        rt: &R,
-        seat: &'a mut ThreadSeat<J>,
-        now: u64,
-        command: Command,
-        master: u16,
-        card: Card,
-    ) -> Option<&'a Body>
-        requires { IsWithinEvent (Event.Command (NodeName.PortAt 0) command) }
-    {
-        self.give(rt, seat, now, command).ok()?;
-        if self.address(seat, master)? != (card.epoch, card.addr) {
-            return None;
-        }
-        seat.answer()
     }
 
     /// Hands a session the next piece of its stream, at a reading of the clock in milliseconds: all that `Session::received` says of it holds of this

@@ -30,12 +30,25 @@ fn goes_on(acted: Result<(), ActFault>) -> bool
     }
 }
 
-/// Whether the Sentinel goes on after this. Where it doesn't, all threads know it, and a refused store is noted.
-fn goes_on_noted<R: Log>(rt: &R, state: &RunState, acted: Result<(), ActFault>) -> bool
+/// Notes that the Sentinel is halted, where no thread of it did.
+fn note_halt<J: Which, S: ConfStore, R: Log>(rt: &R, member: &RunningSentinel<J, S>) {
+    if member.takes_halt_note() {
+        warn!(member.noting(rt); "a store was refused: the Sentinel is halted");
+    }
+}
+
+/// Whether the Sentinel goes on after this. Where it doesn't, all threads know it, and a refused store is noted: also that of another thread of
+/// the Sentinel, as its port's, which notes nothing.
+fn goes_on_noted<J: Which, S: ConfStore, R: Log>(
+    rt: &R,
+    state: &RunState,
+    member: &RunningSentinel<J, S>,
+    acted: Result<(), ActFault>,
+) -> bool
     ensures { IsTrue result ↔ (IsOk acted ⊎ IsErrOf acted ActFault.NoMemory) }
 {
-    if let Err(ActFault::StoreRefused) = acted {
-        warn!(rt; "a store was refused: the Sentinel is halted");
+    if let Err(ActFault::StoreRefused | ActFault::Halted) = acted {
+        note_halt(rt, member);
     }
     let goes_on = goes_on(acted);
     if !goes_on {
@@ -122,15 +135,22 @@ impl Ticker {
         for master in 0..member.masters() {
             let elapsed = state.clock.elapsed(rt);
             let (now, random) = (millis_of(elapsed), u64::from(elapsed.subsec_nanos()));
+            if log_enabled!(rt; Level::Info) {
+                seat.want(master, now);
+            }
             let event = Event::Tick { master, random };
             let acted = member.carry_out(rt, seat, outlet, now, event);
-            let ticked = acted.is_ok();
-            if !goes_on_noted(rt, state, acted) {
-                return false;
+            if let Some(look) = seat.take_look() {
+                self.lookout.note(
+                    &member.noting(rt),
+                    member.roster(),
+                    master,
+                    &look,
+                    seat.outputs(),
+                );
             }
-            if ticked && log_enabled!(rt; Level::Info) {
-                self.lookout
-                    .look(&member.noting(rt), member, seat, now, master);
+            if !goes_on_noted(rt, state, member, acted) {
+                return false;
             }
         }
         true
@@ -150,5 +170,5 @@ pub fn hear<J: Which, S: ConfStore, O: Outlet, R: Wait + Clock + Log>(
 {
     let now = state.clock.now(rt);
     let acted = member.carry_out(rt, seat, outlet, now, event);
-    goes_on_noted(rt, state, acted)
+    goes_on_noted(rt, state, member, acted)
 }

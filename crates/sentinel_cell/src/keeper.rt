@@ -12,6 +12,7 @@ ghost use Rattle.sentinel_cell.specs.Histories.{World, IsLeft, IsStep, after, en
 ghost use Rattle.sentinel_cell.specs.Turns.{unpacked};
 
 use crate::entry::Outcome;
+use crate::observer::Observer;
 use crate::word::word_of;
 use ballot_law::Input;
 use conf_store::ConfStore;
@@ -38,8 +39,13 @@ pub(crate) fn stored_word(sentinel: &Sentinel, m: u16) -> u64
 }
 
 impl<S: ConfStore> Keeper<S> {
-    /// One input: it is taken, stored, and its outputs are shown. A halted Sentinel takes none.
-    pub(crate) fn turn(&mut self, input: &Input, outbox: &mut Outbox) -> Outcome
+    /// One input: it is taken, stored, and its outputs are shown. Then the observer looks. A halted Sentinel takes none.
+    pub(crate) fn turn<O: Observer>(
+        &mut self,
+        input: &Input,
+        outbox: &mut Outbox,
+        observer: &mut O,
+    ) -> Outcome
         requires left { (w : World) × IsLeft S.held S.failure_count w self.old }
         requires room { Fits outbox.old room_of_sentinel }
         requires within { IsWithinEvent input.now.event }
@@ -64,6 +70,7 @@ impl<S: ConfStore> Keeper<S> {
         let Ok(()) = self.sentinel.release(outbox) else {
             unreachable!()
         };
+        observer.observe(&self.sentinel);
         Outcome::Stored
     }
 

@@ -13,6 +13,7 @@ ghost use Rattle.sentinel_cell.specs.Calls.{Begins, Has, AreApart, calls_by, Are
 
 use crate::entry::Outcome;
 use crate::keeper::Keeper;
+use crate::observer::Observer;
 use crate::plays::{
     Draw, Enter, Fill, Flight, Halve, Line, Look, Merge, Name, Origin, Pass, Raise, Settle, Start,
     Take, Tell,
@@ -160,16 +161,17 @@ pub(crate) fn fill<S: ConfStore>(hall: &Hall<S>, place: &mut Place<S>, keeper: K
 #[derive(Drop)]
 pub(crate) struct TicketsSpent;
 
-/// One turn: the seat looks at the tickets, draws one, waits, and serves the input. Beside the outcome stands the ticket's number, which is
+/// One turn: the seat looks at the tickets, draws one, waits, serves the input, and has the observer look. Beside the outcome stands the ticket's number, which is
 /// how many entries stand before this one.
 ///
 /// Many clauses: what the seat holds of the table before and after a turn is said part by part, for the shared tokens have no one value.
-pub(crate) fn act_at<S: ConfStore, R: Wait>(
+pub(crate) fn act_at<S: ConfStore, O: Observer, R: Wait>(
     rt: &R,
     hall: &Hall<S>,
     place: &mut Place<S>,
     input: &Input,
     outbox: &mut Outbox,
+    observer: &mut O,
 ) -> Result<(Outcome, u64), TicketsSpent>
     requires own { (place.old.table_id ≡ hall.now.table_id) × (hall.now.table_id.words ≡ master_count hall.now.key.keeper.sentinel.plan + 2) }
     requires few { hall.now.key.seats ≤ 4294967296 }
@@ -192,7 +194,7 @@ pub(crate) fn act_at<S: ConfStore, R: Wait>(
     wait_for_turn::<Brand, S, R>(rt, hall, place, ticket);
     let mut keeper = take_out(hall, place);
     let first = outbox.outputs().len();
-    let outcome = keeper.turn(input, outbox);
+    let outcome = keeper.turn(input, outbox, observer);
     let failures = keeper.store.failures();
     let (master, word) = keeper.news();
     put_in(hall, place, keeper);

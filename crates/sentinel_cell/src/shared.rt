@@ -17,6 +17,7 @@ ghost use Rattle.sentinel_cell.specs.Words.{card_with};
 use crate::entry::Outcome;
 use crate::fault::{ActFault, CellFault, Reply};
 use crate::keeper::{Keeper, stored_word};
+use crate::observer::{Nobody, Observer};
 use crate::place::{Place, TicketsSpent, act_at, fill, join_at, read_word, split_at};
 use crate::plays::{Line, Start};
 use crate::view::View;
@@ -259,13 +260,39 @@ impl<S: ConfStore> SharedSentinel<S> {
         ensures same { (seat.new.view.numbers ≡ seat.old.view.numbers) × (seat.new.view.answers ≡ seat.old.view.answers) × (seat.new.view.share ≡ seat.old.view.share) }
         ensures acted { Acted self.now.start seat.old.view input.entry.now (drop (length outbox.old.shown) outbox.new.shown) seat.new.view result }
     {
+        self.act_observed(rt, seat, input, outbox, &mut Nobody)
+    }
+
+    /// As `act`, and an observer looks at the Sentinel at the end of the turn, once the input is stored: no other input comes between the two. It
+    /// doesn't look where the call is refused.
+    ///
+    /// Many clauses: those of `act`.
+    pub fn act_observed<O: Observer, R: Wait>(
+        &self,
+        rt: &R,
+        seat: &mut Seat,
+        input: &Input,
+        outbox: &mut Outbox,
+        observer: &mut O,
+    ) -> Result<Reply, ActFault>
+        requires own { seat.old.cell ≡ self.now.id }
+        requires held { outbox.old.held ≡ [] }
+        requires within { IsWithinEvent input.now.event }
+        ensures own { seat.new.cell ≡ seat.old.cell }
+        ensures held { outbox.new.held ≡ [] }
+        ensures shown { outbox.new.shown ≡ outbox.old.shown ++ drop (length outbox.old.shown) outbox.new.shown }
+        ensures reply { IfOk result (λ reply. (reply.first ≡ length outbox.old.shown) × (reply.first + reply.count ≡ length outbox.new.shown)) }
+        ensures entry { IfOk result (λ reply. reply.entry + 1 ≡ length seat.new.view.front) }
+        ensures same { (seat.new.view.numbers ≡ seat.old.view.numbers) × (seat.new.view.answers ≡ seat.old.view.answers) × (seat.new.view.share ≡ seat.old.view.share) }
+        ensures acted { Acted self.now.start seat.old.view input.entry.now (drop (length outbox.old.shown) outbox.new.shown) seat.new.view result }
+    {
         if outbox.reserve(&self.room).is_err() {
             return Err(ActFault::NoMemory);
         }
         let first = outbox.outputs().len();
         let badge = mem::replace(&mut seat.badge, Badge::blank());
         let mut place: Place<S> = badge.into_seat();
-        let acted = act_at(rt, &self.table.shared, &mut place, input, outbox);
+        let acted = act_at(rt, &self.table.shared, &mut place, input, outbox, observer);
         seat.badge = place.into_badge();
         answer(acted, first, outbox.outputs().len())
     }

@@ -176,6 +176,21 @@ impl Sentinel {
         self.phase = Phase::Stopped;
     }
 
+    /// What its file says, and its place in the roster, which don't change while it runs.
+    pub fn plan(&self) -> &Plan
+        ensures { result.now ≡ self.now.plan }
+    {
+        &self.state.plan
+    }
+
+    /// What it keeps while it runs: whom it finds down, how far a failover has come, its votes. Until it stored the last input that may be more
+    /// than its file holds.
+    pub fn core(&self) -> &Core
+        ensures { result.now ≡ self.now.core }
+    {
+        &self.state.core
+    }
+
     /// The stored configuration of the master with this number: where the file says that the master is. None where there is no such
     /// master.
     pub fn address_now(&self, m: u16) -> Option<Card>

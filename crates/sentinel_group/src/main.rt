@@ -20,11 +20,9 @@ use crate::failures::fail;
 use crate::group_files::file_of;
 use crate::new_ids::new_id;
 use crate::replaying::replay;
-use crate::serving::{level_of, serve as serve_group};
+use crate::serving::serve as serve_group;
 use clap::ArgMatches;
 use conf_store::{ConfStore, MemoryStore};
-use log::Logged;
-use log::sink::Console;
 use port_serving::ServeFault;
 use sentinel_conf::{Conf, read};
 use sentinel_core::Sentinel;
@@ -90,10 +88,7 @@ fn main(rt: HostRuntime) -> ExitCode {
             Some(("check", words)) => check(rt, words),
             Some(("new-id", _)) => new_id(rt),
             Some(("replay", words)) => replay(&rt, words),
-            Some(("serve", words)) => {
-                let noting = Logged::new(rt, level_of(words), Console(rt));
-                serve_group(rt, &noting, words)
-            }
+            Some(("serve", words)) => serve_group(rt, rt, words),
             Some((_, words)) => answer(rt, words),
             None => answer_in_memory(rt),
         },

@@ -2,10 +2,13 @@
 
 ghost use Rattle.std.specs.Prelude.{◌<◌, ◌-◌, ◌^◌, All};
 
-use crate::failures::fail_ordered;
+use crate::failures::{fail, fail_ordered, status_of_ordered};
 use crate::group_files::{GroupFiles, files_of};
 use clap::ArgMatches;
-use log::{LevelFilter, Log};
+use log::sink::Discard;
+use log::{LevelFilter, Log, Logged};
+use port_serving::ServeFault;
+use queued_notes::NoteQueue;
 use sentinel_runner::{Group, OrderedFault};
 use std::alloc::Global;
 use std::io::Input;
@@ -16,13 +19,13 @@ use std::sync::Wait;
 use std::sync::atomic::AtomicU64;
 use std::thread::Threads;
 
-/// Which notes go to standard error: those of a group where the words ask for them, and else none.
-pub(crate) fn level_of(words: &ArgMatches) -> LevelFilter {
-    if words.get_flag("notes") {
-        LevelFilter::Info
-    } else {
-        LevelFilter::Off
-    }
+/// Why a group didn't run, or didn't run whole.
+#[derive(Drop)]
+enum Unserved {
+    /// A file was refused, which was told; the status tells it too.
+    Refused(ExitCode),
+    /// A fault of the group, or of its orders.
+    Fault(OrderedFault),
 }
 
 /// Runs the group of these files, and obeys the lines of standard input, until that ends.
@@ -36,17 +39,51 @@ where
     group.run_by_orders(rt, &mut rt.reader(), &ending)
 }
 
-/// Serves the group of the conf files that the words name; its notes go to the log of `noting`.
-pub(crate) fn serve<R>(rt: HostRuntime, noting: &R, words: &ArgMatches) -> ExitCode
+/// Runs the group of the conf files that the words name; its notes go to the log of `noting`.
+fn run_files<R>(rt: HostRuntime, noting: &R, words: &ArgMatches) -> Result<(), Unserved>
 where
     R: Threads + Wait + Net + Clock + Log + Input + Sync,
 {
     let files = match files_of(rt, words.get_strs("conf").unwrap_or(&[])) {
         Ok(files) => files,
-        Err(status) => return status,
+        Err(status) => return Err(Unserved::Refused(status)),
     };
     match run(noting, rt.alloc(), files) {
-        Ok(()) => ExitCode::SUCCESS,
-        Err(fault) => fail_ordered(&rt, fault),
+        Ok(()) => Ok(()),
+        Err(fault) => Err(Unserved::Fault(fault)),
     }
+}
+
+/// Tells how a group ended, by a line, where standard error takes lines, and by the status.
+fn tell_end(rt: HostRuntime, ended: Result<(), Unserved>, takes_lines: bool) -> ExitCode {
+    match ended {
+        Ok(()) => ExitCode::SUCCESS,
+        Err(Unserved::Refused(status)) => status,
+        Err(Unserved::Fault(fault)) => {
+            if takes_lines {
+                return fail_ordered(&rt, fault);
+            }
+            ExitCode::from(status_of_ordered(fault))
+        }
+    }
+}
+
+/// Serves the group of the conf files that the words name, by the threads, the sockets and the input of `host`. Where they ask for notes, these go to
+/// standard error by a thread of their own, which no other waits for: where it can't write them, the line that tells a fault isn't written either,
+/// and the status alone tells it.
+pub(crate) fn serve<R>(rt: HostRuntime, host: R, words: &ArgMatches) -> ExitCode
+where
+    R: Threads + Wait + Net + Clock + Input + Eprint + Copy + Drop + Send + Sync + 'static,
+{
+    if !words.get_flag("notes") {
+        let silent = Logged::new(host, LevelFilter::Off, Discard);
+        return tell_end(rt, run_files(rt, &silent, words), true);
+    }
+    let Ok((queue, writer)) = NoteQueue::open(host, rt.alloc()) else {
+        return fail(&rt, ServeFault::NoMemory);
+    };
+    let noting = Logged::new(host, LevelFilter::Info, queue);
+    let ended = run_files(rt, &noting, words);
+    drop(noting);
+    tell_end(rt, ended, writer.wait(&host))
 }

@@ -1,4 +1,4 @@
-mod AtPlaces
+pub mod AtPlaces
 mod FewBest
 mod Looking
 mod Openings

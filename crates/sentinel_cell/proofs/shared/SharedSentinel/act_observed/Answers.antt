@@ -6,9 +6,9 @@ use Rattle.ballot_law.specs.declared.messages.Output.{Output}
 use Rattle.sentinel_cell.specs.Histories.{World, opened}
 use Rattle.sentinel_cell.specs.Standing.{Cell, Acted, Adds, head_view}
 use Rattle.sentinel_cell.proofs.Acts.{as_told, acted_between, err_more, shown_none, acted_same}
-use Rattle.sentinel_cell.proofs.shared.SharedSentinel.act.Given.{Over}
-use Rattle.sentinel_cell.proofs.shared.SharedSentinel.act.Goals as goal
-use Rattle.sentinel_cell.proofs.shared.SharedSentinel.act.Goals.{After-answer}
+use Rattle.sentinel_cell.proofs.shared.SharedSentinel.act_observed.Given.{Over}
+use Rattle.sentinel_cell.proofs.shared.SharedSentinel.act_observed.Goals as goal
+use Rattle.sentinel_cell.proofs.shared.SharedSentinel.act_observed.Goals.{After-answer}
 
 -- the cell's Sentinel as it was shared
 abbrev start : (g : Over) → After-answer g → World

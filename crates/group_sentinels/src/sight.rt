@@ -1,0 +1,167 @@
+//! What a Sentinel shows of a master at the end of a turn.
+
+ghost use Rattle.std.specs.Prelude.{◌≡◌, ◌<◌, length, take};
+ghost use Rattle.ballot_law.specs.Ballots.{card_of, kept_of, voted_of};
+ghost use Rattle.ballot_law.specs.Clocks.{clock};
+ghost use Rattle.group_sentinels.specs.Sights.{is_other_down, is_replica_down};
+ghost use Rattle.sentinel_rules.specs.Plans.{group_size, master_count, nodes_of};
+ghost use Rattle.sentinel_rules.specs.States.{card_place, is_failing_over, is_master_down, is_odown_at, is_tilted};
+ghost use Rattle.sentinel_rules.specs.Ticks.{at_places};
+
+use ballot_law::{Card, NODES_MAX, RunId, SENTINELS_MAX};
+use sentinel_cell::Observer;
+use sentinel_core::Sentinel;
+use sentinel_state::Core;
+use watched_nodes::Plan;
+
+/// What a Sentinel finds of a master.
+#[derive(Clone, Copy)]
+pub(crate) struct Flags {
+    pub(crate) down: bool,
+    pub(crate) agreed: bool,
+    pub(crate) failing_over: bool,
+}
+
+/// The last vote that a Sentinel gave for a master.
+#[derive(Clone, Copy)]
+pub(crate) struct Vote {
+    pub(crate) leader: Option<RunId>,
+    pub(crate) epoch: u64,
+}
+
+/// What a Sentinel shows of a master: whether its clock isn't to be trusted, the configuration, what it finds of the master, its vote, and
+/// which of the master's replicas, by their places among its nodes, and of the other Sentinels, by their places in the roster, are down.
+#[derive(Clone, Copy)]
+pub(crate) struct Look {
+    pub(crate) is_tilted: bool,
+    pub(crate) card: Card,
+    pub(crate) flags: Flags,
+    pub(crate) vote: Vote,
+    pub(crate) replicas: [bool; NODES_MAX],
+    pub(crate) sentinels: [bool; SENTINELS_MAX],
+}
+
+/// What it finds of a master.
+fn flags_of(plan: &Plan, core: &Core, now: u64, m: u16) -> Flags
+    requires { m < master_count plan.now }
+    ensures { result ≡ record {
+      down = is_master_down plan.now core.now m (clock now);
+      agreed = is_odown_at plan.now core.now m (clock now);
+      failing_over = is_failing_over core.now m;
+    } }
+{
+    let down = core.is_master_down(plan, m, now);
+    Flags {
+        down,
+        agreed: core.is_odown(plan, m, now, down),
+        failing_over: core.is_failing_over(m),
+    }
+}
+
+/// Whether the node at a place is down and isn't the one that the configuration names, which is at `card_at`.
+fn is_replica_down(plan: &Plan, core: &Core, now: u64, m: u16, card_at: usize, k: usize) -> bool
+    requires { card_at ≡ card_place plan.now core.now m }
+    ensures { result ≡ is_replica_down plan.now core.now m (clock now) k }
+{
+    k != card_at && core.is_node_down(plan, m, now, card_at, k)
+}
+
+/// Which replicas of a master are down, by their places among its nodes.
+fn down_replicas(plan: &Plan, core: &Core, now: u64, m: u16) -> [bool; NODES_MAX]
+    ensures { take (length (nodes_of plan.now m)) result ≡ at_places (is_replica_down plan.now core.now m (clock now)) 0 (length (nodes_of plan.now m)) }
+{
+    let card_at = core.card_place(plan, m);
+    let mut down = [false; NODES_MAX];
+    for k in 0..plan.node_count(m) {
+        down[k] = is_replica_down(plan, core, now, m, card_at, k);
+    }
+    down
+}
+
+/// Whether the Sentinel at a place is down and another one.
+fn is_other_down(plan: &Plan, core: &Core, now: u64, place: usize) -> bool
+    ensures { result ≡ is_other_down plan.now core.now (clock now) place }
+{
+    place != plan.place() as usize && core.is_peer_down(plan, now, place)
+}
+
+/// Which of the other Sentinels are down, by their places in the roster.
+fn down_sentinels(plan: &Plan, core: &Core, now: u64) -> [bool; SENTINELS_MAX]
+    ensures { take (group_size plan.now) result ≡ at_places (is_other_down plan.now core.now (clock now)) 0 (group_size plan.now) }
+{
+    let mut down = [false; SENTINELS_MAX];
+    for place in 0..plan.group_size() as usize {
+        down[place] = is_other_down(plan, core, now, place);
+    }
+    down
+}
+
+impl Look {
+    /// What a Sentinel shows of a master, by what it keeps at a reading of its clock.
+    fn at(plan: &Plan, core: &Core, now: u64, m: u16) -> Look
+        requires { m < master_count plan.now }
+        ensures tilted { result.is_tilted ≡ is_tilted core.now }
+        ensures card { result.card ≡ card_of core.now.kept m }
+        ensures flags { result.flags ≡ record {
+          down = is_master_down plan.now core.now m (clock now);
+          agreed = is_odown_at plan.now core.now m (clock now);
+          failing_over = is_failing_over core.now m;
+        } }
+        ensures vote { result.vote ≡ record { leader = (kept_of core.now.kept m).candidate; epoch = voted_of core.now.kept m } }
+        ensures replicas { take (length (nodes_of plan.now m)) result.replicas
+            ≡ at_places (is_replica_down plan.now core.now m (clock now)) 0 (length (nodes_of plan.now m)) }
+        ensures sentinels { take (group_size plan.now) result.sentinels ≡ at_places (is_other_down plan.now core.now (clock now)) 0 (group_size plan.now) }
+    {
+        Look {
+            is_tilted: core.is_tilted(),
+            card: core.card(m),
+            flags: flags_of(plan, core, now, m),
+            vote: Vote {
+                leader: core.leader(m),
+                epoch: core.voted(m),
+            },
+            replicas: down_replicas(plan, core, now, m),
+            sentinels: down_sentinels(plan, core, now),
+        }
+    }
+}
+
+/// Who takes down what a Sentinel shows of one master at the end of a turn, at the reading of its clock. Where no master is wanted nothing is.
+#[derive(Drop)]
+pub(crate) struct Sight {
+    wanted: Option<(u16, u64)>,
+    look: Option<Look>,
+}
+
+impl Sight {
+    /// No master is wanted.
+    pub(crate) fn none() -> Sight {
+        Sight {
+            wanted: None,
+            look: None,
+        }
+    }
+
+    /// This master is wanted of the next turn, at this reading of the clock in milliseconds.
+    pub(crate) fn want(&mut self, master: u16, now: u64) {
+        self.wanted = Some((master, now));
+    }
+
+    /// What the last turn showed of the master that was wanted. None is wanted of the next one.
+    pub(crate) fn take(&mut self) -> Option<Look> {
+        self.wanted = None;
+        self.look.take()
+    }
+}
+
+impl Observer for Sight {
+    fn observe(&mut self, sentinel: &Sentinel) {
+        self.look = None;
+        if let Some((master, now)) = self.wanted {
+            let plan = sentinel.plan();
+            if master < plan.master_count() {
+                self.look = Some(Look::at(plan, sentinel.core(), now, master));
+            }
+        }
+    }
+}
