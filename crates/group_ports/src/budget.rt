@@ -1,8 +1,8 @@
 //! How many connections each port of a process keeps, so that descriptors are left for the files that are stored.
 
-ghost use Rattle.std.specs.Prelude.{◌≡◌, ◌≤◌, ◌<◌, ◌+◌, ◌*◌, ◌⊎◌, IfOk};
+ghost use Rattle.std.specs.Prelude.{◌≡◌, ◌≤◌, ◌<◌, ◌+◌, ◌-◌, ◌*◌, ◌⊎◌, IfOk};
 
-use crate::clients::CONNECTIONS_MAX;
+use crate::port_room::{CONNECTIONS_MAX, PortRoom};
 use mio::Poll;
 use std::alloc::Global;
 use std::io::{self, ErrorKind};
@@ -12,19 +12,29 @@ use std::net::Net;
 /// the file that its Sentinel stores.
 const FOR_A_PORT: u64 = 4;
 
+/// How many each further thread of a port needs: its readiness, and what wakes it.
+const FOR_A_THREAD: u64 = 2;
+
 /// How many descriptors are left for all else.
 const FOR_THE_REST: u64 = 8;
 
+/// How many descriptors a port of so many threads needs beside its connections.
+fn beside(threads: u16) -> u64
+    ensures { result ≡ FOR_A_PORT + FOR_A_THREAD * (threads - 1) }
+{
+    FOR_A_PORT + FOR_A_THREAD * u64::from(threads.saturating_sub(1))
+}
+
 /// How many connections each of these ports may keep, where this many descriptors can still be opened: the most, up to `CONNECTIONS_MAX`, with which
 /// those stay free that the ports and the rest of the process need. 0 where these alone are too many.
-fn share_of(descriptors: u64, ports: usize) -> usize
+fn share_of(descriptors: u64, ports: usize, beside: u64) -> usize
     requires { 0 < ports }
     ensures few { result ≤ CONNECTIONS_MAX }
-    ensures fits { 0 < result → (result + FOR_A_PORT) * ports + FOR_THE_REST ≤ descriptors }
-    ensures most { (result ≡ CONNECTIONS_MAX) ⊎ (descriptors < (result + 1 + FOR_A_PORT) * ports + FOR_THE_REST) }
+    ensures fits { 0 < result → (result + beside) * ports + FOR_THE_REST ≤ descriptors }
+    ensures most { (result ≡ CONNECTIONS_MAX) ⊎ (descriptors < (result + 1 + beside) * ports + FOR_THE_REST) }
 {
     let each = descriptors.saturating_sub(FOR_THE_REST) / ports as u64;
-    each.saturating_sub(FOR_A_PORT).min(CONNECTIONS_MAX as u64) as usize
+    each.saturating_sub(beside).min(CONNECTIONS_MAX as u64) as usize
 }
 
 /// How many descriptors of those that are wanted the system gives: so many are opened, and closed again.
@@ -40,15 +50,22 @@ fn descriptors_of<N: Net>(net: &N, alloc: Global, wanted: u64) -> io::Result<u64
     Ok(wanted)
 }
 
-/// How many connections each of so many ports of this process may keep, at most `CONNECTIONS_MAX`, so that all of them together leave descriptors
-/// for the files that the group stores; 0 where there is room for none. It is asked before the ports are opened, of which there is one at least.
-/// The error is the system's, where it gives no descriptor at all; `OutOfMemory` is a refused allocation.
-pub fn connections_of_each<N: Net>(net: &N, alloc: Global, ports: usize) -> io::Result<usize>
-    ensures { IfOk result (λ share. share ≤ CONNECTIONS_MAX) }
+/// How many connections each of so many ports of this process may keep, and each of the so many threads of a port, at most `CONNECTIONS_MAX` a port, so
+/// that all of them together leave descriptors for the files that the group stores. It is asked before the ports are opened, of which there is one at
+/// least. The error is the system's, where it gives no descriptor at all; `OutOfMemory` is a refused allocation.
+pub fn connections_of_each<N: Net>(
+    net: &N,
+    alloc: Global,
+    ports: usize,
+    threads: u16,
+) -> io::Result<PortRoom>
+    ensures { IfOk result (λ room. 0 < threads → room.threads ≡ threads) }
 {
     let ports = ports.max(1);
+    let beside = beside(threads);
     let wanted = (ports as u64)
-        .saturating_mul(CONNECTIONS_MAX as u64 + FOR_A_PORT)
+        .saturating_mul(CONNECTIONS_MAX as u64 + beside)
         .saturating_add(FOR_THE_REST);
-    Ok(share_of(descriptors_of(net, alloc, wanted)?, ports))
+    let share = share_of(descriptors_of(net, alloc, wanted)?, ports, beside);
+    Ok(PortRoom::of(share, threads))
 }

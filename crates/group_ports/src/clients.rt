@@ -2,78 +2,68 @@
 
 ghost use Rattle.std.specs.Prelude.{◌≡◌, ◌≢◌, ◌≤◌, ℕ};
 ghost use Rattle.slab.specs.Slab.{get, slab_len};
-ghost use Rattle.group_ports.specs.declared.clients.TheConstants.{CONNECTIONS_MAX};
 
 use crate::connection::Connection;
+use crate::port_room::{CONNECTIONS_MAX, PortRoom};
 use conf_store::ConfStore;
 use group_sentinels::{RunState, RunningSentinel, Switch, ThreadSeat, Which};
 use mio::event::Event;
-use mio::net::{TcpListener, TcpStream};
-use mio::{Events, Interest, Poll, Token};
+use mio::net::TcpStream;
+use mio::{Events, Interest, Poll, Registry, Token};
 use slab::Slab;
 use std::alloc::Global;
 use std::io::{self, ErrorKind};
-use std::net::{Ipv4Addr, Net, SocketAddr};
+use std::net::Net;
 use std::rt::Clock;
 use std::sync::Wait;
 use std::sync::atomic::{AtomicU64, Ordering};
 use std::time::Duration;
 
-/// The token of the listener; a connection's token is its key in the slab.
-const LISTENER: Token = Token(usize::MAX);
-
-/// How many connections a port keeps at most; a further one is closed.
-pub const CONNECTIONS_MAX: usize = 256;
-
-/// How many connections are accepted before those that are there have their turn.
-const ACCEPTS_MAX: u32 = 64;
-
 /// How long a port waits before it looks whether the group ends, in milliseconds.
 const WAIT_MS: u64 = 100;
 
-/// A listener with the connections that it accepted.
+/// The connections that a thread of a port has, no more than its part of the port's room.
 ///
-/// `accepts` is whether connections may wait of which the system doesn't tell again, `busy` whether there is something to do before the next wait, and
-/// `last_voter` the key of the connection that asked for a vote last.
+/// `busy` is whether there is something to do before the next wait, and `last_voter` the key of the connection that asked for a vote last.
 #[derive(Drop)]
 pub(crate) struct Clients {
     poll: Poll,
-    listener: TcpListener,
     connections: Slab<Connection<TcpStream>>,
-    most: usize,
-    accepts: bool,
+    room: PortRoom,
     busy: bool,
     last_voter: usize,
     alloc: Global,
-    ghost bound: { most ≤ CONNECTIONS_MAX },
-    ghost few: { slab_len connections ≤ most },
+    ghost few: { slab_len connections ≤ room.each },
 }
 
 impl Clients {
-    /// Listens on 127.0.0.1 at this port, for at most so many connections at once.
-    pub(crate) fn open<N: Net>(
-        net: &N,
-        alloc: Global,
-        port: u16,
-        most: usize,
-    ) -> io::Result<Clients>
-        requires { most ≤ CONNECTIONS_MAX }
-    {
-        let poll = Poll::new(net)?;
-        let address = SocketAddr::from((Ipv4Addr::LOCALHOST, port));
-        let mut listener = TcpListener::bind(net, address)?;
-        poll.registry()
-            .register(&mut listener, LISTENER, Interest::READABLE)?;
+    /// None yet, of a thread with its part of this room.
+    pub(crate) fn open<N: Net>(net: &N, alloc: Global, room: PortRoom) -> io::Result<Clients> {
         Ok(Clients {
-            poll,
-            listener,
+            poll: Poll::new(net)?,
             connections: Slab::new(alloc),
-            most,
-            accepts: false,
+            room,
             busy: false,
             last_voter: 0,
             alloc,
         })
+    }
+
+    /// Where they are registered.
+    pub(crate) fn registry(&self) -> &Registry {
+        self.poll.registry()
+    }
+
+    /// How many there are.
+    pub(crate) fn count(&self) -> usize
+        ensures { result ≡ slab_len self.now.connections }
+    {
+        self.connections.len()
+    }
+
+    /// There is something to do before the next wait.
+    pub(crate) fn note_busy(&mut self) {
+        self.busy = true;
     }
 
     /// Waits until the system tells of a connection; not at all where there is something to do.
@@ -91,38 +81,18 @@ impl Clients {
         }
     }
 
-    /// Accepts what waits. Where the system has no descriptor or no memory for it, it is tried again after the next wait.
-    fn accept_all(&mut self) {
-        self.accepts = false;
-        for _ in 0..ACCEPTS_MAX {
-            match self.listener.accept() {
-                Ok((stream, _)) => drop(self.keep(stream)),
-                Err(error) => match error.kind() {
-                    ErrorKind::WouldBlock => return,
-                    ErrorKind::Interrupted | ErrorKind::ConnectionAborted => {}
-                    _ => {
-                        self.accepts = true;
-                        return;
-                    }
-                },
-            }
-        }
-        self.accepts = true;
-        self.busy = true;
+    /// Keeps a connection where there is room and memory for it, and else drops it, which closes it.
+    pub(crate) fn keep(&mut self, stream: TcpStream) {
+        drop(self.try_keep(stream));
     }
 
-    /// Accepts what was left waiting.
-    pub(crate) fn accept_left(&mut self) {
-        if self.accepts {
-            self.accept_all();
-        }
-    }
-
-    /// Keeps a connection where there is room for it, and else drops it, which closes it.
-    fn keep(&mut self, mut stream: TcpStream) -> io::Result<()> {
-        if self.connections.len() >= self.most {
+    /// Keeps a connection where there is room for it, and else drops it. What is sent on it doesn't wait until the client has acknowledged what was sent
+    /// before, as a note after another one would.
+    fn try_keep(&mut self, mut stream: TcpStream) -> io::Result<()> {
+        if self.connections.len() >= self.room.each() {
             return Ok(());
         }
+        stream.set_nodelay(true)?;
         let key = self.connections.vacant_key();
         self.poll.registry().register(
             &mut stream,
@@ -194,7 +164,7 @@ impl Clients {
         connection.wants_turn() && !connection.asks_for_votes()
     }
 
-    /// Has the connection of which the system told read and answer, or accepts new ones.
+    /// Has the connection of which the system told read and answer.
     pub(crate) fn answer_event<J: Which, S: ConfStore, R: Wait + Clock>(
         &mut self,
         rt: &R,
@@ -203,11 +173,9 @@ impl Clients {
         seat: &mut ThreadSeat<J>,
         event: &Event,
     ) {
-        let token = event.token();
-        if token == LISTENER {
-            self.accept_all();
-        } else if self.note_event(token.0, event) {
-            self.answer_one(rt, state, member, seat, token.0);
+        let key = event.token().0;
+        if self.note_event(key, event) {
+            self.answer_one(rt, state, member, seat, key);
         }
     }
 
@@ -290,13 +258,15 @@ impl Clients {
         }
     }
 
-    /// Tells the subscribers of each new address that a thread of the Sentinel showed since the last turn.
+    /// Tells the subscribers of each new address that a thread of the Sentinel showed since the last turn of the port's thread with this number, which
+    /// has them.
     pub(crate) fn tell_switches<J: Which, S: ConfStore, R: Wait>(
         &mut self,
         rt: &R,
         member: &RunningSentinel<J, S>,
+        thread: u16,
     ) {
-        for switch in &member.take_switches(rt, 0) {
+        for switch in &member.take_switches(rt, thread) {
             self.tell_all(member, switch);
         }
     }

@@ -1,6 +1,9 @@
 //! A port that serves its clients.
 
-use crate::clients::{CONNECTIONS_MAX, Clients};
+use crate::clients::Clients;
+use crate::desk::Desk;
+use crate::listener::{Entrance, LISTENER, Listener};
+use crate::port_room::PortRoom;
 use conf_store::ConfStore;
 use group_sentinels::{RunState, RunningSentinel, ThreadSeat, Which};
 use mio::Events;
@@ -8,27 +11,54 @@ use std::alloc::Global;
 use std::io;
 use std::net::Net;
 use std::rt::Clock;
-use std::sync::Wait;
 use std::sync::atomic::{AtomicU64, Ordering};
+use std::sync::{Arc, Wait};
 
 /// How many connections the system tells of at once.
 const EVENTS: usize = 256;
 
-/// A listening port with its connections.
+/// What a thread serves of a listening port: its own connections. The threads of a port are numbered from 0 on.
 #[derive(Drop)]
 pub struct Port {
     clients: Clients,
+    entrance: Entrance,
     events: Events<Global>,
+    thread: u16,
 }
 
 impl Port {
-    /// Listens on 127.0.0.1 at this port, and keeps at most so many connections at once, and no more than `CONNECTIONS_MAX`; a further one is
-    /// closed. An error is the system's, as where the port is taken; `OutOfMemory` is a refused allocation.
-    pub fn open<N: Net>(net: &N, alloc: Global, port: u16, most: usize) -> io::Result<Port> {
+    /// What the thread with this number serves.
+    fn of(alloc: Global, clients: Clients, entrance: Entrance, thread: u16) -> io::Result<Port> {
         Ok(Port {
-            clients: Clients::open(net, alloc, port, most.min(CONNECTIONS_MAX))?,
+            clients,
+            entrance,
             events: Events::with_capacity(alloc, EVENTS)?,
+            thread,
         })
+    }
+
+    /// Listens on 127.0.0.1 at this port, with so much room: what its first thread serves, and what each further one does, in their order. The first one
+    /// accepts, and each connection goes to the thread that has the fewest; one for which none has room is closed. An error is the system's, as where the
+    /// port is taken; `OutOfMemory` is a refused allocation.
+    pub fn open<N: Net>(
+        net: &N,
+        alloc: Global,
+        port: u16,
+        room: PortRoom,
+    ) -> io::Result<(Port, Vec<Port>)> {
+        let mut desks = Vec::new(alloc);
+        let mut others = Vec::new(alloc);
+        for thread in 1..room.threads() {
+            let clients = Clients::open(net, alloc, room)?;
+            let desk = Arc::new(alloc, Desk::open(alloc, clients.registry(), room.each())?)?;
+            let entrance = Entrance::IsHanded(Arc::try_clone(&desk)?);
+            desks.push(desk)?;
+            others.push(Port::of(alloc, clients, entrance, thread)?)?;
+        }
+        let clients = Clients::open(net, alloc, room)?;
+        let listener = Listener::open(net, clients.registry(), port, desks)?;
+        let first = Port::of(alloc, clients, Entrance::Listens(listener), 0)?;
+        Ok((first, others))
     }
 
     /// Serves until `ending` isn't 0, and looks at that before each connection. The error is the system's, where it tells of no connection any more. No
@@ -45,18 +75,37 @@ impl Port {
             if ending.load(Ordering::SeqCst) != 0 {
                 return Ok(());
             }
-            self.clients.wait(&mut self.events)?;
-            self.clients.accept_left();
-            for event in &self.events {
-                if ending.load(Ordering::SeqCst) != 0 {
-                    return Ok(());
-                }
-                self.clients.answer_event(rt, state, member, seat, event);
+            self.entrance.admit(rt, &mut self.clients);
+            if let Err(error) = self.clients.wait(&mut self.events) {
+                self.entrance.close(rt);
+                return Err(error);
             }
+            self.answer_events(rt, state, member, seat, ending);
             self.clients.send_events(&self.events);
             self.clients.serve_busy(rt, state, member, seat, ending);
-            self.clients.tell_switches(rt, member);
+            self.clients.tell_switches(rt, member, self.thread);
         }
         unreachable!()
+    }
+
+    /// Has the connections of which the system told read and answer, and takes in new ones. It stops where the group ends.
+    fn answer_events<J: Which, S: ConfStore, R: Wait + Clock>(
+        &mut self,
+        rt: &R,
+        state: &RunState,
+        member: &RunningSentinel<J, S>,
+        seat: &mut ThreadSeat<J>,
+        ending: &AtomicU64,
+    ) {
+        for event in &self.events {
+            if ending.load(Ordering::SeqCst) != 0 {
+                return;
+            }
+            if event.token() == LISTENER {
+                self.entrance.admit_new(rt, &mut self.clients);
+            } else {
+                self.clients.answer_event(rt, state, member, seat, event);
+            }
+        }
     }
 }

@@ -70,6 +70,7 @@ pub struct ThreadSeat<J: Which> {
 /// A seat with room for outputs that is made as it is needed.
 fn with_outbox<J: Which>(alloc: Global, seat: Seat) -> ThreadSeat<J>
     requires { seat.cell ≡ J.cell }
+    ensures { result.seat ≡ seat }
 {
     ThreadSeat {
         seat,
@@ -128,14 +129,27 @@ impl<J: Which, S: ConfStore> RunningSentinel<J, S> {
         self.masters
     }
 
-    /// A second seat beside this one; None where no share is left, and then the seat is gone.
-    pub fn split(
+    /// Cuts a seat into as many as it has a share for. The first one of a cell has the share of all that the cell was made for.
+    pub fn seats(
         &self,
         alloc: Global,
         seat: ThreadSeat<J>,
-    ) -> Option<(ThreadSeat<J>, ThreadSeat<J>)> {
-        let (one, two) = self.cell.split(seat.seat).ok()?;
-        Some((with_outbox(alloc, one), with_outbox(alloc, two)))
+    ) -> Result<Vec<ThreadSeat<J>>, AllocError>
+        ensures { IfOk result (λ seats. length seats.items ≡ seat.seat.view.share) }
+    {
+        let mut left = Vec::new(alloc);
+        let mut seats = Vec::new(alloc);
+        left.push(seat)?;
+        while let Some(seat) = left.pop() {
+            match self.cell.split(seat.seat) {
+                Ok((one, two)) => {
+                    left.push(with_outbox(alloc, one))?;
+                    left.push(with_outbox(alloc, two))?;
+                }
+                Err((one, _)) => seats.push(with_outbox(alloc, one))?,
+            }
+        }
+        Ok(seats)
     }
 
     /// One input, and how many calls stand before it. The outbox shows what the Sentinel says, once it is stored; at a fault it says

@@ -18,6 +18,9 @@ use sentinel_cell::{Seat, SharedSentinel};
 use std::alloc::Global;
 use std::sync::Wait;
 
+/// How many bytes of room a client keeps for its answers once all of them are sent.
+const ROOM_KEPT: usize = 16_384;
+
 /// The bytes that came, what answers the values in them, and the answers that aren't sent yet.
 #[derive(Drop)]
 pub(crate) struct Exchange {
@@ -55,8 +58,26 @@ impl Exchange {
         ensures unsent { self.new.unsent.items ≡ drop n self.old.unsent.items }
         ensures frames { self.new.frames ≡ self.old.frames }
         ensures listens { self.new.responder.listens ≡ self.old.responder.listens }
+        ensures room { self.new.unsent.items ≡ [] → self.new.unsent.spare ≤ ROOM_KEPT }
     {
         self.unsent.advance(n);
+        if self.unsent.is_empty() {
+            self.give_back();
+        }
+    }
+
+    /// Gives back the room of what was sent, where it is more than a client needs that takes its answers.
+    fn give_back(&mut self)
+        requires { self.old.unsent.items ≡ [] }
+        ensures unsent { self.new.unsent.items ≡ [] }
+        ensures frames { self.new.frames ≡ self.old.frames }
+        ensures listens { self.new.responder.listens ≡ self.old.responder.listens }
+        ensures room { self.new.unsent.spare ≤ ROOM_KEPT }
+    {
+        self.unsent.clear();
+        if self.unsent.capacity() > ROOM_KEPT {
+            self.unsent = BytesMut::new(self.alloc);
+        }
     }
 
     /// Drops the bytes that are no whole value.

@@ -112,8 +112,8 @@ impl Session {
         self.exchange.unsent()
     }
 
-    /// Takes away the first `n` bytes of what isn't sent yet, which the connection took. No memory is taken, and room that they leave is used
-    /// again.
+    /// Takes away the first `n` bytes of what isn't sent yet, which the connection took. No memory is taken. Room that they leave is used
+    /// again, and given back where nothing is left and it was more than 16 KiB.
     pub fn sent(&mut self, n: usize)
         requires { n ≤ length self.old.unsent }
         ensures { self.new ≡ record self.old { unsent = drop n self.old.unsent } }

@@ -2,8 +2,9 @@
 
 use crate::failures::fail;
 use clap::error::ErrorKind;
-use clap::{Arg, ArgAction, Command, Error};
+use clap::{Arg, ArgAction, Command, Error, value_parser};
 use port_serving::ServeFault;
+use sentinel_runner::PORT_THREADS_MAX;
 use std::alloc::{AllocError, Global};
 use std::env::{self, Env};
 use std::io;
@@ -49,9 +50,15 @@ fn serve<'a>(alloc: Global) -> Result<Command<'a>, AllocError> {
         .long("notes")
         .action(ArgAction::SetTrue)
         .help("Notes on standard error what the Sentinels find, as +switch-master");
+    let threads = Arg::new(alloc, "port-threads")
+        .long("port-threads")
+        .value_name("number")
+        .value_parser(value_parser!(u16).range(1..=i64::from(PORT_THREADS_MAX)))
+        .help("How many threads serve each port, 1 to 16; 1 where it isn't said");
     Command::new(alloc, "serve")
         .about("Runs a group of Sentinels with their ports at 127.0.0.1, until standard input ends")
         .arg(notes)?
+        .arg(threads)?
         .arg(conf_files(alloc))
 }
 

@@ -5,13 +5,14 @@ ghost use Rattle.sentinel_runner.specs.declared.group_fault.GroupFault.TheVarian
 ghost use Rattle.sentinel_runner.specs.Groups.{AreOneGroup};
 
 use crate::group_fault::{GroupFault, OrderedFault};
-use crate::opened::connections_of;
+use crate::opened::{PORT_THREADS_MAX, room_of};
 use crate::orders::{Orders, ReadFailed};
 use crate::started::Started;
 use conf_store::ConfStore;
 use crossbeam_channel::Receiver;
 use group_checks::is_one_group;
 use group_links::{DataNodes, Links, NodeOrder};
+use group_ports::PortRoom;
 use group_sentinels::{GroupClock, RunState};
 use log::Log;
 use sentinel_conf::Conf;
@@ -47,14 +48,14 @@ fn start_all<S: ConfStore + Drop, R: Net + Log>(
     mut confs: Vec<Conf>,
     mut stores: Vec<S>,
     links: &mut Links,
-    most: usize,
+    room: PortRoom,
 ) -> Result<Vec<Started<S>>, GroupFault>
     requires room { All (λ s. S.failure_count s < 2 ^ 64 - 1) stores.items }
     ensures roster { IfErr result (λ fault. fault ≢ NotOneRoster) }
 {
     let mut sentinels = Vec::new(alloc);
     while let (Some(conf), Some(store)) = (confs.pop(), stores.pop()) {
-        sentinels.push(Started::open(rt, alloc, conf, store, links, most)?)?;
+        sentinels.push(Started::open(rt, alloc, conf, store, links, room)?)?;
     }
     Ok(sentinels)
 }
@@ -71,7 +72,7 @@ fn are_one_group<S>(confs: &[Conf], stores: &[S]) -> bool
 }
 
 impl<S: ConfStore + Drop> Group<S> {
-    /// Opens each Sentinel with the store at its place in the list, and its port, and makes the data nodes of the roster and the links.
+    /// Opens each Sentinel with the store at its place in the list, and its port for one thread, and makes the data nodes of the roster and the links.
     ///
     /// `NotOneRoster` comes exactly where the confs aren't those of one group, or there is another number of stores.
     pub fn open<R: Net + Clock + Log>(
@@ -84,10 +85,25 @@ impl<S: ConfStore + Drop> Group<S> {
         ensures group { AreOneGroup confs.items stores.items → IfErr result (λ fault. fault ≢ NotOneRoster) }
         ensures other { ¬ (AreOneGroup confs.items stores.items) → IsErrOf result NotOneRoster }
     {
+        Self::open_with(rt, alloc, confs, stores, 1)
+    }
+
+    /// As `open`, with so many threads for each port, of which each has a seat of the Sentinel: one at least, and no more than `PORT_THREADS_MAX`.
+    pub fn open_with<R: Net + Clock + Log>(
+        rt: &R,
+        alloc: Global,
+        confs: Vec<Conf>,
+        stores: Vec<S>,
+        port_threads: u16,
+    ) -> Result<Group<S>, GroupFault>
+        requires room { All (λ s. S.failure_count s < 2 ^ 64 - 1) stores.items }
+        ensures group { AreOneGroup confs.items stores.items → IfErr result (λ fault. fault ≢ NotOneRoster) }
+        ensures other { ¬ (AreOneGroup confs.items stores.items) → IsErrOf result NotOneRoster }
+    {
         if !are_one_group(confs.as_slice(), stores.as_slice()) {
             return Err(GroupFault::NotOneRoster);
         }
-        Self::open_all(rt, alloc, confs, stores)
+        Self::open_all(rt, alloc, confs, stores, port_threads)
     }
 
     /// Opens what `open` opens, of confs that are those of one group.
@@ -96,6 +112,7 @@ impl<S: ConfStore + Drop> Group<S> {
         alloc: Global,
         confs: Vec<Conf>,
         stores: Vec<S>,
+        port_threads: u16,
     ) -> Result<Group<S>, GroupFault>
         requires room { All (λ s. S.failure_count s < 2 ^ 64 - 1) stores.items }
         requires group { AreOneGroup confs.items stores.items }
@@ -107,8 +124,9 @@ impl<S: ConfStore + Drop> Group<S> {
         let nodes = DataNodes::of(alloc, first)?;
         let (mut links, node_orders) = Links::open(alloc, confs.len())?;
         let clock = GroupClock::start(rt);
-        let most = connections_of(rt, alloc, confs.len())?;
-        let sentinels = start_all(rt, alloc, confs, stores, &mut links, most)?;
+        let port_threads = port_threads.clamp(1, PORT_THREADS_MAX);
+        let room = room_of(rt, alloc, confs.len(), port_threads)?;
+        let sentinels = start_all(rt, alloc, confs, stores, &mut links, room)?;
         Ok(Group {
             threads: Beginning {
                 sentinels,

@@ -11,3 +11,4 @@ mod started;
 
 pub use group::{Group, run_group};
 pub use group_fault::{GroupFault, OrderedFault};
+pub use opened::PORT_THREADS_MAX;

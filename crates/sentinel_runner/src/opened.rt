@@ -6,7 +6,7 @@ ghost use Rattle.sentinel_runner.specs.declared.group_fault.GroupFault.TheVarian
 
 use crate::group_fault::GroupFault;
 use conf_store::ConfStore;
-use group_ports::{Port, connections_of_each};
+use group_ports::{Port, PortRoom, connections_of_each};
 use log::{Log, warn};
 use sentinel_cell::{Seat, SharedSentinel};
 use sentinel_conf::Conf;
@@ -15,13 +15,21 @@ use std::alloc::Global;
 use std::io::{self, ErrorKind};
 use std::net::Net;
 
-/// A Sentinel that is open, with its first seat, its place in the roster, its port, and that port's number.
+/// How many threads serve each port of a group at most.
+pub const PORT_THREADS_MAX: u16 = 16;
+
+/// How many threads use a Sentinel beside those of its port: its timer and its link.
+const OTHER_SEATS: u64 = 2;
+
+/// A Sentinel that is open, with its first seat, its place in the roster, what each thread of its port serves, and that port's number.
 #[derive(Drop)]
 pub(crate) struct Opened<S: ConfStore> {
     pub(crate) cell: SharedSentinel<S>,
     pub(crate) seat: Seat,
     pub(crate) place: u16,
     pub(crate) port: Port,
+    pub(crate) others: Vec<Port>,
+    pub(crate) port_threads: u16,
     pub(crate) number: u16,
     ghost own: { seat.cell ≡ cell.id },
 }
@@ -38,37 +46,38 @@ pub(crate) fn fault_of(error: &io::Error) -> GroupFault
     GroupFault::PortRefused
 }
 
-/// How many connections each of so many ports keeps. `PortRefused` where the process may have too few descriptors for any.
-pub(crate) fn connections_of<R: Net>(
+/// How many connections each of so many ports keeps, and each of the so many threads of a port. `PortRefused` where the process may have too few
+/// descriptors for any.
+pub(crate) fn room_of<R: Net>(
     rt: &R,
     alloc: Global,
     ports: usize,
-) -> Result<usize, GroupFault>
+    port_threads: u16,
+) -> Result<PortRoom, GroupFault>
     ensures roster { IfErr result (λ fault. fault ≢ NotOneRoster) }
 {
-    match connections_of_each(rt, alloc, ports) {
-        Ok(0) => Err(GroupFault::PortRefused),
-        Ok(most) => Ok(most),
+    match connections_of_each(rt, alloc, ports, port_threads) {
+        Ok(room) if room.is_empty() => Err(GroupFault::PortRefused),
+        Ok(room) => Ok(room),
         Err(error) => Err(fault_of(&error)),
     }
 }
 
 impl<S: ConfStore + Drop> Opened<S> {
-    /// Opens the port of this conf for at most so many connections, and its Sentinel at clock 0, for as many threads as there are to be seats.
+    /// Opens the port of this conf with so much room, and its Sentinel at clock 0, with a seat for each thread.
     pub(crate) fn open<R: Net + Log>(
         rt: &R,
         alloc: Global,
         conf: Conf,
         store: S,
-        seats: u64,
-        most: usize,
+        room: PortRoom,
     ) -> Result<Opened<S>, GroupFault>
         requires room { S.failure_count store < 2 ^ 64 - 1 }
         ensures roster { IfErr result (λ fault. fault ≢ NotOneRoster) }
     {
         let (number, place) = (conf.port(), conf.place());
-        let port = match Port::open(rt, alloc, number, most) {
-            Ok(port) => port,
+        let (port, others) = match Port::open(rt, alloc, number, room) {
+            Ok(parts) => parts,
             Err(error) => {
                 warn!(rt; "port {number} of 127.0.0.1 can't be had");
                 return Err(fault_of(&error));
@@ -77,6 +86,7 @@ impl<S: ConfStore + Drop> Opened<S> {
         let Ok(sentinel) = Sentinel::open(alloc, conf, 0) else {
             return Err(GroupFault::NoMemory);
         };
+        let seats = OTHER_SEATS + u64::from(room.threads());
         let Ok((cell, seat)) = SharedSentinel::new(alloc, sentinel, store, seats) else {
             return Err(GroupFault::NoMemory);
         };
@@ -85,6 +95,8 @@ impl<S: ConfStore + Drop> Opened<S> {
             seat,
             place,
             port,
+            others,
+            port_threads: room.threads(),
             number,
         })
     }

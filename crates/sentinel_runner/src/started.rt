@@ -8,7 +8,7 @@ use crate::opened::{Opened, fault_of};
 use conf_store::ConfStore;
 use crossbeam_channel::Receiver;
 use group_links::{Delivery, Links, run_link, run_timer};
-use group_ports::Port;
+use group_ports::{Port, PortRoom};
 use group_sentinels::{RunState, RunningSentinel, ThreadSeat, Which};
 use log::Log;
 use sentinel_conf::Conf;
@@ -21,12 +21,6 @@ use std::sync::Wait;
 use std::sync::atomic::{AtomicU64, Ordering};
 use std::thread::{self, Threads};
 
-/// How many threads serve a Sentinel's port.
-const PORT_THREADS: u16 = 1;
-
-/// How many threads use a Sentinel: its timer, its link and its port.
-const SEATS: u64 = 3;
-
 /// A Sentinel that is open, and the end of its channel.
 #[derive(Drop)]
 pub(crate) struct Started<S: ConfStore> {
@@ -35,24 +29,24 @@ pub(crate) struct Started<S: ConfStore> {
 }
 
 impl<S: ConfStore + Drop> Started<S> {
-    /// Opens the Sentinel of this conf at clock 0, and its port for at most so many connections, and connects it.
+    /// Opens the Sentinel of this conf at clock 0, and its port with so much room, and connects it.
     pub(crate) fn open<R: Net + Log>(
         rt: &R,
         alloc: Global,
         conf: Conf,
         store: S,
         links: &mut Links,
-        most: usize,
+        room: PortRoom,
     ) -> Result<Started<S>, GroupFault>
         requires room { S.failure_count store < 2 ^ 64 - 1 }
         ensures roster { IfErr result (λ fault. fault ≢ NotOneRoster) }
     {
-        let opened = Opened::open(rt, alloc, conf, store, SEATS, most)?;
+        let opened = Opened::open(rt, alloc, conf, store, room)?;
         let deliveries = links.connect(opened.place)?;
         Ok(Started { opened, deliveries })
     }
 
-    /// Runs its threads until `ending` isn't 0; this thread serves the port.
+    /// Runs its threads until `ending` isn't 0; this thread is the first one of the port.
     pub(crate) fn run<R: Threads + Wait + Clock + Log + Sync>(
         self,
         rt: &R,
@@ -90,26 +84,81 @@ where
         seat,
         place,
         port,
+        others,
+        port_threads,
         number,
     } = opened;
-    let made = RunningSentinel::<J, S>::with_seat(alloc, cell, seat, place, number, PORT_THREADS);
+    let made = RunningSentinel::<J, S>::with_seat(alloc, cell, seat, place, number, port_threads);
     let Ok((member, seat)) = made else {
-        state.note_lacking_thread();
-        ending.store(1, Ordering::SeqCst);
-        return;
+        return end_for_want(state, ending);
     };
-    let Some((first, timer)) = member.split(alloc, seat) else {
-        return;
+    let Some(seated) = Seated::of(alloc, &member, seat, port, others) else {
+        return end_for_want(state, ending);
     };
-    let Some((own, link)) = member.split(alloc, first) else {
-        return;
-    };
-    run_threads(
-        rt, alloc, state, links, &member, own, timer, link, port, deliveries, ending,
-    );
+    run_threads(rt, alloc, state, links, &member, seated, deliveries, ending);
 }
 
-/// Starts the timer and the link, and serves the port.
+/// What a thread of a port serves, and its seat.
+#[derive(Drop)]
+struct PortPart<J: Which> {
+    port: Port,
+    seat: ThreadSeat<J>,
+}
+
+impl<J: Which> PortPart<J> {
+    /// Serves the port until `ending` isn't 0.
+    fn serve<S: ConfStore, R: Wait + Clock>(
+        &mut self,
+        rt: &R,
+        state: &RunState,
+        member: &RunningSentinel<J, S>,
+        ending: &AtomicU64,
+    ) {
+        if let Err(error) = self.port.serve(rt, state, member, &mut self.seat, ending) {
+            note_lost(state, &error);
+        }
+    }
+}
+
+/// The threads of a Sentinel, each with its seat.
+#[derive(Drop)]
+struct Seated<J: Which> {
+    timer: ThreadSeat<J>,
+    link: ThreadSeat<J>,
+    first: PortPart<J>,
+    others: Vec<PortPart<J>>,
+}
+
+impl<J: Which> Seated<J> {
+    /// Cuts the seat of the Sentinel into one for each thread. None where memory was refused.
+    fn of<S: ConfStore>(
+        alloc: Global,
+        member: &RunningSentinel<J, S>,
+        seat: ThreadSeat<J>,
+        port: Port,
+        ports: Vec<Port>,
+    ) -> Option<Seated<J>> {
+        let mut seats = member.seats(alloc, seat).ok()?;
+        let (timer, link) = (seats.pop()?, seats.pop()?);
+        let first = PortPart {
+            port,
+            seat: seats.pop()?,
+        };
+        let mut others = Vec::new(alloc);
+        for port in ports {
+            let seat = seats.pop()?;
+            others.push(PortPart { port, seat }).ok()?;
+        }
+        Some(Seated {
+            timer,
+            link,
+            first,
+            others,
+        })
+    }
+}
+
+/// Starts the timer, the link and the further threads of the port, and serves it as the first one.
 ///
 /// Many parameters: as above.
 fn run_threads<'a, J: Which + Send + Sync, S: ConfStore + Drop + Send, R>(
@@ -118,16 +167,19 @@ fn run_threads<'a, J: Which + Send + Sync, S: ConfStore + Drop + Send, R>(
     state: &'a RunState,
     links: &'a Links,
     member: &'a RunningSentinel<J, S>,
-    mut own: ThreadSeat<J>,
-    mut timer: ThreadSeat<J>,
-    mut link: ThreadSeat<J>,
-    mut port: Port,
+    seated: Seated<J>,
     deliveries: Receiver<Delivery>,
     ending: &'a AtomicU64,
 )
 where
     R: Threads + Wait + Clock + Log + Sync,
 {
+    let Seated {
+        mut timer,
+        mut link,
+        mut first,
+        others,
+    } = seated;
     thread::scope(thread::scope_env(), rt, |scope| {
         let mut refused = scope
             .spawn(move || run_timer(rt, alloc, state, links, member, &mut timer, ending))
@@ -135,15 +187,22 @@ where
         refused |= scope
             .spawn(move || run_link(rt, state, links, member, &mut link, &deliveries, ending))
             .is_err();
+        for mut part in others {
+            refused |= scope
+                .spawn(move || part.serve(rt, state, member, ending))
+                .is_err();
+        }
         if refused {
-            state.note_lacking_thread();
-            ending.store(1, Ordering::SeqCst);
-            return;
+            return end_for_want(state, ending);
         }
-        if let Err(error) = port.serve(rt, state, member, &mut own, ending) {
-            note_lost(state, &error);
-        }
+        first.serve(rt, state, member, ending);
     })
+}
+
+/// Ends the group, since a thread or its room couldn't be made.
+fn end_for_want(state: &RunState, ending: &AtomicU64) {
+    state.note_lacking_thread();
+    ending.store(1, Ordering::SeqCst);
 }
 
 /// Notes why a port serves no more: want of memory, or the system.

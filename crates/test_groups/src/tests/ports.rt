@@ -77,3 +77,51 @@ fn an_address_and_a_protocol_error(rt: HostRuntime) -> Result<(), Fail> {
     assert_eq!(rt; ended, Ok(()));
     Ok(())
 }
+
+/// Runs a group beside two clients, of which one talks after the other: what they got, and how the group ended.
+fn beside_two<R: Threads + Wait + Clock + Log + Sync, T: Read + Write + Drop + Send>(
+    rt: &R,
+    alloc: Global,
+    group: Group<MemoryStore>,
+    mut first: T,
+    mut second: T,
+) -> (io::Result<(Vec<u8>, Vec<u8>)>, Result<(), GroupFault>) {
+    let ending = AtomicU64::new(0);
+    thread::join(
+        rt,
+        || {
+            let got = talk_by_both(alloc, &mut first, &mut second);
+            ending.store(1, Ordering::SeqCst);
+            got
+        },
+        || group.run(rt, &ending),
+    )
+}
+
+/// Talks on both connections.
+fn talk_by_both<T: Read + Write>(
+    alloc: Global,
+    first: &mut T,
+    second: &mut T,
+) -> io::Result<(Vec<u8>, Vec<u8>)> {
+    Ok((talk(alloc, first)?, talk(alloc, second)?))
+}
+
+#[test]
+fn two_threads_of_a_port_answer(rt: HostRuntime) -> Result<(), Fail> {
+    let alloc = rt.alloc();
+    let port = free_port(&rt)?;
+    let text = text_of_one(alloc, port)?;
+    let (confs, stores) = one(alloc, text.as_str()).ok_or("no conf")?;
+    let Ok(group) = Group::open_with(&rt, alloc, confs, stores, 2) else {
+        return Err(Fail::from("no group"));
+    };
+    // (each thread has one of the two)
+    let (first, second) = (connected(&rt, port)?, connected(&rt, port)?);
+    let (got, ended) = beside_two(&rt, alloc, group, first, second);
+    let (one, other) = got?;
+    assert_eq!(rt; one.as_slice(), ADDRESS_AND_FAULT.as_slice());
+    assert_eq!(rt; other.as_slice(), ADDRESS_AND_FAULT.as_slice());
+    assert_eq!(rt; ended, Ok(()));
+    Ok(())
+}

@@ -6,9 +6,11 @@ use crate::tests::clients::{MASTER, REPLICAS, SENTINELS, connected, shows_down};
 use crate::tests::confs::{Paired, both_of, free_port};
 use crate::tests::told_files::{MOST_LOOKS, Told, ToldFile, wait_for};
 use log::Log;
-use sentinel_runner::{Group, GroupFault};
+use sentinel_conf::Conf;
+use sentinel_runner::{Group, GroupFault, run_group};
 use std::alloc::Global;
 use std::io::{self, Read, Write};
+use std::net::Net;
 use std::rt::Clock;
 use std::sync::Wait;
 use std::sync::atomic::{AtomicU64, Ordering};
@@ -132,6 +134,66 @@ fn group_talks(rt: HostRuntime) -> Result<(), Fail> {
         replied: (true, true, true),
     };
     assert_eq!(rt; seen?, wanted);
+    assert_eq!(rt; ended, Ok(()));
+    Ok(())
+}
+
+/// What a group is run with: its confs, and files of which none has refused a store.
+#[derive(Drop)]
+struct Given<'a, C: Clock> {
+    confs: Vec<Conf>,
+    stores: Vec<ToldFile<'a, C>>,
+    ghost sound: { All (λ store. store.file.failed ≡ 0) stores.items },
+}
+
+impl<'a, C: Clock + Sync> Given<'a, C> {
+    /// Runs the group from its opening to its end.
+    fn run<R: Threads + Wait + Net + Clock + Log + Sync>(
+        self,
+        rt: &R,
+        alloc: Global,
+        ending: &AtomicU64,
+    ) -> Result<(), GroupFault> {
+        let Given { confs, stores } = self;
+        run_group(rt, alloc, confs, stores, ending)
+    }
+}
+
+/// Runs a group while its files are looked at, which end it: whether a hello was heard and a question asked, and how the group ended.
+fn run_beside(
+    rt: &HostRuntime,
+    alloc: Global,
+    given: Given<'_, HostRuntime>,
+    first: &Told,
+    second: &Told,
+) -> (bool, Result<(), GroupFault>) {
+    let ending = AtomicU64::new(0);
+    thread::join(
+        rt,
+        || {
+            let talked = wait_for(rt, &first.current, 5) && wait_for(rt, &second.voted, 5);
+            ending.store(1, Ordering::SeqCst);
+            talked
+        },
+        || given.run(rt, alloc, &ending),
+    )
+}
+
+#[test]
+fn run_group_talks(rt: HostRuntime) -> Result<(), Fail> {
+    let alloc = rt.alloc();
+    let one = Paired::at((free_port(&rt)?, free_port(&rt)?), 50);
+    let other = Paired {
+        after_ms: 4_294_967_295,
+        epoch: 5,
+        ..one.counterpart()
+    };
+    let confs = both_of(alloc, one, other).ok_or("no confs")?;
+    let (first, second) = (Told::new(), Told::new());
+    let stores: Vec<ToldFile<'_, HostRuntime>> = files(alloc, &first, &second).ok_or("no files")?;
+    let given = Given { confs, stores };
+    let (talked, ended) = run_beside(&rt, alloc, given, &first, &second);
+    assert!(rt; talked, "a hello and a question were heard");
     assert_eq!(rt; ended, Ok(()));
     Ok(())
 }

@@ -1,0 +1,52 @@
+//! How many threads serve a port, and how many connections each of them keeps.
+
+ghost use Rattle.std.specs.Prelude.{◌≡◌, ◌≤◌, ◌<◌, ◌+◌, ◌*◌, ◌↔◌, IsTrue};
+
+/// How many connections a port keeps at most, in all of its threads; a further one is closed.
+pub const CONNECTIONS_MAX: usize = 256;
+
+/// How many threads serve each port, one at least, and how many connections each of them keeps at most: no more than `CONNECTIONS_MAX` in all.
+#[derive(Clone, Copy)]
+pub struct PortRoom {
+    threads: u16,
+    each: usize,
+    ghost some: { 0 < threads },
+    ghost whole: { each * threads ≤ CONNECTIONS_MAX },
+}
+
+impl PortRoom {
+    /// Equal parts of the connections of a port for so many threads; for one where there are to be none.
+    pub(crate) fn of(most: usize, threads: u16) -> PortRoom
+        requires { most ≤ CONNECTIONS_MAX }
+        ensures within { result.each * result.threads ≤ most }
+        ensures full { most < (result.each + 1) * result.threads }
+        ensures threads { 0 < threads → result.threads ≡ threads }
+    {
+        let threads = threads.max(1);
+        PortRoom {
+            threads,
+            each: most / threads as usize,
+        }
+    }
+
+    /// How many threads serve a port.
+    pub fn threads(&self) -> u16
+        ensures { result ≡ self.now.threads }
+    {
+        self.threads
+    }
+
+    /// How many connections each of them keeps.
+    pub(crate) fn each(&self) -> usize
+        ensures { result ≡ self.now.each }
+    {
+        self.each
+    }
+
+    /// Whether there is room for no connection.
+    pub fn is_empty(&self) -> bool
+        ensures { IsTrue result ↔ (self.now.each ≡ 0) }
+    {
+        self.each == 0
+    }
+}
