@@ -14,6 +14,7 @@ pub trait Observer {
 }
 
 /// Nobody looks.
+#[derive(Drop)]
 pub(crate) struct Nobody;
 
 impl Observer for Nobody {
