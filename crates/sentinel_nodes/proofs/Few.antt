@@ -1,8 +1,7 @@
 -- What a Sentinel puts out shows one configuration of each master at most.
-use Rattle.std.proofs.Common.{◌≡◌, ◌≤◌, ℕ, List, [], ◌∷◌, length, Option, Some, None, map, arith, ◌∙◌, subst, sym, Bool, Result, Ok, Err, OnOk}
+use Rattle.std.proofs.Common.{◌≡◌, ℕ, List, [], ◌∷◌, length, Option, Some, None, map, arith, ◌∙◌, subst, sym, Result, Ok, Err, OnOk}
 use Rattle.std.specs.List.{AllByRecursion}
 use Rattle.std.proofs.lemmas.List.{length-map}
-use Rattle.std.specs.Prelude.{not, ◌&&◌}
 use Rattle.ballot_law.specs.declared.addresses.Addr.{Addr}
 use Rattle.ballot_law.specs.declared.addresses.RunId.{RunId}
 use Rattle.ballot_law.specs.declared.commands.Command.{Command}
@@ -17,11 +16,11 @@ use Rattle.sentinel_outbox.specs.declared.faults.TakeFault.{TakeFault}
 use Rattle.sentinel_outbox.specs.declared.took.Took.{Took}
 use Rattle.sentinel_rules.specs.declared.frames.Frame.{Frame}
 use Rattle.sentinel_rules.specs.declared.frames.Frame.TheVariants.{PingTo, InfoTo, HelloTo, AskTo, PromoteTo, FollowTo, NoteOf}
-use Rattle.sentinel_rules.specs.Answers.{commanded, asked_of, asked_at, master_with_card, named, about, all_masters}
+use Rattle.sentinel_rules.specs.Answers.{commanded, asked_of, master_with_card, named, about, all_masters}
 use Rattle.sentinel_rules.specs.Facts.{IsSoundPlan}
 use Rattle.sentinel_rules.specs.Parts.{output_of, shown_of}
 use Rattle.sentinel_rules.specs.Plans.{Plan, master_count}
-use Rattle.sentinel_rules.specs.States.{Core, is_master_down, is_tilted}
+use Rattle.sentinel_rules.specs.States.{Core}
 use Rattle.sentinel_rules.specs.Takes.{next, next_at, part_of, cleared}
 use Rattle.sentinel_rules.proofs.Choices.{length-numbers_from}
 

@@ -1,11 +1,10 @@
 -- Each call of a Sentinel in memory moves the Sentinel of the model for which it stands.
-use Rattle.std.proofs.Common.{inl, inr, ◌≡◌, ◌≢◌, ◌↔◌, ◌⊎◌, ℕ, ◌≤◌, ◌<◌, ◌||◌, Bool, true, false, Option, Some, None, List, [], ◌∷◌, ◌++◌, length, nat_lt, refl, sym, ◌∙◌, ap, subst, arith, Result, Ok, Err, is_ok, OnOk, IsOk, IfOk, IsErrOf, IsTrue, IsFalse}
+use Rattle.std.proofs.Common.{inl, inr, ◌≡◌, ◌≢◌, ◌↔◌, ◌⊎◌, ℕ, ◌≤◌, ◌<◌, ◌||◌, Bool, true, false, Option, Some, None, List, [], ◌∷◌, ◌++◌, length, refl, sym, ◌∙◌, ap, subst, arith, Result, Ok, Err, is_ok, OnOk, IsOk, IfOk, IfSome, IsErrOf, IsTrue, IsFalse}
 use Rattle.std.specs.Prelude.{All}
 use Rattle.std.specs.List.{AllByRecursion}
 use Rattle.std.proofs.lemmas.Bool.{le-ltb, or_cases, or_left, or_right, or_parts}
 use Rattle.ballot_law.specs.declared.cards.Kept.{Kept}
 use Rattle.ballot_law.specs.declared.events.Event.{Event}
-use Rattle.ballot_law.specs.declared.commands.Command.TheVariants as command
 use Rattle.ballot_law.specs.declared.messages.NodeName.TheVariants.{SentinelAt}
 use Rattle.ballot_law.specs.declared.messages.Output.{Output}
 use Rattle.ballot_law.specs.declared.steps.KeptText.TheVariants.{Old, New}
@@ -28,8 +27,8 @@ use Rattle.sentinel_outbox.specs.declared.faults.StoreFault.{StoreFault}
 use Rattle.sentinel_outbox.specs.declared.faults.StoreFault.TheVariants as store_fault
 use Rattle.boxed_nodes.specs.declared.calls.HowStored.{HowStored}
 use Rattle.boxed_nodes.specs.declared.calls.HowStored.TheVariants as how
-use Rattle.conf_store.specs.Stores.{Outcome}
-use Rattle.sentinel_nodes.specs.Files.{File, outcome_of, outcome_with, refusal_of}
+use Rattle.conf_store.specs.Stores.{Outcome, Stored as File, outcome_of, due, within}
+use Rattle.sentinel_nodes.specs.Files.{FitsAFile, outcome_with, refusal_of, text_at_stop, text_left}
 use Rattle.boxed_nodes.specs.Images.{Image, OfSentinel, OfOther, state_of, after_store, store_answer, stopped_image, stopped_sentinel, started_image, refused_sentinel, refusal}
 use Rattle.boxed_nodes.specs.Sendable.{IsListed}
 use Rattle.boxed_nodes.specs.Moves.{Taken, Takes, Stores, Stops, Starts, IsNamed, IsFresh}
@@ -121,19 +120,12 @@ taken_image before after text now event changed outputs took roster (OfOther o) 
 abbrev pub AgainOf : Kept → Type 0
 AgainOf kept = (bytes : List ℕ) (conf : ConfPlan) → conf_of_bytes bytes ≡ Ok conf → IsKeptPart conf kept → conf_of_bytes (rewritten conf kept) ≡ Ok (record conf { kept = kept })
 
-abbrev pub SizeOf : Type 0
-SizeOf = (bytes : List ℕ) (conf : ConfPlan) (kept : Kept) → conf_of_bytes bytes ≡ Ok conf → IsKeptPart conf kept → length (rewritten conf kept) ≤ FILE_MAX
-
 kept_part : (conf : ConfPlan) (file kept : Kept) → IsKeptPart conf kept → IsKeptPart (record conf { kept = file }) kept
 kept_part conf file kept part = record { current = part.current; masters = part.masters }
 
 read_again : (kept : Kept) → AgainOf kept → (text : List ℕ) (conf : ConfPlan) (file : Kept) → conf_of_bytes text ≡ Ok (record conf { kept = file }) → IsKeptPart conf kept →
     conf_of_bytes (rewritten conf kept) ≡ Ok (record conf { kept = kept })
 read_again kept again text conf file read part = again text (record conf { kept = file }) read (kept_part conf file kept part)
-
-fits_file : SizeOf → (text : List ℕ) (conf : ConfPlan) (file kept : Kept) → conf_of_bytes text ≡ Ok (record conf { kept = file }) → IsKeptPart conf kept →
-    length (rewritten conf kept) ≤ FILE_MAX
-fits_file size text conf file kept read part = size text (record conf { kept = file }) kept read (kept_part conf file kept part)
 
 -- A store
 
@@ -145,16 +137,39 @@ pub record StoredAs (before after : Whole) (file file2 : File) (result : Result 
   pub stored : OnOk result (after ≡ record before { stored = before.core.kept; phase = phase.Stored })
   pub untouched : before.phase ≡ phase.Pending false → OnOk result (file2 ≡ file) × IsOk result
   pub halted : IsErrOf result store_fault.Refused → after ≡ record before { phase = phase.Halted }
-  pub known : before.phase ≡ phase.Pending true → (is_ok result ≡ (outcome_of file (rewritten before.plan.conf before.core.kept)).is_stored) ×
-      (Some file2.text ≡ Some (outcome_of file (rewritten before.plan.conf before.core.kept)).text)
+  pub known : before.phase ≡ phase.Pending true → IfSome (outcome_of file (rewritten before.plan.conf before.core.kept))
+      (λ known. (is_ok result ≡ known.is_stored) × (Some file2.text ≡ Some known.text))
 
-no_over : (n : ℕ) → n ≤ FILE_MAX → nat_lt FILE_MAX n ≡ false
-no_over n h = le-ltb FILE_MAX n h
+-- a file as it is before a store that ends so: it was asked for that, and has room
+pub record IsAsked (w : HowStored) (file : File) : Type 0 where
+  pub asked : file.refusal ≡ refusal_of w
+  pub roomy : FILE_MAX ≤ file.room
 
 -- where there is room, the file answers by its refusal
-answers : (file : File) (text : List ℕ) → length text ≤ FILE_MAX → outcome_of file text ≡ outcome_with file.refusal file.text text
-answers file text h = ap (λ b. Rattle.std.proofs.Common.cond b (record { is_stored = false; text = file.text }) (outcome_with file.refusal file.text text))
-    (no_over (length text) h)
+within_is : (room : ℕ) (text : List ℕ) (outcome : Outcome) → length text ≤ room → within room text outcome ≡ Some outcome
+within_is room text outcome h = ap (λ b. elim b as (λ _. Option Outcome) [ true ↦ None | false ↦ Some outcome ]) (le-ltb room (length text) h)
+
+asked_is : (w : HowStored) (file : File) (text : List ℕ) → length text ≤ file.room → outcome_of (record file { refusal = refusal_of w }) text ≡ Some (outcome_with w file.text text)
+asked_is how.Done file text h = within_is file.room text (outcome_with how.Done file.text text) h
+asked_is how.RefusedOld file text h = refl
+asked_is how.RefusedNew file text h = within_is file.room text (outcome_with how.RefusedNew file.text text) h
+
+answers : (w : HowStored) (file : File) (text : List ℕ) → IsAsked w file → length text ≤ FILE_MAX → outcome_of file text ≡ Some (outcome_with w file.text text)
+answers w file text is h = ap (λ r. outcome_of (record file { refusal = r }) text) is.asked ∙ asked_is w file text (omega (arith, h, is.roomy))
+
+same_text : {x y : List ℕ} → Some x ≡ Some y → x ≡ y
+same_text {x} {y} e = cc
+
+-- a store that has something to store ends as it was asked to
+pub known_of : (w : HowStored) (before after : Whole) → FitsAFile before.plan.conf → IsKeptPart before.plan.conf before.core.kept →
+    (file file2 : File) (result : Result (Unit {0}) StoreFault) → IsAsked w file → StoredAs before after file file2 result → before.phase ≡ phase.Pending true →
+    (is_ok result ≡ (outcome_with w file.text (rewritten before.plan.conf before.core.kept)).is_stored) ×
+    (file2.text ≡ (outcome_with w file.text (rewritten before.plan.conf before.core.kept)).text)
+known_of w before after fits part file file2 result is st p =
+    let new = rewritten before.plan.conf before.core.kept in
+    let known = subst (λ o. IfSome o (λ (known : Outcome). (is_ok result ≡ known.is_stored) × (Some file2.text ≡ Some known.text)))
+    (answers w file new is (fits before.core.kept part)) (st.known p) in
+    (known.0, same_text known.1)
 
 -- a store that ends well
 stored_image_of : (before after : Whole) (text text2 : List ℕ) (roster : Roster) (s : Sentinel) → IsSentinelImage before text roster s → is_pending before.phase ≡ true →
@@ -213,9 +228,6 @@ refused_is (Ok x) b n e f = cc
 refused_is (Err store_fault.Nothing) b n e f = absurd (let g : true ≡ false = sym e ∙ n.0 refl in cc)
 refused_is (Err store_fault.Refused) b n e f = refl
 
-same_text : {x y : List ℕ} → Some x ≡ Some y → x ≡ y
-same_text {x} {y} e = cc
-
 abbrev pub StoreEnds : HowStored → Sentinel → (after : Whole) (text2 : List ℕ) (roster : Roster) (result : Result (Unit {0}) StoreFault) → Type 0
 StoreEnds h s after text2 roster result = (result ≡ store_answer h (OfSentinel s)) × IsImageOf after text2 roster (after_store h (OfSentinel s))
 
@@ -241,49 +253,39 @@ store_free_ends how.RefusedOld s after text2 roster result b e m ends =
 store_free_ends how.RefusedNew s after text2 roster result b e m ends =
     subst (λ x. (result ≡ refusal x) × IsImageOf after text2 roster (OfSentinel (refused_sentinel s x New))) (sym (m ∙ e)) ends
 
-store_due : (w : HowStored) (before after : Whole) → AgainOf before.core.kept → SizeOf → (file file2 : File) (result : Result (Unit {0}) StoreFault) →
-    file.refusal ≡ refusal_of w → StoredAs before after file file2 result → before.phase ≡ phase.Pending true →
+store_due : (w : HowStored) (before after : Whole) → AgainOf before.core.kept → FitsAFile before.plan.conf → (file file2 : File) (result : Result (Unit {0}) StoreFault) →
+    IsAsked w file → StoredAs before after file file2 result → before.phase ≡ phase.Pending true →
     (roster : Roster) (s : Sentinel) → IsSentinelImage before file.text roster s → s.must_store ≡ true → StoreEnds w s after file2.text roster result
-store_due how.Done before after again size file file2 result asked st p roster s h due =
-    let new = rewritten before.plan.conf before.core.kept in
-    let a : outcome_of file new ≡ record { is_stored = true; text = new } =
-    answers file new (fits_file size file.text before.plan.conf s.file before.core.kept h.read h.whole_ok.core.kept) ∙ ap (λ r. outcome_with r file.text new) asked in
-    let ok : is_ok result ≡ true = (st.known p).0 ∙ ap (λ (x : Outcome). x.is_stored) a in
-    let text : file2.text ≡ new = same_text ((st.known p).1 ∙ ap (λ (x : Outcome). Some x.text) a) in (
-      ok_unit result ok,
-      stored_image_of before after file.text file2.text roster s h (ap is_pending p) st.whole (on_ok_in result st.stored ok)
-          (ap conf_of_bytes text ∙ read_again before.core.kept again file.text before.plan.conf s.file h.read h.whole_ok.core.kept),
+store_due how.Done before after again fits file file2 result asked st p roster s h due =
+    let known = known_of how.Done before after fits h.whole_ok.core.kept file file2 result asked st p in (
+      ok_unit result known.0,
+      stored_image_of before after file.text file2.text roster s h (ap is_pending p) st.whole (on_ok_in result st.stored known.0)
+          (ap conf_of_bytes known.1 ∙ read_again before.core.kept again file.text before.plan.conf s.file h.read h.whole_ok.core.kept),
     )
-store_due how.RefusedOld before after again size file file2 result asked st p roster s h due =
-    let new = rewritten before.plan.conf before.core.kept in
-    let a : outcome_of file new ≡ record { is_stored = false; text = file.text } =
-    answers file new (fits_file size file.text before.plan.conf s.file before.core.kept h.read h.whole_ok.core.kept) ∙ ap (λ r. outcome_with r file.text new) asked in
-    let r : result ≡ Err store_fault.Refused = refused_is result (is_pending before.phase) st.nothing (ap is_pending p) ((st.known p).0 ∙ ap (λ (x : Outcome). x.is_stored) a) in
-    let text : file2.text ≡ file.text = same_text ((st.known p).1 ∙ ap (λ (x : Outcome). Some x.text) a) in
+store_due how.RefusedOld before after again fits file file2 result asked st p roster s h due =
+    let known = known_of how.RefusedOld before after fits h.whole_ok.core.kept file file2 result asked st p in
+    let r : result ≡ Err store_fault.Refused = refused_is result (is_pending before.phase) st.nothing (ap is_pending p) known.0 in
     subst (λ x. (result ≡ refusal x) × IsImageOf after file2.text roster (OfSentinel (refused_sentinel s x Old))) (sym due) (
       r,
-      halted_image_of before after file.text file2.text roster s (ended s Halted) h p st.whole (st.halted r) refl refl refl (ap conf_of_bytes text ∙ h.read),
+      halted_image_of before after file.text file2.text roster s (ended s Halted) h p st.whole (st.halted r) refl refl refl (ap conf_of_bytes known.1 ∙ h.read),
     )
-store_due how.RefusedNew before after again size file file2 result asked st p roster s h due =
-    let new = rewritten before.plan.conf before.core.kept in
-    let a : outcome_of file new ≡ record { is_stored = false; text = new } =
-    answers file new (fits_file size file.text before.plan.conf s.file before.core.kept h.read h.whole_ok.core.kept) ∙ ap (λ r. outcome_with r file.text new) asked in
-    let r : result ≡ Err store_fault.Refused = refused_is result (is_pending before.phase) st.nothing (ap is_pending p) ((st.known p).0 ∙ ap (λ (x : Outcome). x.is_stored) a) in
-    let text : file2.text ≡ new = same_text ((st.known p).1 ∙ ap (λ (x : Outcome). Some x.text) a) in
+store_due how.RefusedNew before after again fits file file2 result asked st p roster s h due =
+    let known = known_of how.RefusedNew before after fits h.whole_ok.core.kept file file2 result asked st p in
+    let r : result ≡ Err store_fault.Refused = refused_is result (is_pending before.phase) st.nothing (ap is_pending p) known.0 in
     subst (λ x. (result ≡ refusal x) × IsImageOf after file2.text roster (OfSentinel (refused_sentinel s x New))) (sym due) (
       r,
       halted_image_of before after file.text file2.text roster s (ended_new s Halted) h p st.whole (st.halted r) refl refl refl
-          (ap conf_of_bytes text ∙ subst (λ k. conf_of_bytes new ≡ Ok (record before.plan.conf { kept = k })) (sym h.parts_of.kept)
+          (ap conf_of_bytes known.1 ∙ subst (λ k. conf_of_bytes (rewritten before.plan.conf before.core.kept) ≡ Ok (record before.plan.conf { kept = k })) (sym h.parts_of.kept)
           (read_again before.core.kept again file.text before.plan.conf s.file h.read h.whole_ok.core.kept)),
     )
 
-store_pending : (w : HowStored) (before after : Whole) → AgainOf before.core.kept → SizeOf → (file file2 : File) (result : Result (Unit {0}) StoreFault) →
-    file.refusal ≡ refusal_of w → StoredAs before after file file2 result →
+store_pending : (w : HowStored) (before after : Whole) → AgainOf before.core.kept → FitsAFile before.plan.conf → (file file2 : File) (result : Result (Unit {0}) StoreFault) →
+    IsAsked w file → StoredAs before after file file2 result →
     (roster : Roster) (s : Sentinel) → IsSentinelImage before file.text roster s → (b : Bool) → before.phase ≡ phase.Pending b → StoreEnds w s after file2.text roster result
-store_pending w before after again size file file2 result asked st roster s h b p =
+store_pending w before after again fits file file2 result asked st roster s h b p =
     let due = subst (λ q. IsPendingAs q before s) p h.pending in
     elim b as (λ x. b ≡ x → StoreEnds w s after file2.text roster result) [
-      | true ↦ λ e. store_due w before after again size file file2 result asked st (p ∙ ap phase.Pending e) roster s h (due.0 ∙ e)
+      | true ↦ λ e. store_due w before after again fits file file2 result asked st (p ∙ ap phase.Pending e) roster s h (due.0 ∙ e)
       | false ↦ λ e. store_free_ends w s after file2.text roster result false refl (due.0 ∙ e)
           (store_free w before after file file2 result st (p ∙ ap phase.Pending e) roster s h (due.0 ∙ e) (due.1 e))
     ] refl
@@ -303,14 +305,14 @@ not_pending phase.Stored e = refl
 not_pending phase.Halted e = refl
 not_pending phase.Stopped e = refl
 
-pub store_moves : (w : HowStored) (before after : Whole) → AgainOf before.core.kept → SizeOf → (file file2 : File) (result : Result (Unit {0}) StoreFault) →
-    file.refusal ≡ refusal_of w → StoredAs before after file file2 result →
+pub store_moves : (w : HowStored) (before after : Whole) → AgainOf before.core.kept → FitsAFile before.plan.conf → (file file2 : File) (result : Result (Unit {0}) StoreFault) →
+    IsAsked w file → StoredAs before after file file2 result →
     (roster : Roster) (image : Image) → IsImageOf before file.text roster image → state_of image ≡ Pending →
     (result ≡ store_answer w image) × IsImageOf after file2.text roster (after_store w image)
-store_moves w before after again size file file2 result asked st roster (OfSentinel s) h pending =
+store_moves w before after again fits file file2 result asked st roster (OfSentinel s) h pending =
     let p = pending_phase before.phase (sym pending ∙ h.state_is) in
-    store_pending w before after again size file file2 result asked st roster s h p.0 p.1
-store_moves w before after again size file file2 result asked st roster (OfOther o) h pending = elim h [ ]
+    store_pending w before after again fits file file2 result asked st roster s h p.0 p.1
+store_moves w before after again fits file file2 result asked st roster (OfOther o) h pending = elim h [ ]
 
 err_of : (r : Result (Unit {0}) StoreFault) (f : StoreFault) → IsErrOf r f → r ≡ Err f
 err_of r f h = h
@@ -371,34 +373,35 @@ stop_new_at s Stopped e = refl
 
 -- the Sentinel was stored before it was stopped
 pub record StoppedNew (before middle after : Whole) (file file2 : File) (result : Result (Unit {0}) StoreFault) : Type 0 where
-  pub asked : file.refusal ≡ None
+  pub asked : IsAsked how.Done file
   pub stored : StoredAs before middle file file2 result
   pub stopped : after ≡ record middle { phase = phase.Stopped }
   pub whole : IsWhole after
 
-stop_new_sentinel : (before middle after : Whole) → AgainOf before.core.kept → SizeOf →
+stop_new_sentinel : (before middle after : Whole) → AgainOf before.core.kept → FitsAFile before.plan.conf →
     (file file2 : File) (result : Result (Unit {0}) StoreFault) (roster : Roster) (s : Sentinel) → StoppedNew before middle after file file2 result →
     IsSentinelImage before file.text roster s →
     ((s.state ≡ Pending) ⊎ (s.state ≢ Pending)) → IsSentinelImage after file2.text roster (stopped_sentinel s s.state New)
-stop_new_sentinel before middle after again size file file2 result roster s n h (inl pending) =
-    let m = (store_moves how.Done before middle again size file file2 result n.asked n.stored roster (OfSentinel s) h pending).1 in
+stop_new_sentinel before middle after again fits file file2 result roster s n h (inl pending) =
+    let m = (store_moves how.Done before middle again fits file file2 result n.asked n.stored roster (OfSentinel s) h pending).1 in
     let e = n.stopped in
     subst (λ state. IsSentinelImage after file2.text roster (stopped_sentinel s state New)) (sym pending)
     (stopped_as middle after file2.text file2.text roster (stored_now s) (ended_new s Stopped) m n.whole (ap (λ (w : Whole). w.plan) e) (ap (λ (w : Whole). w.core) e)
     (ap (λ (w : Whole). w.phase) e) refl refl m.read)
-stop_new_sentinel before middle after again size file file2 result roster s n h (inr other) =
+stop_new_sentinel before middle after again fits file file2 result roster s n h (inr other) =
     let m = (store_nothing before middle file file2 result n.stored roster (OfSentinel s) h other).1 in
     let e = n.stopped in
     subst (IsSentinelImage after file2.text roster) (sym (stop_new_at s s.state other))
     (stopped_as middle after file2.text file2.text roster s (ended s Stopped) m n.whole (ap (λ (w : Whole). w.plan) e) (ap (λ (w : Whole). w.core) e)
     (ap (λ (w : Whole). w.phase) e) refl refl m.read)
 
-pub stop_new : (before middle after : Whole) → AgainOf before.core.kept → SizeOf → (file file2 : File) (result : Result (Unit {0}) StoreFault) (roster : Roster) (image : Image) →
+pub stop_new : (before middle after : Whole) → AgainOf before.core.kept → FitsAFile before.plan.conf →
+    (file file2 : File) (result : Result (Unit {0}) StoreFault) (roster : Roster) (image : Image) →
     StoppedNew before middle after file file2 result → IsImageOf before file.text roster image →
     IsImageOf after file2.text roster (stopped_image New image)
-stop_new before middle after again size file file2 result roster (OfSentinel s) n h =
-    stop_new_sentinel before middle after again size file file2 result roster s n h (pending_or_not s.state)
-stop_new before middle after again size file file2 result roster (OfOther o) n h = elim h [ ]
+stop_new before middle after again fits file file2 result roster (OfSentinel s) n h =
+    stop_new_sentinel before middle after again fits file file2 result roster s n h (pending_or_not s.state)
+stop_new before middle after again fits file file2 result roster (OfOther o) n h = elim h [ ]
 
 -- A start
 
@@ -482,29 +485,68 @@ takes_of (Ok took) before after text now event held whole ready core outputs cha
     }
 takes_of (Err fault) before after text now event held whole ready core outputs changed unchanged p plan stored steps = tt
 
-pub stores_of : (w : HowStored) (before after : Whole) → AgainOf before.core.kept → SizeOf → (first file file2 : File) (result : Result (Unit {0}) StoreFault) →
-    file ≡ record first { refusal = refusal_of w } → StoredAs before after file file2 result →
+-- a file with room, once it was asked
+asked_of : (w : HowStored) (first file : File) → FILE_MAX ≤ first.room → file ≡ record first { refusal = refusal_of w } → IsAsked w file
+asked_of w first file roomy e = record { asked = ap (λ (f : File). f.refusal) e; roomy = subst (λ (f : File). FILE_MAX ≤ f.room) (sym e) roomy }
+
+pub stores_of : (w : HowStored) (before after : Whole) → AgainOf before.core.kept → FitsAFile before.plan.conf → (first file file2 : File) (result : Result (Unit {0}) StoreFault) →
+    FILE_MAX ≤ first.room → file ≡ record first { refusal = refusal_of w } → StoredAs before after file file2 result →
     Stores w result (IsImageOf before first.text) (IsImageOf after file2.text)
-stores_of w before after again size first file file2 result e st =
+stores_of w before after again fits first file file2 result roomy e st =
     let text : file.text ≡ first.text = ap (λ (f : File). f.text) e in
+    let asked : IsAsked w file = asked_of w first file roomy e in
     record {
-      pending = λ roster image h p. store_moves w before after again size file file2 result (ap (λ (f : File). f.refusal) e) st roster image
+      pending = λ roster image h p. store_moves w before after again fits file file2 result asked st roster image
           (subst (λ t. IsImageOf before t roster image) (sym text) h) p;
       nothing = λ roster image h p. store_nothing before after file file2 result st roster image (subst (λ t. IsImageOf before t roster image) (sym text) h) p;
     }
 
+-- what it answers, and the text that stands then
+pub answered : (w : HowStored) (before after : Whole) → FitsAFile before.plan.conf → IsKeptPart before.plan.conf before.core.kept →
+    (first file file2 : File) (result : Result (Unit {0}) StoreFault) → FILE_MAX ≤ first.room → file ≡ record first { refusal = refusal_of w } →
+    StoredAs before after file file2 result → before.phase ≡ phase.Pending true →
+    (is_ok result ≡ (outcome_with w first.text (rewritten before.plan.conf before.core.kept)).is_stored) ×
+    (file2.text ≡ (outcome_with w first.text (rewritten before.plan.conf before.core.kept)).text)
+answered w before after fits part first file file2 result roomy e st p =
+    subst (λ t. (is_ok result ≡ (outcome_with w t (rewritten before.plan.conf before.core.kept)).is_stored) ×
+    (file2.text ≡ (outcome_with w t (rewritten before.plan.conf before.core.kept)).text)) (ap (λ (f : File). f.text) e)
+    (known_of w before after fits part file file2 result (asked_of w first file roomy e) st p)
+
 pub stops_old : (before after : Whole) (text : List ℕ) → after ≡ record before { phase = phase.Stopped } → IsWhole after → Stops Old (IsImageOf before text) (IsImageOf after text)
 stops_old before after text e whole = record { each = λ roster image h. stop_old before after text roster image e whole h }
 
-pub stops_new : (before middle after : Whole) → AgainOf before.core.kept → SizeOf → (first file file2 : File) (result : Result (Unit {0}) StoreFault) →
-    file ≡ record first { refusal = None } → StoredAs before middle file file2 result → after ≡ record middle { phase = phase.Stopped } → IsWhole after →
+pub stops_new : (before middle after : Whole) → AgainOf before.core.kept → FitsAFile before.plan.conf → (first file file2 : File) (result : Result (Unit {0}) StoreFault) →
+    FILE_MAX ≤ first.room → file ≡ record first { refusal = None } → StoredAs before middle file file2 result → after ≡ record middle { phase = phase.Stopped } → IsWhole after →
     Stops New (IsImageOf before first.text) (IsImageOf after file2.text)
-stops_new before middle after again size first file file2 result e st stopped whole =
+stops_new before middle after again fits first file file2 result roomy e st stopped whole =
     let text : file.text ≡ first.text = ap (λ (f : File). f.text) e in
     record {
-      each = λ roster image h. stop_new before middle after again size file file2 result roster image
-          (record { asked = ap (λ (f : File). f.refusal) e; stored = st; stopped = stopped; whole = whole }) (subst (λ t. IsImageOf before t roster image) (sym text) h);
+      each = λ roster image h. stop_new before middle after again fits file file2 result roster image
+          (record { asked = asked_of how.Done first file roomy e; stored = st; stopped = stopped; whole = whole })
+          (subst (λ t. IsImageOf before t roster image) (sym text) h);
     }
+
+-- the text that such a stop leaves
+same_left : (before middle : Whole) (first file file2 : File) (result : Result (Unit {0}) StoreFault) → file ≡ record first { refusal = None } →
+    StoredAs before middle file file2 result → is_pending before.phase ≡ false → file2.text ≡ first.text
+same_left before middle first file file2 result e st none = ap (λ (f : File). f.text) ((st.nothing_left (st.nothing.1 none)).1 ∙ e)
+
+left_at : (before middle : Whole) → FitsAFile before.plan.conf → IsKeptPart before.plan.conf before.core.kept →
+    (first file file2 : File) (result : Result (Unit {0}) StoreFault) → FILE_MAX ≤ first.room → file ≡ record first { refusal = None } →
+    StoredAs before middle file file2 result → (p : Phase) → before.phase ≡ p → file2.text ≡ text_at_stop p New first.text (rewritten before.plan.conf before.core.kept)
+left_at before middle fits part first file file2 result roomy e st phase.Ready q = same_left before middle first file file2 result e st (ap is_pending q)
+left_at before middle fits part first file file2 result roomy e st (phase.Pending true) q =
+    (answered how.Done before middle fits part first file file2 result roomy e st q).1
+left_at before middle fits part first file file2 result roomy e st (phase.Pending false) q =
+    let same = st.untouched q in ap (λ (f : File). f.text) (on_ok_in result same.0 (is_ok_told result same.1) ∙ e)
+left_at before middle fits part first file file2 result roomy e st phase.Stored q = same_left before middle first file file2 result e st (ap is_pending q)
+left_at before middle fits part first file file2 result roomy e st phase.Halted q = same_left before middle first file file2 result e st (ap is_pending q)
+left_at before middle fits part first file file2 result roomy e st phase.Stopped q = same_left before middle first file file2 result e st (ap is_pending q)
+
+pub left_of : (before middle : Whole) → FitsAFile before.plan.conf → IsKeptPart before.plan.conf before.core.kept →
+    (first file file2 : File) (result : Result (Unit {0}) StoreFault) → FILE_MAX ≤ first.room → file ≡ record first { refusal = None } →
+    StoredAs before middle file file2 result → file2.text ≡ text_left New before first.text
+left_of before middle fits part first file file2 result roomy e st = left_at before middle fits part first file file2 result roomy e st before.phase refl
 
 pub starts_of : OpenedIsSound → (before after : Whole) (text text2 : List ℕ) (conf : ConfPlan) (now : ℕ) → StartedAs after text conf now → text2 ≡ text →
     Starts (IsImageOf before text) (IsImageOf after text2)

@@ -3,7 +3,7 @@
 ghost use Rattle.std.specs.Prelude.{true, false, ◌≡◌, ◌≢◌, ◌↔◌, ◌≤◌, ◌<◌, ◌⊎◌, ◌++◌, ◌||◌, [], Ok, Err, IfOk, IfErr, OnOk, OnErr, IsErrOf, IsTrue, is_ok, length};
 ghost use Rattle.std.specs.List.{AllByRecursion};
 ghost use Rattle.ballot_law.specs.declared.messages.NodeName.TheVariants.{SentinelAt};
-ghost use Rattle.sentinel_conf.specs.Reading.{conf_of_bytes};
+ghost use Rattle.sentinel_conf.specs.Reading.{FILE_MAX, conf_of_bytes};
 ghost use Rattle.sentinel_conf.specs.Rewritten.{rewritten};
 ghost use Rattle.sentinel_rules.specs.Plans.{roster_of};
 ghost use Rattle.sentinel_rules.specs.States.{opened};
@@ -13,14 +13,14 @@ ghost use Rattle.sentinel_outbox.specs.Outboxes.{Fits, room_of_sentinel};
 ghost use Rattle.sentinel_outbox.specs.declared.phase.Phase.TheVariants as phase;
 ghost use Rattle.boxed_nodes.specs.Moves.{IsFresh, Stays, Takes, Refuses, Stores, Releases, Stops, Starts, IsNamed};
 ghost use Rattle.boxed_nodes.specs.Sendable.{IsTakeable, IsSendableOutput, IsHeldBy};
-ghost use Rattle.sentinel_nodes.specs.Files.{refusal_of, outcome_of, text_left};
+ghost use Rattle.sentinel_nodes.specs.Files.{refusal_of, outcome_with, text_left, FitsAFile};
 ghost use Rattle.sentinel_nodes.specs.Kinds.{is_running, IsImageOf};
 
-use crate::file::File;
 use ballot_law::{Card, Input, KeptText, NodeName, Roster};
 use boxed_nodes::{HowStored, Node};
 use conf_lines::{ConfFault, ConfKind};
-use sentinel_conf::{law_read_again, read};
+use conf_store::MemoryStore;
+use sentinel_conf::{FILE_MAX, law_read_again, read};
 use sentinel_core::Sentinel;
 use sentinel_outbox::{OpenFault, Outbox, ReleaseFault, Room, StoreFault, TakeFault, Took};
 use sentinel_rules::{law_opening_is_sound, law_outputs_are_within};
@@ -30,10 +30,12 @@ use std::alloc::Global;
 #[derive(Drop)]
 pub struct SentinelNode {
     sentinel: Sentinel,
-    file: File,
+    file: MemoryStore,
     alloc: Global,
     ghost counted: { is_running sentinel.phase ≡ true → file.failed ≡ 0 },
     ghost few: { file.failed ≤ 1 },
+    ghost roomy: { FILE_MAX ≤ file.room },
+    ghost fits: { FitsAFile sentinel.plan.conf },
 }
 
 impl SentinelNode {
@@ -50,8 +52,9 @@ impl SentinelNode {
         ensures fault { IfErr result (λ fault. (fault ≡ record { line = 0; kind = ConfKind.NoMemory }) ⊎ (conf_of_bytes bytes.now ≡ Err fault)) }
     {
         law_opening_is_sound();
+        law_read_again();
         let conf = read(alloc, bytes)?;
-        let Ok(file) = File::holding(alloc, bytes) else {
+        let Ok(file) = MemoryStore::with_room(alloc, bytes, FILE_MAX) else {
             return Err(no_memory());
         };
         let Ok(sentinel) = Sentinel::open(alloc, conf, now) else {
@@ -86,11 +89,12 @@ impl SentinelNode {
         ensures plan { self.new.sentinel.plan ≡ self.old.sentinel.plan }
         ensures core { self.new.sentinel.core ≡ self.old.sentinel.core }
         ensures stopped { self.new.sentinel.phase ≡ phase.Stopped }
-        ensures text { self.new.file.text ≡ text_left KeptText.New self.old.sentinel self.old.file }
+        ensures text { self.new.file.text ≡ text_left KeptText.New self.old.sentinel self.old.file.text }
     {
         law_read_again();
         self.sentinel.has_run_ids();
-        self.file.refuse(None);
+        self.is_whole();
+        self.file.refuse_none();
         let _stored = self.sentinel.store(&mut self.file);
         self.is_whole();
         self.sentinel.stop();
@@ -107,13 +111,14 @@ fn no_memory() -> ConfFault
     }
 }
 
-fn refusal_of(how: HowStored) -> Option<bool>
-    ensures { result ≡ refusal_of how }
+/// Has the next replacement in this file end so.
+fn refuse_as(file: &mut MemoryStore, how: HowStored)
+    ensures { file.new ≡ record file.old { refusal = refusal_of how } }
 {
     match how {
-        HowStored::Done => None,
-        HowStored::RefusedOld => Some(false),
-        HowStored::RefusedNew => Some(true),
+        HowStored::Done => file.refuse_none(),
+        HowStored::RefusedOld => file.refuse_next(false),
+        HowStored::RefusedNew => file.refuse_next(true),
     }
 }
 
@@ -200,13 +205,14 @@ impl Node for SentinelNode {
         ensures untouched { self.old.sentinel.phase ≡ phase.Pending false
             → (is_ok result ≡ true) × (self.new.file.text ≡ self.old.file.text) }
         ensures answer { self.old.sentinel.phase ≡ phase.Pending true → is_ok result
-            ≡ (outcome_of (record self.old.file { refusal = refusal_of how }) (rewritten self.old.sentinel.plan.conf self.old.sentinel.core.kept)).is_stored }
+            ≡ (outcome_with how self.old.file.text (rewritten self.old.sentinel.plan.conf self.old.sentinel.core.kept)).is_stored }
         ensures written { self.old.sentinel.phase ≡ phase.Pending true → self.new.file.text
-            ≡ (outcome_of (record self.old.file { refusal = refusal_of how }) (rewritten self.old.sentinel.plan.conf self.old.sentinel.core.kept)).text }
+            ≡ (outcome_with how self.old.file.text (rewritten self.old.sentinel.plan.conf self.old.sentinel.core.kept)).text }
     {
         law_read_again();
         self.sentinel.has_run_ids();
-        self.file.refuse(refusal_of(how));
+        self.is_whole();
+        refuse_as(&mut self.file, how);
         let stored = self.sentinel.store(&mut self.file);
         self.is_whole();
         stored
@@ -236,7 +242,7 @@ impl Node for SentinelNode {
         ensures plan { self.new.sentinel.plan ≡ self.old.sentinel.plan }
         ensures core { self.new.sentinel.core ≡ self.old.sentinel.core }
         ensures stopped { self.new.sentinel.phase ≡ phase.Stopped }
-        ensures text { self.new.file.text ≡ text_left left self.old.sentinel self.old.file }
+        ensures text { self.new.file.text ≡ text_left left self.old.sentinel self.old.file.text }
     {
         match left {
             KeptText::Old => self.stop_old(),
@@ -259,12 +265,13 @@ impl Node for SentinelNode {
         ensures same { OnErr result (self.new.sentinel ≡ self.old.sentinel) }
     {
         law_opening_is_sound();
+        law_read_again();
         let Ok(conf) = read(self.alloc, self.file.text()) else {
             return Err(OpenFault::NoMemory);
         };
         let sentinel = Sentinel::open(self.alloc, conf, now)?;
         self.sentinel = sentinel;
-        self.file.forget();
+        self.file.begin_again();
         self.is_whole();
         Ok(())
     }

@@ -1,3 +1,5 @@
+use Rattle.std.proofs.Common.{ap}
+use Rattle.conf_store.specs.Stores.{Stored}
 use Rattle.sentinel_nodes.proofs.SentinelMoves.{fresh_of}
 use Rattle.sentinel_nodes.proofs.sentinel_node.SentinelNode.new.Goals as goal
 
@@ -6,7 +8,7 @@ returns-clause-fresh c =
     let e = c.in-Ok-open.ensures in
     fresh_of c.law_opening_is_sound.ensures c.in-Ok-open.sentinel c.args.bytes.now c.in-Ok.file.text c.in_ok-conf.conf c.args.now
     (record { read = c.in_ok-conf.ensures; plan = e.plan; core = e.core; stored = e.stored; phase_is = e.phase; whole = c.is_whole.ensures })
-    c.in-Ok.ensures.text
+    (ap (λ (f : Stored). f.text) c.in-Ok.ensures.store)
 
 pub returns-clause-core : goal.returns-clause-core
 returns-clause-core c = c.in-Ok-open.ensures.core

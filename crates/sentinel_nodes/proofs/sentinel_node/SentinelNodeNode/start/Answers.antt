@@ -1,15 +1,15 @@
 use Rattle.std.proofs.Common.{ap, sym, ◌∙◌}
 use Rattle.sentinel_conf.specs.Reading.{conf_of_bytes}
-use Rattle.sentinel_nodes.specs.Files.{File}
+use Rattle.conf_store.specs.Stores.{Stored}
 use Rattle.sentinel_nodes.proofs.SentinelMoves.{starts_of, named_of}
 use Rattle.sentinel_nodes.proofs.sentinel_node.SentinelNodeNode.start.Goals as goal
 
 pub returns-clause-starts : goal.returns-clause-starts
 returns-clause-starts c =
     let e = c.in_ok-sentinel.ensures in
-    starts_of c.law_opening_is_sound.ensures c.args.self.now.sentinel c.in_ok-sentinel.sentinel c.args.self.now.file.text c.forget.new.self.text c.in-Ok.conf c.args.now
+    starts_of c.law_opening_is_sound.ensures c.args.self.now.sentinel c.in_ok-sentinel.sentinel c.args.self.now.file.text c.begin_again.new.self.text c.in-Ok.conf c.args.now
     (record { read = ap conf_of_bytes (sym c.text.ensures) ∙ c.in-Ok.ensures; plan = e.plan; core = e.core; stored = e.stored; phase_is = e.phase; whole = c.is_whole.ensures })
-    (ap (λ (f : File). f.text) c.forget.ensures)
+    (ap (λ (f : Stored). f.text) c.begin_again.ensures)
 
 pub returns-clause-name : goal.returns-clause-name
 returns-clause-name c =
