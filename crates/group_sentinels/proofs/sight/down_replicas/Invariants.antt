@@ -8,5 +8,5 @@ abbrev pub invariant-loop-k : goal.invariant-loop-k
 invariant-loop-k l =
     record {
       long : length l.down ≡ 256;
-      filled : take l.k l.down ≡ at_places (is_replica_down l.plan.now l.core.now l.m (clock l.now)) 0 l.k;
+      filled : take l.k l.down ≡ at_places (is_replica_down l.plan l.core l.m (clock l.now)) 0 l.k;
     }

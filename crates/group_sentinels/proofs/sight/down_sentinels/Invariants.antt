@@ -8,5 +8,5 @@ abbrev pub invariant-loop-place : goal.invariant-loop-place
 invariant-loop-place l =
     record {
       long : length l.down ≡ 64;
-      filled : take l.place l.down ≡ at_places (is_other_down l.plan.now l.core.now (clock l.now)) 0 l.place;
+      filled : take l.place l.down ≡ at_places (is_other_down l.plan l.core (clock l.now)) 0 l.place;
     }
