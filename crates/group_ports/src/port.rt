@@ -1,5 +1,7 @@
 //! A port that serves its clients.
 
+ghost use Rattle.std.specs.Prelude.{◌≡◌, ◌+◌, IfOk, length};
+
 use crate::clients::Clients;
 use crate::desk::Desk;
 use crate::listener::{Entrance, LISTENER, Listener};
@@ -45,7 +47,9 @@ impl Port {
         alloc: Global,
         port: u16,
         room: PortRoom,
-    ) -> io::Result<(Port, Vec<Port>)> {
+    ) -> io::Result<(Port, Vec<Port>)>
+        ensures { IfOk result (λ parts. length parts.1.items + 1 ≡ room.threads) }
+    {
         let mut desks = Vec::new(alloc);
         let mut others = Vec::new(alloc);
         for thread in 1..room.threads() {

@@ -110,6 +110,7 @@ impl<J: Which, S: ConfStore> RunningSentinel<J, S> {
     where
         S: Drop,
         requires named { (cell.id ≡ J.cell) × (seat.cell ≡ J.cell) }
+        ensures seat { IfOk result (λ r. r.1.seat ≡ seat) }
     {
         let masters = cell.roster().masters().len().min(u16::MAX as usize) as u16;
         let member = RunningSentinel {

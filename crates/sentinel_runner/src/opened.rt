@@ -1,6 +1,7 @@
 //! A Sentinel that is open, before its threads run.
 
-ghost use Rattle.std.specs.Prelude.{◌≡◌, ◌≢◌, ◌<◌, ◌-◌, ◌^◌, IfErr};
+ghost use Rattle.std.specs.Prelude.{◌≡◌, ◌≢◌, ◌<◌, ◌+◌, ◌-◌, ◌^◌, IfErr, length};
+ghost use Rattle.sentinel_runner.specs.declared.opened.TheConstants.{OTHER_SEATS};
 ghost use Rattle.std.specs.IoError.{error_kind};
 ghost use Rattle.sentinel_runner.specs.declared.group_fault.GroupFault.TheVariants.{NoMemory, NotOneRoster, PortRefused};
 
@@ -32,6 +33,7 @@ pub(crate) struct Opened<S: ConfStore> {
     pub(crate) port_threads: u16,
     pub(crate) number: u16,
     ghost own: { seat.cell ≡ cell.id },
+    ghost seats: { seat.view.share ≡ length others.items + 1 + OTHER_SEATS },
 }
 
 /// What an error of the system is: want of memory, or a port that can't be had.

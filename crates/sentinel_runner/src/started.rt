@@ -1,6 +1,6 @@
 //! A Sentinel of a group in one process, and its threads.
 
-ghost use Rattle.std.specs.Prelude.{◌≡◌, ◌≢◌, ◌<◌, ◌-◌, ◌^◌, IfErr};
+ghost use Rattle.std.specs.Prelude.{◌≡◌, ◌≢◌, ◌<◌, ◌+◌, ◌-◌, ◌^◌, IfErr, IfOk, length};
 ghost use Rattle.sentinel_runner.specs.declared.group_fault.GroupFault.TheVariants.{NotOneRoster};
 
 use crate::group_fault::GroupFault;
@@ -12,7 +12,7 @@ use group_ports::{Port, PortRoom};
 use group_sentinels::{RunState, RunningSentinel, ThreadSeat, Which};
 use log::Log;
 use sentinel_conf::Conf;
-use std::alloc::Global;
+use std::alloc::{AllocError, Global};
 use std::io;
 use std::marker::Brand;
 use std::net::Net;
@@ -92,7 +92,7 @@ where
     let Ok((member, seat)) = made else {
         return end_for_want(state, ending);
     };
-    let Some(seated) = Seated::of(alloc, &member, seat, port, others) else {
+    let Ok(seated) = Seated::of(alloc, &member, seat, port, others) else {
         return end_for_want(state, ending);
     };
     run_threads(rt, alloc, state, links, &member, seated, deliveries, ending);
@@ -130,32 +130,46 @@ struct Seated<J: Which> {
 }
 
 impl<J: Which> Seated<J> {
-    /// Cuts the seat of the Sentinel into one for each thread. None where memory was refused.
+    /// Cuts the seat of the Sentinel into one for each thread.
     fn of<S: ConfStore>(
         alloc: Global,
         member: &RunningSentinel<J, S>,
         seat: ThreadSeat<J>,
         port: Port,
         ports: Vec<Port>,
-    ) -> Option<Seated<J>> {
-        let mut seats = member.seats(alloc, seat).ok()?;
-        let (timer, link) = (seats.pop()?, seats.pop()?);
-        let first = PortPart {
-            port,
-            seat: seats.pop()?,
+    ) -> Result<Seated<J>, AllocError>
+        requires { seat.seat.view.share ≡ length ports.items + 3 }
+    {
+        let mut seats = member.seats(alloc, seat)?;
+        let (Some(timer), Some(link), Some(seat)) = (seats.pop(), seats.pop(), seats.pop()) else {
+            unreachable!()
         };
-        let mut others = Vec::new(alloc);
-        for port in ports {
-            let seat = seats.pop()?;
-            others.push(PortPart { port, seat }).ok()?;
-        }
-        Some(Seated {
+        Ok(Seated {
             timer,
             link,
-            first,
-            others,
+            first: PortPart { port, seat },
+            others: parts_of(alloc, ports, seats)?,
         })
     }
+}
+
+/// What each further thread of a port serves, with its seat.
+fn parts_of<J: Which>(
+    alloc: Global,
+    mut ports: Vec<Port>,
+    mut seats: Vec<ThreadSeat<J>>,
+) -> Result<Vec<PortPart<J>>, AllocError>
+    requires { length seats.items ≡ length ports.items }
+    ensures { IfOk result (λ parts. length parts.items ≡ length ports.items) }
+{
+    let mut parts = Vec::new(alloc);
+    while let Some(port) = ports.pop() {
+        let Some(seat) = seats.pop() else {
+            unreachable!()
+        };
+        parts.push(PortPart { port, seat })?;
+    }
+    Ok(parts)
 }
 
 /// Starts the timer, the link and the further threads of the port, and serves it as the first one.
