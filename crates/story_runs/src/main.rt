@@ -5,16 +5,27 @@
 //! `stops:` each story is run again and again, with each Sentinel stopped and started after each of its steps, and leaving the old text of
 //! its file and the new one. It says how many runs these were, and how often they broke the laws of a group.
 //!
-//! After the word `refused:` a word is a folder whose conf files make no group, and it says how a story over them is refused.
+//! After the word `calls:` each story is played by the public calls of a world, once step by step and once by one call with a stop at its end;
+//! a call that lacked memory is made once more on what it left. After the word `refused:` a word is a folder whose conf files make no group: it
+//! says how a world of them is refused, and how a story is.
 #![tactic(auto)]
+
+ghost use Rattle.std.specs.Prelude.{All, IfSome};
+ghost use Rattle.fault_world.specs.Limits.{IsWithinLimits};
 
 mod laws;
 mod stops;
+mod worlds;
 
 use crate::stops::{Stopped, stop_behind_each};
+use crate::worlds::{Calls, Lines, Refusal, lines_of, steps_of};
+use ballot_law::Step;
+use fault_world::WorldFault;
 use resp2_frames::OutText;
 use scenario_replay::{Printed, ReplayFault, Story};
 use scenarios::read_scenario;
+use sentinel_conf::{Conf, read};
+use std::alloc::Global;
 use std::{env, fs, io};
 
 /// The names that the conf files of a folder have, as many as there are.
@@ -26,6 +37,17 @@ fn bytes_of(rt: &HostRuntime, path: &str, ending: &str) -> Option<Vec<u8>> {
         return None;
     };
     fs::read(rt, path.as_str()).ok()
+}
+
+/// The conf files of the folder.
+fn files_of(rt: &HostRuntime, folder: &str) -> Option<Vec<Vec<u8>>> {
+    let mut files = Vec::new(rt.alloc());
+    for conf in CONFS {
+        if let Some(file) = bytes_of(rt, folder, conf) {
+            files.push(file).ok()?;
+        }
+    }
+    Some(files)
 }
 
 /// A story of these bytes, with the Sentinels of the folder, and how many these are.
@@ -84,13 +106,85 @@ fn stopped_at(rt: &HostRuntime, path: &str) -> Option<Stopped> {
     Some(all)
 }
 
-/// How a story over the folder's conf files is refused; none where it is played, or a file can't be read.
-fn refused_at(rt: &HostRuntime, folder: &str) -> Option<ReplayFault> {
-    let (story, _) = story_of(rt, folder, Vec::new(rt.alloc()))?;
-    match story.play(Printed::Report) {
-        Ok(_) => None,
-        Err(fault) => Some(fault),
+/// A story, its conf files, and what it is to bring.
+#[derive(Drop)]
+struct Told {
+    conf: Conf,
+    files: Vec<Vec<u8>>,
+    steps: Vec<Step>,
+    expected: Vec<u8>,
+}
+
+/// The story at this path; none where it can't be read.
+fn told_at(rt: &HostRuntime, path: &str) -> Option<Told>
+    ensures { IfSome result (λ told. All IsWithinLimits told.steps.items) }
+{
+    let (folder, _) = path.rsplit_once('/')?;
+    let expected = bytes_of(rt, path, ".expected")?;
+    let text = bytes_of(rt, path, ".scenario")?;
+    let files = files_of(rt, folder)?;
+    let Ok(conf) = read(rt.alloc(), files.first()?.as_slice()) else {
+        return None;
+    };
+    let steps = steps_of(rt.alloc(), text.as_slice())?;
+    Some(Told {
+        conf,
+        files,
+        steps,
+        expected,
+    })
+}
+
+/// What a story brings by these calls; where a node or a roster lacked memory, all is made once more.
+fn called(alloc: Global, told: &Told, calls: Calls) -> Result<Lines, Refusal>
+    requires { All IsWithinLimits told.now.steps.items }
+{
+    match lines_of(alloc, &told.conf, &told.files, &told.steps, calls) {
+        Ok(lines) => Ok(lines),
+        Err(Refusal::NoNodes) => lines_of(alloc, &told.conf, &told.files, &told.steps, calls),
+        Err(refusal) => Err(refusal),
     }
+}
+
+/// Whether a story, played by the public calls of a world, brings what it is to bring; none where it is refused. The lines of steps that
+/// a call made before it lacked memory aren't looked at.
+fn is_as_called(alloc: Global, told: &Told) -> Option<bool>
+    requires { All IsWithinLimits told.now.steps.items }
+{
+    let expected = told.expected.as_slice();
+    let Ok(each) = called(alloc, told, Calls::OneByOne) else {
+        return None;
+    };
+    let Ok(all) = called(alloc, told, Calls::AtOnce) else {
+        return None;
+    };
+    let (lines, last) = (each.text.as_slice(), all.text.as_slice());
+    Some(lines == expected && (last == expected || (all.untold > 0 && expected.ends_with(last))))
+}
+
+/// The same of the story at this path; none also where it can't be read.
+fn is_called_at(rt: &HostRuntime, path: &str) -> Option<bool> {
+    match told_at(rt, path) {
+        Some(told) => is_as_called(rt.alloc(), &told),
+        None => is_as_called(rt.alloc(), &told_at(rt, path)?),
+    }
+}
+
+/// How a world of the folder's conf files is refused, and how a story over them is.
+fn refused_at(rt: &HostRuntime, folder: &str) -> Option<(WorldFault, ReplayFault)> {
+    let files = files_of(rt, folder)?;
+    let Ok(conf) = read(rt.alloc(), files.first()?.as_slice()) else {
+        return None;
+    };
+    let Err(Refusal::NoWorld(fault)) = lines_of(rt.alloc(), &conf, &files, &[], Calls::OneByOne)
+    else {
+        return None;
+    };
+    let (story, _) = story_of(rt, folder, Vec::new(rt.alloc()))?;
+    let Err(played) = story.play(Printed::Report) else {
+        return None;
+    };
+    Some((fault, played))
 }
 
 /// Says what came of the runs of a story with stops in it.
@@ -121,6 +215,7 @@ fn tell_stopped(rt: &HostRuntime, path: &str, stopped: &Stopped) -> io::Result<(
 enum Play {
     Whole,
     Stopped,
+    Called,
     Refused,
 }
 
@@ -128,6 +223,7 @@ enum Play {
 fn play_named(word: &str) -> Option<Play> {
     match word {
         "stops:" => Some(Play::Stopped),
+        "calls:" => Some(Play::Called),
         "refused:" => Some(Play::Refused),
         _ => None,
     }
@@ -142,10 +238,21 @@ fn tell_whole(rt: &HostRuntime, path: &str) -> io::Result<()> {
     }
 }
 
-/// Says how a story over the conf files of this folder is refused.
+/// Plays the story at this path by the calls of a world, and says what came of it.
+fn tell_called(rt: &HostRuntime, path: &str) -> io::Result<()> {
+    match is_called_at(rt, path) {
+        Some(true) => println!(rt; "{path} by the calls of a world"),
+        Some(false) => println!(rt; "{path} tells something else by the calls of a world"),
+        None => println!(rt; "{path} can't be played by the calls of a world"),
+    }
+}
+
+/// Says how the conf files of this folder are refused.
 fn tell_refused(rt: &HostRuntime, folder: &str) -> io::Result<()> {
     match refused_at(rt, folder) {
-        Some(fault) => println!(rt; "{folder}: {fault}"),
+        Some((fault, played)) => println!(rt;
+            "{folder}: a world is refused by {fault}, a story by {played}"
+        ),
         None => println!(rt; "{folder} isn't refused"),
     }
 }
@@ -164,6 +271,7 @@ fn main(rt: HostRuntime) -> io::Result<()> {
                 Some(stopped) => tell_stopped(&rt, path, &stopped)?,
                 None => println!(rt; "{path} can't be played")?,
             },
+            Play::Called => tell_called(&rt, path)?,
             Play::Refused => tell_refused(&rt, path)?,
         }
     }
