@@ -1,2 +1,3 @@
+mod Budgets
 pub mod Keeping
 pub mod Sends
