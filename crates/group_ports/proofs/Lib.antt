@@ -1,3 +1,2 @@
-mod Budgets
 pub mod Keeping
 pub mod Sends
