@@ -58,11 +58,14 @@ pub(crate) fn room_of<R: Net>(
 ) -> Result<PortRoom, GroupFault>
     ensures roster { IfErr result (λ fault. fault ≢ NotOneRoster) }
 {
-    match connections_of_each(rt, alloc, ports, port_threads) {
-        Ok(room) if room.is_empty() => Err(GroupFault::PortRefused),
-        Ok(room) => Ok(room),
-        Err(error) => Err(fault_of(&error)),
+    let room = match connections_of_each(rt, alloc, ports, port_threads) {
+        Ok(room) => room,
+        Err(error) => return Err(fault_of(&error)),
+    };
+    if room.is_empty() {
+        return Err(GroupFault::PortRefused);
     }
+    Ok(room)
 }
 
 impl<S: ConfStore + Drop> Opened<S> {
