@@ -172,7 +172,7 @@ fn parts_of<J: Which>(
     Ok(parts)
 }
 
-/// Starts the timer, the link and the further threads of the port, and serves it as the first one.
+/// Starts the timer and the link, and serves the port.
 ///
 /// Many parameters: as above.
 fn run_threads<'a, J: Which + Send + Sync, S: ConfStore + Drop + Send, R>(
@@ -191,7 +191,7 @@ where
     let Seated {
         mut timer,
         mut link,
-        mut first,
+        first,
         others,
     } = seated;
     thread::scope(thread::scope_env(), rt, |scope| {
@@ -201,6 +201,27 @@ where
         refused |= scope
             .spawn(move || run_link(rt, state, links, member, &mut link, &deliveries, ending))
             .is_err();
+        if refused {
+            return end_for_want(state, ending);
+        }
+        serve_parts(rt, state, member, first, others, ending);
+    })
+}
+
+/// Starts the further threads of the port, and serves it as the first one.
+fn serve_parts<'a, J: Which + Send + Sync, S: ConfStore + Drop + Send, R>(
+    rt: &'a R,
+    state: &'a RunState,
+    member: &'a RunningSentinel<J, S>,
+    mut first: PortPart<J>,
+    others: Vec<PortPart<J>>,
+    ending: &'a AtomicU64,
+)
+where
+    R: Threads + Wait + Clock + Sync,
+{
+    thread::scope(thread::scope_env(), rt, |scope| {
+        let mut refused = false;
         for mut part in others {
             refused |= scope
                 .spawn(move || part.serve(rt, state, member, ending))
