@@ -105,9 +105,14 @@ struct PortPart<J: Which> {
     seat: ThreadSeat<J>,
 }
 
-impl<J: Which> PortPart<J> {
+/// What a thread of a port of such a Sentinel does. By this trait `serve_parts` knows of a part no more than that it may be sent.
+trait ServesPort<M> {
     /// Serves the port until `ending` isn't 0.
-    fn serve<S: ConfStore, R: Wait + Clock>(
+    fn serve<R: Wait + Clock>(&mut self, rt: &R, state: &RunState, member: &M, ending: &AtomicU64);
+}
+
+impl<J: Which, S: ConfStore> ServesPort<RunningSentinel<J, S>> for PortPart<J> {
+    fn serve<R: Wait + Clock>(
         &mut self,
         rt: &R,
         state: &RunState,
@@ -209,12 +214,12 @@ where
 }
 
 /// Starts the further threads of the port, and serves it as the first one.
-fn serve_parts<'a, J: Which + Send + Sync, S: ConfStore + Drop + Send, R>(
+fn serve_parts<'a, M: Sync, P: ServesPort<M> + Drop + Send, R>(
     rt: &'a R,
     state: &'a RunState,
-    member: &'a RunningSentinel<J, S>,
-    mut first: PortPart<J>,
-    others: Vec<PortPart<J>>,
+    member: &'a M,
+    mut first: P,
+    others: Vec<P>,
     ending: &'a AtomicU64,
 )
 where
