@@ -160,12 +160,12 @@ impl<'a, C: Clock + Sync> Given<'a, C> {
 }
 
 /// Runs a group while its files are looked at, which end it: whether a hello was heard and a question asked, and how the group ended.
-fn run_beside(
-    rt: &HostRuntime,
+fn run_beside<'a, R: Threads + Wait + Net + Clock + Log + Sync>(
+    rt: &'a R,
     alloc: Global,
-    given: Given<'_, HostRuntime>,
-    first: &Told,
-    second: &Told,
+    given: Given<'a, R>,
+    first: &'a Told,
+    second: &'a Told,
 ) -> (bool, Result<(), GroupFault>) {
     let ending = AtomicU64::new(0);
     thread::join(
