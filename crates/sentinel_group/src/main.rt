@@ -20,10 +20,13 @@ use crate::failures::fail;
 use crate::group_files::file_of;
 use crate::new_ids::new_id;
 use crate::replaying::replay;
-use crate::serving::serve as serve_group;
+use crate::serving::{serve as serve_group, tell_end};
 use clap::ArgMatches;
 use conf_store::{ConfStore, MemoryStore};
+use log::sink::Discard;
+use log::{LevelFilter, Logged};
 use port_serving::ServeFault;
+use queued_notes::NoteQueue;
 use sentinel_conf::{Conf, read};
 use sentinel_core::Sentinel;
 use std::process::ExitCode;
@@ -88,7 +91,20 @@ fn main(rt: HostRuntime) -> ExitCode {
             Some(("check", words)) => check(rt, words),
             Some(("new-id", _)) => new_id(rt),
             Some(("replay", words)) => replay(&rt, words),
-            Some(("serve", words)) => serve_group(rt, rt, words),
+            Some(("serve", words)) => {
+                if !words.get_flag("notes") {
+                    let silent = Logged::new(rt, LevelFilter::Off, Discard);
+                    return tell_end(rt, serve_group(rt, &silent, words), true);
+                }
+                // (notes have a thread of their own, which no other waits for; what it can't write, nor can a line of how the group ended)
+                let Ok((queue, writer)) = NoteQueue::open(rt, rt.alloc()) else {
+                    return fail(&rt, ServeFault::NoMemory);
+                };
+                let noting = Logged::new(rt, LevelFilter::Info, queue);
+                let ended = serve_group(rt, &noting, words);
+                drop(noting);
+                tell_end(rt, ended, writer.wait(&rt))
+            }
             Some((_, words)) => answer(rt, words),
             None => answer_in_memory(rt),
         },

@@ -2,13 +2,10 @@
 
 ghost use Rattle.std.specs.Prelude.{◌<◌, ◌-◌, ◌^◌, All};
 
-use crate::failures::{fail, fail_ordered, status_of_ordered};
+use crate::failures::{fail_ordered, status_of_ordered};
 use crate::group_files::{GroupFiles, files_of};
 use clap::ArgMatches;
-use log::sink::Discard;
-use log::{LevelFilter, Log, Logged};
-use port_serving::ServeFault;
-use queued_notes::NoteQueue;
+use log::Log;
 use sentinel_runner::{Group, OrderedFault};
 use std::alloc::Global;
 use std::io::Input;
@@ -21,7 +18,7 @@ use std::thread::Threads;
 
 /// Why a group didn't run, or didn't run whole.
 #[derive(Drop)]
-enum Unserved {
+pub(crate) enum Unserved {
     /// A file was refused, which was told; the status tells it too.
     Refused(ExitCode),
     /// A fault of the group, or of its orders.
@@ -44,8 +41,8 @@ where
     group.run_by_orders(rt, &mut rt.reader(), &ending)
 }
 
-/// Runs the group of the conf files that the words name; its notes go to the log of `noting`.
-fn run_files<R>(rt: HostRuntime, noting: &R, words: &ArgMatches) -> Result<(), Unserved>
+/// Serves the group of the conf files that the words name; its notes go to the log of `noting`.
+pub(crate) fn serve<R>(rt: HostRuntime, noting: &R, words: &ArgMatches) -> Result<(), Unserved>
 where
     R: Threads + Wait + Net + Clock + Log + Input + Sync,
 {
@@ -60,7 +57,7 @@ where
 }
 
 /// Tells how a group ended, by a line, where standard error takes lines, and by the status.
-fn tell_end(rt: HostRuntime, ended: Result<(), Unserved>, takes_lines: bool) -> ExitCode {
+pub(crate) fn tell_end(rt: HostRuntime, ended: Result<(), Unserved>, takes_lines: bool) -> ExitCode {
     match ended {
         Ok(()) => ExitCode::SUCCESS,
         Err(Unserved::Refused(status)) => status,
@@ -71,24 +68,4 @@ fn tell_end(rt: HostRuntime, ended: Result<(), Unserved>, takes_lines: bool) -> 
             ExitCode::from(status_of_ordered(fault))
         }
     }
-}
-
-/// Serves the group of the conf files that the words name, by the threads, the sockets and the input of `host`. Where they ask for notes, these go to
-/// standard error by a thread of their own, which no other waits for: where it can't write them, the line that tells a fault isn't written either,
-/// and the status alone tells it.
-pub(crate) fn serve<R>(rt: HostRuntime, host: R, words: &ArgMatches) -> ExitCode
-where
-    R: Threads + Wait + Net + Clock + Input + Eprint + Copy + Drop + Send + Sync + 'static,
-{
-    if !words.get_flag("notes") {
-        let silent = Logged::new(host, LevelFilter::Off, Discard);
-        return tell_end(rt, run_files(rt, &silent, words), true);
-    }
-    let Ok((queue, writer)) = NoteQueue::open(host, rt.alloc()) else {
-        return fail(&rt, ServeFault::NoMemory);
-    };
-    let noting = Logged::new(host, LevelFilter::Info, queue);
-    let ended = run_files(rt, &noting, words);
-    drop(noting);
-    tell_end(rt, ended, writer.wait(&host))
 }
