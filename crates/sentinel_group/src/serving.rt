@@ -57,7 +57,11 @@ where
 }
 
 /// Tells how a group ended, by a line, where standard error takes lines, and by the status.
-pub(crate) fn tell_end(rt: HostRuntime, ended: Result<(), Unserved>, takes_lines: bool) -> ExitCode {
+pub(crate) fn tell_end(
+    rt: HostRuntime,
+    ended: Result<(), Unserved>,
+    takes_lines: bool,
+) -> ExitCode {
     match ended {
         Ok(()) => ExitCode::SUCCESS,
         Err(Unserved::Refused(status)) => status,
