@@ -84,7 +84,9 @@ impl<S: ConfStore + Drop> Opened<S> {
         let (port, others) = match Port::open(rt, alloc, number, room) {
             Ok(parts) => parts,
             Err(error) => {
-                warn!(rt; "port {number} of 127.0.0.1 can't be had");
+                if error.kind() != ErrorKind::OutOfMemory {
+                    warn!(rt; "port {number} of 127.0.0.1 can't be had");
+                }
                 return Err(fault_of(&error));
             }
         };

@@ -18,7 +18,8 @@ one_of_two share most = grind (arith)
 
 most_or_too_many : (descriptors rest ports beside most left share kept : ℕ) → 0 < ports → left ≡ descriptors - rest → share ≡ left / ports - beside →
     kept ≡ min share most → (kept ≡ most) ⊎ (descriptors < (kept + 1 + beside) * ports + rest)
-most_or_too_many descriptors rest ports beside most left share kept some left_is share_is kept_is = elim (one_of_two share most) as (λ _. (kept ≡ most) ⊎ (descriptors < (kept + 1 + beside) * ports + rest)) [
+most_or_too_many descriptors rest ports beside most left share kept some left_is share_is kept_is = elim (one_of_two share most) as
+    (λ _. (kept ≡ most) ⊎ (descriptors < (kept + 1 + beside) * ports + rest)) [
   | inl it ↦ inl (kept_is ∙ it)
   | inr it ↦
       let is : kept ≡ (descriptors - rest) / ports - beside = kept_is ∙ it ∙ share_is ∙ ap (λ (x : ℕ). x / ports - beside) left_is in

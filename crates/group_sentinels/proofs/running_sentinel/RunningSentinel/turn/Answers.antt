@@ -2,7 +2,8 @@ use Rattle.group_sentinels.proofs.Saying.{added_shown, faulted_shown, shown_send
 use Rattle.group_sentinels.proofs.running_sentinel.RunningSentinel.turn.Goals as goal
 
 pub returns-in-Ok-clause-sendable : goal.returns-in-Ok-clause-sendable
-returns-in-Ok-clause-sendable g c = shown_sendable c.law_outputs_are_within.ensures.outputs c.law_outputs_are_within.ensures.epochs _ c.args.seat.now.seat.view c.act_observed.new.seat.view
+returns-in-Ok-clause-sendable g c = shown_sendable c.law_outputs_are_within.ensures.outputs c.law_outputs_are_within.ensures.epochs _
+    c.args.seat.now.seat.view c.act_observed.new.seat.view
     _ _ _ c.clear.ensures.shown c.in-Ok.ensures.acted c.requires.within
 
 pub returns-in-Ok-clause-added : goal.returns-in-Ok-clause-added
