@@ -20,11 +20,11 @@ most_or_too_many : (descriptors rest ports beside most left share kept : ℕ) �
     kept ≡ min share most → (kept ≡ most) ⊎ (descriptors < (kept + 1 + beside) * ports + rest)
 most_or_too_many descriptors rest ports beside most left share kept some left_is share_is kept_is = elim (one_of_two share most) as
     (λ _. (kept ≡ most) ⊎ (descriptors < (kept + 1 + beside) * ports + rest)) [
-  | inl it ↦ inl (kept_is ∙ it)
-  | inr it ↦
-      let is : kept ≡ (descriptors - rest) / ports - beside = kept_is ∙ it ∙ share_is ∙ ap (λ (x : ℕ). x / ports - beside) left_is in
-      inr (subst (λ (x : ℕ). descriptors < (x + 1 + beside) * ports + rest) (sym is) (one_more_is_too_many descriptors rest ports ((descriptors - rest) / ports) beside some refl))
-]
+      | inl it ↦ inl (kept_is ∙ it)
+      | inr it ↦
+          let is : kept ≡ (descriptors - rest) / ports - beside = kept_is ∙ it ∙ share_is ∙ ap (λ (x : ℕ). x / ports - beside) left_is in
+          inr (subst (λ (x : ℕ). descriptors < (x + 1 + beside) * ports + rest) (sym is) (one_more_is_too_many descriptors rest ports ((descriptors - rest) / ports) beside some refl))
+    ]
 
 pub returns-clause-most : goal.returns-clause-most
 returns-clause-most c = most_or_too_many c.args.descriptors 8 c.args.ports c.args.beside 256 c.saturating_sub.result c.saturating_sub-2.result c.min.result c.requires
