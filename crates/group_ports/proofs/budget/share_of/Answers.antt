@@ -23,7 +23,7 @@ most_or_too_many descriptors rest ports beside most left share kept some left_is
       | inl it ↦ inl (kept_is ∙ it)
       | inr it ↦
           let is : kept ≡ (descriptors - rest) / ports - beside = kept_is ∙ it ∙ share_is ∙ ap (λ (x : ℕ). x / ports - beside) left_is in
-          inr (subst (λ (x : ℕ). descriptors < (x + 1 + beside) * ports + rest) (sym is) (one_more_is_too_many descriptors rest ports ((descriptors - rest) / ports) beside some refl))
+          inr (subst (λ (x : ℕ). descriptors < (x + 1 + beside) * ports + rest) (sym is) (one_more_is_too_many descriptors rest ports _ beside some refl))
     ]
 
 pub returns-clause-most : goal.returns-clause-most
