@@ -26,31 +26,10 @@ use sentinel_outbox::Outbox;
 use std::marker::Brand;
 use std::sync::Wait;
 use std::thread;
-use std::time::Duration;
 
 pub(crate) type Place<S> = atomic_table::Seat<Option<Keeper<S>>, View>;
 
 pub(crate) type Hall<S> = Shared<Option<Keeper<S>>, View, Start<S>, Line>;
-
-/// How often a thread looks for its turn before it sleeps in between.
-const LOOKS_MAX: u32 = 1000;
-
-/// How long it sleeps at most, in milliseconds.
-const SLEEP_MS: u64 = 1;
-
-/// Leaves the processor to others while this ticket is served: where that was looked at often, as beside a store, for a millisecond. The answer is how often it was
-/// looked at. Nobody wakes who sleeps here, so that a turn without a store costs no call of the system.
-fn give_way<S: ConfStore, R: Wait>(rt: &R, hall: &Hall<S>, served: u64, looks: u32) -> u32
-    requires { 0 < hall.now.table_id.words }
-{
-    if looks < LOOKS_MAX {
-        thread::yield_now();
-        return looks + 1;
-    }
-    let served = (served % (1 << 32)) as u32;
-    hall.park_timeout(rt, 0, served, Duration::from_millis(SLEEP_MS));
-    looks
-}
 
 /// Waits until the ticket is served. Then the slot is out with the seat.
 pub(crate) fn wait_for_turn<J: Origin, S: ConfStore, R: Wait>(
@@ -67,13 +46,11 @@ pub(crate) fn wait_for_turn<J: Origin, S: ConfStore, R: Wait>(
         × (place.old.me.0.given ≤ given)) × IsLegal J.start history × Fits S.held S.failure_count J.start history c × Follows place.old.me.0 history }
     ensures counted { ticket ≡ length place.new.me.0.front }
 {
-    let mut looks = 0;
     for _ in rt.forever() {
-        let served = hall.load::<Take<J>>(place, 0);
-        if served == ticket {
+        if hall.load::<Take<J>>(place, 0) == ticket {
             return;
         }
-        looks = give_way(rt, hall, served, looks);
+        thread::yield_now();
     }
     unreachable!()
 }
