@@ -1,0 +1,193 @@
+//! When a connection is opened, given up, and asked besides what the Sentinel asks.
+
+ghost use Rattle.std.specs.Prelude.{◌≡◌, ◌≤◌, ◌↔◌, ◌⊎◌, ◌+◌, ◌-◌, ◌*◌, min, max, true, false, Some, None, IsTrue};
+ghost use Rattle.tcp_links.specs.declared.schedule.Stage.TheVariants.{Closed, Opening, Open};
+ghost use Rattle.tcp_links.specs.declared.schedule.Stale.TheVariants.{Unreached, Silent, NoHello};
+ghost use Rattle.tcp_links.specs.Schedules.{IsPast};
+
+/// How long a connection may take to be opened, in milliseconds.
+pub const CONNECT_MS: u64 = 1_000;
+
+/// How long nothing may come while an answer is awaited, in milliseconds.
+pub const SILENT_MS: u64 = 2_000;
+
+/// How long nothing may come on a connection that listens to hellos, in milliseconds.
+pub const NO_HELLO_MS: u64 = 6_000;
+
+/// The shortest and the longest pause before a connection is opened again, in milliseconds.
+pub const PAUSE_MIN_MS: u64 = 100;
+
+pub const PAUSE_MAX_MS: u64 = 1_000;
+
+/// How long it is between two PINGs that the connection sends by itself, in milliseconds.
+pub const PING_MS: u64 = 250;
+
+/// When INFO is asked again after a connection was opened, in milliseconds: a node whose role is wrong has to say so twice, 8 s apart, before it is told otherwise.
+pub const INFO_AGAIN_MS: u64 = 8_500;
+
+/// Where a connection stands.
+#[derive(Clone, Copy, PartialEq, Eq)]
+pub enum Stage {
+    /// It is closed, since the time of its schedule.
+    Closed,
+    /// It is being opened.
+    Opening,
+    /// It is open.
+    Open,
+}
+
+/// Why a connection is given up by the clock alone.
+#[derive(Clone, Copy, Debug, PartialEq, Eq)]
+pub enum Stale {
+    /// It took too long to be opened.
+    Unreached,
+    /// An answer is awaited, and nothing came for too long.
+    Silent,
+    /// It listens to hellos, and none came for too long.
+    NoHello,
+}
+
+/// The times of a connection, readings of one clock in milliseconds: `since` is when its stage began, `quiet` when the silence began that counts, and `pinged` when it
+/// last sent a PING by itself. `pause` is how long it stays closed, and `infos` how often it asked for INFO by itself since it was opened.
+#[derive(Clone, Copy)]
+pub struct Schedule {
+    pub stage: Stage,
+    pub since: u64,
+    pub quiet: u64,
+    pub pause: u64,
+    pub pinged: Option<u64>,
+    pub infos: u8,
+}
+
+impl Schedule {
+    /// A connection that is to be opened at once.
+    pub fn new() -> Schedule
+        ensures stage { result.stage ≡ Closed }
+        ensures pause { result.pause ≡ 0 }
+    {
+        Schedule {
+            stage: Stage::Closed,
+            since: 0,
+            quiet: 0,
+            pause: 0,
+            pinged: None,
+            infos: 0,
+        }
+    }
+
+    /// Whether it is to be opened now.
+    pub fn is_due(&self, now: u64) -> bool
+        ensures { IsTrue result ↔ ((self.now.stage ≡ Closed) × (self.now.pause ≤ now - self.now.since)) }
+    {
+        self.stage == Stage::Closed && self.pause <= now.saturating_sub(self.since)
+    }
+
+    /// Why it is to be given up now, where it listens to hellos or doesn't, and an answer is awaited on it or none; `None` where it isn't.
+    pub fn stale(&self, listens: bool, waits: bool, now: u64) -> Option<Stale>
+        ensures unreached { result ≡ Some Unreached ↔ ((self.now.stage ≡ Opening) × (CONNECT_MS ≤ now - self.now.since)) }
+        ensures silent { result ≡ Some Silent
+            ↔ ((self.now.stage ≡ Open) × (listens ≡ false) × (waits ≡ true) × (SILENT_MS ≤ now - self.now.quiet)) }
+        ensures no_hello { result ≡ Some NoHello
+            ↔ ((self.now.stage ≡ Open) × (listens ≡ true) × (NO_HELLO_MS ≤ now - self.now.quiet)) }
+    {
+        let quiet = now.saturating_sub(self.quiet);
+        match self.stage {
+            Stage::Closed => None,
+            Stage::Opening if now.saturating_sub(self.since) >= CONNECT_MS => Some(
+                Stale::Unreached,
+            ),
+            Stage::Open if listens && quiet >= NO_HELLO_MS => Some(Stale::NoHello),
+            Stage::Open if !listens && waits && quiet >= SILENT_MS => Some(Stale::Silent),
+            _ => None,
+        }
+    }
+
+    /// It is being opened from now on.
+    pub fn begin(&mut self, now: u64)
+        ensures { self.new ≡ record self.old { stage = Opening; since = now; quiet = now } }
+    {
+        self.stage = Stage::Opening;
+        self.since = now;
+        self.quiet = now;
+    }
+
+    /// It is open from now on. A PING and an INFO are due at once.
+    pub fn reach(&mut self, now: u64)
+        ensures { self.new ≡ record self.old { stage = Open; since = now; quiet = now; pinged = None; infos = 0 } }
+    {
+        self.stage = Stage::Open;
+        self.since = now;
+        self.quiet = now;
+        self.pinged = None;
+        self.infos = 0;
+    }
+
+    /// Whether it is open.
+    pub fn is_open(&self) -> bool
+        ensures { IsTrue result ↔ self.now.stage ≡ Open }
+    {
+        self.stage == Stage::Open
+    }
+
+    /// Something came that its session took: the next pause is the shortest again.
+    pub fn hear(&mut self, now: u64)
+        ensures { self.new ≡ record self.old { quiet = now; pause = 0 } }
+    {
+        self.quiet = now;
+        self.pause = 0;
+    }
+
+    /// What was silent so far counts no more: a first answer is awaited, or it was this Sentinel that stood still.
+    pub fn excuse(&mut self, now: u64)
+        ensures { self.new ≡ record self.old { quiet = now } }
+    {
+        self.quiet = now;
+    }
+
+    /// It is closed from now on. Where nothing was heard since it was last closed, the pause is twice as long as the last one.
+    pub fn close(&mut self, now: u64)
+        ensures { self.new
+            ≡ record self.old { stage = Closed; since = now; pause = min (max (2 * self.old.pause) PAUSE_MIN_MS) PAUSE_MAX_MS } }
+    {
+        self.stage = Stage::Closed;
+        self.since = now;
+        self.pause = self
+            .pause
+            .saturating_mul(2)
+            .max(PAUSE_MIN_MS)
+            .min(PAUSE_MAX_MS);
+    }
+
+    /// Whether it is to send a PING by itself now.
+    pub fn is_ping_due(&self, now: u64) -> bool
+        ensures { IsTrue result ↔ ((self.now.stage ≡ Open) × IsPast PING_MS self.now.pinged now) }
+    {
+        match self.pinged {
+            Some(pinged) => self.stage == Stage::Open && now.saturating_sub(pinged) >= PING_MS,
+            None => self.stage == Stage::Open,
+        }
+    }
+
+    /// It sent a PING.
+    pub fn ping(&mut self, now: u64)
+        ensures { self.new ≡ record self.old { pinged = Some now } }
+    {
+        self.pinged = Some(now);
+    }
+
+    /// Whether it is to ask for INFO by itself now: at once, and once more after `INFO_AGAIN_MS`.
+    pub fn is_info_due(&self, now: u64) -> bool
+        ensures { IsTrue result
+            ↔ ((self.now.stage ≡ Open) × ((self.now.infos ≡ 0) ⊎ ((self.now.infos ≡ 1) × (INFO_AGAIN_MS ≤ now - self.now.since)))) }
+    {
+        let again = self.infos == 1 && now.saturating_sub(self.since) >= INFO_AGAIN_MS;
+        self.stage == Stage::Open && (self.infos == 0 || again)
+    }
+
+    /// It asked for INFO.
+    pub fn ask_info(&mut self)
+        ensures { self.new ≡ record self.old { infos = min (self.old.infos + 1) 255 } }
+    {
+        self.infos = self.infos.saturating_add(1);
+    }
+}
