@@ -13,7 +13,7 @@ use mio::{Events, Interest, Poll, Token};
 use slab::Slab;
 use std::alloc::Global;
 use std::io::{self, ErrorKind};
-use std::net::{Ipv4Addr, Net, SocketAddr};
+use std::net::{Net, SocketAddr};
 use std::rt::Clock;
 use std::sync::Wait;
 use std::sync::atomic::{AtomicU64, Ordering};
@@ -50,17 +50,16 @@ pub(crate) struct Clients {
 }
 
 impl Clients {
-    /// Listens on 127.0.0.1 at this port, for at most so many connections at once.
+    /// Listens at this address, for at most so many connections at once.
     pub(crate) fn open<N: Net>(
         net: &N,
         alloc: Global,
-        port: u16,
+        address: SocketAddr,
         most: usize,
     ) -> io::Result<Clients>
         requires { most ≤ CONNECTIONS_MAX }
     {
         let poll = Poll::new(net)?;
-        let address = SocketAddr::from((Ipv4Addr::LOCALHOST, port));
         let mut listener = TcpListener::bind(net, address)?;
         poll.registry()
             .register(&mut listener, LISTENER, Interest::READABLE)?;

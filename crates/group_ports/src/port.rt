@@ -6,7 +6,7 @@ use group_sentinels::{RunState, RunningSentinel, ThreadSeat, Which};
 use mio::Events;
 use std::alloc::Global;
 use std::io;
-use std::net::Net;
+use std::net::{Ipv4Addr, Net, SocketAddr};
 use std::rt::Clock;
 use std::sync::Wait;
 use std::sync::atomic::{AtomicU64, Ordering};
@@ -25,8 +25,23 @@ impl Port {
     /// Listens on 127.0.0.1 at this port, and keeps at most so many connections at once, and no more than `CONNECTIONS_MAX`; a further one is
     /// closed. An error is the system's, as where the port is taken; `OutOfMemory` is a refused allocation.
     pub fn open<N: Net>(net: &N, alloc: Global, port: u16, most: usize) -> io::Result<Port> {
+        let address = SocketAddr::from((Ipv4Addr::LOCALHOST, port));
         Ok(Port {
-            clients: Clients::open(net, alloc, port, most.min(CONNECTIONS_MAX))?,
+            clients: Clients::open(net, alloc, address, most.min(CONNECTIONS_MAX))?,
+            events: Events::with_capacity(alloc, EVENTS)?,
+        })
+    }
+
+    /// As `open`, on all addresses of the machine.
+    pub fn open_everywhere<N: Net>(
+        net: &N,
+        alloc: Global,
+        port: u16,
+        most: usize,
+    ) -> io::Result<Port> {
+        let address = SocketAddr::from((Ipv4Addr::UNSPECIFIED, port));
+        Ok(Port {
+            clients: Clients::open(net, alloc, address, most.min(CONNECTIONS_MAX))?,
             events: Events::with_capacity(alloc, EVENTS)?,
         })
     }

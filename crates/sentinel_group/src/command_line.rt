@@ -55,6 +55,23 @@ fn serve<'a>(alloc: Global) -> Result<Command<'a>, AllocError> {
         .arg(conf_files(alloc))
 }
 
+/// The words of `watch`.
+fn watch<'a>(alloc: Global) -> Result<Command<'a>, AllocError> {
+    let quiet = Arg::new(alloc, "quiet")
+        .long("quiet")
+        .action(ArgAction::SetTrue)
+        .help("Notes nothing on standard error");
+    let conf = Arg::new(alloc, "conf")
+        .required(true)
+        .help("The sentinel.conf of the Sentinel");
+    Command::new(alloc, "watch")
+        .about(
+            "Runs one Sentinel, which watches Redis servers and speaks to the other Sentinels over TCP",
+        )
+        .arg(quiet)?
+        .arg(conf)
+}
+
 /// The words of `answer`.
 fn answer<'a>(alloc: Global) -> Result<Command<'a>, AllocError> {
     let conf = Arg::new(alloc, "conf").long("conf").value_name("file").help(
@@ -95,7 +112,8 @@ pub(crate) fn command<'a>(alloc: Global) -> Result<Command<'a>, AllocError> {
         .subcommand(check(alloc)?)?
         .subcommand(new_id(alloc))?
         .subcommand(replay(alloc)?)?
-        .subcommand(serve(alloc)?)
+        .subcommand(serve(alloc)?)?
+        .subcommand(watch(alloc)?)
 }
 
 /// The words that the program was started with, its own name first.

@@ -13,6 +13,8 @@ mod new_ids;
 mod replaying;
 mod serving;
 mod telling;
+mod watch_lines;
+mod watching;
 
 use crate::checking::check;
 use crate::command_line::{command, refuse_unread, tell_words, words};
@@ -21,6 +23,7 @@ use crate::group_files::file_of;
 use crate::new_ids::new_id;
 use crate::replaying::replay;
 use crate::serving::{level_of, serve as serve_group};
+use crate::watching::{watch, watch_level};
 use clap::ArgMatches;
 use conf_store::{ConfStore, MemoryStore};
 use log::Logged;
@@ -93,6 +96,10 @@ fn main(rt: HostRuntime) -> ExitCode {
             Some(("serve", words)) => {
                 let noting = Logged::new(rt, level_of(words), Console(rt));
                 serve_group(rt, &noting, words)
+            }
+            Some(("watch", words)) => {
+                let noting = Logged::new(rt, watch_level(words), Console(rt));
+                watch(rt, &noting, words)
             }
             Some((_, words)) => answer(rt, words),
             None => answer_in_memory(rt),

@@ -8,6 +8,8 @@ mod line_reader;
 mod opened;
 mod orders;
 mod started;
+mod watch;
 
 pub use group::{Group, run_group};
 pub use group_fault::{GroupFault, OrderedFault};
+pub use watch::Watch;

@@ -66,7 +66,7 @@ impl<S: ConfStore + Drop> Opened<S> {
         requires room { S.failure_count store < 2 ^ 64 - 1 }
         ensures roster { IfErr result (λ fault. fault ≢ NotOneRoster) }
     {
-        let (number, place) = (conf.port(), conf.place());
+        let number = conf.port();
         let port = match Port::open(rt, alloc, number, most) {
             Ok(port) => port,
             Err(error) => {
@@ -74,6 +74,21 @@ impl<S: ConfStore + Drop> Opened<S> {
                 return Err(fault_of(&error));
             }
         };
+        Self::with_port(alloc, conf, store, seats, port)
+    }
+
+    /// Opens the Sentinel of this conf at clock 0, which has this port, for as many threads as there are to be seats.
+    pub(crate) fn with_port(
+        alloc: Global,
+        conf: Conf,
+        store: S,
+        seats: u64,
+        port: Port,
+    ) -> Result<Opened<S>, GroupFault>
+        requires room { S.failure_count store < 2 ^ 64 - 1 }
+        ensures roster { IfErr result (λ fault. fault ≢ NotOneRoster) }
+    {
+        let (number, place) = (conf.port(), conf.place());
         let Ok(sentinel) = Sentinel::open(alloc, conf, 0) else {
             return Err(GroupFault::NoMemory);
         };

@@ -147,7 +147,7 @@ where
 }
 
 /// Notes why a port serves no more: want of memory, or the system.
-fn note_lost(state: &RunState, error: &io::Error) {
+pub(crate) fn note_lost(state: &RunState, error: &io::Error) {
     match fault_of(error) {
         GroupFault::NoMemory => state.note_lacking_thread(),
         _ => state.note_lost_port(),

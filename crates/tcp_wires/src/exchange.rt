@@ -1,0 +1,101 @@
+//! What goes between the thread of the connections and the thread that ticks the Sentinel.
+
+ghost use Rattle.std.specs.Prelude.{◌≡◌};
+ghost use Rattle.boxed_nodes.specs.Sendable.{IsSendable};
+ghost use Rattle.messages.specs.MessageTexts.{IsWritable};
+
+use ballot_law::{Event, Message};
+use crossbeam_channel::{Receiver, Sender, unbounded};
+use group_sentinels::{Outlet, RunState};
+use messages::copy_of;
+use mio::{Registry, Token, Waker};
+use std::alloc::Global;
+use std::io;
+use std::sync::Wait;
+use std::sync::atomic::AtomicU64;
+
+/// What all threads of a Sentinel of its own share. `turned` is when the connections were looked at last, by the reading of the clock in milliseconds; the threads end where
+/// `ending` isn't 0.
+#[derive(Drop)]
+pub struct WatchState {
+    pub run: RunState,
+    pub turned: AtomicU64,
+    pub ending: AtomicU64,
+}
+
+/// A message that is to go out, which can be written.
+#[derive(Drop)]
+pub(crate) struct Outgoing {
+    pub(crate) message: Message,
+    ghost writable: { IsWritable message.body },
+}
+
+impl Outgoing {
+    /// This message.
+    fn of(message: Message) -> Outgoing
+        requires { IsWritable message.body }
+        ensures { result.message ≡ message }
+    {
+        Outgoing { message }
+    }
+}
+
+/// The end of the connections: the messages that are to go out, and where what they hear goes.
+#[derive(Drop)]
+pub(crate) struct NearEnd {
+    pub(crate) messages: Receiver<Outgoing>,
+    pub(crate) heard: Sender<Event>,
+}
+
+/// The end of the Sentinel: what the connections hear, and where its messages go.
+#[derive(Drop)]
+pub struct FarEnd {
+    pub(crate) heard: Receiver<Event>,
+    messages: Sender<Outgoing>,
+    waker: Waker,
+    alloc: Global,
+}
+
+/// The token of the Sentinel's waker, beside those of the connections.
+const WAKER: Token = Token(usize::MAX);
+
+/// Both ends, between which nothing is under way; a message that goes out ends the wait of this registry's poll. The error is the system's, or a refused allocation.
+pub(crate) fn exchange(alloc: Global, registry: &Registry) -> io::Result<(NearEnd, FarEnd)> {
+    let waker = Waker::new(registry, WAKER)?;
+    let (to_wires, messages) = unbounded(alloc)?;
+    let (to_sentinel, heard) = unbounded(alloc)?;
+    let near = NearEnd {
+        messages,
+        heard: to_sentinel,
+    };
+    let far = FarEnd {
+        heard,
+        messages: to_wires,
+        waker,
+        alloc,
+    };
+    Ok((near, far))
+}
+
+impl FarEnd {
+    /// The connections as the place where messages go.
+    pub(crate) fn outlet<'a, R: Wait>(&'a self, rt: &'a R) -> WireOutlet<'a, R> {
+        WireOutlet { end: self, rt }
+    }
+}
+
+/// The connections as the place where messages go, each in its turn. A message is lost where no connection takes it, and where there is no memory.
+#[derive(Clone, Copy)]
+pub(crate) struct WireOutlet<'a, R: Wait> {
+    end: &'a FarEnd,
+    rt: &'a R,
+}
+
+impl<R: Wait> Outlet for WireOutlet<'_, R> {
+    fn send(&mut self, message: &Message) {
+        if let Ok(message) = copy_of(self.end.alloc, message) {
+            drop(self.end.messages.send(self.rt, Outgoing::of(message)));
+            drop(self.end.waker.wake());
+        }
+    }
+}
