@@ -4,6 +4,7 @@ ghost use Rattle.std.specs.Prelude.{◌≡◌, ◌≢◌, ◌≤◌, ℕ};
 ghost use Rattle.slab.specs.Slab.{get, slab_len};
 
 use crate::connection::Connection;
+use courteous_sessions::ClientSession;
 use crate::port_room::{CONNECTIONS_MAX, PortRoom};
 use conf_store::ConfStore;
 use group_sentinels::{RunState, RunningSentinel, Switch, ThreadSeat, Which};
@@ -32,6 +33,7 @@ pub(crate) struct Clients {
     room: PortRoom,
     busy: bool,
     last_voter: usize,
+    made: u64,
     alloc: Global,
     ghost few: { slab_len connections ≤ room.each },
 }
@@ -45,6 +47,7 @@ impl Clients {
             room,
             busy: false,
             last_voter: 0,
+            made: 0,
             alloc,
         })
     }
@@ -93,6 +96,8 @@ impl Clients {
             return Ok(());
         }
         stream.set_nodelay(true)?;
+        self.made = self.made.saturating_add(1);
+        let session = ClientSession::new(self.alloc, self.room.courteous(), self.made);
         let key = self.connections.vacant_key();
         self.poll.registry().register(
             &mut stream,
@@ -100,7 +105,7 @@ impl Clients {
             Interest::READABLE | Interest::WRITABLE,
         )?;
         self.connections
-            .insert(Connection::new(self.alloc, stream))?;
+            .insert(Connection::new(stream, session))?;
         Ok(())
     }
 

@@ -8,7 +8,7 @@ use crate::read_buffer::{PIECE, ReadBuffer};
 use conf_store::ConfStore;
 use group_sentinels::{RunState, RunningSentinel, Switch, ThreadSeat, Which};
 use port_serving::ServeFault;
-use port_sessions::Session;
+use courteous_sessions::ClientSession;
 use std::alloc::Global;
 use std::io::{ErrorKind, Read, Write};
 use std::rt::Clock;
@@ -28,7 +28,7 @@ pub(crate) const UNSENT_MAX: usize = 1_048_576;
 #[derive(Drop)]
 pub(crate) struct Connection<T: Read + Write + Drop> {
     stream: T,
-    session: Session,
+    session: ClientSession,
     buffer: ReadBuffer,
     readable: bool,
     half: bool,
@@ -38,10 +38,10 @@ pub(crate) struct Connection<T: Read + Write + Drop> {
 
 impl<T: Read + Write + Drop> Connection<T> {
     /// A connection from which nothing was read.
-    pub(crate) fn new(alloc: Global, stream: T) -> Connection<T> {
+    pub(crate) fn new(stream: T, session: ClientSession) -> Connection<T> {
         Connection {
             stream,
-            session: Session::new(alloc),
+            session,
             buffer: ReadBuffer::new(),
             readable: false,
             half: false,

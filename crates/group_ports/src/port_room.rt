@@ -10,6 +10,7 @@ pub const CONNECTIONS_MAX: usize = 256;
 pub struct PortRoom {
     threads: u16,
     each: usize,
+    courteous: bool,
     ghost some: { 0 < threads },
     ghost whole: { each * threads ≤ CONNECTIONS_MAX },
 }
@@ -26,7 +27,22 @@ impl PortRoom {
         PortRoom {
             threads,
             each: most / threads as usize,
+            courteous: false,
         }
+    }
+
+    /// The same room, for connections with courtesies or without.
+    pub fn with_courtesies(self, courteous: bool) -> PortRoom {
+        PortRoom {
+            threads: self.threads,
+            each: self.each,
+            courteous,
+        }
+    }
+
+    /// Whether connections have courtesies.
+    pub(crate) fn courteous(&self) -> bool {
+        self.courteous
     }
 
     /// How many threads serve a port.

