@@ -1,4 +1,5 @@
 mod Messages
+mod Files
 mod Groups
 pub mod Limits
 mod Tracing

@@ -1,11 +1,13 @@
 //! A story, from the bytes of its files to the text of what it brought.
 
-ghost use Rattle.std.specs.Prelude.{◌≡◌, ◌++◌, ◌∷◌, [], All, OnOk, OnErr, IfOk, IfErr, IfSome, IfNone, Some, Ok};
+ghost use Rattle.std.specs.Prelude.{◌≡◌, ◌++◌, ◌∷◌, [], All, map, OnOk, OnErr, IfOk, IfErr, IfSome, IfNone, Some, Ok};
+ghost use Rattle.ballot_law.specs.Worlds.{World};
 ghost use Rattle.conf_lines.specs.Faults.{no_memory};
 ghost use Rattle.sentinel_conf.specs.Reading.{conf_of_bytes};
 ghost use Rattle.boxed_nodes.specs.Moves.{IsFresh};
 ghost use Rattle.fault_world.specs.Shown.{Shown};
 ghost use Rattle.fault_world.specs.Laws.{HasBegun};
+ghost use Rattle.scenario_replay.specs.Files.{AreHeld};
 ghost use Rattle.scenario_replay.specs.Playing.{IsTold};
 ghost use Rattle.scenario_replay.specs.Refusals.{IsScenarioFault, IsConfFault};
 
@@ -71,17 +73,26 @@ fn no_memory() -> ConfFault
 fn add(nodes: &mut Vec<Box<dyn Node>>, node: Box<dyn Node>) -> Result<(), NoMemory>
     requires node { IsFresh (is_known node) (shows node) }
     requires before { All (λ b. IsFresh (is_known b) (shows b)) nodes.old.items }
-    ensures { OnOk result (All (λ b. IsFresh (is_known b) (shows b)) nodes.new.items) }
+    ensures fresh { OnOk result (All (λ b. IsFresh (is_known b) (shows b)) nodes.new.items) }
+    ensures added { OnOk result (nodes.new.items ≡ nodes.old.items ++ node ∷ []) }
 {
     nodes.push(node)?;
     Ok(())
 }
 
-/// Plays the scenario in a world that has begun, and gives the lines of the elections and advertisements that it brings.
-fn tell(alloc: Global, world: &mut FaultWorld, scenario: &[u8]) -> Result<OutText, ReplayFault>
-    requires { HasBegun world.old.roster
+/// Plays the scenario in a world that has begun with these files, and gives the lines of the elections and advertisements that it brings.
+fn tell(
+    alloc: Global,
+    world: &mut FaultWorld,
+    files: &[Vec<u8>],
+    scenario: &[u8],
+) -> Result<OutText, ReplayFault>
+    requires begun { HasBegun world.old.roster
         (Shown (λ m. (m.node.vtable, m.node.value)) (λ b. name b) (λ b. shows b) world.old.roster world.old.members.items world.old.messages.items) }
-    ensures { IfOk result (IsTold world.old.roster scenario.now) }
+    requires held { (w : World)
+        → Shown (λ m. (m.node.vtable, m.node.value)) (λ b. name b) (λ b. shows b) world.old.roster world.old.members.items world.old.messages.items w
+        → AreHeld (map (λ f. f.items) files.now) world.old.roster w }
+    ensures { IfOk result (IsTold world.old.roster (map (λ f. f.items) files.now) scenario.now) }
 {
     let steps = steps_of(alloc, scenario)?;
     let report = world.run(&steps)?;
@@ -149,7 +160,8 @@ impl Story {
     /// The Sentinels are ready at clock 0 with what their files hold. Data nodes and clients, one for each master, are those of the first
     /// file. A story of no file is `NotTheRoster`.
     pub fn play(&self, printed: Printed) -> Result<OutText, ReplayFault>
-        ensures { IfSome self.now.first (λ conf. IfOk result (λ text. printed ≡ Printed.Report → IsTold conf.roster self.now.text.items text)) }
+        ensures { IfSome self.now.first (λ conf. IfOk result (λ text. printed ≡ Printed.Report
+            → IsTold conf.roster (map (λ f. f.items) self.now.files.items) self.now.text.items text)) }
     {
         let Some(conf) = &self.first else {
             return Err(ReplayFault::NotTheRoster);
@@ -182,7 +194,7 @@ impl Story {
             Err((fault, _)) => return Err(ReplayFault::from(fault)),
         };
         match printed {
-            Printed::Report => tell(self.alloc, &mut world, &self.text),
+            Printed::Report => tell(self.alloc, &mut world, &self.files, &self.text),
             Printed::Trace => trace(self.alloc, &mut world, &self.text),
             Printed::Stopped(stop) => tell_stopped(self.alloc, &mut world, &self.text, stop),
         }
