@@ -8,7 +8,6 @@ use Rattle.std.proofs.lemmas.List.Sums.{sum_by-cons}
 use Rattle.std.proofs.Math.Nat.{div-add-mod, mod-lt}
 use Rattle.ballot_law.specs.declared.messages.NodeName.{NodeName}
 use Rattle.ballot_law.specs.declared.messages.NodeName.TheVariants.{SentinelAt, StoreAt, ClientAt, PortAt}
-use Rattle.ballot_law.specs.declared.node_places.NodePlace.{NodePlace}
 use Rattle.ballot_law.specs.NodePlaces.{node_count, node_numbered}
 use Rattle.ballot_law.specs.Rosters.{Roster, MasterPlan, size}
 use Rattle.tcp_links.specs.declared.target.Target.{Target}
