@@ -1,20 +1,19 @@
 -- One value more, and the ends of a piece.
-use Rattle.std.proofs.Common.{◌≡◌, ℕ, Bool, true, false, List, [], ◌∷◌, ◌++◌, Option, Some, None, Result, Ok, Err, refl, sym, ap, ◌∙◌, subst, append_assoc, true≢false}
+use Rattle.std.proofs.Common.{◌≡◌, ℕ, Bool, true, false, List, [], ◌∷◌, ◌++◌, Option, Some, Result, Ok, Err, refl, sym, ap, ◌∙◌, subst, append_assoc, true≢false}
 use Rattle.std.proofs.lemmas.List.{append-nil}
 use Rattle.std.specs.Prelude.{OnOk, is_err}
 use Rattle.ballot_law.specs.declared.events.Event.{Event}
 use Rattle.ballot_law.specs.declared.messages.NodeName.{NodeName}
 use Rattle.resp2_frames.specs.declared.fault.FrameFault.{FrameFault}
-use Rattle.resp2_frames.specs.declared.fault.FrameFault.TheVariants.{BadKind, BadLength, BadNumber, MissingEnd, TooLong, TooDeep, TooMany, NoMemory}
 use Rattle.resp2_frames.specs.declared.value.Value.{Value}
 use Rattle.resp2_frames.specs.Frame.{Frame, view}
 use Rattle.resp2_frames.specs.Stream.{Held, reading, ended, bytes_in, Feeds, Answers}
-use Rattle.resp2_frames.proofs.Drains.{value_drains, end_drains}
+use Rattle.resp2_frames.proofs.Drains.{value_drains}
 use Rattle.link_sessions.specs.declared.fault.LinkFault.{LinkFault}
 use Rattle.link_sessions.specs.declared.fault.LinkFault.TheVariants as links
 use Rattle.link_sessions.specs.declared.questions.Question.{Question}
 use Rattle.link_sessions.specs.Links.{next_asked, heard_of, listed, Tells, IsHeard, IsBroken, Because, Receives}
-use Rattle.link_sessions.specs.OnTheWay.{Told, Untold, closed_by, IsOnTheWay, IsDone, Steps, Drains}
+use Rattle.link_sessions.specs.OnTheWay.{Told, Untold, IsOnTheWay, IsDone, Steps, Drains}
 
 module _ (node : NodeName) (listens : Bool) where
   -- after other values one more
@@ -69,40 +68,10 @@ module _ (node : NodeName) (listens : Bool) (asked : List Question) where
     value_heard stream held after so_far left others v old new a given t,
   )
 
-  -- no whole value is left
-  pub none_left : (stream : List ℕ) (held after : Held) (events : List Event) (left : List Question) → IsOnTheWay node listens asked stream held events left
-      → Answers {V = Value} view held (Ok None) after → IsDone node listens asked stream after events left
-  none_left stream held after events left a given =
-      let next = end_drains stream a.values held after (a.rest, a.held_is, a.parts) given in
-      (next.0, next.1, record { values = a.values; splits = (next.0, next.2, (refl, next.3)); tells = a.tells })
-
   -- it breaks off here
   pub cut_here : (stream : List ℕ) (held : Held) (why : LinkFault) (events : List Event) (left : List Question) (a : IsOnTheWay node listens asked stream held events left)
       → Because node listens a.rest left why → IsBroken node listens asked stream why events
   cut_here stream held why events left a because = record { values = a.values; rest = a.rest; parts = a.parts; left = left; tells = a.tells; because = because }
-
-  -- a fault of a frame shows
-  frame_shows : (rest : List ℕ) (left : List Question) (fault : FrameFault) (after : Held) → Answers {V = Value} view (reading rest) (Err fault) after
-      → Because node listens rest left (closed_by fault)
-  frame_shows rest left NoMemory after h = tt
-  frame_shows rest left BadKind after h = (BadKind, h.0)
-  frame_shows rest left BadLength after h = (BadLength, h.0)
-  frame_shows rest left BadNumber after h = (BadNumber, h.0)
-  frame_shows rest left MissingEnd after h = (MissingEnd, h.0)
-  frame_shows rest left TooLong after h = (TooLong, h.0)
-  frame_shows rest left TooDeep after h = (TooDeep, h.0)
-  frame_shows rest left TooMany after h = (TooMany, h.0)
-
-  pub frame_broke : (stream : List ℕ) (held after : Held) (so_far before old : List Event) (left : List Question) (fault : FrameFault) (why : LinkFault)
-      → old ≡ before ++ so_far → IsOnTheWay node listens asked stream held so_far left → Answers {V = Value} view held (Err fault) after → why ≡ closed_by fault
-      → (more : List Event) × (old ≡ before ++ more) × IsBroken node listens asked stream why more
-  frame_broke stream held after so_far before old left fault why is a given same = (
-    so_far,
-    is,
-    subst (λ (f : LinkFault). IsBroken node listens asked stream f so_far) (sym same)
-        (cut_here stream held (closed_by fault) so_far left a (frame_shows a.rest left fault after (subst (λ (h : Held). Answers {V = Value} view h (Err fault) after)
-        a.held_is given))),
-  )
 
   -- a value tells nothing
   value_shows : (rest : List ℕ) (left : List Question) (v : Value) (after : Held) (why : LinkFault) → Answers view (reading rest) (Ok (Some v)) after

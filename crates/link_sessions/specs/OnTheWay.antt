@@ -3,7 +3,7 @@ use Rattle.std.specs.Prelude.{◌≡◌, ℕ, Bool, true, false, List, ◌++◌,
 use Rattle.ballot_law.specs.declared.events.Event.{Event}
 use Rattle.ballot_law.specs.declared.messages.NodeName.{NodeName}
 use Rattle.resp2_frames.specs.Frame.{Frame}
-use Rattle.resp2_frames.specs.Stream.{Held, reading, bytes_in, Parts}
+use Rattle.resp2_frames.specs.Stream.{Held, reading, Parts}
 use Rattle.resp2_frames.specs.declared.fault.FrameFault.{FrameFault}
 use Rattle.resp2_frames.specs.declared.fault.FrameFault.TheVariants as frames
 use Rattle.link_sessions.specs.declared.fault.LinkFault.{LinkFault}
