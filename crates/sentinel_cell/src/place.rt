@@ -31,7 +31,12 @@ pub(crate) type Place<S> = atomic_table::Seat<Option<Keeper<S>>, View>;
 
 pub(crate) type Hall<S> = Shared<Option<Keeper<S>>, View, Start<S>, Line>;
 
-/// Waits until the ticket is served. Then the slot is out with the seat.
+/// How often a thread looks for its turn, and yields its processor in between, before it sleeps. A turn that stores nothing takes some
+/// microseconds, less than a sleep and a wake do, so whoever waits for such turns finds its own by looking. A store takes a millisecond or
+/// seconds, and may never end: who waits for one sleeps.
+const LOOKS_BEFORE_SLEEP: u32 = 100;
+
+/// Waits until the ticket is served. Then the slot is out with the seat. `wake_waiters` says why who sleeps meanwhile is woken.
 pub(crate) fn wait_for_turn<J: Origin, S: ConfStore, R: Wait>(
     rt: &R,
     hall: &Hall<S>,
@@ -46,13 +51,46 @@ pub(crate) fn wait_for_turn<J: Origin, S: ConfStore, R: Wait>(
         × (place.old.me.0.given ≤ given)) × IsLegal J.start history × Fits S.held S.failure_count J.start history c × Follows place.old.me.0 history }
     ensures counted { ticket ≡ length place.new.me.0.front }
 {
+    let mut looks = 0;
     for _ in rt.forever() {
-        if hall.load::<Take<J>>(place, 0) == ticket {
+        let found = hall.load::<Take<J>>(place, 0);
+        if found == ticket {
             return;
         }
-        thread::yield_now();
+        looks = pause(rt, hall, found, looks);
     }
     unreachable!()
+}
+
+/// Lets some time pass after a look that found this number in word 0: yields the processor after each of the first `LOOKS_BEFORE_SLEEP` looks,
+/// and sleeps after a later one, for as long as word 0 is that number. The answer is how many looks of the first ones there were.
+///
+/// Only the low half of word 0 is compared: it changes with each turn, and at most as many turns as there are seats pass while one waits.
+fn pause<S: ConfStore, R: Wait>(rt: &R, hall: &Hall<S>, found: u64, looks: u32) -> u32
+    requires { 0 < hall.now.table_id.words }
+{
+    if looks < LOOKS_BEFORE_SLEEP {
+        thread::yield_now();
+        return looks + 1;
+    }
+    hall.park(rt, 0, (found & 0xffff_ffff) as u32);
+    looks
+}
+
+/// Wakes all who sleep until their turn, once a turn was passed. It makes no system call where nobody waits: where no more tickets are drawn
+/// than turns were served.
+///
+/// No wake is lost. A thread draws its ticket t before it looks at word 0, and sleeps only while word 0 is the number that it found there,
+/// which is below t. So the turn of that number is passed after the look, and whoever passes it comes here after that. Each step on a word has
+/// its place in one order of all steps; so more than t tickets are drawn when it looks here, and no more than t turns are served, since t's
+/// own turn is still to come: it wakes all. The system compares word 0 and lays the thread to sleep in one step, so the thread either sleeps
+/// by then and is woken, or finds another number in word 0, doesn't sleep, and looks again.
+fn wake_waiters<S: ConfStore>(hall: &Hall<S>)
+    requires { 1 < hall.now.table_id.words }
+{
+    if hall.peek(1) > hall.peek(0) {
+        hall.wake_all(0);
+    }
 }
 
 /// Announces the entry of this turn by the word of a master, the one whose configuration it may have changed.
@@ -210,6 +248,7 @@ pub(crate) fn act_at<S: ConfStore, O: Observer, R: Wait>(
         word,
     );
     pass_turn::<Brand, S>(hall, place);
+    wake_waiters(hall);
     Ok((outcome, ticket))
 }
 
