@@ -1,5 +1,5 @@
 -- The data nodes with the numbers below the count, and no others.
-use Rattle.std.proofs.Common.{◌≡◌, ◌≢◌, ℕ, ◌+◌, ◌-◌, ◌<◌, ◌≤◌, Bool, true, false, cond, List, [], ◌∷◌, ◌++◌, length, Option, Some, None, refl, ap, sym, ◌∙◌, subst, arith, inl, inr, nat_lt}
+use Rattle.std.proofs.Common.{◌≡◌, ◌≢◌, ℕ, zero, suc, ◌+◌, ◌-◌, ◌<◌, ◌≤◌, Bool, true, false, cond, List, [], ◌∷◌, ◌++◌, length, Option, Some, None, refl, ap, sym, ◌∙◌, subst, arith, inl, inr, nat_lt, length-append}
 use Rattle.std.specs.Prelude.{slice_get}
 use Rattle.std.specs.List.{sum_by}
 use Rattle.std.specs.Option.{option_map}
@@ -8,12 +8,12 @@ use Rattle.std.proofs.lemmas.List.Sums.{sum_by-cons}
 use Rattle.std.proofs.lemmas.Option.{slice_get_past}
 use Rattle.ballot_law.specs.declared.node_places.NodePlace.{NodePlace}
 use Rattle.ballot_law.specs.NodePlaces.{node_count, node_numbered}
-use Rattle.ballot_law.specs.Rosters.{Roster, MasterPlan}
+use Rattle.ballot_law.specs.Rosters.{MasterPlan}
 use Rattle.data_nodes.specs.Nodes.{DataPlan, fresh_node, node_of}
 use Rattle.sentinel_conf.specs.Meaning.{ConfPlan}
 use Rattle.group_links.specs.DataNodes.{AreNodesOf}
 
-nodes_in : MasterPlan → ℕ
+abbrev nodes_in : MasterPlan → ℕ
 nodes_in master = length master.nodes
 
 found_here : (master : MasterPlan) (masters : List MasterPlan) (first number : ℕ) (here : Bool) → nat_lt number (length master.nodes) ≡ here
@@ -64,6 +64,26 @@ has_node conf number less e = below conf.roster.masters 0 number less (mapped co
 -- no node is past the count
 pub no_node : (conf : ConfPlan) (number : ℕ) → node_count conf.roster ≤ number → node_of conf number ≡ None
 no_node conf number beyond = ap (option_map (fresh_node conf number)) (past conf.roster.masters 0 number beyond)
+
+-- one node more
+get_before : {X : Type 0} (xs : List X) (x : X) (k : ℕ) → k < length xs → slice_get (xs ++ x ∷ []) k ≡ slice_get xs k
+get_before [] x k less = absurd (omega (arith, less))
+get_before (y ∷ ys) x zero less = refl
+get_before (y ∷ ys) x (suc k) less = get_before ys x k (omega (arith, less))
+
+get_last : {X : Type 0} (xs : List X) (x : X) → slice_get (xs ++ x ∷ []) (length xs) ≡ Some x
+get_last [] x = refl
+get_last (y ∷ ys) x = get_last ys x
+
+pub one_more : (conf : ConfPlan) (nodes : List DataPlan) (node : DataPlan) → ((k : ℕ) → k < length nodes → slice_get nodes k ≡ node_of conf k)
+    → Some node ≡ node_of conf (length nodes) → (k : ℕ) → k < length (nodes ++ node ∷ []) → slice_get (nodes ++ node ∷ []) k ≡ node_of conf k
+one_more conf nodes node each is k less =
+    elim (cases_lt k (length nodes)) as (λ _. slice_get (nodes ++ node ∷ []) k ≡ node_of conf k) [
+      | inl before ↦ get_before nodes node k before ∙ each k before
+      | inr beyond ↦
+          let last : k ≡ length nodes = omega (arith, length-append nodes (node ∷ []), less, beyond) in
+          subst (λ (n : ℕ). slice_get (nodes ++ node ∷ []) n ≡ node_of conf n) (sym last) (get_last nodes node ∙ is)
+    ]
 
 -- the nodes of all numbers up to the count are those of the conf
 pub all_nodes : (conf : ConfPlan) (nodes : List DataPlan) → length nodes ≡ node_count conf.roster

@@ -1,5 +1,5 @@
 -- The data nodes of a group, and what an order makes of one.
-use Rattle.std.specs.Prelude.{◌≡◌, ◌≢◌, ℕ, ◌⊎◌, List, Option, Some, length, slice_get}
+use Rattle.std.specs.Prelude.{◌≡◌, ◌≢◌, ℕ, ◌⊎◌, List, Some, length, slice_get}
 use Rattle.ballot_law.specs.NodePlaces.{node_count}
 use Rattle.ballot_law.specs.declared.steps.KeptText.TheVariants.{Old}
 use Rattle.boxed_nodes.specs.Moves.{Stays, Stops, Starts}

@@ -45,7 +45,7 @@ fn carry_out(node: &mut DataNode, input: &Input, outbox: &mut Outbox)
     ensures held { outbox.new.held ≡ [] }
     ensures sendable { AllByRecursion IsSendableOutput outbox.new.shown }
     ensures taken { (node.new ≡ node.old)
-        ⊎ ((node.new.number ≡ node.old.number) × (node.new.server ≡ changed_by input.now.event node.old.server)) }
+        ⊎ ((node.new.number ≡ node.old.number) × (node.new.server ≡ changed_by input.entry.now.event node.old.server)) }
 {
     outbox.clear();
     let room = node.room();
