@@ -1,3 +1,4 @@
 pub mod FirstFaults
 pub mod Foreign
 pub mod Together
+pub mod OneNote

@@ -1,6 +1,6 @@
 //! All that is wrong with a file, as lines of text.
 
-ghost use Rattle.std.specs.Prelude.{◌≡◌, ◌++◌, List, ℕ, IfOk, OnOk, OnErr};
+ghost use Rattle.std.specs.Prelude.{◌≡◌, ◌++◌, List, ℕ, IfOk, OnOk, OnErr, codes, decimal};
 ghost use Rattle.conf_faults.specs.AllFaults.{all_faults};
 ghost use Rattle.conf_faults.specs.Notes.{AreNotes, at_line, claimed, collided, note, places};
 ghost use Rattle.conf_faults.specs.Claims.{claims, first_pair};
@@ -86,28 +86,37 @@ fn add_places(
     }
 }
 
+/// Adds the words with which the line of a fault of this name begins.
+fn begin_note(out: &mut Vec<u8>, path: &str, line: u64, name: &str) -> Result<(), NoMemory>
+    ensures { OnOk result (out.new.items ≡ out.old.items
+        ++ (codes "note: " ++ (path.now ++ (codes ":" ++ (decimal line ++ (codes ": " ++ (name.now ++ codes ": "))))))) }
+{
+    add(out, "note: ")?;
+    add(out, path)?;
+    add(out, ":")?;
+    add_number(out, line)?;
+    add(out, ": ")?;
+    add(out, name)?;
+    add(out, ": ")
+}
+
 /// Adds the line of a fault.
 fn add_fault(
     alloc: Global,
     out: &mut Vec<u8>,
     path: &str,
-    fault: ConfFault,
+    fault: &ConfFault,
     bytes: &[u8],
 ) -> Result<(), NoMemory>
-    ensures { OnOk result ((name : List ℕ) × (out.new.items ≡ out.old.items ++ note path.now bytes.now fault name)) }
+    ensures { OnOk result ((name : List ℕ) × (out.new.items ≡ out.old.items ++ note path.now bytes.now fault.now name)) }
 {
-    add(out, "note: ")?;
-    add(out, path)?;
-    add(out, ":")?;
-    add_number(out, fault.line)?;
     let kind = fault.kind;
     let name = format!(in alloc; "{kind}")?;
-    add(out, ": ")?;
-    add(out, name.as_str())?;
-    add(out, ": ")?;
+    begin_note(out, path, fault.line, name.as_str())?;
     add(out, sentence(kind))?;
     add_places(alloc, out, kind, bytes)?;
-    add(out, "\n")
+    add(out, "\n")?;
+    Ok(())
 }
 
 /// All that is wrong with the file with these bytes.
@@ -118,7 +127,7 @@ fn notes_of(alloc: Global, path: &str, bytes: &[u8]) -> Result<Vec<u8>, NoMemory
     let mut text = Vec::new(alloc);
     let mut rest = faults.as_slice();
     while let [fault, more @ ..] = rest {
-        add_fault(alloc, &mut text, path, *fault, bytes)?;
+        add_fault(alloc, &mut text, path, fault, bytes)?;
         rest = more;
     }
     Ok(text)
