@@ -1,12 +1,11 @@
 -- When texts are the files of one group.
 use Rattle.std.specs.Prelude.{ℕ, List, [], ◌∷◌, Option, Some, None, Result, Ok, Err}
-use Rattle.conf_lines.specs.declared.faults.ConfFault.{ConfFault}
 use Rattle.group_checks.specs.Groups.{IsOneGroup}
 use Rattle.sentinel_conf.specs.Meaning.{ConfPlan}
 use Rattle.sentinel_conf.specs.Reading.{conf_of_bytes}
 
 -- the first file and the others, where all of them can be read
-abbrev pub joined : Result ConfPlan ConfFault → Option (List ConfPlan) → Option (List ConfPlan)
+abbrev pub joined : {F : Type 0} → Result ConfPlan F → Option (List ConfPlan) → Option (List ConfPlan)
 joined (Ok conf) (Some confs) = Some (conf ∷ confs)
 joined (Ok conf) None = None
 joined (Err fault) confs = None
