@@ -19,8 +19,8 @@ use std::sync::Wait;
 use std::test::Fail;
 use std::thread::{self, Threads};
 
-/// The write that the store refuses: in the last part of the history, since FLUSHCONFIG alone brings 1,028.
-const REFUSED: u64 = 1_000;
+/// The write that the store refuses: in the last part of the history, since FLUSHCONFIG alone brings 200.
+const REFUSED: u64 = 200;
 
 /// What a thread was answered, and in which turns.
 #[derive(Drop)]

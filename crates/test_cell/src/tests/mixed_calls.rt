@@ -3,14 +3,14 @@
 use super::calls::{A, Call, PlainCommand};
 use ballot_law::RunId;
 
-/// How many calls each thread makes.
-pub(crate) const STEPS: usize = 10_000;
+/// How many calls each thread makes. A test has a minute, and on a full machine each call waits some milliseconds until the thread runs whose turn it is.
+pub(crate) const STEPS: usize = 2_000;
 
 /// How many threads there are.
 pub(crate) const THREADS: usize = 4;
 
 /// From this call on each thread ticks; before, the first one alone does.
-const LAST_STEPS: u64 = 9_000;
+const LAST_STEPS: u64 = 1_800;
 
 /// The run id of the Sentinel itself.
 const ME: RunId = RunId { hi: 0, lo: 0 };
@@ -89,12 +89,12 @@ fn plain(choice: u64) -> Call {
 
 /// A message of another Sentinel, about an epoch that grows with the steps.
 fn of_a_sentinel(step: u64, choice: u64) -> Call {
-    let epoch = small(step / 100 + choice % 4);
+    let epoch = small(step / 20 + choice % 4);
     match choice / 4 % 8 {
         0 => Call::Hello {
             current: epoch,
             port: port(choice / 64),
-            epoch: small(step / 500),
+            epoch: small(step / 100),
         },
         1 => Call::Vote {
             epoch,
@@ -125,7 +125,7 @@ pub(crate) fn call_of(thread: usize, step: usize) -> Call {
         5 | 6 | 7 => Call::Info(node(choice), info(choice / 4)),
         8 | 9 | 10 => of_a_sentinel(step, choice),
         _ => {
-            if step / 1_000 % 2 == 0 {
+            if step / 200 % 2 == 0 {
                 Call::Pong(node(choice))
             } else {
                 Call::Pong(1 + node(choice) % 3)
