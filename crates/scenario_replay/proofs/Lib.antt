@@ -1,4 +1,6 @@
 mod Messages
+mod Files
 mod Groups
+mod Objects
 pub mod Limits
 mod Tracing

@@ -1,3 +1,4 @@
+pub mod Files
 pub mod Seating
 pub mod Playing
 pub mod Refusals

@@ -10,17 +10,19 @@ use Rattle.fault_world.specs.declared.entry.Entry.{Entry}
 use Rattle.fault_world.specs.Told.{report_text}
 use Rattle.fault_world.specs.Runs.{Ran}
 use Rattle.fault_world.specs.Laws.{HasRun}
+use Rattle.scenario_replay.specs.Files.{AreHeld}
 
--- the story's steps are a run of the model of the roster's group, from a start, and the text has a line for each election and advertisement
--- of the roster's Sentinels and masters that the run brought, in order, and no other. In that run at most one Sentinel is elected for a master in
--- an epoch, two advertisements of a master with one epoch have one address, and at no step falls the epoch of a master's configuration in
--- a Sentinel's file
-pub record IsTold (roster : Roster) (story text : List ℕ) : Type 0 where
+-- the story's steps are a run of the model of the roster's group, from a start at which the Sentinels hold what these files say, and the text
+-- has a line for each election and advertisement of the roster's Sentinels and masters that the run brought, in order, and no other. In that
+-- run at most one Sentinel is elected for a master in an epoch, two advertisements of a master with one epoch have one address, and at no step
+-- falls the epoch of a master's configuration in a Sentinel's file
+pub record IsTold (roster : Roster) (files : List (List ℕ)) (story text : List ℕ) : Type 0 where
   pub steps : List Step
   pub read : scenario story ≡ Ok steps
   pub distinct : HasDistinctIds roster
   pub first : World
   pub begins : IsStart roster first
+  pub held : AreHeld files roster first
   pub news : List Entry
   pub last : World
   pub ran : Ran roster steps first news last

@@ -1,6 +1,6 @@
 //! Who stands in a group.
 
-ghost use Rattle.std.specs.Prelude.{◌≡◌, ◌<◌, IfSome, length};
+ghost use Rattle.std.specs.Prelude.{◌≡◌, ◌<◌, ◌≤◌, IfSome, IfNone, length};
 ghost use Rattle.scenario_replay.specs.Seating.{IsSeat};
 
 use ballot_law::Roster;
@@ -46,15 +46,18 @@ impl Seats {
     }
 
     /// How many there are.
-    pub(crate) fn count(&self) -> usize {
+    pub(crate) fn count(&self) -> usize
+        ensures { self.now.sentinels ≤ result }
+    {
         self.sentinels
             .saturating_add(self.stores)
             .saturating_add(self.clients)
     }
 
-    /// The seat of this number: Sentinels first, then data nodes, then clients; none behind the last.
+    /// The seat of this number: Sentinels first, each with the number of its file, then data nodes, then clients; none after the last.
     pub(crate) fn at(&self, number: usize) -> Option<Seat>
-        ensures { IfSome result (IsSeat self.now) }
+        ensures some { IfSome result (IsSeat self.now number) }
+        ensures none { IfNone result (self.now.sentinels ≤ number) }
     {
         if number < self.sentinels {
             return Some(Seat::Sentinel(number));

@@ -1,11 +1,12 @@
 //! A story, from the bytes of its files to the text of what it brought.
 
-ghost use Rattle.std.specs.Prelude.{◌≡◌, ◌++◌, ◌∷◌, [], All, OnOk, OnErr, IfOk, IfErr, IfSome, IfNone, Some, Ok};
+ghost use Rattle.std.specs.Prelude.{◌≡◌, ◌++◌, ◌∷◌, ℕ, List, [], All, map, OnOk, OnErr, IfOk, IfErr, IfSome, IfNone, Some, Ok};
 ghost use Rattle.conf_lines.specs.Faults.{no_memory};
 ghost use Rattle.sentinel_conf.specs.Reading.{conf_of_bytes};
 ghost use Rattle.boxed_nodes.specs.Moves.{IsFresh};
 ghost use Rattle.fault_world.specs.Shown.{Shown};
 ghost use Rattle.fault_world.specs.Laws.{HasBegun};
+ghost use Rattle.scenario_replay.specs.Files.{BeginsWith, AreFirst, HasBegunWith};
 ghost use Rattle.scenario_replay.specs.Playing.{IsTold};
 ghost use Rattle.scenario_replay.specs.Refusals.{IsScenarioFault, IsConfFault};
 
@@ -13,7 +14,7 @@ use crate::faults::ReplayFault;
 use crate::seats::{Seat, Seats};
 use crate::steps::steps_of;
 use crate::traces::trace;
-use ballot_law::{KeptText, NoMemory};
+use ballot_law::{KeptText, NoMemory, Roster};
 use boxed_nodes::Node;
 use client_nodes::ClientNode;
 use conf_lines::{ConfFault, ConfKind};
@@ -71,23 +72,41 @@ fn no_memory() -> ConfFault
 fn add(nodes: &mut Vec<Box<dyn Node>>, node: Box<dyn Node>) -> Result<(), NoMemory>
     requires node { IsFresh (is_known node) (shows node) }
     requires before { All (λ b. IsFresh (is_known b) (shows b)) nodes.old.items }
-    ensures { OnOk result (All (λ b. IsFresh (is_known b) (shows b)) nodes.new.items) }
+    ensures fresh { OnOk result (All (λ b. IsFresh (is_known b) (shows b)) nodes.new.items) }
+    ensures added { OnOk result (nodes.new.items ≡ nodes.old.items ++ node ∷ []) }
 {
     nodes.push(node)?;
     Ok(())
 }
 
-/// Plays the scenario in a world that has begun, and gives the lines of the elections and advertisements that it brings.
-fn tell(alloc: Global, world: &mut FaultWorld, scenario: &[u8]) -> Result<OutText, ReplayFault>
-    requires { HasBegun world.old.roster
-        (Shown (λ m. (m.node.vtable, m.node.value)) (λ b. name b) (λ b. shows b) world.old.roster world.old.members.items world.old.messages.items) }
-    ensures { IfOk result (IsTold world.old.roster scenario.now) }
+/// A Sentinel that is ready at clock 0 with what this file holds. A file of a story was read before: only a refused allocation can refuse it.
+fn sentinel_of(alloc: Global, file: &[u8]) -> Result<Box<SentinelNode>, NoMemory>
+    ensures fresh { IfOk result (λ node. IsFresh (⟦<SentinelNode as Node>⟧.is_known node.value) (⟦<SentinelNode as Node>⟧.shows node.value)) }
+    ensures begins { IfOk result (λ node. BeginsWith file.now (⟦<SentinelNode as Node>⟧.name node.value) (⟦<SentinelNode as Node>⟧.shows node.value)) }
 {
-    let steps = steps_of(alloc, scenario)?;
-    let report = world.run(&steps)?;
-    let mut text = OutText::new(alloc);
-    report.lines(&mut text)?;
-    Ok(text)
+    let Ok(node) = SentinelNode::new(alloc, file, 0) else {
+        return Err(NoMemory);
+    };
+    Ok(Box::new(alloc, node)?)
+}
+
+/// The world of these nodes.
+fn world_of(
+    alloc: Global,
+    roster: Roster,
+    nodes: Vec<Box<dyn Node>>,
+) -> Result<FaultWorld, ReplayFault>
+    requires { All (λ b. IsFresh (is_known b) (shows b)) nodes.items }
+    ensures roster { IfOk result (λ world. world.roster ≡ roster) }
+    ensures begun { IfOk result (λ world. HasBegun world.roster
+        (Shown (λ m. m.node) (λ b. name b) (λ b. shows b) world.roster world.members.items world.messages.items)) }
+    ensures held { IfOk result (λ world. (files : List (List ℕ)) → AreFirst (λ b. name b) (λ b. shows b) files nodes.items → HasBegunWith files world.roster
+        (Shown (λ m. m.node) (λ b. name b) (λ b. shows b) world.roster world.members.items world.messages.items)) }
+{
+    match FaultWorld::new(alloc, roster, nodes) {
+        Ok(world) => Ok(world),
+        Err((fault, _)) => Err(ReplayFault::from(fault)),
+    }
 }
 
 /// Plays the scenario with a stop in it in a world that has begun, and gives the lines of the elections and advertisements that it brings.
@@ -144,12 +163,26 @@ impl Story {
         Ok(())
     }
 
+    /// Plays the story in a world that has begun with its files, and gives the lines of the elections and advertisements that it brings.
+    fn tell(&self, world: &mut FaultWorld) -> Result<OutText, ReplayFault>
+        requires { HasBegunWith (map (λ f. f.items) self.now.files.items) world.old.roster
+            (Shown (λ m. (m.node.vtable, m.node.value)) (λ b. name b) (λ b. shows b) world.old.roster world.old.members.items world.old.messages.items) }
+        ensures { IfOk result (IsTold world.old.roster (map (λ f. f.items) self.now.files.items) self.now.text.items) }
+    {
+        let steps = steps_of(self.alloc, self.text.as_slice())?;
+        let report = world.run(&steps)?;
+        let mut text = OutText::new(self.alloc);
+        report.lines(&mut text)?;
+        Ok(text)
+    }
+
     /// Plays the story from the beginning, and gives what is to be printed.
     ///
     /// The Sentinels are ready at clock 0 with what their files hold. Data nodes and clients, one for each master, are those of the first
     /// file. A story of no file is `NotTheRoster`.
     pub fn play(&self, printed: Printed) -> Result<OutText, ReplayFault>
-        ensures { IfSome self.now.first (λ conf. IfOk result (λ text. printed ≡ Printed.Report → IsTold conf.roster self.now.text.items text)) }
+        ensures told { IfSome self.now.first (λ conf. IfOk result (λ text. printed ≡ Printed.Report
+            → IsTold conf.roster (map (λ f. f.items) self.now.files.items) self.now.text.items text)) }
     {
         let Some(conf) = &self.first else {
             return Err(ReplayFault::NotTheRoster);
@@ -159,10 +192,7 @@ impl Story {
         for number in 0..seats.count() {
             match seats.at(number) {
                 Some(Seat::Sentinel(place)) => {
-                    let Ok(node) = SentinelNode::new(self.alloc, &self.files[place], 0) else {
-                        return Err(ReplayFault::NoMemory);
-                    };
-                    add(&mut nodes, Box::new(self.alloc, node)?)?;
+                    add(&mut nodes, sentinel_of(self.alloc, &self.files[place])?)?;
                 }
                 Some(Seat::Store(number)) => {
                     if let Some(node) = DataNode::new(conf, number) {
@@ -177,12 +207,9 @@ impl Story {
             }
         }
         let roster = conf.roster().copy(self.alloc)?;
-        let mut world = match FaultWorld::new(self.alloc, roster, nodes) {
-            Ok(world) => world,
-            Err((fault, _)) => return Err(ReplayFault::from(fault)),
-        };
+        let mut world = world_of(self.alloc, roster, nodes)?;
         match printed {
-            Printed::Report => tell(self.alloc, &mut world, &self.text),
+            Printed::Report => self.tell(&mut world),
             Printed::Trace => trace(self.alloc, &mut world, &self.text),
             Printed::Stopped(stop) => tell_stopped(self.alloc, &mut world, &self.text, stop),
         }

@@ -2,17 +2,21 @@ use Rattle.std.proofs.Common.{◌∙◌, ◌++◌, ap, subst, sym, Ok, ◌≡◌
 use Rattle.scenarios.specs.Scenarios.{scenario}
 use Rattle.fault_world.specs.Told.{report_text}
 use Rattle.scenario_replay.proofs.Groups.{begun_reached, begun_shows, begun_stands}
-use Rattle.scenario_replay.proofs.story.tell.Goals as goal
+use Rattle.scenario_replay.proofs.story.Story.tell.Goals as goal
 
 pub returns : goal.returns
 returns g c =
-    let runs = c.in_ok-report.ensures.safe c.requires.0 (begun_reached _ _ c.requires) (begun_shows _ _ c.requires) in
+    let begun = c.requires.begun in
+    let runs = c.in_ok-report.ensures.safe begun.0 (begun_reached _ _ begun) (begun_shows _ _ begun) in
     record {
       steps = c.deref.result.now;
-      read = subst (λ steps. scenario c.args.scenario.now ≡ Ok steps) (sym c.deref.ensures.value) c.in_ok-steps.ensures.steps;
-      distinct = c.requires.1.distinct;
-      first = c.requires.0;
-      begins = c.requires.1.begins;
+      read =
+          subst (λ text. scenario text ≡ Ok c.deref.result.now) c.as_slice.ensures.value
+          (subst (λ steps. scenario c.as_slice.result.now ≡ Ok steps) (sym c.deref.ensures.value) c.in_ok-steps.ensures.steps);
+      distinct = begun.1.distinct;
+      first = begun.0;
+      begins = begun.1.begins;
+      held = c.requires.held;
       news = c.in_ok-report.report.entries;
       last = runs.last;
       ran = runs.ran;
@@ -23,4 +27,4 @@ returns g c =
     }
 
 pub run-requires-clause-stands : goal.run-requires-clause-stands
-run-requires-clause-stands g c = begun_stands _ _ c.requires
+run-requires-clause-stands g c = begun_stands _ _ c.requires.begun
