@@ -18,40 +18,10 @@ pub struct Switch {
     pub entry: u64,
 }
 
-/// The notes that wait for a thread of a port, oldest first.
-#[derive(Drop)]
-struct Waiting {
-    notes: Vec<Switch>,
-    ghost few: { length notes.items ≤ WAITING_MAX },
-}
-
-impl Waiting {
-    /// None wait.
-    fn new(alloc: Global) -> Waiting {
-        Waiting {
-            notes: Vec::new(alloc),
-        }
-    }
-
-    /// Adds a note. It is lost where as many wait as may, and where there is no memory.
-    fn add(&mut self, switch: Switch) {
-        if self.notes.len() < WAITING_MAX {
-            drop(self.notes.push(switch));
-        }
-    }
-
-    /// Takes all.
-    fn take(&mut self, alloc: Global) -> Vec<Switch>
-        ensures { result.items ≡ self.old.notes.items }
-    {
-        mem::replace(&mut self.notes, Vec::new(alloc))
-    }
-}
-
 /// The notes that the threads of a Sentinel showed: each thread of its port has a list of its own, until it takes them.
 #[derive(Drop)]
 pub(crate) struct Switches {
-    lists: Vec<Mutex<Waiting>>,
+    lists: Vec<Mutex<Vec<Switch>>>,
     alloc: Global,
 }
 
@@ -62,15 +32,18 @@ impl Switches {
     {
         let mut lists = Vec::new(alloc);
         while lists.len() < threads as usize {
-            lists.push(Mutex::new(Waiting::new(alloc)))?;
+            lists.push(Mutex::new(Vec::new(alloc)))?;
         }
         Ok(Switches { lists, alloc })
     }
 
-    /// Adds a note for each thread.
+    /// Adds a note for each thread. It is lost where as many wait as may, and where there is no memory.
     fn add<R: Wait>(&self, rt: &R, switch: Switch) {
         for list in &self.lists {
-            list.lock(rt).add(switch);
+            let mut waiting = list.lock(rt);
+            if waiting.len() < WAITING_MAX {
+                drop(waiting.push(switch));
+            }
         }
     }
 
@@ -88,9 +61,13 @@ impl Switches {
         ensures few { length result.items ≤ WAITING_MAX }
         ensures other { length self.now.lists.items ≤ thread → result.items ≡ [] }
     {
-        match self.lists.get(thread as usize) {
-            Some(list) => list.lock(rt).take(self.alloc),
-            None => Vec::new(self.alloc),
-        }
+        let none = Vec::new(self.alloc);
+        let Some(list) = self.lists.get(thread as usize) else {
+            return none;
+        };
+        let mut notes = mem::replace(&mut *list.lock(rt), none);
+        // As many wait at most, by `add`. No clause knows what a lock holds, so the list is looked at once more.
+        notes.truncate(WAITING_MAX);
+        notes
     }
 }
