@@ -1,12 +1,15 @@
 //! The notes of new addresses that wait for the subscribers of a Sentinel's port.
 
+ghost use Rattle.std.specs.Prelude.{◌≡◌, ◌≤◌, [], IfOk, length};
+ghost use Rattle.group_sentinels.specs.declared.switches.TheConstants.{WAITING_MAX};
+
 use ballot_law::{Note, Output};
 use std::alloc::{AllocError, Global};
 use std::mem;
 use std::sync::{Mutex, Wait};
 
 /// How many notes wait at most for a thread of a port that takes none; a further one is lost.
-const WAITING_MAX: usize = 1024;
+pub const WAITING_MAX: usize = 1024;
 
 /// A note, and how many calls of the Sentinel's threads stand before the one that showed it.
 #[derive(Clone, Copy)]
@@ -15,30 +18,59 @@ pub struct Switch {
     pub entry: u64,
 }
 
+/// The notes that wait for a thread of a port, oldest first.
+#[derive(Drop)]
+struct Waiting {
+    notes: Vec<Switch>,
+    ghost few: { length notes.items ≤ WAITING_MAX },
+}
+
+impl Waiting {
+    /// None wait.
+    fn new(alloc: Global) -> Waiting {
+        Waiting {
+            notes: Vec::new(alloc),
+        }
+    }
+
+    /// Adds a note. It is lost where as many wait as may, and where there is no memory.
+    fn add(&mut self, switch: Switch) {
+        if self.notes.len() < WAITING_MAX {
+            drop(self.notes.push(switch));
+        }
+    }
+
+    /// Takes all.
+    fn take(&mut self, alloc: Global) -> Vec<Switch>
+        ensures { result.items ≡ self.old.notes.items }
+    {
+        mem::replace(&mut self.notes, Vec::new(alloc))
+    }
+}
+
 /// The notes that the threads of a Sentinel showed: each thread of its port has a list of its own, until it takes them.
 #[derive(Drop)]
 pub(crate) struct Switches {
-    lists: Vec<Mutex<Vec<Switch>>>,
+    lists: Vec<Mutex<Waiting>>,
     alloc: Global,
 }
 
 impl Switches {
     /// None wait for any of so many threads.
-    pub(crate) fn new(alloc: Global, threads: u16) -> Result<Switches, AllocError> {
+    pub(crate) fn new(alloc: Global, threads: u16) -> Result<Switches, AllocError>
+        ensures { IfOk result (λ switches. length switches.lists.items ≡ threads) }
+    {
         let mut lists = Vec::new(alloc);
-        for _ in 0..threads {
-            lists.push(Mutex::new(Vec::new(alloc)))?;
+        while lists.len() < threads as usize {
+            lists.push(Mutex::new(Waiting::new(alloc)))?;
         }
         Ok(Switches { lists, alloc })
     }
 
-    /// Adds a note for each thread. It is lost where there is no memory.
+    /// Adds a note for each thread.
     fn add<R: Wait>(&self, rt: &R, switch: Switch) {
         for list in &self.lists {
-            let mut waiting = list.lock(rt);
-            if waiting.len() < WAITING_MAX {
-                drop(waiting.push(switch));
-            }
+            list.lock(rt).add(switch);
         }
     }
 
@@ -52,11 +84,13 @@ impl Switches {
     }
 
     /// Takes those that wait for the thread with this number, in the order in which they came.
-    pub(crate) fn take<R: Wait>(&self, rt: &R, thread: u16) -> Vec<Switch> {
-        let none = Vec::new(self.alloc);
+    pub(crate) fn take<R: Wait>(&self, rt: &R, thread: u16) -> Vec<Switch>
+        ensures few { length result.items ≤ WAITING_MAX }
+        ensures other { length self.now.lists.items ≤ thread → result.items ≡ [] }
+    {
         match self.lists.get(thread as usize) {
-            Some(list) => mem::replace(&mut *list.lock(rt), none),
-            None => none,
+            Some(list) => list.lock(rt).take(self.alloc),
+            None => Vec::new(self.alloc),
         }
     }
 }
