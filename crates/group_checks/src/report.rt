@@ -1,8 +1,9 @@
 //! What is told of a group.
 
-ghost use Rattle.std.specs.Prelude.{◌≡◌, ◌⊎◌, [], IfOk, IsTrue, IsFalse};
+ghost use Rattle.std.specs.Prelude.{◌≡◌, ◌⊎◌, ◌++◌, [], IfOk, OnOk, IsTrue, IsFalse};
 ghost use Rattle.group_checks.specs.declared.report.NamedConf.{NamedConf};
 ghost use Rattle.group_checks.specs.Groups.{IsOneGroup};
+ghost use Rattle.group_checks.specs.Verdicts.{EndsWithVerdict, verdict};
 
 use crate::differences::{Difference, difference_of};
 use crate::one_group::{HoldsConf, is_one_group};
@@ -40,14 +41,17 @@ impl Report {
     pub fn of(alloc: Global, files: &[NamedConf]) -> Result<Report, NoMemory>
         ensures refused { IfOk result (λ report. IsTrue report.refused → ¬ (IsOneGroup (λ (file : NamedConf). file.conf) files.now)) }
         ensures other { IfOk result (λ report. IsFalse report.refused → (files.now ≡ []) ⊎ IsOneGroup (λ (file : NamedConf). file.conf) files.now) }
+        ensures verdict { IfOk result (λ report. EndsWithVerdict files.now report.refused report.lines.text.items) }
     {
         let refused = is_refused(files);
         let lines = Lines::of(alloc, files, refused)?;
         Ok(Report { lines, refused })
     }
 
-    /// The lines, each ended by LF.
-    pub fn text(&self) -> &[u8] {
+    /// The lines, each ended by LF; the last one says whether the group would be refused.
+    pub fn text(&self) -> &[u8]
+        ensures { result.now ≡ self.now.lines.text.items }
+    {
         self.lines.text.as_slice()
     }
 
@@ -78,7 +82,9 @@ struct Lines {
 
 impl Lines {
     /// What is told of these files, which are refused or not.
-    fn of(alloc: Global, files: &[NamedConf], refused: bool) -> Result<Lines, NoMemory> {
+    fn of(alloc: Global, files: &[NamedConf], refused: bool) -> Result<Lines, NoMemory>
+        ensures { IfOk result (λ lines. EndsWithVerdict files.now refused lines.text.items) }
+    {
         let mut lines = Lines {
             text: Vec::new(alloc),
         };
@@ -93,7 +99,9 @@ impl Lines {
     }
 
     /// Adds words.
-    fn add(&mut self, words: &str) -> Result<(), NoMemory> {
+    fn add(&mut self, words: &str) -> Result<(), NoMemory>
+        ensures { OnOk result (self.new.text.items ≡ self.old.text.items ++ words.now) }
+    {
         self.text.extend_from_slice(words.as_bytes())?;
         Ok(())
     }
@@ -251,7 +259,9 @@ impl Lines {
     }
 
     /// Adds whether the group would run.
-    fn add_verdict(&mut self, refused: bool) -> Result<(), NoMemory> {
+    fn add_verdict(&mut self, refused: bool) -> Result<(), NoMemory>
+        ensures { OnOk result (self.new.text.items ≡ self.old.text.items ++ verdict refused) }
+    {
         if refused {
             self.add("these files are refused: they are not those of one group\n")
         } else {
