@@ -1,5 +1,7 @@
 //! The queue, and the thread that writes what comes through it.
 
+ghost use Rattle.std.specs.Prelude.{◌≡◌, IfOk};
+
 use crate::backlog::{Backlog, WAITING_MAX};
 use crossbeam_channel::{Receiver, RecvTimeoutError, Sender, unbounded};
 use log::kv::Source;
@@ -105,6 +107,7 @@ impl<R: Wait> NoteQueue<R> {
     pub fn open(rt: R, alloc: Global) -> Result<(NoteQueue<R>, NoteWriter), AllocError>
     where
         R: Threads + Eprint + Copy + Drop + Send + 'static,
+        ensures { IfOk result (λ r. r.0.rt ≡ rt) }
     {
         let (to, notes) = unbounded(alloc)?;
         let (end, ended) = unbounded(alloc)?;
