@@ -1,3 +1,4 @@
 pub mod SpelledNames
 pub mod Nearest
 pub mod Advices
+pub mod Warnings

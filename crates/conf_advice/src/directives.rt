@@ -1,5 +1,8 @@
 //! The directives that a Redis knows, as data.
 
+ghost use Rattle.std.specs.Prelude.{◌≡◌};
+ghost use Rattle.ballot_law.specs.Words.{lower};
+
 /// Names of directives, in lower case, one a line.
 #[derive(Clone, Copy)]
 pub struct Directives {
@@ -12,7 +15,10 @@ pub struct Directives {
 impl Directives {
     /// Those of Redis 7.2: what `CONFIG GET *` of a server lists, what stands in its files besides, and `sentinel leader-id`, which this
     /// project alone writes.
-    pub fn of_redis() -> Directives {
+    pub fn of_redis() -> Directives
+        ensures first { lower result.first.now ≡ result.first.now }
+        ensures sentinel { lower result.sentinel.now ≡ result.sentinel.now }
+    {
         Directives {
             first: FIRST,
             sentinel: SENTINEL,
