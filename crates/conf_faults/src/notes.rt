@@ -1,5 +1,10 @@
 //! All that is wrong with a file, as lines of text.
 
+ghost use Rattle.std.specs.Prelude.{◌≡◌, ◌++◌, List, ℕ, IfOk, OnOk, OnErr};
+ghost use Rattle.conf_faults.specs.AllFaults.{all_faults};
+ghost use Rattle.conf_faults.specs.Notes.{AreNotes, at_line, claimed, collided, note, places};
+ghost use Rattle.conf_faults.specs.Claims.{claims, first_pair};
+
 use crate::all_faults::faults_of;
 use crate::claims::Claim;
 use crate::collisions::{Collision, collision_of};
@@ -11,13 +16,17 @@ use std::alloc::Global;
 use words::{add_number, ip_text};
 
 /// Adds words.
-fn add(out: &mut Vec<u8>, words: &str) -> Result<(), NoMemory> {
+fn add(out: &mut Vec<u8>, words: &str) -> Result<(), NoMemory>
+    ensures { OnOk result (out.new.items ≡ out.old.items ++ words.now) }
+{
     out.extend_from_slice(words.as_bytes())?;
     Ok(())
 }
 
 /// Adds the number of a line, where there is one.
-fn add_line(out: &mut Vec<u8>, line: Option<u64>) -> Result<(), NoMemory> {
+fn add_line(out: &mut Vec<u8>, line: Option<u64>) -> Result<(), NoMemory>
+    ensures { OnOk result (out.new.items ≡ out.old.items ++ at_line line) }
+{
     if let Some(line) = line {
         add(out, ": line ")?;
         add_number(out, line)?;
@@ -26,7 +35,9 @@ fn add_line(out: &mut Vec<u8>, line: Option<u64>) -> Result<(), NoMemory> {
 }
 
 /// Adds the address of which a line speaks.
-fn add_claim(out: &mut Vec<u8>, claim: &Claim) -> Result<(), NoMemory> {
+fn add_claim(out: &mut Vec<u8>, claim: &Claim) -> Result<(), NoMemory>
+    ensures { OnOk result (out.new.items ≡ out.old.items ++ claimed claim.now) }
+{
     add(out, " line ")?;
     add_number(out, claim.line)?;
     add(out, " at ")?;
@@ -41,7 +52,9 @@ fn add_collision(
     out: &mut Vec<u8>,
     kind: Collision,
     bytes: &[u8],
-) -> Result<(), NoMemory> {
+) -> Result<(), NoMemory>
+    ensures { OnOk result (out.new.items ≡ out.old.items ++ collided (first_pair kind (claims bytes.now))) }
+{
     if let Some((one, other)) = collision_of(alloc, kind, bytes)? {
         add(out, ":")?;
         add_claim(out, &one)?;
@@ -57,7 +70,9 @@ fn add_places(
     out: &mut Vec<u8>,
     kind: ConfKind,
     bytes: &[u8],
-) -> Result<(), NoMemory> {
+) -> Result<(), NoMemory>
+    ensures { OnOk result (out.new.items ≡ out.old.items ++ places kind bytes.now) }
+{
     match kind {
         ConfKind::NotUtf8 => add_line(out, foreign_line(bytes)),
         ConfKind::Roster(RosterFault::QuorumZero) => add_line(out, zero_quorum_line(bytes)),
@@ -78,29 +93,44 @@ fn add_fault(
     path: &str,
     fault: ConfFault,
     bytes: &[u8],
-) -> Result<(), NoMemory> {
+) -> Result<(), NoMemory>
+    ensures { OnOk result ((name : List ℕ) × (out.new.items ≡ out.old.items ++ note path.now bytes.now fault name)) }
+{
     add(out, "note: ")?;
     add(out, path)?;
     add(out, ":")?;
     add_number(out, fault.line)?;
     let kind = fault.kind;
-    let name = format!(in alloc; ": {kind}: ")?;
+    let name = format!(in alloc; "{kind}")?;
+    add(out, ": ")?;
     add(out, name.as_str())?;
+    add(out, ": ")?;
     add(out, sentence(kind))?;
     add_places(alloc, out, kind, bytes)?;
     add(out, "\n")
 }
 
-/// Adds all that is wrong with the file with these bytes, a line for each fault, as `note: <path>:<line>: <kind>: ..`; nothing of a file
-/// that is read. NoMemory: memory was refused, and some of it may have been added.
-pub fn add_notes(
-    alloc: Global,
-    out: &mut Vec<u8>,
-    path: &str,
-    bytes: &[u8],
-) -> Result<(), NoMemory> {
-    for fault in &faults_of(alloc, bytes)? {
-        add_fault(alloc, out, path, *fault, bytes)?;
+/// All that is wrong with the file with these bytes.
+fn notes_of(alloc: Global, path: &str, bytes: &[u8]) -> Result<Vec<u8>, NoMemory>
+    ensures { IfOk result (λ text. AreNotes path.now bytes.now (all_faults bytes.now) text.items) }
+{
+    let faults = faults_of(alloc, bytes)?;
+    let mut text = Vec::new(alloc);
+    let mut rest = faults.as_slice();
+    while let [fault, more @ ..] = rest {
+        add_fault(alloc, &mut text, path, *fault, bytes)?;
+        rest = more;
     }
+    Ok(text)
+}
+
+/// Adds all that is wrong with the file with these bytes, a line for each fault, as `note: <path>:<line>: <kind>: ..`; nothing of a file
+/// that is read. NoMemory: memory was refused, and nothing was added.
+pub fn add_notes(alloc: Global, out: &mut Vec<u8>, path: &str, bytes: &[u8]) -> Result<(), NoMemory>
+    ensures added { OnOk result ((more : List ℕ) × AreNotes path.now bytes.now (all_faults bytes.now) more × (out.new.items ≡ out.old.items ++ more)) }
+    ensures refused { OnErr result (out.new.items ≡ out.old.items) }
+{
+    let notes = notes_of(alloc, path, bytes)?;
+    out.extend_from_slice(&notes)?;
     Ok(())
 }

@@ -1,10 +1,15 @@
 //! What each kind of fault means, in a sentence.
 
+ghost use Rattle.std.specs.Prelude.{◌≡◌};
+ghost use Rattle.conf_faults.specs.Sentences.{roster_sentence, sentence};
+
 use ballot_law::RosterFault;
 use conf_lines::ConfKind;
 
 /// What the fault of a roster means, and its limits.
-fn roster_sentence(fault: RosterFault) -> &'static str {
+fn roster_sentence(fault: RosterFault) -> &'static str
+    ensures { result.now ≡ roster_sentence fault }
+{
     match fault {
         RosterFault::NoSentinel => "the file names no Sentinel",
         RosterFault::TooManySentinels => "a group has at most 64 Sentinels",
@@ -21,7 +26,9 @@ fn roster_sentence(fault: RosterFault) -> &'static str {
 }
 
 /// What the kind of fault means, with the range or the form of what would be right.
-pub fn sentence(kind: ConfKind) -> &'static str {
+pub fn sentence(kind: ConfKind) -> &'static str
+    ensures { result.now ≡ sentence kind }
+{
     match kind {
         ConfKind::TooLong => {
             "the file, or the longest that a rewrite could make of it, has more than 67,536 bytes"
