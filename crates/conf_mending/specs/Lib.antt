@@ -1,1 +1,2 @@
+pub mod GroupTexts
 pub mod Mended

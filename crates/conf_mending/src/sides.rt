@@ -1,8 +1,11 @@
 //! In what two files of a group differ, with what stands on each side, as lines of text.
 
+ghost use Rattle.std.specs.Prelude.{◌≡◌, ◌++◌, ℕ, List, OnOk, OnErr};
+
 use ballot_law::{Addr, Card, Member, Name, NoMemory, Watched};
 use group_checks::NamedConf;
 use sentinel_conf::{Conf, Settings};
+use std::alloc::Global;
 use words::{add_number, ip_text, run_id_text};
 
 /// Adds words.
@@ -236,24 +239,40 @@ fn add_master(out: &mut Vec<u8>, files: Pair<'_>, m: u16, n: u16) -> Result<(), 
     Ok(())
 }
 
-/// Adds in what two files differ, a line for each thing with what stands on each side: `note: ..` of what refuses them together, and
-/// `warning: ..` of settings, which don't. NoMemory: memory was refused, and some of it may have been added.
-pub fn add_sides<'a>(
-    out: &mut Vec<u8>,
+/// In what two files differ.
+fn sides_of<'a>(
+    alloc: Global,
     one: &'a NamedConf,
     other: &'a NamedConf,
-) -> Result<(), NoMemory> {
-    add_sentinels(out, one, other)?;
-    add_sentinels(out, other, one)?;
-    add_masters(out, one, other)?;
-    add_masters(out, other, one)?;
+) -> Result<Vec<u8>, NoMemory> {
+    let mut out = Vec::new(alloc);
+    add_sentinels(&mut out, one, other)?;
+    add_sentinels(&mut out, other, one)?;
+    add_masters(&mut out, one, other)?;
+    add_masters(&mut out, other, one)?;
     let files = Pair { one, other };
     let mut number: u16 = 0;
     for master in one.conf.roster().masters() {
         if let Some(place) = other.conf.roster().master_named(&master.name) {
-            add_master(out, files, number, place)?;
+            add_master(&mut out, files, number, place)?;
         }
         number = number.saturating_add(1);
     }
+    Ok(out)
+}
+
+/// Adds in what two files differ, a line for each thing with what stands on each side, after what stands in the text: `note: ..` of what
+/// refuses them together, and `warning: ..` of settings, which don't. NoMemory: memory was refused, and nothing was added.
+pub fn add_sides<'a>(
+    alloc: Global,
+    out: &mut Vec<u8>,
+    one: &'a NamedConf,
+    other: &'a NamedConf,
+) -> Result<(), NoMemory>
+    ensures added { OnOk result ((more : List ℕ) × (out.new.items ≡ out.old.items ++ more)) }
+    ensures refused { OnErr result (out.new.items ≡ out.old.items) }
+{
+    let sides = sides_of(alloc, one, other)?;
+    out.extend_from_slice(&sides)?;
     Ok(())
 }

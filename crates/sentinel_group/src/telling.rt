@@ -67,7 +67,7 @@ pub(crate) fn tell_files(rt: HostRuntime, files: &[NamedConf]) {
     }
     let mut lines = Vec::new(rt.alloc());
     for file in more {
-        if add_sides(&mut lines, first, file).is_err() {
+        if add_sides(rt.alloc(), &mut lines, first, file).is_err() {
             return;
         }
     }
