@@ -1,9 +1,12 @@
 //! When a Sentinel's ticks are due, and what its threads have it take.
 
-ghost use Rattle.std.specs.Prelude.{◌≡◌, ◌⊎◌, ◌↔◌, ◌<◌, ◌≤◌, ◌+◌, ◌-◌, ◌%◌, IsTrue, IsOk, IsErrOf};
+ghost use Rattle.std.specs.Prelude.{◌≡◌, ◌⊎◌, ◌↔◌, ◌<◌, ◌≤◌, ◌+◌, ◌-◌, ◌%◌, ◌++◌, ℕ, List, Some, IfSome, IsTrue, IsOk, IsErrOf};
 ghost use Rattle.ballot_law.specs.Clocks.{clock};
-ghost use Rattle.group_sentinels.specs.Running.{phase_of};
-ghost use Rattle.sentinel_rules.specs.Plans.{group_size};
+ghost use Rattle.ballot_law.specs.Messages.{sent};
+ghost use Rattle.ballot_law.specs.declared.messages.Message.{Message};
+ghost use Rattle.group_sentinels.specs.Running.{input_of, phase_of};
+ghost use Rattle.group_sentinels.specs.Ticking.{Ticks, TicksAt, Took};
+ghost use Rattle.sentinel_rules.specs.Plans.{group_size, master_count};
 ghost use Rattle.sentinel_cell.specs.declared.fault.ActFault.{ActFault};
 ghost use Rattle.sentinel_rules.specs.Facts.{IsWithinEvent};
 
@@ -119,7 +122,12 @@ impl Ticker {
         member: &RunningSentinel<J, S>,
         seat: &mut ThreadSeat<J>,
         outlet: &mut O,
-    ) -> bool {
+    ) -> bool
+        ensures ticked { (now : ℕ) × (said : List Message) × IfSome (O.handed outlet.old) (λ before. O.handed outlet.new ≡ Some (before ++ said))
+            × TicksAt self.old.due now member.now.cell.start seat.old.seat.view (master_count member.now.cell.start.plan) said seat.new.seat.view result }
+        ensures due { (self.new.due ≡ self.old.due) ⊎ (self.new.due % TICK_MS ≡ self.old.phase % TICK_MS) }
+        ensures phase { self.new.phase ≡ self.old.phase }
+    {
         if state.clock.now(rt) < self.due {
             return true;
         }
@@ -137,7 +145,11 @@ impl Ticker {
         member: &RunningSentinel<J, S>,
         seat: &mut ThreadSeat<J>,
         outlet: &mut O,
-    ) -> bool {
+    ) -> bool
+        ensures ticked { (said : List Message) × IfSome (O.handed outlet.old) (λ before. O.handed outlet.new ≡ Some (before ++ said))
+            × Ticks member.now.cell.start seat.old.seat.view (master_count member.now.cell.start.plan) said seat.new.seat.view result }
+        ensures due { (self.new.due ≡ self.old.due) × (self.new.phase ≡ self.old.phase) }
+    {
         for master in 0..member.masters() {
             let elapsed = state.clock.elapsed(rt);
             let (now, random) = (millis_of(elapsed), u64::from(elapsed.subsec_nanos()));
@@ -173,6 +185,8 @@ pub fn hear<J: Which, S: ConfStore, O: Outlet, R: Wait + Clock + Log>(
     event: Event,
 ) -> bool
     requires { IsWithinEvent event }
+    ensures took { (now : ℕ) × Took member.now.cell.start seat.old.seat.view (input_of now event) seat.new.outbox.shown seat.new.seat.view result }
+    ensures handed { IfSome (O.handed outlet.old) (λ before. O.handed outlet.new ≡ Some (before ++ sent seat.new.outbox.shown)) }
 {
     let now = state.clock.now(rt);
     let acted = member.carry_out(rt, seat, outlet, now, event);
