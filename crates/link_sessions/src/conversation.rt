@@ -110,6 +110,7 @@ impl Conversation {
         ensures listens { self.new.listens ≡ self.old.listens }
         ensures frames { self.new.frames ≡ self.old.frames }
         ensures ok { OnOk result ((self.new.unsent.items ≡ self.old.unsent.items ++ text.now) × (self.new.asked.items ≡ self.old.asked.items ++ question ∷ [])) }
+        ensures few { OnOk result (length self.new.asked.items ≤ ASKED_MAX) }
         ensures err { OnErr result ((self.new.unsent.items ≡ self.old.unsent.items) × (self.new.asked.items ≡ self.old.asked.items)) }
         ensures fault { IfErr result (IsRefused self.old.asked.items) }
     {
@@ -136,6 +137,7 @@ impl Conversation {
         ensures frames { self.new.frames ≡ self.old.frames }
         ensures ok { OnOk result ((self.new.unsent.items ≡ self.old.unsent.items ++ message_bytes message.now.body)
             × (self.new.asked.items ≡ self.old.asked.items ++ question_of message.now.body ∷ [])) }
+        ensures few { OnOk result (length self.new.asked.items ≤ ASKED_MAX) }
         ensures err { OnErr result ((self.new.unsent.items ≡ self.old.unsent.items) × (self.new.asked.items ≡ self.old.asked.items)) }
         ensures fault { IfErr result (IsRefused self.old.asked.items) }
     {
@@ -153,6 +155,7 @@ impl Conversation {
         ensures frames { self.new.frames ≡ self.old.frames }
         ensures ok { OnOk result ((self.new.unsent.items ≡ self.old.unsent.items ++ spelling (words_frame (map (λ word. word.now) words.now)))
             × (self.new.asked.items ≡ self.old.asked.items ++ Question.Order ∷ [])) }
+        ensures few { OnOk result (length self.new.asked.items ≤ ASKED_MAX) }
         ensures err { OnErr result ((self.new.unsent.items ≡ self.old.unsent.items) × (self.new.asked.items ≡ self.old.asked.items)) }
         ensures fault { IfErr result (IsRefused self.old.asked.items) }
     {

@@ -7,7 +7,7 @@ ghost use Rattle.resp2_frames.specs.Frame.{spelling};
 ghost use Rattle.link_sessions.specs.declared.questions.Question.TheVariants as asks;
 ghost use Rattle.link_sessions.specs.Links.{question_of, IsRefused, Receives};
 
-use crate::conversation::Conversation;
+use crate::conversation::{ASKED_MAX, Conversation};
 use crate::fault::LinkFault;
 use ballot_law::{Event, Message, NodeName};
 use std::alloc::Global;
@@ -69,6 +69,7 @@ impl LinkSession {
           unsent = self.old.unsent ++ message_bytes message.now.body;
           asked = self.old.asked ++ question_of message.now.body ∷ [];
         }) }
+        ensures few { OnOk result (length self.new.asked ≤ ASKED_MAX) }
         ensures err { OnErr result (self.new ≡ self.old) }
         ensures fault { IfErr result (IsRefused self.old.asked) }
     {
@@ -81,6 +82,7 @@ impl LinkSession {
           unsent = self.old.unsent ++ spelling (words_frame (map (λ word. word.now) words.now));
           asked = self.old.asked ++ asks.Order ∷ [];
         }) }
+        ensures few { OnOk result (length self.new.asked ≤ ASKED_MAX) }
         ensures err { OnErr result (self.new ≡ self.old) }
         ensures fault { IfErr result (IsRefused self.old.asked) }
     {

@@ -1,1 +1,4 @@
+pub mod Hearing
+pub mod Keeping
 pub mod Places
+pub mod Saying

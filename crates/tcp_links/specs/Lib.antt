@@ -1,2 +1,4 @@
+pub mod NodeLinks
 pub mod Schedules
+pub mod Speaking
 pub mod Targets

@@ -17,6 +17,13 @@ pub struct Pace {
     pub tick_due: u64,
 }
 
+/// Whether too long a time lies between two turns, by readings of one clock: then nobody else was silent meanwhile.
+pub fn is_gap(turned: u64, now: u64) -> bool
+    ensures { IsTrue result ↔ (GAP_MS < now - turned) }
+{
+    now.saturating_sub(turned) > GAP_MS
+}
+
 impl Pace {
     /// A Sentinel that begins now, and ticks at once.
     pub fn new(now: u64) -> Pace
@@ -32,7 +39,7 @@ impl Pace {
     pub fn stood_still(&self, now: u64) -> bool
         ensures { IsTrue result ↔ (GAP_MS < now - self.now.turned) }
     {
-        now.saturating_sub(self.turned) > GAP_MS
+        is_gap(self.turned, now)
     }
 
     /// How long it is until the next ticks, in milliseconds.

@@ -1,9 +1,9 @@
 //! When a connection is opened, given up, and asked besides what the Sentinel asks.
 
-ghost use Rattle.std.specs.Prelude.{◌≡◌, ◌≤◌, ◌↔◌, ◌⊎◌, ◌+◌, ◌-◌, ◌*◌, min, max, true, false, Some, None, IsTrue};
+ghost use Rattle.std.specs.Prelude.{◌≡◌, ◌≤◌, ◌↔◌, ◌⊎◌, ◌+◌, ◌-◌, min, true, false, Some, None, IsTrue};
 ghost use Rattle.tcp_links.specs.declared.schedule.Stage.TheVariants.{Closed, Opening, Open};
 ghost use Rattle.tcp_links.specs.declared.schedule.Stale.TheVariants.{Unreached, Silent, NoHello};
-ghost use Rattle.tcp_links.specs.Schedules.{IsPast};
+ghost use Rattle.tcp_links.specs.Schedules.{IsPast, begun, closed};
 
 /// How long a connection may take to be opened, in milliseconds.
 pub const CONNECT_MS: u64 = 1_000;
@@ -104,7 +104,7 @@ impl Schedule {
 
     /// It is being opened from now on.
     pub fn begin(&mut self, now: u64)
-        ensures { self.new ≡ record self.old { stage = Opening; since = now; quiet = now } }
+        ensures { self.new ≡ begun now self.old }
     {
         self.stage = Stage::Opening;
         self.since = now;
@@ -146,8 +146,7 @@ impl Schedule {
 
     /// It is closed from now on. Where nothing was heard since it was last closed, the pause is twice as long as the last one.
     pub fn close(&mut self, now: u64)
-        ensures { self.new
-            ≡ record self.old { stage = Closed; since = now; pause = min (max (2 * self.old.pause) PAUSE_MIN_MS) PAUSE_MAX_MS } }
+        ensures { self.new ≡ closed now self.old }
     {
         self.stage = Stage::Closed;
         self.since = now;

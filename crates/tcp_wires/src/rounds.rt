@@ -1,0 +1,160 @@
+//! What the thread that ticks a Sentinel does until it ends.
+
+use crate::exchange::{FarEnd, WatchState};
+use conf_store::ConfStore;
+use group_sentinels::{RunningSentinel, ThreadSeat, Ticker, Which, hear};
+use log::Log;
+use std::alloc::Global;
+use std::rt::Clock;
+use std::sync::Wait;
+use std::sync::atomic::Ordering;
+use tcp_links::{Pace, is_gap};
+
+/// How often a Sentinel hears after it or its connections stood still, before it ticks again.
+const HEARINGS: u32 = 6;
+
+/// How long it hears each time then, in milliseconds.
+const HEARING_MS: u64 = 25;
+
+/// How many events it hears at once before it looks at its clock.
+const EVENTS_MAX: u32 = 1_024;
+
+/// When a Sentinel ticks, and what its ticks showed. One thread has them, with its end of the connections.
+#[derive(Drop)]
+pub struct Rounds {
+    far: FarEnd,
+    ticker: Ticker,
+    pace: Pace,
+}
+
+impl Rounds {
+    /// Nothing was heard yet at this reading of the clock, and the ticks are due at once.
+    pub fn new<J: Which, S: ConfStore>(
+        alloc: Global,
+        member: &RunningSentinel<J, S>,
+        far: FarEnd,
+        now: u64,
+    ) -> Rounds {
+        Rounds {
+            far,
+            ticker: Ticker::new(alloc, member),
+            pace: Pace::new(now),
+        }
+    }
+
+    /// Has the Sentinel take what its connections heard: it waits for the first event so many milliseconds at most, and for no other: whether it goes on.
+    fn hear_all<J: Which, S: ConfStore, R: Wait + Clock + Log>(
+        &self,
+        rt: &R,
+        state: &WatchState,
+        member: &RunningSentinel<J, S>,
+        seat: &mut ThreadSeat<J>,
+        millis: u64,
+    ) -> bool {
+        let mut outlet = self.far.outlet(rt);
+        let mut wait = millis;
+        for _ in 0..EVENTS_MAX {
+            let Some(event) = self.far.next(rt, wait) else {
+                return true;
+            };
+            wait = 0;
+            if !hear(rt, &state.run, member, seat, &mut outlet, event) {
+                return false;
+            }
+        }
+        true
+    }
+
+    /// Hears what was asked anew, since this Sentinel or its connections stood still: whether it goes on.
+    fn catch_up<J: Which, S: ConfStore, R: Wait + Clock + Log>(
+        &self,
+        rt: &R,
+        state: &WatchState,
+        member: &RunningSentinel<J, S>,
+        seat: &mut ThreadSeat<J>,
+    ) -> bool {
+        for _ in 0..HEARINGS {
+            let until = state.run.clock.now(rt).saturating_add(HEARING_MS);
+            if !self.hear_until(rt, state, member, seat, until) {
+                return false;
+            }
+        }
+        true
+    }
+
+    /// Hears until this reading of the clock: whether it goes on.
+    fn hear_until<J: Which, S: ConfStore, R: Wait + Clock + Log>(
+        &self,
+        rt: &R,
+        state: &WatchState,
+        member: &RunningSentinel<J, S>,
+        seat: &mut ThreadSeat<J>,
+        until: u64,
+    ) -> bool {
+        for _ in 0..u64::MAX {
+            let left = until.saturating_sub(state.run.clock.now(rt));
+            if !self.hear_all(rt, state, member, seat, left) {
+                return false;
+            }
+            if left == 0 {
+                return true;
+            }
+        }
+        true
+    }
+
+    /// Whether the Sentinel or its connections stood still.
+    fn stood_still<R: Clock>(&self, rt: &R, state: &WatchState) -> bool {
+        let now = state.run.clock.now(rt);
+        let turned = state.turned.load(Ordering::SeqCst);
+        self.pace.stood_still(now) || is_gap(turned, now)
+    }
+
+    /// Hears until the next ticks are due, and ticks each master: whether the Sentinel goes on.
+    fn turn<J: Which, S: ConfStore, R: Wait + Clock + Log>(
+        &mut self,
+        rt: &R,
+        state: &WatchState,
+        member: &RunningSentinel<J, S>,
+        seat: &mut ThreadSeat<J>,
+    ) -> bool {
+        if !self.hear_until(rt, state, member, seat, self.pace.tick_due) {
+            return false;
+        }
+        if self.stood_still(rt, state) {
+            self.pace.turn(state.run.clock.now(rt));
+            return self.catch_up(rt, state, member, seat);
+        }
+        let mut outlet = self.far.outlet(rt);
+        if !self
+            .ticker
+            .tick_all(rt, &state.run, member, seat, &mut outlet)
+        {
+            return false;
+        }
+        let lot = u64::from(state.run.clock.elapsed(rt).subsec_nanos());
+        self.pace.plan_tick(state.run.clock.now(rt), lot);
+        self.pace.turn(state.run.clock.now(rt));
+        true
+    }
+
+    /// Has the Sentinel take what its connections hear, and ticks each master 50 to 100 ms after its last tick, until the threads end or the Sentinel is halted, by
+    /// whichever thread.
+    pub fn run<J: Which, S: ConfStore, R: Wait + Clock + Log>(
+        &mut self,
+        rt: &R,
+        state: &WatchState,
+        member: &RunningSentinel<J, S>,
+        seat: &mut ThreadSeat<J>,
+    ) {
+        for _ in rt.forever() {
+            if state.ending.load(Ordering::SeqCst) != 0 || state.run.was_halted() {
+                return;
+            }
+            if !self.turn(rt, state, member, seat) {
+                return;
+            }
+        }
+        unreachable!()
+    }
+}
