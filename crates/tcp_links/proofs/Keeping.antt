@@ -169,7 +169,7 @@ kept_heard target before talk piece events kept h node listens going unsent =
     }
 
 -- whatever end it had, what it told may be heard on the connection
-pub received_on : {X : Type 0} (target : Target) (asked : List Question) (stream : List ℕ) (result : Result X LinkFault) (events : List Event) (left : List Question) (held : List ℕ)
-    → AllByRecursion IsAsked asked → Receives target.node target.listens asked stream result events left held → AllByRecursion (IsHeardOn target) events
+pub received_on : {X : Type 0} (target : Target) (asked : List Question) (stream : List ℕ) (result : Result X LinkFault) (events : List Event) (left : List Question)
+    (held : List ℕ) → AllByRecursion IsAsked asked → Receives target.node target.listens asked stream result events left held → AllByRecursion (IsHeardOn target) events
 received_on target asked stream (Ok x) events left held all h = (told target asked h.values events left all h.tells).heard
 received_on target asked stream (Err why) events left held all h = (told target asked h.values events h.left all h.tells).heard

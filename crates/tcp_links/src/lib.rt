@@ -1,6 +1,14 @@
 //! The connections of one Sentinel to the other Sentinels and to its data nodes, as far as they are decided without a socket: which node a connection is to (`Target`),
-//! when it is opened, given up and asked (`Schedule`), what goes over it for a message and before all messages (`put_message`, `put_first_words`), and when the Sentinel
-//! ticks (`Pace`).
+//! when it is opened, given up and asked (`Schedule`), what goes over it and is heard on it meanwhile (`NodeLink`), and when the Sentinel ticks (`Pace`).
+//!
+//! ```text
+//! if link.stale(now).is_some() { link.close(now); }         // and its owner drops the socket
+//! if link.schedule().is_due(now) { link.open(login, now)?; } // and its owner opens one
+//! link.ask(&message, now)?;                                  // it joins what is unsent
+//! let count = socket.write(link.unsent())?;
+//! link.sent(count);
+//! link.received(piece, now, &mut events)?;                   // what the values that are whole with it say
+//! ```
 #![tactic(auto)]
 
 mod node_link;
@@ -12,5 +20,5 @@ mod target;
 pub use node_link::NodeLink;
 pub use pace::{Pace, is_gap};
 pub use schedule::{Schedule, Stage, Stale};
-pub use speaking::{Login, UNSENT_MAX, put_first_words, put_message};
+pub use speaking::Login;
 pub use target::{Target, connection_count, place_of, target_at};

@@ -82,7 +82,7 @@ fn is_short(session: &LinkSession) -> Result<(), LinkFault>
 ///
 /// `Full` where too much is unsent with it, or too many answers are awaited, and `NoMemory`: all or a part of it may have been put out then, so the caller gives the
 /// connection up.
-pub fn put_message(session: &mut LinkSession, message: &Message) -> Result<(), LinkFault>
+pub(crate) fn put_message(session: &mut LinkSession, message: &Message) -> Result<(), LinkFault>
     requires { IsWritable message.now.body }
     ensures ok { OnOk result (session.new ≡ record session.old {
       unsent = session.old.unsent ++ bytes_for message.now.body;
@@ -125,7 +125,7 @@ fn put_listening(session: &mut LinkSession, listens: bool) -> Result<(), LinkFau
 /// Puts out what comes before all messages: the login, and that the connection listens to hellos, where it does.
 ///
 /// The answers tell nothing. A fault is as that of `put_message`.
-pub fn put_first_words(
+pub(crate) fn put_first_words(
     session: &mut LinkSession,
     login: Login<'_>,
     listens: bool,

@@ -15,6 +15,7 @@ use tcp_links::NodeLink;
 pub(crate) const PIECE: usize = 16_384;
 
 /// Writes once of what is unsent; the error says why nothing was taken.
+#[tactic(auto, using(crate::proofs::Sending::sends_nothing, crate::proofs::Sending::sends_some))]
 fn write<T: Write>(link: &mut NodeLink, stream: &mut T) -> Result<(), ErrorKind>
     ensures sent { Sends (T.contents stream.old) (T.contents stream.new) link.old link.new }
 {
@@ -29,6 +30,7 @@ fn write<T: Write>(link: &mut NodeLink, stream: &mut T) -> Result<(), ErrorKind>
 }
 
 /// Writes what is unsent until it would wait: whether the stream is whole. What the stream gets is what was taken away of the front.
+#[tactic(auto, using(crate::proofs::Sending::sends_none, crate::proofs::Sending::sends_twice))]
 pub(crate) fn send<T: Write>(link: &mut NodeLink, stream: &mut T) -> bool
     ensures sent { Sends (T.contents stream.old) (T.contents stream.new) link.old link.new }
 {
@@ -59,6 +61,7 @@ fn read<T: Read>(stream: &mut T, room: &mut [u8]) -> Result<usize, ErrorKind>
 
 /// Reads one piece, and adds what the values tell that are whole with it. The error says why none was taken: `WouldBlock` where nothing is there, `UnexpectedEof` at the
 /// end of the stream, and `InvalidData` where it was taken up to a fault, which closed the connection; what the values before the fault told was added.
+#[tactic(auto, using(crate::proofs::Hearing::hears_of, crate::proofs::Hearing::hears_none))]
 pub(crate) fn hear<T: Read>(
     link: &mut NodeLink,
     stream: &mut T,

@@ -1,13 +1,13 @@
 //! One connection with its socket.
 
-ghost use Rattle.std.specs.Prelude.{◌≡◌, false};
+ghost use Rattle.std.specs.Prelude.{◌≡◌, ◌↔◌, IsTrue, false};
 ghost use Rattle.std.specs.List.{AllByRecursion};
 ghost use Rattle.messages.specs.MessageTexts.{IsWritable};
 ghost use Rattle.sentinel_rules.specs.Facts.{IsWithinEvent};
 
 use crate::exchange::NearEnd;
 use crate::traffic::{hear, send};
-use ballot_law::{Addr, Event, Message};
+use ballot_law::{Addr, Event, Message, NodeName};
 use mio::net::TcpStream;
 use mio::{Interest, Registry, Token};
 use std::alloc::Global;
@@ -53,7 +53,7 @@ fn is_connected(stream: &TcpStream) -> Option<bool> {
     None
 }
 
-/// Hands these events on to the Sentinel, in their order.
+/// Hands these events on to the Sentinel, in their order. They are those of one read, so there are few.
 fn hand_on_all<R: Wait>(rt: &R, near: &NearEnd, mut events: Vec<Event>)
     requires { AllByRecursion IsWithinEvent events.items }
 {
@@ -75,10 +75,18 @@ impl Wire {
     }
 
     /// The node that it is to.
-    pub(crate) fn target(&self) -> Target
-        ensures { result ≡ self.now.link.target }
+    pub(crate) fn node(&self) -> NodeName
+        ensures { result ≡ self.now.link.target.node }
     {
-        self.link.target()
+        self.link.target().node
+    }
+
+    /// Whether it takes the messages of this node.
+    pub(crate) fn takes(&self, node: NodeName) -> bool
+        ensures { IsTrue result ↔ ((self.now.link.target.node ≡ node) × (self.now.link.target.listens ≡ false)) }
+    {
+        let target = self.link.target();
+        target.node == node && !target.listens
     }
 
     /// Whether it may have more to read.
@@ -168,6 +176,7 @@ impl Wire {
     }
 
     /// Reads one piece, and hands on what it tells; the error says why none was taken.
+    #[tactic(auto, using(crate::proofs::Hearing::all_within_told))]
     fn read_once<R: Wait>(
         &mut self,
         rt: &R,

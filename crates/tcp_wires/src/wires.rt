@@ -1,7 +1,5 @@
 //! All connections of a Sentinel.
 
-ghost use Rattle.std.specs.Prelude.{◌≡◌, IfSome, false};
-
 use crate::exchange::{FarEnd, NearEnd, Outgoing, WatchState, exchange};
 use crate::logins::Logins;
 use crate::traffic::PIECE;
@@ -62,24 +60,6 @@ fn login_of<'a>(roster: &Roster, logins: &'a Logins, node: NodeName) -> Login<'a
     }
 }
 
-/// The connection to a node that takes its messages; none where there is none.
-fn wire_to<'a>(
-    roster: &Roster,
-    wires: &'a mut [Option<Wire>],
-    node: NodeName,
-) -> Option<&'a mut Wire>
-    ensures { IfSome result (λ wire. (wire.now.link.target.node ≡ node) × (wire.now.link.target.listens ≡ false)) }
-{
-    let place = place_of(roster, node)?;
-    let wire = wires.get_mut(place)?.as_mut()?;
-    let target = wire.target();
-    if target.node == node && !target.listens {
-        Some(wire)
-    } else {
-        None
-    }
-}
-
 impl Wires {
     /// The connections of the Sentinel at this place of the roster, none of which is open, and the Sentinel's end of them. The error is the system's; `OutOfMemory` is a refused allocation.
     pub fn new<N: Net>(
@@ -108,7 +88,7 @@ impl Wires {
     fn keep_all<N: Net>(&mut self, net: &N, now: u64) {
         for place in 0..self.wires.len() {
             if let Some(Some(wire)) = self.wires.get_mut(place) {
-                let login = login_of(&self.roster, &self.logins, wire.target().node);
+                let login = login_of(&self.roster, &self.logins, wire.node());
                 wire.keep(net, self.poll.registry(), Token(place), login, now);
             }
         }
@@ -182,8 +162,13 @@ impl Wires {
     /// Puts out a message on the connection to its target, and sends what can be sent at once. It is lost where that isn't open, and where no connection is to the target.
     fn put_out(&mut self, outgoing: &Outgoing, now: u64) {
         let target = outgoing.message.target;
-        if let Some(wire) = wire_to(&self.roster, self.wires.as_mut_slice(), target) {
-            wire.ask(&outgoing.message, now);
+        let Some(place) = place_of(&self.roster, target) else {
+            return;
+        };
+        if let Some(Some(wire)) = self.wires.get_mut(place) {
+            if wire.takes(target) {
+                wire.ask(&outgoing.message, now);
+            }
         }
     }
 
