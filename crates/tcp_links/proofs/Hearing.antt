@@ -21,7 +21,7 @@ module _ (target : Target) where
   -- what a value may tell
   abbrev MayTell : Result (Option Event) LinkFault → Type 0
   MayTell (Ok heard) = AllByRecursion (IsHeardOn target) (listed heard)
-  MayTell (Err fault) = Unit {0}
+  MayTell (Err why) = Unit {0}
 
   ping_on : (f : Frame) → MayTell (ping_heard target.node f)
   ping_on (simple text) = (refl, tt)
@@ -143,7 +143,7 @@ module _ (target : Target) where
   told asked [] events left all t = record {
     heard = subst (AllByRecursion (IsHeardOn target)) (sym t.0) tt;
     asked_still = subst (AllByRecursion IsAsked) (sym t.1) all;
-    few = subst (λ (l : List Question). l ≡ asked → length l ≤ length asked) refl (λ e. subst (λ (l : List Question). length l ≤ length asked) (sym e) (omega arith)) t.1;
+    few = subst (λ (l : List Question). length l ≤ length asked) (sym t.1) (omega arith);
   }
   told asked (v ∷ values) events left all t =
       let next = next_on target.listens asked t.0 t.1 refl all t.4 in

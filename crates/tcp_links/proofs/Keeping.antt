@@ -5,6 +5,7 @@ use Rattle.std.specs.List.{AllByRecursion}
 use Rattle.ballot_law.specs.declared.events.Event.{Event}
 use Rattle.ballot_law.specs.declared.messages.Body.{Body}
 use Rattle.ballot_law.specs.declared.messages.Body.TheVariants as bodies
+use Rattle.ballot_law.specs.declared.messages.NodeName.{NodeName}
 use Rattle.link_sessions.specs.declared.conversation.TheConstants.{ASKED_MAX}
 use Rattle.link_sessions.specs.declared.questions.Question.{Question}
 use Rattle.link_sessions.specs.declared.questions.Question.TheVariants as asks
@@ -23,7 +24,7 @@ use Rattle.tcp_links.specs.declared.target.Target.{Target}
 use Rattle.tcp_links.specs.NodeLinks.{fresh, IsAsked, IsHeardOn, IsKept}
 use Rattle.tcp_links.specs.Schedules.{excused}
 use Rattle.tcp_links.specs.Speaking.{bytes_for, questions_for, login_bytes, login_questions, listen_bytes, listen_questions}
-use Rattle.tcp_links.proofs.Hearing.{all_append, IsTold, told}
+use Rattle.tcp_links.proofs.Hearing.{all_append, told}
 
 kept_fresh : (target : Target) → IsKept target (fresh target)
 kept_fresh target = record {
@@ -144,16 +145,11 @@ kept_sent target n before talk kept is =
 held_short : (held : List ℕ) (stream : List ℕ) (values : List Frame) → Splits stream values (reading held) → length held ≤ 65536
 held_short held stream values splits = waits_within held (subst (λ (t : List ℕ). frame_at t ≡ Err NeedsMore) splits.2.0 splits.2.1)
 
--- what a piece told, where it was heard
-pub heard_told : (target : Target) (asked : List Question) (stream : List ℕ) (events : List Event) (left : List Question) (held : List ℕ) → AllByRecursion IsAsked asked
-    → IsHeard target.node target.listens asked stream events left held → IsTold target asked events left
-heard_told target asked stream events left held all h = told target asked h.values events left all h.tells
-
-pub kept_heard : (target : Target) (before talk : Link) (piece : List ℕ) (events : List Event) → IsKept target before
+kept_heard : (target : Target) (before talk : Link) (piece : List ℕ) (events : List Event) → IsKept target before
     → IsHeard target.node target.listens before.asked (before.held ++ piece) events talk.asked talk.held
     → talk.node ≡ before.node → talk.listens ≡ before.listens → talk.ended ≡ None → talk.unsent ≡ before.unsent → IsKept target talk
 kept_heard target before talk piece events kept h node listens going unsent =
-    let t = heard_told target before.asked (before.held ++ piece) events talk.asked talk.held kept.questions h in
+    let t = told target before.asked h.values events talk.asked kept.questions h.tells in
     let fewer = t.few in
     let few = kept.bounded.asked in
     record {
@@ -168,8 +164,36 @@ kept_heard target before talk piece events kept h node listens going unsent =
       };
     }
 
--- whatever end it had, what it told may be heard on the connection
-pub received_on : {X : Type 0} (target : Target) (asked : List Question) (stream : List ℕ) (result : Result X LinkFault) (events : List Event) (left : List Question)
-    (held : List ℕ) → AllByRecursion IsAsked asked → Receives target.node target.listens asked stream result events left held → AllByRecursion (IsHeardOn target) events
+received_on : {X : Type 0} (target : Target) (asked : List Question) (stream : List ℕ) (result : Result X LinkFault) (events : List Event) (left : List Question) (held : List ℕ)
+    → AllByRecursion IsAsked asked → Receives target.node target.listens asked stream result events left held → AllByRecursion (IsHeardOn target) events
 received_on target asked stream (Ok x) events left held all h = (told target asked h.values events left all h.tells).heard
 received_on target asked stream (Err why) events left held all h = (told target asked h.values events h.left all h.tells).heard
+
+receives_here : {X : Type 0} (target : Target) (before : Link) (piece : List ℕ) (result : Result X LinkFault) (events : List Event) (left : List Question) (held : List ℕ)
+    → IsKept target before → Receives before.node before.listens before.asked (before.held ++ piece) result events left held
+    → Receives target.node target.listens before.asked (before.held ++ piece) result events left held
+receives_here target before piece result events left held kept h =
+    subst (λ (b : Bool). Receives target.node b before.asked (before.held ++ piece) result events left held) kept.listens
+    (subst (λ (n : NodeName). Receives n before.listens before.asked (before.held ++ piece) result events left held) kept.node h)
+
+-- what a session says of a piece
+abbrev pub Says : {X : Type 0} → Link → List ℕ → Result X LinkFault → List Event → List Event → List Question → List ℕ → Type 0
+Says before piece result events all left held =
+    before.ended ≡ None → (more : List Event) × (all ≡ events ++ more) × Receives before.node before.listens before.asked (before.held ++ piece) result more left held
+
+-- whatever end it had, what it told may be heard on the connection
+pub piece_received : {X : Type 0} (target : Target) (before : Link) (piece : List ℕ) (result : Result X LinkFault) (events all : List Event) (left : List Question)
+    (held : List ℕ) → IsKept target before → Says before piece result events all left held
+    → (more : List Event) × (all ≡ events ++ more) × AllByRecursion (IsHeardOn target) more
+    × Receives target.node target.listens before.asked (before.held ++ piece) result more left held
+piece_received target before piece result events all left held kept says =
+    let r = says kept.going in
+    let here = receives_here target before piece result r.0 left held kept r.2 in
+    (r.0, r.1, received_on target before.asked (before.held ++ piece) result r.0 left held kept.questions here, here)
+
+pub piece_kept : {X : Type 0} (target : Target) (before talk : Link) (piece : List ℕ) (x : X) (events all : List Event) → IsKept target before
+    → Says before piece (Ok x) events all talk.asked talk.held
+    → talk.node ≡ before.node → talk.listens ≡ before.listens → talk.ended ≡ None → talk.unsent ≡ before.unsent → IsKept target talk
+piece_kept target before talk piece x events all kept says node listens going unsent =
+    let r = says kept.going in
+    kept_heard target before talk piece r.0 kept (receives_here target before piece (Ok x) r.0 talk.asked talk.held kept r.2) node listens going unsent

@@ -198,7 +198,7 @@ impl NodeLink {
     }
 
     /// Takes the next piece of what the node sends, and adds what the values tell that are whole with it, as `LinkSession::received` does. A fault closes it.
-    #[tactic(auto, using(crate::proofs::Keeping::kept_anew, crate::proofs::Keeping::kept_heard, crate::proofs::Keeping::received_on))]
+    #[tactic(auto, using(crate::proofs::Keeping::kept_anew, crate::proofs::Keeping::piece_kept, crate::proofs::Keeping::piece_received))]
     pub fn received(
         &mut self,
         piece: &[u8],

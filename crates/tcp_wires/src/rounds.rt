@@ -10,11 +10,8 @@ use std::sync::Wait;
 use std::sync::atomic::Ordering;
 use tcp_links::{Pace, is_gap};
 
-/// How often a Sentinel hears after it or its connections stood still, before it ticks again.
-const HEARINGS: u32 = 6;
-
-/// How long it hears each time then, in milliseconds.
-const HEARING_MS: u64 = 25;
+/// How long a Sentinel hears after it or its connections stood still, before it ticks again, in milliseconds.
+const CATCH_UP_MS: u64 = 150;
 
 /// How many events it hears at once before it looks at its clock.
 const EVENTS_MAX: u32 = 1_024;
@@ -65,23 +62,6 @@ impl Rounds {
         true
     }
 
-    /// Hears what was asked anew, since this Sentinel or its connections stood still: whether it goes on.
-    fn catch_up<J: Which, S: ConfStore, R: Wait + Clock + Log>(
-        &self,
-        rt: &R,
-        state: &WatchState,
-        member: &RunningSentinel<J, S>,
-        seat: &mut ThreadSeat<J>,
-    ) -> bool {
-        for _ in 0..HEARINGS {
-            let until = state.run.clock.now(rt).saturating_add(HEARING_MS);
-            if !self.hear_until(rt, state, member, seat, until) {
-                return false;
-            }
-        }
-        true
-    }
-
     /// Hears until this reading of the clock: whether it goes on.
     fn hear_until<J: Which, S: ConfStore, R: Wait + Clock + Log>(
         &self,
@@ -110,7 +90,8 @@ impl Rounds {
         self.pace.stood_still(now) || is_gap(turned, now)
     }
 
-    /// Hears until the next ticks are due, and ticks each master: whether the Sentinel goes on.
+    /// Hears until the next ticks are due, and ticks each master: whether the Sentinel goes on. Where it or its connections stood still, it hears what was asked anew
+    /// instead, and the ticks stay due.
     fn turn<J: Which, S: ConfStore, R: Wait + Clock + Log>(
         &mut self,
         rt: &R,
@@ -122,8 +103,9 @@ impl Rounds {
             return false;
         }
         if self.stood_still(rt, state) {
-            self.pace.turn(state.run.clock.now(rt));
-            return self.catch_up(rt, state, member, seat);
+            let now = state.run.clock.now(rt);
+            self.pace.turn(now);
+            return self.hear_until(rt, state, member, seat, now.saturating_add(CATCH_UP_MS));
         }
         let mut outlet = self.far.outlet(rt);
         if !self
@@ -133,8 +115,9 @@ impl Rounds {
             return false;
         }
         let lot = u64::from(state.run.clock.elapsed(rt).subsec_nanos());
-        self.pace.plan_tick(state.run.clock.now(rt), lot);
-        self.pace.turn(state.run.clock.now(rt));
+        let now = state.run.clock.now(rt);
+        self.pace.plan_tick(now, lot);
+        self.pace.turn(now);
         true
     }
 
