@@ -1,6 +1,6 @@
 //! A connection of a Sentinel to a node, without its socket.
 
-ghost use Rattle.std.specs.Prelude.{◌≡◌, ◌≢◌, ◌≤◌, ◌<◌, ◌↔◌, ◌++◌, true, false, Some, None, List, length, drop, OnOk, OnErr};
+ghost use Rattle.std.specs.Prelude.{◌≡◌, ◌≢◌, ◌≤◌, ◌<◌, ◌↔◌, ◌++◌, ◌-◌, true, false, Some, None, List, length, drop, OnOk, OnErr};
 ghost use Rattle.std.specs.List.{AllByRecursion};
 ghost use Rattle.ballot_law.specs.declared.events.Event.{Event};
 ghost use Rattle.link_sessions.specs.Links.{Receives};
@@ -82,7 +82,9 @@ impl NodeLink {
     /// How much is held at most: 65,536 bytes that are unsent, 512 questions, and 65,536 bytes that came and are no whole value yet.
     pub fn is_bounded(&self)
         ensures { IsBounded self.now.talk }
-    {}
+    {
+        let _ = &self.target;
+    }
 
     /// The node that it is to.
     pub fn target(&self) -> Target
@@ -128,7 +130,7 @@ impl NodeLink {
     /// It is being opened from now on, and what comes before all messages is unsent. A fault, as a login that is too long, leaves it closed.
     #[tactic(auto, using(crate::proofs::Keeping::kept_first))]
     pub fn open(&mut self, login: Login<'_>, now: u64) -> Result<(), LinkFault>
-        ensures ok { OnOk result (self.new ≡ opening_at now login self.old) }
+        ensures ok { OnOk result (self.new ≡ opening_at now login.entry self.old) }
         ensures err { OnErr result (self.new ≡ closed_at now self.old) }
     {
         let mut session = fresh(self.alloc, self.target);

@@ -97,8 +97,8 @@ pub(crate) fn put_message(session: &mut LinkSession, message: &Message) -> Resul
 /// Puts out the login.
 fn put_login(session: &mut LinkSession, login: Login<'_>) -> Result<(), LinkFault>
     ensures ok { OnOk result (session.new ≡ record session.old {
-      unsent = session.old.unsent ++ login_bytes login;
-      asked = session.old.asked ++ login_questions login;
+      unsent = session.old.unsent ++ login_bytes login.entry;
+      asked = session.old.asked ++ login_questions login.entry;
     }) }
 {
     match login {
@@ -131,8 +131,8 @@ pub(crate) fn put_first_words(
     listens: bool,
 ) -> Result<(), LinkFault>
     ensures ok { OnOk result (session.new ≡ record session.old {
-      unsent = session.old.unsent ++ (login_bytes login ++ listen_bytes listens);
-      asked = session.old.asked ++ (login_questions login ++ listen_questions listens);
+      unsent = session.old.unsent ++ (login_bytes login.entry ++ listen_bytes listens);
+      asked = session.old.asked ++ (login_questions login.entry ++ listen_questions listens);
     }) }
     ensures bounded { OnOk result (length session.new.unsent ≤ UNSENT_MAX) }
 {
