@@ -113,7 +113,7 @@ module _ (target : Target) where
   next_on : (listens : Bool) (asked : List Question) (question : Question) (others : List Question) → listens ≡ target.listens → AllByRecursion IsAsked asked
       → next_asked listens asked ≡ Some (question, others) → IsNext asked question others
   next_on listens (q ∷ asked) question others same all next =
-      let both : (q, asked) ≡ (question, others) = cc in
+      let both : ◌≡◌ {A = Question × List Question} (q, asked) (question, others) = cc in
       let first : q ≡ question = ap (λ x. x.0) both in
       let rest : asked ≡ others = ap (λ x. x.1) both in
       record {
@@ -122,7 +122,7 @@ module _ (target : Target) where
         few = subst (λ (l : List Question). length l ≤ length (q ∷ asked)) rest (omega arith);
       }
   next_on true [] question others same all next =
-      let both : (asks.Hello, []) ≡ (question, others) = cc in
+      let both : ◌≡◌ {A = Question × List Question} (asks.Hello, []) (question, others) = cc in
       let first : asks.Hello ≡ question = ap (λ x. x.0) both in
       let rest : [] ≡ others = ap (λ x. x.1) both in
       record {

@@ -173,7 +173,7 @@ impl NodeLink {
     }
 
     /// Puts out a message where it is open; else the message is lost. A fault closes it.
-    #[tactic(auto, using(crate::proofs::Keeping::kept_anew, crate::proofs::Keeping::kept_asked, crate::proofs::Keeping::excused_waiting, crate::proofs::Keeping::excused_alone))]
+    #[tactic(auto, using(crate::proofs::Keeping::kept_anew, crate::proofs::Keeping::excused_waiting, crate::proofs::Keeping::excused_alone))]
     pub fn ask(&mut self, message: &Message, now: u64) -> Result<(), LinkFault>
         requires { IsWritable message.now.body }
         ensures shut { self.old.schedule.stage ≢ Open → self.new ≡ self.old }
@@ -200,7 +200,7 @@ impl NodeLink {
     }
 
     /// Takes the next piece of what the node sends, and adds what the values tell that are whole with it, as `LinkSession::received` does. A fault closes it.
-    #[tactic(auto, using(crate::proofs::Keeping::kept_anew, crate::proofs::Keeping::piece_kept, crate::proofs::Keeping::piece_received))]
+    #[tactic(auto, using(crate::proofs::Keeping::kept_anew))]
     pub fn received(
         &mut self,
         piece: &[u8],
