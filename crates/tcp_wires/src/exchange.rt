@@ -30,20 +30,38 @@ pub struct WatchState {
     pub ending: AtomicU64,
 }
 
-/// A message that is to go out, which can be written.
+/// A message that is to go out, which can be written. Contracts see the message.
 #[derive(Drop)]
 pub(crate) struct Outgoing {
-    pub(crate) message: Message,
-    ghost writable: { IsWritable message.body },
+    message: Message,
+}
+
+impl Model for Outgoing {
+    ghost use Rattle.ballot_law.specs.declared.messages.Message.{Message};
+    ghost use Rattle.messages.specs.MessageTexts.{IsWritable};
+
+    ghost Value = { Message };
+
+    ghost view = { λ outgoing. outgoing.message };
+
+    ghost invariant = { λ outgoing. IsWritable outgoing.message.body };
 }
 
 impl Outgoing {
     /// This message.
     fn of(message: Message) -> Outgoing
         requires { IsWritable message.body }
-        ensures { result.message ≡ message }
+        ensures { result ≡ message }
     {
         Outgoing { message }
+    }
+
+    /// The message.
+    pub(crate) fn message(&self) -> &Message
+        ensures writable { IsWritable result.now.body }
+        ensures message { result.now ≡ self.now }
+    {
+        &self.message
     }
 }
 

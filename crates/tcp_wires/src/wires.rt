@@ -161,13 +161,14 @@ impl Wires {
 
     /// Puts out a message on the connection to its target, and sends what can be sent at once. It is lost where that isn't open, and where no connection is to the target.
     fn put_out(&mut self, outgoing: &Outgoing, now: u64) {
-        let target = outgoing.message.target;
+        let message = outgoing.message();
+        let target = message.target;
         let Some(place) = place_of(&self.roster, target) else {
             return;
         };
         if let Some(Some(wire)) = self.wires.get_mut(place) {
             if wire.takes(target) {
-                wire.ask(&outgoing.message, now);
+                wire.ask(message, now);
             }
         }
     }
