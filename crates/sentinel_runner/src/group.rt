@@ -215,7 +215,7 @@ where
 }
 
 /// How a group ended.
-fn outcome(state: &RunState) -> Result<(), GroupFault>
+pub(crate) fn outcome(state: &RunState) -> Result<(), GroupFault>
     ensures roster { IfErr result (λ fault. fault ≢ NotOneRoster) }
 {
     if state.lacked_a_thread() {
