@@ -112,7 +112,7 @@ impl<S: ConfStore + Drop> Opened<S> {
         let Ok(sentinel) = Sentinel::open(alloc, conf, 0) else {
             return Err(GroupFault::NoMemory);
         };
-        let seats = u64::from(beside) + u64::from(threads);
+        let seats = u64::from(threads) + u64::from(beside);
         let Ok((cell, seat)) = SharedSentinel::new(alloc, sentinel, store, seats) else {
             return Err(GroupFault::NoMemory);
         };

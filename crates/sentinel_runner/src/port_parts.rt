@@ -60,7 +60,7 @@ pub(crate) fn parts_of<J: Which>(
     Ok(parts)
 }
 
-/// Starts the further threads of the port, and serves it as the first one.
+/// Starts the further threads of the port, and serves it as the first one. Then it listens no more, before the others end.
 pub(crate) fn serve_parts<'a, M: Sync, P: ServesPort<M> + Drop + Send, R>(
     rt: &'a R,
     state: &'a RunState,
@@ -83,6 +83,7 @@ where
             return end_for_want(state, ending);
         }
         first.serve(rt, state, member, ending);
+        drop(first);
     })
 }
 

@@ -1,8 +1,7 @@
 //! One Sentinel of its own, which watches Redis servers and speaks to the other Sentinels over TCP.
 
-ghost use Rattle.std.specs.Prelude.{◌≡◌, ◌≢◌, ◌<◌, ◌+◌, ◌-◌, ◌^◌, IfErr, IfOk, length};
+ghost use Rattle.std.specs.Prelude.{◌≡◌, ◌<◌, ◌+◌, ◌-◌, ◌^◌, IfOk, OnOk, length};
 ghost use Rattle.sentinel_runner.specs.declared.watch.TheConstants.{BESIDE};
-ghost use Rattle.sentinel_runner.specs.declared.group_fault.GroupFault.TheVariants.{NotOneRoster};
 
 use crate::group::outcome;
 use crate::group_fault::GroupFault;
@@ -58,7 +57,7 @@ pub struct Watch<S: ConfStore> {
 /// Stores what the conf keeps, once: so it is known that its file can be written.
 fn prove_store<S: ConfStore>(alloc: Global, conf: &Conf, store: &mut S) -> Result<(), GroupFault>
     requires { S.failure_count store.old < 2 ^ 64 - 1 }
-    ensures ok { IfOk result (λ _. S.failure_count store.new ≡ S.failure_count store.old) }
+    ensures ok { OnOk result (S.failure_count store.new ≡ S.failure_count store.old) }
 {
     let Ok(mut text) = ConfText::room_for(alloc, conf) else {
         return Err(GroupFault::NoMemory);
@@ -217,10 +216,17 @@ where
     })
 }
 
-impl<S: ConfStore + Drop + Send> RunsBeside for Watching<S> {
-    fn run<R: Threads + Wait + Clock + Log + Sync>(self, rt: &R, state: &WatchState) {
+impl<S: ConfStore + Drop + Send> Watching<S> {
+    /// Runs its threads until they end.
+    fn run_threads<R: Threads + Wait + Clock + Log + Sync>(self, rt: &R, state: &WatchState) {
         let Watching { opened, far, alloc } = self;
         run_named::<Brand, S, R>(rt, alloc, state, opened, far);
+    }
+}
+
+impl<S: ConfStore + Drop + Send> RunsBeside for Watching<S> {
+    fn run<R: Threads + Wait + Clock + Log + Sync>(self, rt: &R, state: &WatchState) {
+        self.run_threads(rt, state);
         state.ending.store(1, Ordering::SeqCst);
     }
 }
@@ -252,38 +258,50 @@ where
     let Ok((member, seat)) = made else {
         return end_for_want(&state.run, &state.ending);
     };
-    let rounds = Rounds::new(alloc, &member, far, state.run.clock.now(rt));
     let Ok(seated) = Seated::of(alloc, &member, seat, port, others) else {
         return end_for_want(&state.run, &state.ending);
     };
-    let ticks = TickPart {
-        rounds,
-        seat: seated.ticks,
+    let Seated {
+        ticks,
+        first,
+        others,
+    } = seated;
+    let part = TickPart {
+        far,
+        seat: ticks,
+        alloc,
     };
-    run_parts(rt, state, &member, ticks, seated.first, seated.others);
+    run_parts(rt, state, &member, part, first, others);
 }
 
-/// The ticks of a Sentinel, and the seat of their thread.
+/// What the thread of a Sentinel's ticks has: its end of the connections, and its seat.
 #[derive(Drop)]
 struct TickPart<J: Which> {
-    rounds: Rounds,
+    far: FarEnd,
     seat: ThreadSeat<J>,
+    alloc: Global,
 }
 
 /// What the thread of the ticks of such a Sentinel does. By this trait `run_parts` knows of it no more than that it may be sent.
 trait Ticks<M> {
     /// Ticks, and hears what the connections hear, until the threads end or the Sentinel is halted.
-    fn tick<R: Wait + Clock + Log>(&mut self, rt: &R, state: &WatchState, member: &M);
+    fn tick<R: Wait + Clock + Log>(self, rt: &R, state: &WatchState, member: &M);
 }
 
 impl<J: Which, S: ConfStore> Ticks<RunningSentinel<J, S>> for TickPart<J> {
     fn tick<R: Wait + Clock + Log>(
-        &mut self,
+        self,
         rt: &R,
         state: &WatchState,
         member: &RunningSentinel<J, S>,
     ) {
-        self.rounds.run(rt, state, member, &mut self.seat);
+        let TickPart {
+            far,
+            mut seat,
+            alloc,
+        } = self;
+        let mut rounds = Rounds::new(alloc, member, far, state.run.clock.now(rt));
+        rounds.run(rt, state, member, &mut seat);
         state.ending.store(1, Ordering::SeqCst);
     }
 }
@@ -324,7 +342,7 @@ fn run_parts<'a, M: Sync, T: Ticks<M> + Drop + Send, P: ServesPort<M> + Drop + S
     rt: &'a R,
     state: &'a WatchState,
     member: &'a M,
-    mut ticks: T,
+    ticks: T,
     first: P,
     others: Vec<P>,
 )
