@@ -60,11 +60,20 @@ fn after_blanks(text: &[u8]) -> &[u8] {
     rest
 }
 
-/// The bytes before the first quote, and those behind it.
+/// The text before a place, and from it on; all of it where there is no place.
+fn cut_at(text: &[u8], place: Option<usize>) -> (&[u8], &[u8]) {
+    let none: &[u8] = b"";
+    match place {
+        Some(place) => text.split_at_checked(place).unwrap_or((text, none)),
+        None => (text, none),
+    }
+}
+
+/// The bytes before the first quote, and those after it.
 fn cut_quoted(text: &[u8]) -> (&[u8], &[u8]) {
-    let (word, rest) = text.split_at(memchr(b'"', text).unwrap_or(text.len()));
+    let (word, rest) = cut_at(text, memchr(b'"', text));
     match rest.split_first() {
-        Some((_, behind)) => (word, behind),
+        Some((_, after)) => (word, after),
         None => (word, rest),
     }
 }
@@ -74,7 +83,7 @@ fn next_word(text: &[u8]) -> (&[u8], &[u8]) {
     let start = after_blanks(text);
     match start.split_first() {
         Some((first, quoted)) if *first == b'"' => cut_quoted(quoted),
-        _ => start.split_at(memchr3(b' ', b'\t', b'\r', start).unwrap_or(start.len())),
+        _ => cut_at(start, memchr3(b' ', b'\t', b'\r', start)),
     }
 }
 
