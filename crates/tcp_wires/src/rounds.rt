@@ -91,7 +91,7 @@ impl Rounds {
     }
 
     /// Hears until the next ticks are due, and ticks each master: whether the Sentinel goes on. Where it or its connections stood still, it hears what was asked anew
-    /// instead, and the ticks stay due.
+    /// before it ticks. It does so once: on a machine that is always late it would never tick else.
     fn turn<J: Which, S: ConfStore, R: Wait + Clock + Log>(
         &mut self,
         rt: &R,
@@ -103,9 +103,10 @@ impl Rounds {
             return false;
         }
         if self.stood_still(rt, state) {
-            let now = state.run.clock.now(rt);
-            self.pace.turn(now);
-            return self.hear_until(rt, state, member, seat, now.saturating_add(CATCH_UP_MS));
+            let until = state.run.clock.now(rt).saturating_add(CATCH_UP_MS);
+            if !self.hear_until(rt, state, member, seat, until) {
+                return false;
+            }
         }
         let mut outlet = self.far.outlet(rt);
         if !self
