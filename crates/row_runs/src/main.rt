@@ -15,6 +15,7 @@ mod commands;
 mod conf_files;
 mod conversations;
 mod counted_files;
+mod courtesies;
 mod down_states;
 mod events;
 mod failover_turns;
@@ -60,6 +61,7 @@ fn play(
         "bounded_lists" => bounded_lists::play(rt.alloc(), call, words, told),
         "conf_files" => conf_files::play(rt.alloc(), call, words, told),
         "commands" => commands::play(rt.alloc(), call, words, told),
+        "courtesies" => courtesies::play(rt.alloc(), call, words, told),
         "frames" | "long_frames" => frames::play(rt.alloc(), call, words, told),
         "hellos" => hellos::play(rt.alloc(), call, words, told),
         "infos" => infos::play(rt.alloc(), call, words, told),

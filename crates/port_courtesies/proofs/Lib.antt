@@ -1,0 +1,5 @@
+pub mod AnswerLines
+pub mod Bytes
+pub mod Held
+pub mod Lookups
+pub mod OwnValues

@@ -1,0 +1,4 @@
+pub mod Refusals
+pub mod Courtesies
+pub mod Infos
+pub mod Attendants

@@ -1,0 +1,176 @@
+//! A client's stream with courtesies.
+
+ghost use Rattle.std.specs.Prelude.{◌≡◌, ◌<◌, [], IfOk, IfSome, OnOk};
+ghost use Rattle.resp2_frames.specs.Frame.{Frame, view, spelling, HasLines, IsFrame};
+ghost use Rattle.resp2_frames.specs.Stream.{reading, held_size, Feeds, Answers};
+ghost use Rattle.port_courtesies.specs.Attendants.{turn_text, text_at, Attends};
+ghost use Rattle.port_courtesies.specs.Courtesies.{courtesy, asker_after, kind_of};
+ghost use Rattle.port_courtesies.specs.Infos.{info};
+
+use crate::asker::Asker;
+use crate::courtesies::{Courtesy, courtesy_of};
+use crate::infos::info;
+use ballot_law::{Name, NoMemory};
+use resp2_frames::{FrameFault, Frames, OutText, Value, write_value};
+use std::alloc::Global;
+use std::marker::Model;
+
+/// A client's stream with courtesies: it says of each value whether the session is to have it or what it is answered.
+///
+/// Contracts see the bytes that came and aren't attended to yet, or the fault that was answered; what is known of the connection; and the text of the
+/// last turn.
+#[derive(Drop)]
+pub struct Attendant {
+    alloc: Global,
+    frames: Frames,
+    asker: Asker,
+    text: OutText,
+}
+
+impl Model for Attendant {
+    ghost use Rattle.port_courtesies.specs.Attendants.{Attendance};
+
+    ghost Value = { Attendance };
+
+    ghost view = { λ attendant. record { held = attendant.frames; asker = attendant.asker; text = attendant.text } };
+}
+
+/// The next value, whose lines are lines.
+fn next_value(frames: &mut Frames) -> Result<Option<Value>, FrameFault>
+    ensures exact { Answers view frames.old result frames.new }
+    ensures lines { IfOk result (λ given. IfSome given (λ value. HasLines (view value))) }
+    ensures fewer { IfOk result (λ given. IfSome given (λ value. held_size frames.new < held_size frames.old)) }
+{
+    frames.next()
+}
+
+/// The value that these bytes spell. `NoMemory`: memory was refused, or they spell none.
+#[tactic(auto, using(crate::proofs::Held::fed_whole))]
+fn value_of(alloc: Global, bytes: &[u8]) -> Result<Value, NoMemory>
+    ensures { (f : Frame) → IsFrame f → bytes.now ≡ spelling f → IfOk result (λ value. view value ≡ f) }
+{
+    let mut frames = Frames::new(alloc);
+    if frames.feed(bytes).is_err() {
+        return Err(NoMemory);
+    }
+    match frames.next() {
+        Ok(Some(value)) => Ok(value),
+        _ => Err(NoMemory),
+    }
+}
+
+/// Has the text hold the value, unless it holds its answer already.
+fn write_turn(kind: Courtesy, value: &Value, text: &mut OutText) -> Result<(), NoMemory>
+    requires { HasLines (view value.now) }
+    ensures { OnOk result (text.new ≡ turn_text kind text.old (view value.now)) }
+{
+    match kind {
+        Courtesy::Said => Ok(()),
+        Courtesy::Left => write_alone(value, text),
+        Courtesy::AsksMasters => write_alone(value, text),
+    }
+}
+
+/// Has the text hold the value.
+fn write_alone(value: &Value, text: &mut OutText) -> Result<(), NoMemory>
+    requires { HasLines (view value.now) }
+    ensures { OnOk result (text.new ≡ spelling (view value.now)) }
+{
+    text.clear();
+    write_value(value, text)
+}
+
+impl Attendant {
+    /// One to whom no bytes came of this connection. No memory is taken.
+    pub fn new(alloc: Global, asker: Asker) -> Attendant
+        ensures { result ≡ record { held = reading []; asker = asker; text = [] } }
+    {
+        Attendant {
+            alloc,
+            frames: Frames::new(alloc),
+            asker,
+            text: OutText::new(alloc),
+        }
+    }
+
+    /// The text of the last turn: the bytes of a value that the session is to have, or an answer.
+    pub fn text(&self) -> &[u8]
+        ensures { result.now ≡ self.now.text }
+    {
+        self.text.as_slice()
+    }
+
+    /// Has it know that the connection listens to notes, or doesn't.
+    pub fn note_listening(&mut self, listens: bool)
+        ensures { self.new ≡ record self.old { asker = record self.old.asker { listens = listens } } }
+    {
+        self.asker.listen(listens);
+    }
+
+    /// Has it know the masters of the Sentinel, in the roster's order.
+    pub fn note_masters(&mut self, masters: Vec<Name>)
+        ensures { self.new ≡ record self.old { asker = record self.old.asker { masters = masters.items } } }
+    {
+        self.asker.watch(masters);
+    }
+
+    /// Adds the next piece of the stream, of any length. `NoMemory` leaves it unchanged. Any other fault is one that `attend` has answered before, and
+    /// the piece is dropped.
+    pub fn feed(&mut self, piece: &[u8]) -> Result<(), FrameFault>
+        ensures held { Feeds self.old.held piece.now result self.new.held }
+        ensures asker { self.new.asker ≡ self.old.asker }
+    {
+        self.frames.feed(piece)
+    }
+
+    /// Drops the bytes that came and aren't attended to yet, or the fault that was answered, as where the connection ends. No memory is taken.
+    pub fn drop_held(&mut self)
+        ensures { self.new ≡ record self.old { held = reading [] } }
+    {
+        self.frames = Frames::new(self.alloc);
+    }
+
+    /// Attends to the first whole value of the bytes that came; `None` where more bytes are needed. `Left`: the text is the value, which the session
+    /// is to have. `Said`: the text is its answer. `AsksMasters`: the text is the value, INFO, whose answer `info` makes.
+    ///
+    /// `NoMemory`: memory was refused, and one value may be lost; the connection is to be closed. Any other fault is one of the bytes: the values before it
+    /// were attended to, and every later call answers it again.
+    pub fn attend(&mut self) -> Result<Option<Courtesy>, FrameFault>
+        ensures exact { Attends self.old.held self.old.asker result self.new }
+        // With each value fewer bytes are held.
+        ensures fewer { IfOk result (λ given. IfSome given (λ kind. held_size self.new.held < held_size self.old.held)) }
+    {
+        match next_value(&mut self.frames) {
+            Ok(Some(value)) => match self.attend_to(&value) {
+                Ok(kind) => Ok(Some(kind)),
+                Err(_) => Err(FrameFault::NoMemory),
+            },
+            Ok(None) => Ok(None),
+            Err(fault) => Err(fault),
+        }
+    }
+
+    /// Has the text of the last turn, which is INFO, be its answer, where the Sentinel answers SENTINEL MASTERS with `masters`. `NoMemory`: memory was refused,
+    /// or the text is no value; the connection is to be closed.
+    pub fn inform(&mut self, masters: &Value) -> Result<(), NoMemory>
+        ensures text { (value : Frame) → IsFrame value → self.old.text ≡ spelling value → OnOk result (self.new.text ≡ spelling (info value (view masters.now))) }
+        ensures asker { self.new.asker ≡ self.old.asker }
+        ensures held { self.new.held ≡ self.old.held }
+    {
+        let value = value_of(self.alloc, self.text.as_slice())?;
+        info(self.alloc, &value, masters, &mut self.text)
+    }
+
+    /// Attends to a value.
+    fn attend_to(&mut self, value: &Value) -> Result<Courtesy, NoMemory>
+        requires { HasLines (view value.now) }
+        ensures kind { IfOk result (λ kind. kind ≡ kind_of (courtesy self.old.asker (view value.now))) }
+        ensures text { OnOk result (self.new.text ≡ text_at self.old.asker (view value.now)) }
+        ensures asker { OnOk result (self.new.asker ≡ asker_after self.old.asker (view value.now)) }
+        ensures held { self.new.held ≡ self.old.held }
+    {
+        let kind = courtesy_of(self.alloc, &mut self.asker, value, &mut self.text)?;
+        write_turn(kind, value, &mut self.text)?;
+        Ok(kind)
+    }
+}

@@ -1,0 +1,246 @@
+//! What becomes of a value.
+
+ghost use Rattle.std.specs.Prelude.{◌≡◌, ℕ, List, [], IfOk, OnOk};
+ghost use Rattle.resp2.specs.Commands as commands;
+ghost use Rattle.resp2_frames.specs.Frame.{view, frames_view, spelling};
+ghost use Rattle.port_courtesies.specs.Courtesies.{Asker, known, executed, while_listening, name_after, words_of, is_miscounted, is_refused, names_channels, answered, named, looked_up_in, or_left, or_same, courtesy, asker_after, kind_of, text_of};
+
+use crate::asker::Asker;
+use crate::clients::{
+    get_name, no_evict, pong, publish, reply, role, say_bulk, say_none, say_number,
+};
+use crate::hellos::{auth, first, hello, is_client_name, set_name};
+use crate::lookup::looked_up;
+use crate::refusals::{is_called, refuse_listener, say};
+use crate::verbs::Verb;
+use ballot_law::{Command, NoMemory, Text};
+use resp2::{CommandFault, command_of};
+use resp2_frames::{OutText, Value};
+use std::alloc::Global;
+
+/// What becomes of a value.
+#[derive(Clone, Copy, Debug, PartialEq, Eq)]
+pub enum Courtesy {
+    /// The Sentinel's rules answer it.
+    Left,
+    /// Its answer is told.
+    Said,
+    /// It is INFO, whose answer is made of that to SENTINEL MASTERS.
+    AsksMasters,
+}
+
+/// Whether the Sentinel's rules call a value unknown or refuse its number of words.
+fn is_refused(asked: &Result<Command, CommandFault>) -> bool
+    ensures { result ≡ is_refused asked.now }
+{
+    match asked {
+        Err(CommandFault::UnknownCommand) => true,
+        Err(CommandFault::WrongArguments) => true,
+        _ => false,
+    }
+}
+
+/// Whether they refuse its number of words.
+fn is_miscounted(asked: &Result<Command, CommandFault>) -> bool
+    ensures { result ≡ is_miscounted asked.now }
+{
+    match asked {
+        Err(CommandFault::WrongArguments) => true,
+        _ => false,
+    }
+}
+
+/// The bytes of a bulk string, and none of any other value.
+fn word_of(value: &Value) -> &[u8]
+    ensures { result.now ≡ commands.word (view value.now) }
+{
+    match value {
+        Value::Bulk(bytes) => bytes.as_slice(),
+        _ => &[],
+    }
+}
+
+/// The words that the items of an array are.
+fn words_of_items(alloc: Global, items: &[Value]) -> Result<Vec<Text>, NoMemory>
+    ensures { IfOk result (λ words. words.items ≡ commands.words (frames_view items.now)) }
+{
+    let mut words = Vec::new(alloc);
+    let mut rest = items;
+    while let [value, more @ ..] = rest {
+        words.push(Text::from_slice(alloc, word_of(value))?)?;
+        rest = more;
+    }
+    Ok(words)
+}
+
+/// The words of a command.
+pub(crate) fn words_of(alloc: Global, value: &Value) -> Result<Vec<Text>, NoMemory>
+    ensures { IfOk result (λ words. words.items ≡ words_of (view value.now)) }
+{
+    match value {
+        Value::Items(items) => words_of_items(alloc, items.as_slice()),
+        _ => Ok(Vec::new(alloc)),
+    }
+}
+
+/// Whether SUBSCRIBE names channels.
+fn names_channels(words: &[Text]) -> bool
+    ensures { result ≡ names_channels words.now }
+{
+    match words {
+        [name, _, ..] => is_called(b"subscribe", name.as_slice()),
+        _ => false,
+    }
+}
+
+/// The answer to a command of a connection that listens.
+fn answer_listener(verb: Verb, words: &[Text], out: &mut OutText) -> Result<(), NoMemory>
+    ensures { OnOk result (out.new ≡ spelling (while_listening verb words.now)) }
+{
+    match verb {
+        Verb::Ping => pong(words, out),
+        _ => refuse_listener(out, verb.name()),
+    }
+}
+
+/// HELLO with these words.
+fn greet(
+    alloc: Global,
+    asker: &mut Asker,
+    words: &[Text],
+    out: &mut OutText,
+) -> Result<(), NoMemory>
+    ensures text { OnOk result (out.new ≡ text_of (executed asker.old Verb.Hello words.now)) }
+    ensures asker { OnOk result (asker.new ≡ record asker.old { name = name_after asker.old Verb.Hello words.now }) }
+{
+    let name = Text::from_slice(alloc, hello(asker.id(), asker.name(), words, out)?)?;
+    asker.rename(name);
+    Ok(())
+}
+
+/// CLIENT SETNAME with these words.
+fn rename(
+    alloc: Global,
+    asker: &mut Asker,
+    words: &[Text],
+    out: &mut OutText,
+) -> Result<(), NoMemory>
+    ensures text { OnOk result (out.new ≡ text_of (executed asker.old Verb.SetName words.now)) }
+    ensures asker { OnOk result (asker.new ≡ record asker.old { name = name_after asker.old Verb.SetName words.now }) }
+{
+    set_name(words, out)?;
+    if is_client_name(first(words)) {
+        asker.rename(Text::from_slice(alloc, first(words))?);
+    }
+    Ok(())
+}
+
+/// Has the connection carry out a command with these words: the answer, where it is known, and the name that the command gives the connection.
+fn execute(
+    alloc: Global,
+    asker: &mut Asker,
+    verb: Verb,
+    words: &[Text],
+    out: &mut OutText,
+) -> Result<(), NoMemory>
+    ensures text { OnOk result (out.new ≡ text_of (executed asker.old verb words.now)) }
+    ensures asker { OnOk result (asker.new ≡ record asker.old { name = name_after asker.old verb words.now }) }
+{
+    match verb {
+        Verb::Ping => say_bulk(out, first(words)),
+        Verb::Hello => greet(alloc, asker, words, out),
+        Verb::Auth => auth(words, out),
+        Verb::SetName => rename(alloc, asker, words, out),
+        Verb::SetInfo => say(out, b"+OK\r\n"),
+        Verb::GetName => get_name(asker.name(), out),
+        Verb::Id => say_number(out, asker.id()),
+        Verb::NoEvict => no_evict(words, out),
+        Verb::Reply => reply(words, out),
+        Verb::Commands => say_none(out),
+        Verb::Docs => say_none(out),
+        Verb::Count => say_number(out, 0),
+        Verb::Role => role(asker.masters(), out),
+        Verb::Publish => publish(words, out),
+        Verb::Info => say(out, &[]),
+    }
+}
+
+/// What becomes of a command of a connection that doesn't listen.
+fn kind_of(verb: Verb) -> Courtesy
+    ensures { (asker : Asker) (words : List (List ℕ)) → result ≡ kind_of (executed asker verb words) }
+{
+    match verb {
+        Verb::Info => Courtesy::AsksMasters,
+        _ => Courtesy::Said,
+    }
+}
+
+/// What becomes of a command with these words.
+fn answer_known(
+    alloc: Global,
+    asker: &mut Asker,
+    verb: Verb,
+    words: &[Text],
+    out: &mut OutText,
+) -> Result<Courtesy, NoMemory>
+    ensures kind { IfOk result (λ kind. kind ≡ kind_of (answered asker.old (known verb words.now))) }
+    ensures text { OnOk result (out.new ≡ text_of (answered asker.old (known verb words.now))) }
+    ensures asker { OnOk result (asker.new ≡ record asker.old { name = named asker.old (known verb words.now) }) }
+{
+    if asker.listens() {
+        answer_listener(verb, words, out)?;
+        return Ok(Courtesy::Said);
+    }
+    execute(alloc, asker, verb, words, out)?;
+    Ok(kind_of(verb))
+}
+
+/// What becomes of these words, which the Sentinel's rules call unknown or refuse for their number.
+#[tactic(auto, using(crate::proofs::Lookups::known_is, crate::proofs::Lookups::refused_kind, crate::proofs::Lookups::refused_text, crate::proofs::Lookups::refused_name))]
+fn answer_words(
+    alloc: Global,
+    asker: &mut Asker,
+    miscounted: bool,
+    words: &[Text],
+    out: &mut OutText,
+) -> Result<Courtesy, NoMemory>
+    requires { out.old ≡ [] }
+    ensures kind { IfOk result (λ kind. kind ≡ kind_of (or_left asker.old (looked_up_in miscounted words.now))) }
+    ensures text { OnOk result (out.new ≡ text_of (or_left asker.old (looked_up_in miscounted words.now))) }
+    ensures asker { OnOk result (asker.new ≡ record asker.old { name = or_same asker.old (looked_up_in miscounted words.now) }) }
+{
+    let Some((name, more)) = words.split_first() else {
+        return Ok(Courtesy::Left);
+    };
+    if names_channels(words) {
+        return Ok(Courtesy::Left);
+    }
+    match looked_up(miscounted, name.as_slice(), more, out)? {
+        Some((verb, args)) => answer_known(alloc, asker, verb, args, out),
+        None => Ok(Courtesy::Said),
+    }
+}
+
+/// What becomes of a value of a connection, by the table in docs/COURTESIES.md: `out` is the answer where one is told, and empty elsewhere. The
+/// connection has the name that the value gives it, and all else that is known of it stays. One value has at most one answer, and one that the Sentinel's
+/// rules answer, be it by a command or by the fault of a word, is left to them.
+///
+/// NoMemory: memory was refused; what `out` then holds and what name the connection has isn't told.
+pub fn courtesy_of(
+    alloc: Global,
+    asker: &mut Asker,
+    value: &Value,
+    out: &mut OutText,
+) -> Result<Courtesy, NoMemory>
+    ensures kind { IfOk result (λ kind. kind ≡ kind_of (courtesy asker.old (view value.now))) }
+    ensures text { OnOk result (out.new ≡ text_of (courtesy asker.old (view value.now))) }
+    ensures asker { OnOk result (asker.new ≡ asker_after asker.old (view value.now)) }
+{
+    out.clear();
+    let asked = command_of(value);
+    if !is_refused(&asked) {
+        return Ok(Courtesy::Left);
+    }
+    let words = words_of(alloc, value)?;
+    answer_words(alloc, asker, is_miscounted(&asked), words.as_slice(), out)
+}

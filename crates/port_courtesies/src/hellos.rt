@@ -1,0 +1,226 @@
+//! HELLO and AUTH.
+
+ghost use Rattle.std.specs.Prelude.{◌≡◌, ◌++◌, [], IfOk, OnOk, decimal};
+ghost use Rattle.resp2_frames.specs.Frame.{spelling, line_end};
+ghost use Rattle.port_courtesies.specs.Courtesies.{first, after_first, is_client_name, is_user, hello_map, is_negative, is_integer, asks_for_2, expected, greeted, refusal_text, hello, hello_name, auth, set_name};
+
+use crate::clients::add_number;
+use crate::refusals::{is_called, refuse_option, say};
+use ballot_law::{NoMemory, Text};
+use resp2_frames::OutText;
+use words::canonical_number_of;
+
+const OK: &[u8] = b"+OK\r\n";
+
+const WRONG_PASSWORD: &[u8] = b"-WRONGPASS invalid username-password pair or user is disabled.\r\n";
+
+const NO_NAME: &[u8] =
+    b"-ERR Client names cannot contain spaces, newlines or special characters.\r\n";
+
+/// The first word, and no bytes where there is none.
+pub(crate) fn first(words: &[Text]) -> &[u8]
+    ensures { result.now ≡ first words.now }
+{
+    match words.split_first() {
+        Some((word, _)) => word.as_slice(),
+        None => &[],
+    }
+}
+
+/// The words after the first.
+pub(crate) fn after_first(words: &[Text]) -> &[Text]
+    ensures { result.now ≡ after_first words.now }
+{
+    match words.split_first() {
+        Some((_, more)) => more,
+        None => &[],
+    }
+}
+
+/// Whether the word can be the name of a connection: no space, and nothing that isn't printed.
+pub(crate) fn is_client_name(word: &[u8]) -> bool
+    ensures { result ≡ is_client_name word.now }
+{
+    word.iter().all(|byte| 33 <= *byte && *byte <= 126)
+}
+
+/// Whether there is a user of this name, of whom nobody asks a password.
+fn is_user(word: &[u8]) -> bool
+    ensures { result ≡ is_user word.now }
+{
+    word == b"default".as_slice()
+}
+
+/// Whether the word is the number of a negative integer of 64 bits.
+fn is_negative(word: &[u8]) -> bool
+    ensures { result ≡ is_negative word.now }
+{
+    let Some((sign, digits)) = word.split_first() else {
+        return false;
+    };
+    *sign == b'-' && canonical_number_of(digits, 1, 9_223_372_036_854_775_808).is_some()
+}
+
+/// Whether the word is the number of an integer of 64 bits with a sign.
+fn is_integer(word: &[u8]) -> bool
+    ensures { result ≡ is_integer word.now }
+{
+    canonical_number_of(word, 0, 9_223_372_036_854_775_807).is_some() || is_negative(word)
+}
+
+/// Whether HELLO asks for protocol 2, which is the only one.
+pub(crate) fn asks_for_2(words: &[Text]) -> bool
+    ensures { result ≡ asks_for_2 words.now }
+{
+    match words.split_first() {
+        Some((version, _)) => version.as_slice() == b"2".as_slice(),
+        None => true,
+    }
+}
+
+/// What the next word of HELLO is to be.
+#[derive(Clone, Copy)]
+pub(crate) enum Expects {
+    /// The name of an option.
+    Start,
+    /// The user of AUTH.
+    User,
+    /// The password of AUTH, whose user is known or isn't.
+    Password(bool),
+    /// The name of SETNAME.
+    NewName,
+}
+
+/// What the next word is to be after the name of an option; none where there is no such option.
+fn expected_after(word: &[u8]) -> Option<Expects>
+    ensures { result ≡ expected word.now }
+{
+    if is_called(b"auth", word) {
+        return Some(Expects::User);
+    }
+    if is_called(b"setname", word) {
+        return Some(Expects::NewName);
+    }
+    None
+}
+
+/// The name that the options of HELLO leave a connection with this name. The answer is the refusal of the first option that has one, and
+/// is left as it is where none has.
+fn greeted<'a>(name: &'a [u8], options: &'a [Text], out: &mut OutText) -> Result<&'a [u8], NoMemory>
+    ensures name { IfOk result (λ left. left.now ≡ (greeted Expects.Start [] name.now options.now).name) }
+    ensures text { OnOk result (out.new ≡ refusal_text out.old (greeted Expects.Start [] name.now options.now).refusal) }
+{
+    let mut expects = Expects::Start;
+    let mut option: &[u8] = &[];
+    let mut name = name;
+    let mut rest = options;
+    while let [word, more @ ..] = rest {
+        let word = word.as_slice();
+        match expects {
+            Expects::Start => {
+                let Some(next) = expected_after(word) else {
+                    refuse_option(out, word)?;
+                    return Ok(name);
+                };
+                expects = next;
+                option = word;
+            }
+            Expects::User => expects = Expects::Password(is_user(word)),
+            Expects::Password(true) => expects = Expects::Start,
+            Expects::Password(false) => {
+                say(out, WRONG_PASSWORD)?;
+                return Ok(name);
+            }
+            Expects::NewName => {
+                if !is_client_name(word) {
+                    say(out, NO_NAME)?;
+                    return Ok(name);
+                }
+                name = word;
+                expects = Expects::Start;
+            }
+        }
+        rest = more;
+    }
+    if let Expects::Start = expects {
+        return Ok(name);
+    }
+    refuse_option(out, option)?;
+    Ok(name)
+}
+
+/// The answer is a number and the end of its line between two texts.
+fn say_numbered(out: &mut OutText, before: &[u8], number: u64, after: &[u8]) -> Result<(), NoMemory>
+    ensures { OnOk result (out.new ≡ before.now ++ ((decimal number ++ line_end) ++ after.now)) }
+{
+    say(out, before)?;
+    add_number(out, number)?;
+    out.add(after)
+}
+
+/// The answer is what HELLO says of the Sentinel.
+fn say_hello(out: &mut OutText, id: u64) -> Result<(), NoMemory>
+    ensures { OnOk result (out.new ≡ spelling (hello_map id)) }
+{
+    say_numbered(
+        out,
+        b"*12\r\n$6\r\nserver\r\n$5\r\nredis\r\n$7\r\nversion\r\n$5\r\n7.2.0\r\n$5\r\nproto\r\n:2\r\n$2\r\nid\r\n:",
+        id,
+        b"$4\r\nmode\r\n$8\r\nsentinel\r\n$7\r\nmodules\r\n*0\r\n",
+    )
+}
+
+/// The answer to HELLO with these words, on a connection with this number and this name. What is given back is the name that it has then.
+#[tactic(auto, using(crate::proofs::Bytes::refused_or_else))]
+pub(crate) fn hello<'a>(
+    id: u64,
+    name: &'a [u8],
+    words: &'a [Text],
+    out: &mut OutText,
+) -> Result<&'a [u8], NoMemory>
+    ensures name { IfOk result (λ left. left.now ≡ hello_name name.now words.now) }
+    ensures text { OnOk result (out.new ≡ spelling (hello id name.now words.now)) }
+{
+    if asks_for_2(words) {
+        say_hello(out, id)?;
+        return greeted(name, after_first(words), out);
+    }
+    if is_integer(first(words)) {
+        say(out, b"-NOPROTO unsupported protocol version\r\n")?;
+    } else {
+        say(
+            out,
+            b"-ERR Protocol version is not an integer or out of range\r\n",
+        )?;
+    }
+    Ok(name)
+}
+
+/// The answer to AUTH with these words.
+pub(crate) fn auth(words: &[Text], out: &mut OutText) -> Result<(), NoMemory>
+    ensures { OnOk result (out.new ≡ spelling (auth words.now)) }
+{
+    if words.len() == 1 {
+        return say(
+            out,
+            b"-ERR AUTH <password> called without any password configured for the default user. Are you sure your configuration is correct?\r\n",
+        );
+    }
+    if words.len() != 2 {
+        return say(out, b"-ERR syntax error\r\n");
+    }
+    if is_user(first(words)) {
+        return say(out, OK);
+    }
+    say(out, WRONG_PASSWORD)
+}
+
+/// The answer to CLIENT SETNAME with these words.
+pub(crate) fn set_name(words: &[Text], out: &mut OutText) -> Result<(), NoMemory>
+    ensures { OnOk result (out.new ≡ spelling (set_name words.now)) }
+{
+    if is_client_name(first(words)) {
+        return say(out, OK);
+    }
+    say(out, NO_NAME)
+}

@@ -1,0 +1,24 @@
+//! What a port answers to clients beside a Sentinel's own commands: HELLO, AUTH, CLIENT, COMMAND, ROLE, PUBLISH, INFO, PING with a text, and
+//! redis-sentinel's words for commands that are unknown or have another number of words.
+//!
+//! `courtesy_of` says what becomes of a value. One that the Sentinel's rules answer is left to them; each that they call unknown, or refuse for its
+//! number of words, has exactly one answer, by the table in docs/COURTESIES.md. No Sentinel is known here, so nothing of one is changed; what INFO says
+//! comes from the Sentinel's own answer to SENTINEL MASTERS.
+#![tactic(auto)]
+
+mod asker;
+mod attendants;
+mod clients;
+mod courtesies;
+mod hellos;
+mod infos;
+mod laws;
+mod lookup;
+mod refusals;
+mod verbs;
+
+pub use asker::Asker;
+pub use attendants::Attendant;
+pub use courtesies::{Courtesy, courtesy_of};
+pub use infos::info;
+pub use laws::{law_answers_are_values, law_own_values_are_left};

@@ -1,0 +1,130 @@
+//! What a port answers to commands beside a Sentinel's own.
+
+use crate::commands::{array, value_of};
+use crate::told::{Told, Unplayed};
+use ballot_law::{Name, Text};
+use port_courtesies::{Asker, Attendant, Courtesy, courtesy_of, info};
+use resp2_frames::{FrameFault, OutText};
+use std::alloc::Global;
+
+/// A connection with number 21 and this name, at a Sentinel that watches `mymaster`.
+fn asker(alloc: Global, name: &[u8], listens: bool) -> Result<Asker, Unplayed> {
+    let mut masters = Vec::new(alloc);
+    let Some(master) = Name::from_slice(b"mymaster") else {
+        return Err(Unplayed::WrongWords);
+    };
+    masters.push(master)?;
+    Ok(Asker {
+        id: 21,
+        name: Text::from_slice(alloc, name)?,
+        listens,
+        masters,
+    })
+}
+
+/// Tells what becomes of a value, and the text that goes with it.
+fn tell_kind(kind: Courtesy, text: &[u8], told: &mut Told) -> Result<(), Unplayed> {
+    match kind {
+        Courtesy::Left => told.word("left"),
+        Courtesy::Said => told.bytes(text),
+        Courtesy::AsksMasters => told.word("asks_masters"),
+    }
+}
+
+/// Tells what becomes of a command of a connection, and the name that it has then.
+fn tell(
+    alloc: Global,
+    asker: &mut Asker,
+    words: &[Vec<u8>],
+    told: &mut Told,
+) -> Result<(), Unplayed> {
+    let mut out = OutText::new(alloc);
+    let kind = courtesy_of(alloc, asker, &array(alloc, words)?, &mut out)?;
+    tell_kind(kind, out.as_slice(), told)?;
+    if asker.name.as_slice().is_empty() {
+        return Ok(());
+    }
+    told.word("named")?;
+    told.bytes(asker.name.as_slice())
+}
+
+/// Tells the answer to INFO with these words, where the answer to SENTINEL MASTERS is `masters`.
+fn tell_info(
+    alloc: Global,
+    masters: &[u8],
+    words: &[Vec<u8>],
+    told: &mut Told,
+) -> Result<(), Unplayed> {
+    let mut out = OutText::new(alloc);
+    info(
+        alloc,
+        &array(alloc, words)?,
+        &value_of(alloc, masters)?,
+        &mut out,
+    )?;
+    told.bytes(out.as_slice())
+}
+
+/// Tells what becomes of the values that are whole, a value that is left by its bytes; of INFO also its answer, where SENTINEL MASTERS is answered with
+/// no masters. Whether the stream goes on.
+fn tell_whole(alloc: Global, attendant: &mut Attendant, told: &mut Told) -> Result<bool, Unplayed> {
+    for _ in 0..u64::MAX {
+        let kind = match attendant.attend() {
+            Ok(Some(kind)) => kind,
+            Ok(None) => return Ok(true),
+            Err(FrameFault::NoMemory) => return Err(Unplayed::NoMemory),
+            Err(fault) => {
+                told.shown(&fault)?;
+                return Ok(false);
+            }
+        };
+        tell_kind(kind, attendant.text(), told)?;
+        match kind {
+            Courtesy::Said => {}
+            Courtesy::Left => told.bytes(attendant.text())?,
+            Courtesy::AsksMasters => {
+                attendant.inform(&array(alloc, &[])?)?;
+                told.bytes(attendant.text())?;
+            }
+        }
+    }
+    Ok(false)
+}
+
+/// Tells what becomes of the values of a stream that comes in these pieces.
+fn tell_stream(
+    alloc: Global,
+    listens: bool,
+    pieces: &[Vec<u8>],
+    told: &mut Told,
+) -> Result<(), Unplayed> {
+    let mut attendant = Attendant::new(alloc, asker(alloc, b"", false)?);
+    attendant.note_listening(listens);
+    for piece in pieces {
+        if let Err(FrameFault::NoMemory) = attendant.feed(piece) {
+            return Err(Unplayed::NoMemory);
+        }
+        if !tell_whole(alloc, &mut attendant, told)? {
+            return Ok(());
+        }
+    }
+    Ok(())
+}
+
+/// Tells what comes of a call with these words.
+pub(crate) fn play(
+    alloc: Global,
+    call: &str,
+    words: &[Vec<u8>],
+    told: &mut Told,
+) -> Result<(), Unplayed> {
+    match (call, words) {
+        ("ask", words) => tell(alloc, &mut asker(alloc, b"", false)?, words, told),
+        ("ask_listening", words) => tell(alloc, &mut asker(alloc, b"", true)?, words, told),
+        ("ask_as", [name, words @ ..]) => tell(alloc, &mut asker(alloc, name, false)?, words, told),
+        ("info", [masters, words @ ..]) => tell_info(alloc, masters, words, told),
+        ("attend", pieces) => tell_stream(alloc, false, pieces, told),
+        ("attend_listening", pieces) => tell_stream(alloc, true, pieces, told),
+        _ => Err(Unplayed::NoSuchCall),
+    }
+}
