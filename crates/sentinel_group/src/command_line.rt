@@ -55,10 +55,17 @@ fn serve<'a>(alloc: Global) -> Result<Command<'a>, AllocError> {
         .value_name("number")
         .value_parser(value_parser!(u16).range(1..=i64::from(PORT_THREADS_MAX)))
         .help("How many threads serve each port, 1 to 16; 1 where it isn't said");
+    let compatible = Arg::new(alloc, "compatible")
+        .long("compatible")
+        .action(ArgAction::SetTrue)
+        .help(
+            "Answers what client libraries send beside a Sentinel's commands, as HELLO, CLIENT and INFO",
+        );
     Command::new(alloc, "serve")
         .about("Runs a group of Sentinels with their ports at 127.0.0.1, until standard input ends")
         .arg(notes)?
         .arg(threads)?
+        .arg(compatible)?
         .arg(conf_files(alloc))
 }
 

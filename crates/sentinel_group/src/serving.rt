@@ -30,14 +30,27 @@ fn port_threads_of(words: &ArgMatches) -> u16 {
     words.get_one::<u16>("port-threads").unwrap_or(1)
 }
 
-/// Runs the group of these files, and obeys the lines of standard input, until that ends. So many threads serve each port.
-fn run<R>(rt: &R, alloc: Global, files: GroupFiles, port_threads: u16) -> Result<(), OrderedFault>
+/// Runs the group of these files, and obeys the lines of standard input, until that ends. So many threads serve each port, with courtesies or without.
+fn run<R>(
+    rt: &R,
+    alloc: Global,
+    files: GroupFiles,
+    port_threads: u16,
+    courteous: bool,
+) -> Result<(), OrderedFault>
 where
     R: Threads + Wait + Net + Clock + Log + Input + Sync,
     requires { All (λ store. store < 2 ^ 64 - 1) files.stores.items }
 {
     let ending = AtomicU64::new(0);
-    let group = Group::open_with(rt, alloc, files.confs, files.stores, port_threads)?;
+    let group = Group::open_with(
+        rt,
+        alloc,
+        files.confs,
+        files.stores,
+        port_threads,
+        courteous,
+    )?;
     group.run_by_orders(rt, &mut rt.reader(), &ending)
 }
 
@@ -50,7 +63,8 @@ where
         Ok(files) => files,
         Err(status) => return Err(Unserved::Refused(status)),
     };
-    match run(noting, rt.alloc(), files, port_threads_of(words)) {
+    let courteous = words.get_flag("compatible");
+    match run(noting, rt.alloc(), files, port_threads_of(words), courteous) {
         Ok(()) => Ok(()),
         Err(fault) => Err(Unserved::Fault(fault)),
     }

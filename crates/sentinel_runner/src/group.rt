@@ -85,16 +85,18 @@ impl<S: ConfStore + Drop> Group<S> {
         ensures group { AreOneGroup confs.items stores.items → IfErr result (λ fault. fault ≢ NotOneRoster) }
         ensures other { ¬ (AreOneGroup confs.items stores.items) → IsErrOf result NotOneRoster }
     {
-        Self::open_with(rt, alloc, confs, stores, 1)
+        Self::open_with(rt, alloc, confs, stores, 1, false)
     }
 
-    /// As `open`, with so many threads for each port, of which each has a seat of the Sentinel: one at least, and no more than `PORT_THREADS_MAX`.
+    /// As `open`, with so many threads for each port, of which each has a seat of the Sentinel: one at least, and no more than `PORT_THREADS_MAX`; and with
+    /// courtesies for the clients of the ports or without.
     pub fn open_with<R: Net + Clock + Log>(
         rt: &R,
         alloc: Global,
         confs: Vec<Conf>,
         stores: Vec<S>,
         port_threads: u16,
+        courteous: bool,
     ) -> Result<Group<S>, GroupFault>
         requires room { All (λ s. S.failure_count s < 2 ^ 64 - 1) stores.items }
         ensures group { AreOneGroup confs.items stores.items → IfErr result (λ fault. fault ≢ NotOneRoster) }
@@ -103,7 +105,7 @@ impl<S: ConfStore + Drop> Group<S> {
         if !are_one_group(confs.as_slice(), stores.as_slice()) {
             return Err(GroupFault::NotOneRoster);
         }
-        Self::open_all(rt, alloc, confs, stores, port_threads)
+        Self::open_all(rt, alloc, confs, stores, port_threads, courteous)
     }
 
     /// Opens what `open` opens, of confs that are those of one group.
@@ -113,6 +115,7 @@ impl<S: ConfStore + Drop> Group<S> {
         confs: Vec<Conf>,
         stores: Vec<S>,
         port_threads: u16,
+        courteous: bool,
     ) -> Result<Group<S>, GroupFault>
         requires room { All (λ s. S.failure_count s < 2 ^ 64 - 1) stores.items }
         requires group { AreOneGroup confs.items stores.items }
@@ -125,7 +128,7 @@ impl<S: ConfStore + Drop> Group<S> {
         let (mut links, node_orders) = Links::open(alloc, confs.len())?;
         let clock = GroupClock::start(rt);
         let port_threads = port_threads.clamp(1, PORT_THREADS_MAX);
-        let room = room_of(rt, alloc, confs.len(), port_threads)?;
+        let room = room_of(rt, alloc, confs.len(), port_threads)?.with_courtesies(courteous);
         let sentinels = start_all(rt, alloc, confs, stores, &mut links, room)?;
         Ok(Group {
             threads: Beginning {

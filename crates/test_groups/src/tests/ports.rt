@@ -113,7 +113,7 @@ fn two_threads_of_a_port_answer(rt: HostRuntime) -> Result<(), Fail> {
     let port = free_port(&rt)?;
     let text = text_of_one(alloc, port)?;
     let (confs, stores) = one(alloc, text.as_str()).ok_or("no conf")?;
-    let Ok(group) = Group::open_with(&rt, alloc, confs, stores, 2) else {
+    let Ok(group) = Group::open_with(&rt, alloc, confs, stores, 2, false) else {
         return Err(Fail::from("no group"));
     };
     // (each thread has one of the two)
