@@ -55,10 +55,17 @@ fn serve<'a>(alloc: Global) -> Result<Command<'a>, AllocError> {
         .value_name("number")
         .value_parser(value_parser!(u16).range(1..=i64::from(PORT_THREADS_MAX)))
         .help("How many threads serve each port, 1 to 16; 1 where it isn't said");
+    let until_killed = Arg::new(alloc, "until-killed")
+        .long("until-killed")
+        .action(ArgAction::SetTrue)
+        .help(
+            "Reads no standard input, and runs until a signal ends it: for supervisors, containers and nohup",
+        );
     Command::new(alloc, "serve")
         .about("Runs a group of Sentinels with their ports at 127.0.0.1, until standard input ends")
         .arg(notes)?
         .arg(threads)?
+        .arg(until_killed)?
         .arg(conf_files(alloc))
 }
 

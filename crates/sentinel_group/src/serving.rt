@@ -7,8 +7,7 @@ use crate::group_files::{GroupFiles, files_of};
 use clap::ArgMatches;
 use log::Log;
 use sentinel_runner::{Group, OrderedFault};
-use std::alloc::Global;
-use std::io::Input;
+use std::io::{Input, IsTerminal};
 use std::net::Net;
 use std::process::ExitCode;
 use std::rt::Clock;
@@ -30,15 +29,35 @@ fn port_threads_of(words: &ArgMatches) -> u16 {
     words.get_one::<u16>("port-threads").unwrap_or(1)
 }
 
-/// Runs the group of these files, and obeys the lines of standard input, until that ends. So many threads serve each port.
-fn run<R>(rt: &R, alloc: Global, files: GroupFiles, port_threads: u16) -> Result<(), OrderedFault>
+/// Tells which lines standard input takes, where it is a terminal: somebody is there who can type them.
+fn tell_orders(rt: HostRuntime) {
+    if rt.stdin().is_terminal() {
+        let _ = eprintln!(rt;
+            "sentinel_group: takes the lines stop d0, start d0 and set d0 100 0 0, and ends with standard input (Ctrl-D)"
+        );
+    }
+}
+
+/// Runs the group of these files, and obeys the lines of standard input, until that ends. With `--until-killed` nothing is read, and the group
+/// runs on.
+fn run<R>(
+    rt: HostRuntime,
+    noting: &R,
+    files: GroupFiles,
+    words: &ArgMatches,
+) -> Result<(), OrderedFault>
 where
     R: Threads + Wait + Net + Clock + Log + Input + Sync,
     requires { All (λ store. store < 2 ^ 64 - 1) files.stores.items }
 {
     let ending = AtomicU64::new(0);
-    let group = Group::open_with(rt, alloc, files.confs, files.stores, port_threads)?;
-    group.run_by_orders(rt, &mut rt.reader(), &ending)
+    let port_threads = port_threads_of(words);
+    let group = Group::open_with(noting, rt.alloc(), files.confs, files.stores, port_threads)?;
+    if words.get_flag("until-killed") {
+        return Ok(group.run(noting, &ending)?);
+    }
+    tell_orders(rt);
+    group.run_by_orders(noting, &mut noting.reader(), &ending)
 }
 
 /// Serves the group of the conf files that the words name; its notes go to the log of `noting`.
@@ -50,7 +69,7 @@ where
         Ok(files) => files,
         Err(status) => return Err(Unserved::Refused(status)),
     };
-    match run(noting, rt.alloc(), files, port_threads_of(words)) {
+    match run(rt, noting, files, words) {
         Ok(()) => Ok(()),
         Err(fault) => Err(Unserved::Fault(fault)),
     }
