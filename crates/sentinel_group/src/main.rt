@@ -11,6 +11,7 @@ mod group_files;
 mod locks;
 mod mending;
 mod new_ids;
+mod noted_store;
 mod replaying;
 mod serving;
 mod telling;

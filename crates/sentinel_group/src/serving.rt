@@ -45,7 +45,7 @@ fn tell_orders(rt: HostRuntime) {
 fn run<R>(
     rt: HostRuntime,
     noting: &R,
-    files: GroupFiles,
+    files: GroupFiles<'_, R>,
     words: &ArgMatches,
 ) -> Result<(), OrderedFault>
 where
@@ -63,15 +63,16 @@ where
 }
 
 /// The files that the words name, and their locks. Files that make no group are told as such, also where another program runs on one of them.
-fn locked_files_of(
+fn locked_files_of<'a, R: Log>(
     rt: HostRuntime,
+    noting: &'a R,
     words: &ArgMatches,
-) -> Result<(GroupFiles, Vec<FileLock>), ExitCode>
+) -> Result<(GroupFiles<'a, R>, Vec<FileLock>), ExitCode>
     ensures { IfOk result (λ files. All (λ store. store < 2 ^ 64 - 1) files.0.stores.items) }
 {
     let paths = words.get_strs("conf").unwrap_or(&[]);
     let locked = lock_files(rt, paths);
-    let files = files_of(rt, paths)?;
+    let files = files_of(rt, noting, paths)?;
     match locked {
         Ok(locks) => Ok((files, locks)),
         Err(fault) => {
@@ -88,7 +89,7 @@ pub(crate) fn serve<R>(rt: HostRuntime, noting: &R, words: &ArgMatches) -> Resul
 where
     R: Threads + Wait + Net + Clock + Log + Input + Sync,
 {
-    let (files, locks) = match locked_files_of(rt, words) {
+    let (files, locks) = match locked_files_of(rt, noting, words) {
         Ok(locked) => locked,
         Err(status) => return Err(Unserved::Refused(status)),
     };
