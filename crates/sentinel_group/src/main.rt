@@ -14,6 +14,7 @@ mod new_ids;
 mod noted_store;
 mod replaying;
 mod serving;
+mod starting;
 mod telling;
 
 use crate::checking::check;

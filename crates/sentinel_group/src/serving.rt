@@ -5,6 +5,7 @@ ghost use Rattle.std.specs.Prelude.{◌<◌, ◌-◌, ◌^◌, All, IfOk};
 use crate::failures::{fail_ordered, status_of_ordered};
 use crate::group_files::{GroupFiles, files_of};
 use crate::locks::{FileLock, lock_files, refuse_lock};
+use crate::starting::note_start;
 use clap::ArgMatches;
 use group_checks::is_one_group;
 use log::Log;
@@ -93,6 +94,8 @@ where
         Ok(locked) => locked,
         Err(status) => return Err(Unserved::Refused(status)),
     };
+    let paths = words.get_strs("conf").unwrap_or(&[]);
+    note_start(rt, noting, paths, files.confs.as_slice());
     let ended = run(rt, noting, files, words);
     drop(locks);
     match ended {
