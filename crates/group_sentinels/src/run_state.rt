@@ -10,6 +10,7 @@ pub struct RunState {
     halted: AtomicU64,
     lacked_thread: AtomicU64,
     lost_port: AtomicU64,
+    closes_halted: AtomicU64,
 }
 
 impl RunState {
@@ -20,6 +21,7 @@ impl RunState {
             halted: AtomicU64::new(0),
             lacked_thread: AtomicU64::new(0),
             lost_port: AtomicU64::new(0),
+            closes_halted: AtomicU64::new(0),
         }
     }
 
@@ -36,6 +38,16 @@ impl RunState {
     /// Notes that a port can't serve its clients any more.
     pub fn note_lost_port(&self) {
         self.lost_port.store(1, Ordering::SeqCst);
+    }
+
+    /// From now on a halted Sentinel closes its port.
+    pub fn close_halted(&self) {
+        self.closes_halted.store(1, Ordering::SeqCst);
+    }
+
+    /// Whether a halted Sentinel closes its port.
+    pub(crate) fn closes_halted(&self) -> bool {
+        self.closes_halted.load(Ordering::SeqCst) != 0
     }
 
     /// Whether a Sentinel was halted.

@@ -55,6 +55,12 @@ fn serve<'a>(alloc: Global) -> Result<Command<'a>, AllocError> {
         .value_name("number")
         .value_parser(value_parser!(u16).range(1..=i64::from(PORT_THREADS_MAX)))
         .help("How many threads serve each port, 1 to 16; 1 where it isn't said");
+    let close_halted = Arg::new(alloc, "close-halted")
+        .long("close-halted")
+        .action(ArgAction::SetTrue)
+        .help(
+            "Closes the port of a Sentinel whose file can't be written, so that clients ask another one",
+        );
     let until_killed = Arg::new(alloc, "until-killed")
         .long("until-killed")
         .action(ArgAction::SetTrue)
@@ -65,6 +71,7 @@ fn serve<'a>(alloc: Global) -> Result<Command<'a>, AllocError> {
         .about("Runs a group of Sentinels with their ports at 127.0.0.1, until standard input ends")
         .arg(notes)?
         .arg(threads)?
+        .arg(close_halted)?
         .arg(until_killed)?
         .arg(conf_files(alloc))
 }

@@ -56,6 +56,9 @@ where
     let ending = AtomicU64::new(0);
     let port_threads = port_threads_of(words);
     let group = Group::open_with(noting, rt.alloc(), files.confs, files.stores, port_threads)?;
+    if words.get_flag("close-halted") {
+        group.close_halted();
+    }
     if words.get_flag("until-killed") {
         return Ok(group.run(noting, &ending)?);
     }
