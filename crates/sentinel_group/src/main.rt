@@ -1,5 +1,5 @@
 //! The program `sentinel_group`: `answer` serves the commands of standard input on standard output, `serve` runs a group with its ports,
-//! `replay` plays a story of a group, `check` tells what group files make, `new-id` prints a run id for a new one.
+//! `watch` runs one Sentinel over real Redis servers, `replay` plays a story of a group, `check` tells what group files make, `new-id` prints a run id for a new one.
 #![tactic(auto)]
 
 ghost use Rattle.std.specs.Prelude.{◌<◌, ◌-◌, ◌^◌};
@@ -8,19 +8,26 @@ mod checking;
 mod command_line;
 mod failures;
 mod group_files;
+mod locks;
 mod mending;
 mod new_ids;
+mod noted_store;
 mod replaying;
 mod serving;
+mod starting;
 mod telling;
+mod watch_lines;
+mod watching;
 
 use crate::checking::check;
 use crate::command_line::{command, refuse_unread, tell_words, words};
 use crate::failures::fail;
 use crate::group_files::file_of;
+use crate::locks::{lock_file, refuse_lock};
 use crate::new_ids::new_id;
 use crate::replaying::replay;
 use crate::serving::{serve as serve_group, tell_end};
+use crate::watching::{tell_watched, watch, watch_level};
 use clap::ArgMatches;
 use conf_store::{ConfStore, MemoryStore};
 use log::sink::Discard;
@@ -62,11 +69,20 @@ fn answer_in_memory(rt: HostRuntime) -> ExitCode {
     serve(rt, conf, &mut store)
 }
 
-/// Serves with the configuration of the file at the path, which is rewritten as what it holds changes.
+/// Serves with the configuration of the file at the path, which is rewritten as what it holds changes. Nobody else may run on it meanwhile.
 fn answer_from(rt: HostRuntime, path: &str) -> ExitCode {
-    match file_of(rt, path) {
-        Ok((conf, mut store)) => serve(rt, conf, &mut store),
-        Err(status) => status,
+    let locked = lock_file(rt, path);
+    let (conf, mut store) = match file_of(rt, path) {
+        Ok(file) => file,
+        Err(status) => return status,
+    };
+    match locked {
+        Ok(lock) => {
+            let status = serve(rt, conf, &mut store);
+            drop(lock);
+            status
+        }
+        Err(fault) => refuse_lock(rt, fault),
     }
 }
 
@@ -104,6 +120,16 @@ fn main(rt: HostRuntime) -> ExitCode {
                 let ended = serve_group(rt, &noting, words);
                 drop(noting);
                 tell_end(rt, ended, writer.wait(&rt))
+            }
+            Some(("watch", words)) => {
+                // (as above)
+                let Ok((queue, writer)) = NoteQueue::open(rt, rt.alloc()) else {
+                    return fail(&rt, ServeFault::NoMemory);
+                };
+                let noting = Logged::new(rt, watch_level(words), queue);
+                let ended = watch(rt, &noting, words);
+                drop(noting);
+                tell_watched(rt, ended, writer.wait(&rt))
             }
             Some((_, words)) => answer(rt, words),
             None => answer_in_memory(rt),

@@ -1,0 +1,175 @@
+//! `watch`: one Sentinel that watches Redis servers.
+
+ghost use Rattle.std.specs.Prelude.{◌≡◌, ◌<◌, ◌-◌, ◌^◌, IfOk};
+
+use crate::command_line::port_threads_of;
+use crate::failures::{fail, fail_group, refuse_conf, refuse_file, status_of_group};
+use crate::group_files::text_at;
+use crate::locks::{FileLock, lock_file, refuse_lock};
+use crate::noted_store::NotedStore;
+use crate::starting::note_sentinel;
+use crate::telling::tell_faults;
+use crate::watch_lines::{WatchFault, lacks_announce_ip, listening_ips, logins_of, resolving_line};
+use clap::ArgMatches;
+use log::{LevelFilter, Log};
+use port_serving::ServeFault;
+use sentinel_conf::{Conf, read};
+use sentinel_runner::{GroupFault, Watch, WatchSettings};
+use std::net::Net;
+use std::process::ExitCode;
+use std::rt::Clock;
+use std::sync::Wait;
+use std::thread::Threads;
+
+/// Why a Sentinel didn't run, or ended.
+#[derive(Drop)]
+pub(crate) enum Unwatched {
+    /// Its file was refused, which was told; the status tells it too.
+    Refused(ExitCode),
+    /// A fault of the Sentinel that runs.
+    Fault(GroupFault),
+}
+
+/// What a file makes of a Sentinel of its own.
+#[derive(Drop)]
+struct WatchFile<'a, R: Log> {
+    conf: Conf,
+    store: NotedStore<'a, R>,
+    settings: WatchSettings,
+}
+
+/// Which notes go to standard error: all, or with `--quiet` those alone that tell why it ends.
+pub(crate) fn watch_level(words: &ArgMatches) -> LevelFilter {
+    if words.get_flag("quiet") {
+        LevelFilter::Warn
+    } else {
+        LevelFilter::Info
+    }
+}
+
+/// Tells why a file that can be read isn't one for `watch`.
+fn refuse_watch(rt: HostRuntime, path: &str, line: u64, fault: WatchFault) -> ExitCode {
+    match fault {
+        WatchFault::NoMemory => fail(&rt, ServeFault::NoMemory),
+        fault => refuse_file(&rt, path, line, fault),
+    }
+}
+
+/// What the lines of a file say that count for `watch` alone. A fault is told, and the status tells it too.
+fn settings_of(
+    rt: HostRuntime,
+    path: &str,
+    conf: &Conf,
+    text: &[u8],
+    port_threads: u16,
+) -> Result<WatchSettings, ExitCode> {
+    if let Some(line) = resolving_line(text) {
+        return Err(refuse_watch(rt, path, line, WatchFault::NamesOfHosts));
+    }
+    if lacks_announce_ip(conf) {
+        return Err(refuse_watch(rt, path, 0, WatchFault::NoAnnounceIp));
+    }
+    let ips = match listening_ips(rt.alloc(), text) {
+        Ok(ips) => ips,
+        Err((line, fault)) => return Err(refuse_watch(rt, path, line, fault)),
+    };
+    match logins_of(rt.alloc(), conf.roster(), text) {
+        Ok(logins) => Ok(WatchSettings {
+            ips,
+            port_threads,
+            logins,
+        }),
+        Err(_) => Err(fail(&rt, ServeFault::NoMemory)),
+    }
+}
+
+/// The file at the path, as a store whose notes go to the log of `noting`. One that is refused is told, with all that is wrong with it, and the
+/// status tells it too.
+fn watch_file<'a, R: Log>(
+    rt: HostRuntime,
+    noting: &'a R,
+    path: &str,
+    port_threads: u16,
+) -> Result<WatchFile<'a, R>, ExitCode>
+    ensures { IfOk result (λ file. file.store ≡ 0) }
+{
+    let (text, store) = text_at(rt, path)?;
+    let conf = match read(rt.alloc(), text.as_slice()) {
+        Ok(conf) => conf,
+        Err(fault) => {
+            let status = refuse_conf(&rt, path, fault);
+            tell_faults(rt, path, text.as_slice());
+            return Err(status);
+        }
+    };
+    let settings = settings_of(rt, path, &conf, text.as_slice(), port_threads)?;
+    match NotedStore::of(rt, noting, store, conf.port(), path) {
+        Ok(store) => Ok(WatchFile {
+            conf,
+            store,
+            settings,
+        }),
+        Err(_) => Err(fail(&rt, ServeFault::NoMemory)),
+    }
+}
+
+/// The file that the words name, and its lock. What is wrong with it is told also where another program runs on it.
+fn locked_file<'a, R: Log>(
+    rt: HostRuntime,
+    noting: &'a R,
+    words: &ArgMatches,
+) -> Result<(WatchFile<'a, R>, FileLock), ExitCode>
+    ensures { IfOk result (λ locked. locked.0.store ≡ 0) }
+{
+    let path = words.get_str("conf").unwrap_or("");
+    let locked = lock_file(rt, path);
+    let file = watch_file(rt, noting, path, port_threads_of(words))?;
+    match locked {
+        Ok(lock) => Ok((file, lock)),
+        Err(fault) => Err(refuse_lock(rt, fault)),
+    }
+}
+
+/// Runs the Sentinel of the conf file that the words name, on which nobody else may run meanwhile; its notes go to the log of `noting`.
+pub(crate) fn watch<R>(rt: HostRuntime, noting: &R, words: &ArgMatches) -> Result<(), Unwatched>
+where
+    R: Threads + Wait + Net + Clock + Log + Sync,
+{
+    let (file, lock) = match locked_file(rt, noting, words) {
+        Ok(locked) => locked,
+        Err(status) => return Err(Unwatched::Refused(status)),
+    };
+    let WatchFile {
+        conf,
+        store,
+        settings,
+    } = file;
+    note_sentinel(noting, &conf);
+    let ended = match Watch::open(noting, rt.alloc(), conf, store, settings) {
+        Ok(watch) => watch.run(noting),
+        Err(fault) => Err(fault),
+    };
+    drop(lock);
+    match ended {
+        Ok(()) => Ok(()),
+        Err(fault) => Err(Unwatched::Fault(fault)),
+    }
+}
+
+/// Tells how a Sentinel ended, by a line, where standard error takes lines, and by the status.
+pub(crate) fn tell_watched(
+    rt: HostRuntime,
+    ended: Result<(), Unwatched>,
+    takes_lines: bool,
+) -> ExitCode {
+    match ended {
+        Ok(()) => ExitCode::SUCCESS,
+        Err(Unwatched::Refused(status)) => status,
+        Err(Unwatched::Fault(fault)) => {
+            if takes_lines {
+                return fail_group(&rt, fault);
+            }
+            ExitCode::from(status_of_group(fault))
+        }
+    }
+}
