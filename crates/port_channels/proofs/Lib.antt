@@ -1,0 +1,6 @@
+pub mod Bytes
+pub mod Fitting
+pub mod Lines
+pub mod Listed
+pub mod Shorter
+pub mod Sounding
