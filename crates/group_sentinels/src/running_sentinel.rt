@@ -6,8 +6,7 @@ ghost use Rattle.ballot_law.specs.Messages.{sent};
 ghost use Rattle.boxed_nodes.specs.Sendable.{IsSendableOutput};
 ghost use Rattle.group_sentinels.specs.Running.{input_of, phase_of};
 ghost use Rattle.group_sentinels.specs.declared.switches.TheConstants.{WAITING_MAX};
-ghost use Rattle.port_sessions.specs.Talks.{Receives, party};
-ghost use Rattle.port_sessions.specs.Notes.{Notifies};
+ghost use Rattle.courteous_sessions.specs.Clients.{Takes, NotifiesClient};
 ghost use Rattle.sentinel_cell.specs.declared.entry.Outcome.TheVariants.{Stored};
 ghost use Rattle.sentinel_cell.specs.Standing.{Adds, Faulted};
 ghost use Rattle.sentinel_rules.specs.Plans.{group_size, master_count, roster_of};
@@ -21,10 +20,10 @@ use crate::switches::{Switch, Switches};
 use crate::ticking::TICK_MS;
 use ballot_law::{Event, Input, NoMemory, Output, Roster};
 use conf_store::ConfStore;
+use courteous_sessions::ClientSession;
 use log::kv::With;
 use log::{Level, Log, Span, log_enabled};
 use port_serving::ServeFault;
-use port_sessions::Session;
 use sentinel_cell::{ActFault, Seat, SharedSentinel};
 use sentinel_outbox::Outbox;
 use sentinel_rules::law_outputs_are_within;
@@ -89,13 +88,33 @@ impl<J: Which> ThreadSeat<J> {
     }
 
     /// Has the next turn, at this reading of the clock in milliseconds, take down what the Sentinel shows of a master.
-    pub(crate) fn want(&mut self, master: u16, now: u64) {
+    pub(crate) fn want(&mut self, master: u16, now: u64)
+        ensures { (self.new.seat ≡ self.old.seat) × (self.new.outbox ≡ self.old.outbox) }
+    {
         self.sight.want(master, now);
     }
 
     /// What the last turn took down.
-    pub(crate) fn take_look(&mut self) -> Option<Look> {
+    pub(crate) fn take_look(&mut self) -> Option<Look>
+        ensures { (self.new.seat ≡ self.old.seat) × (self.new.outbox ≡ self.old.outbox) }
+    {
         self.sight.take()
+    }
+
+    /// Has the next turn see whether a campaign for this master is near, at this reading of the clock in milliseconds, now or later: whether the Sentinel finds it
+    /// objectively down then, where nothing else is heard, while no failover of it runs.
+    pub fn look_ahead(&mut self, master: u16, at: u64)
+        ensures { (self.new.seat ≡ self.old.seat) × (self.new.outbox ≡ self.old.outbox) }
+    {
+        self.sight.look_ahead(master, at);
+    }
+
+    /// The number of a campaign that has come near since this was asked last: one that is near stays so, and doesn't come again. It is the epoch of the master's
+    /// configuration with the master's own number: the same for all Sentinels that know that configuration.
+    pub fn take_nearness(&mut self) -> Option<u64>
+        ensures { (self.new.seat ≡ self.old.seat) × (self.new.outbox ≡ self.old.outbox) }
+    {
+        self.sight.take_nearness()
     }
 }
 
@@ -125,6 +144,13 @@ impl<J: Which, S: ConfStore> RunningSentinel<J, S> {
             of: PhantomData,
         };
         Ok((member, with_outbox(alloc, seat)))
+    }
+
+    /// Its place in the roster.
+    pub fn place(&self) -> u16
+        ensures { result ≡ self.now.place }
+    {
+        self.place
     }
 
     /// How many masters it watches.
@@ -219,7 +245,7 @@ impl<J: Which, S: ConfStore> RunningSentinel<J, S> {
     }
 
     /// Where its notes go: each names the Sentinel's port.
-    pub(crate) fn noting<'a, R: Log>(&self, rt: &'a R) -> Span<'a, &'a R, With<'a, (), u16>> {
+    pub fn noting<'a, R: Log>(&self, rt: &'a R) -> Span<'a, &'a R, With<'a, (), u16>> {
         rt.span("sentinel").with("port", self.port)
     }
 
@@ -250,9 +276,9 @@ impl<J: Which, S: ConfStore> RunningSentinel<J, S> {
     }
 
     /// Tells a session of a note: whether it is told, which joins what it sends. `NoMemory` changes nothing.
-    pub fn notify(&self, session: &mut Session, switch: &Switch) -> Result<bool, NoMemory>
+    pub fn notify(&self, session: &mut ClientSession, switch: &Switch) -> Result<bool, NoMemory>
         ensures told { let roster = roster_of self.now.cell.start.plan in switch.now.note.master < length roster.masters
-            → Notifies roster switch.now.note switch.now.entry session.old result session.new }
+            → NotifiesClient roster switch.now.note switch.now.entry session.old result session.new }
         ensures other { length (roster_of self.now.cell.start.plan).masters ≤ switch.now.note.master → (result ≡ Ok false) × (session.new ≡ session.old) }
     {
         let roster = self.cell.roster();
@@ -262,23 +288,17 @@ impl<J: Which, S: ConfStore> RunningSentinel<J, S> {
         session.notify(roster, &switch.note, switch.entry)
     }
 
-    /// Hands a session the next piece of its stream, at a reading of the clock in milliseconds: all that `Session::received` says of it holds of this
+    /// Hands a session the next piece of its stream, at a reading of the clock in milliseconds: all that `ClientSession::received` says of it holds of this
     /// Sentinel.
     pub fn receive<R: Wait>(
         &self,
         rt: &R,
         seat: &mut ThreadSeat<J>,
-        session: &mut Session,
+        session: &mut ClientSession,
         now: u64,
         piece: &[u8],
     ) -> Result<(), ServeFault>
-        ensures received { session.old.ended ≡ None → (more : List ℕ) × (session.new.unsent ≡ session.old.unsent ++ more)
-            × Receives self.now.cell.start now (session.old.held ++ piece.now) (party seat.old.seat.view session.old.listens) result session.new.held more
-            (party seat.new.seat.view session.new.listens) }
-        ensures told { session.new.told ≡ session.old.told }
-        ensures open { OnOk result (session.new.ended ≡ None) }
-        ensures closed { IfErr result (λ fault. session.new.ended ≡ Some fault) }
-        ensures ended { IfSome session.old.ended (λ fault. (result ≡ Err fault) × (session.new ≡ session.old) × (seat.new.seat ≡ seat.old.seat)) }
+        ensures { Takes self.now.cell.start now piece.now result seat.old.seat.view seat.new.seat.view session.old session.new }
     {
         session.received(rt, &self.cell, &mut seat.seat, now, piece)
     }
