@@ -46,13 +46,25 @@ fn open_lock(rt: HostRuntime, path: &str, lock_path: &str) -> Option<File> {
     }
 }
 
+/// Opens the file three times: where standard input, output or error is closed, that takes its number meanwhile, so that no lock has it, into whose
+/// file would go what is printed.
+fn stand_in(rt: HostRuntime, path: &str) -> (Option<File>, Option<File>, Option<File>) {
+    let first = File::open(&rt, path).ok();
+    let second = File::open(&rt, path).ok();
+    let third = File::open(&rt, path).ok();
+    (first, second, third)
+}
+
 /// Locks the file at the path for this program alone. It isn't locked where none can be made beside it, since nobody can store there then, nor
 /// where the system has no locks.
 pub(crate) fn lock_file(rt: HostRuntime, path: &str) -> Result<FileLock, LockFault<'_>> {
     let Ok(lock_path) = format!(in rt.alloc(); "{path}.lock") else {
         return Err(LockFault::NoMemory);
     };
-    let Some(file) = open_lock(rt, path, lock_path.as_str()) else {
+    let standing_in = stand_in(rt, path);
+    let opened = open_lock(rt, path, lock_path.as_str());
+    drop(standing_in);
+    let Some(file) = opened else {
         return Ok(FileLock { held: None });
     };
     match file.try_lock() {

@@ -9,17 +9,20 @@ use crate::locks::{FileLock, lock_file, refuse_lock};
 use crate::noted_store::NotedStore;
 use crate::starting::note_sentinel;
 use crate::telling::tell_faults;
-use crate::watch_lines::{WatchFault, lacks_announce_ip, listening_ips, logins_of, resolving_line};
+use ballot_law::Roster;
 use clap::ArgMatches;
 use log::{LevelFilter, Log};
 use port_serving::ServeFault;
 use sentinel_conf::{Conf, read};
-use sentinel_runner::{GroupFault, Watch, WatchSettings};
+use sentinel_runner::{GroupFault, PortSettings, Watch, WatchSettings};
+use std::alloc::{AllocError, Global};
 use std::net::Net;
 use std::process::ExitCode;
 use std::rt::Clock;
 use std::sync::Wait;
 use std::thread::Threads;
+use tcp_wires::Logins;
+use watch_conf::{WatchConf, WatchFault, WatchKind, read_watch};
 
 /// Why a Sentinel didn't run, or ended.
 #[derive(Drop)]
@@ -48,10 +51,43 @@ pub(crate) fn watch_level(words: &ArgMatches) -> LevelFilter {
 }
 
 /// Tells why a file that can be read isn't one for `watch`.
-fn refuse_watch(rt: HostRuntime, path: &str, line: u64, fault: WatchFault) -> ExitCode {
-    match fault {
-        WatchFault::NoMemory => fail(&rt, ServeFault::NoMemory),
-        fault => refuse_file(&rt, path, line, fault),
+fn refuse_watch(rt: HostRuntime, path: &str, fault: WatchFault) -> ExitCode {
+    match fault.kind {
+        WatchKind::NoMemory => fail(&rt, ServeFault::NoMemory),
+        kind => refuse_file(&rt, path, fault.line, kind),
+    }
+}
+
+/// With which words the Sentinel logs in to the nodes of each master, and to the other Sentinels.
+fn logins_of(alloc: Global, roster: &Roster, watch: &WatchConf) -> Result<Logins, AllocError> {
+    let mut logins = Logins::new(alloc);
+    for master in roster.masters() {
+        let name = &master.name;
+        logins.add(alloc, watch.node_user(name), watch.node_pass(name))?;
+    }
+    logins.set_sentinels(alloc, watch.sent_user(), watch.sent_pass())?;
+    Ok(logins)
+}
+
+/// What the lines say that count for `watch` alone, as its Sentinel takes it.
+fn taken_settings(
+    alloc: Global,
+    roster: &Roster,
+    watch: &WatchConf,
+    port: PortSettings,
+) -> Result<WatchSettings, AllocError> {
+    Ok(WatchSettings {
+        ips: Vec::from_slice(alloc, watch.ips())?,
+        port,
+        logins: logins_of(alloc, roster, watch)?,
+    })
+}
+
+/// How its port is served: by as many threads as the words say, and with courtesies, since whoever comes to it may be a client library of any kind.
+fn port_of(words: &ArgMatches) -> PortSettings {
+    PortSettings {
+        threads: port_threads_of(words),
+        courtesies: true,
     }
 }
 
@@ -61,24 +97,14 @@ fn settings_of(
     path: &str,
     conf: &Conf,
     text: &[u8],
-    port_threads: u16,
+    port: PortSettings,
 ) -> Result<WatchSettings, ExitCode> {
-    if let Some(line) = resolving_line(text) {
-        return Err(refuse_watch(rt, path, line, WatchFault::NamesOfHosts));
-    }
-    if lacks_announce_ip(conf) {
-        return Err(refuse_watch(rt, path, 0, WatchFault::NoAnnounceIp));
-    }
-    let ips = match listening_ips(rt.alloc(), text) {
-        Ok(ips) => ips,
-        Err((line, fault)) => return Err(refuse_watch(rt, path, line, fault)),
+    let watch = match read_watch(rt.alloc(), conf, text) {
+        Ok(watch) => watch,
+        Err(fault) => return Err(refuse_watch(rt, path, fault)),
     };
-    match logins_of(rt.alloc(), conf.roster(), text) {
-        Ok(logins) => Ok(WatchSettings {
-            ips,
-            port_threads,
-            logins,
-        }),
+    match taken_settings(rt.alloc(), conf.roster(), &watch, port) {
+        Ok(settings) => Ok(settings),
         Err(_) => Err(fail(&rt, ServeFault::NoMemory)),
     }
 }
@@ -89,7 +115,7 @@ fn watch_file<'a, R: Log>(
     rt: HostRuntime,
     noting: &'a R,
     path: &str,
-    port_threads: u16,
+    port: PortSettings,
 ) -> Result<WatchFile<'a, R>, ExitCode>
     ensures { IfOk result (λ file. file.store ≡ 0) }
 {
@@ -102,7 +128,7 @@ fn watch_file<'a, R: Log>(
             return Err(status);
         }
     };
-    let settings = settings_of(rt, path, &conf, text.as_slice(), port_threads)?;
+    let settings = settings_of(rt, path, &conf, text.as_slice(), port)?;
     match NotedStore::of(rt, noting, store, conf.port(), path) {
         Ok(store) => Ok(WatchFile {
             conf,
@@ -123,7 +149,7 @@ fn locked_file<'a, R: Log>(
 {
     let path = words.get_str("conf").unwrap_or("");
     let locked = lock_file(rt, path);
-    let file = watch_file(rt, noting, path, port_threads_of(words))?;
+    let file = watch_file(rt, noting, path, port_of(words))?;
     match locked {
         Ok(lock) => Ok((file, lock)),
         Err(fault) => Err(refuse_lock(rt, fault)),
