@@ -1,9 +1,28 @@
-"""Small file systems in memory, for checks that fill a disk, and the namespace in which such a check may mount them."""
+"""Small file systems in memory, for checks that fill a disk, and the namespace in which such a check may mount them; and an fsync that is slow."""
 import os
 import subprocess
 import sys
 
 INSIDE = "CHECK_INSIDE"
+SLOW_FSYNC = r"""
+#define _GNU_SOURCE
+#include <dlfcn.h>
+#include <stdio.h>
+#include <stdlib.h>
+#include <unistd.h>
+
+/* fsync, after as many milliseconds as stand in the file that FSYNC_MS names */
+int fsync(int file) {
+    int millis = 0;
+    FILE *told = fopen(getenv("FSYNC_MS"), "r");
+    if (told) {
+        if (fscanf(told, "%d", &millis) != 1) millis = 0;
+        fclose(told);
+    }
+    usleep(1000u * millis);
+    return ((int (*)(int))dlsym(RTLD_NEXT, "fsync"))(file);
+}
+"""
 
 
 def enter_namespaces(*kinds):
@@ -41,8 +60,45 @@ class Disk:
             os.remove(self.filler)
 
     def allow_writes(self, are_allowed):
-        """Has the file system take writes, or be read alone."""
-        subprocess.run(["mount", "-o", "remount," + ("rw" if are_allowed else "ro"), self.folder], check=True)
+        """Has the file system take writes, or be read alone: then one with the same files, which is read alone, is mounted above it. (It can't be remounted itself while a lock
+        is open.)"""
+        if are_allowed:
+            subprocess.run(["umount", self.folder], check=True)
+            return
+        texts = {}
+        for name in os.listdir(self.folder):
+            with open(os.path.join(self.folder, name), "rb") as text:
+                texts[name] = text.read()
+        mount_memory(self.folder, "64k")
+        for name, text in texts.items():
+            with open(os.path.join(self.folder, name), "wb") as out:
+                out.write(text)
+        subprocess.run(["mount", "-o", "remount,ro", self.folder], check=True)
 
     def end(self):
         subprocess.run(["umount", self.folder], check=True)
+
+
+# --- slow disks ---
+
+
+def built_fsync(folder):
+    """The library with the slow fsync. It needs `cc`."""
+    source, made = os.path.join(folder, "fsync.c"), os.path.join(folder, "fsync.so")
+    with open(source, "w", encoding="utf-8") as out:
+        out.write(SLOW_FSYNC)
+    subprocess.run(["cc", "-shared", "-fPIC", "-o", made, source, "-ldl"], check=True)
+    return made
+
+
+def with_fsync(library, told):
+    """The environment of a program whose fsyncs take as long as the file at `told` says."""
+    # (of a program with an address sanitizer, which wants to be the first library)
+    return {**os.environ, "LD_PRELOAD": library, "FSYNC_MS": told, "ASAN_OPTIONS": "verify_asan_link_order=0"}
+
+
+def set_fsync(told, millis):
+    """Each fsync takes this many milliseconds from now on. A store makes two."""
+    with open(told + ".new", "w", encoding="utf-8") as out:
+        out.write(str(millis))
+    os.rename(told + ".new", told)
