@@ -1,1 +1,2 @@
+pub mod DataNodes
 pub mod Dispatches

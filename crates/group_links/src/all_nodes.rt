@@ -1,8 +1,12 @@
 //! All data nodes of a group.
 
-ghost use Rattle.std.specs.Prelude.{◌≡◌, []};
+ghost use Rattle.std.specs.Prelude.{◌≡◌, ◌⊎◌, ◌≤◌, [], IfOk, length};
 ghost use Rattle.std.specs.List.{AllByRecursion};
 ghost use Rattle.boxed_nodes.specs.Sendable.{IsSendableOutput, IsTakeable};
+ghost use Rattle.data_nodes.specs.Servers.{changed_by};
+ghost use Rattle.group_links.specs.DataNodes.{AreNodesOf, ObeysAt};
+ghost use Rattle.group_links.specs.declared.all_nodes.TheConstants.{NODE_COUNT_MAX};
+ghost use Rattle.group_links.specs.declared.node_orders.Action.TheVariants.{Take, Stop, Start};
 
 use crate::links::Links;
 use crate::node_orders::{Action, NodeOrder};
@@ -22,12 +26,16 @@ use std::time::Duration;
 /// How long the nodes wait for an order before they look whether the group ends, in milliseconds.
 const ORDER_MS: u64 = 50;
 
+/// How many data nodes a group has at most.
+pub const NODE_COUNT_MAX: usize = 4_096;
+
 /// The data nodes of a group, by their numbers, with the room for what one of them says.
 #[derive(Drop)]
 pub struct DataNodes {
     nodes: Vec<DataNode>,
     outbox: Outbox,
     ghost held: { outbox.held ≡ [] },
+    ghost few: { length nodes.items ≤ NODE_COUNT_MAX },
 }
 
 /// Has a node take an input. The outbox shows what it says, which is nothing where it is stopped or where there is no memory.
@@ -36,6 +44,8 @@ fn carry_out(node: &mut DataNode, input: &Input, outbox: &mut Outbox)
     requires held { outbox.old.held ≡ [] }
     ensures held { outbox.new.held ≡ [] }
     ensures sendable { AllByRecursion IsSendableOutput outbox.new.shown }
+    ensures taken { (node.new ≡ node.old)
+        ⊎ ((node.new.number ≡ node.old.number) × (node.new.server ≡ changed_by input.entry.now.event node.old.server)) }
 {
     outbox.clear();
     let room = node.room();
@@ -51,11 +61,13 @@ fn carry_out(node: &mut DataNode, input: &Input, outbox: &mut Outbox)
 
 impl DataNodes {
     /// The data nodes of the roster of this conf, as they begin.
-    pub fn of(alloc: Global, conf: &Conf) -> Result<DataNodes, AllocError> {
+    pub fn of(alloc: Global, conf: &Conf) -> Result<DataNodes, AllocError>
+        ensures { IfOk result (λ all. AreNodesOf conf.now all.nodes.items) }
+    {
         let mut nodes = Vec::new(alloc);
-        for number in 0..u16::MAX {
+        for number in 0..conf.roster().node_count() as u16 {
             let Some(node) = DataNode::new(conf, number) else {
-                break;
+                unreachable!()
             };
             nodes.push(node)?;
         }
@@ -66,13 +78,16 @@ impl DataNodes {
     }
 
     /// How many there are.
-    pub fn count(&self) -> u16 {
-        self.nodes.len().min(u16::MAX as usize) as u16
+    pub fn count(&self) -> u16
+        ensures { result ≡ length self.now.nodes.items }
+    {
+        self.nodes.len() as u16
     }
 
     /// Has the node with this number take an event, and sends what it says.
     fn take<R: Wait>(&mut self, rt: &R, links: &Links, number: u16, now: u64, event: Event)
         requires { IsTakeable event }
+        ensures { ObeysAt number (Take event) self.old.nodes.items self.new.nodes.items }
     {
         if let Some(node) = self.nodes.get_mut(number as usize) {
             let input = Input { now, event };
@@ -82,14 +97,18 @@ impl DataNodes {
     }
 
     /// Stops the node with this number.
-    fn stop(&mut self, number: u16) {
+    fn stop(&mut self, number: u16)
+        ensures { ObeysAt number Stop self.old.nodes.items self.new.nodes.items }
+    {
         if let Some(node) = self.nodes.get_mut(number as usize) {
             node.stop(KeptText::Old);
         }
     }
 
     /// Starts the node with this number.
-    fn start(&mut self, number: u16, now: u64) {
+    fn start(&mut self, number: u16, now: u64)
+        ensures { ObeysAt number Start self.old.nodes.items self.new.nodes.items }
+    {
         if let Some(node) = self.nodes.get_mut(number as usize) {
             drop(node.start(now));
         }
@@ -102,7 +121,9 @@ impl DataNodes {
         state: &RunState,
         links: &Links,
         order: NodeOrder,
-    ) {
+    )
+        ensures { ObeysAt order.number order.action self.old.nodes.items self.new.nodes.items }
+    {
         let now = state.clock.now(rt);
         let NodeOrder { number, action } = order;
         match action {

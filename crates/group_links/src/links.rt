@@ -1,5 +1,6 @@
 //! The channels between the nodes of a group.
 
+ghost use Rattle.std.specs.Prelude.{◌≡◌, ◌≢◌, ◌<◌, ℕ, None, All, IfOk, OnOk, OnErr, length, slice_get, slice_index_or};
 ghost use Rattle.boxed_nodes.specs.Sendable.{IsSendable};
 
 use crate::delivery::Delivery;
@@ -21,24 +22,30 @@ pub struct Links {
 
 impl Links {
     /// The links of a group with so many Sentinels, none of which is connected, and the end at which orders of the data nodes come out.
-    pub fn open(
-        alloc: Global,
-        sentinels: usize,
-    ) -> Result<(Links, Receiver<NodeOrder>), AllocError> {
+    pub fn open(alloc: Global, sentinels: usize) -> Result<(Links, Receiver<NodeOrder>), AllocError>
+        ensures count { IfOk result (λ r. length r.0.sentinels.items ≡ sentinels) }
+        ensures none { IfOk result (λ r. All (λ end. end ≡ None) r.0.sentinels.items) }
+    {
         let (to_nodes, nodes) = unbounded(alloc)?;
-        let mut links = Links {
-            sentinels: Vec::new(alloc),
+        let mut ends = Vec::new(alloc);
+        while ends.len() < sentinels {
+            ends.push(None)?;
+        }
+        let links = Links {
+            sentinels: ends,
             nodes: to_nodes,
             alloc,
         };
-        for _ in 0..sentinels {
-            links.sentinels.push(None)?;
-        }
         Ok((links, nodes))
     }
 
     /// Connects the Sentinel at this place of the roster: the end at which what is for it comes out. An earlier end gets nothing more.
-    pub fn connect(&mut self, place: u16) -> Result<Receiver<Delivery>, AllocError> {
+    pub fn connect(&mut self, place: u16) -> Result<Receiver<Delivery>, AllocError>
+        ensures connected { OnOk result (place < length self.old.sentinels.items → slice_index_or self.new.sentinels.items place None ≢ None) }
+        ensures count { length self.new.sentinels.items ≡ length self.old.sentinels.items }
+        ensures others { (k : ℕ) → k ≢ place → slice_get self.new.sentinels.items k ≡ slice_get self.old.sentinels.items k }
+        ensures refused { OnErr result (self.new ≡ self.old) }
+    {
         let (to, from) = unbounded(self.alloc)?;
         if let Some(end) = self.sentinels.get_mut(place as usize) {
             *end = Some(to);
@@ -65,7 +72,9 @@ impl Links {
     }
 
     /// The channels as the place where messages go.
-    pub fn outlet<'a, R: Wait>(&'a self, rt: &'a R) -> ChannelOutlet<'a, R> {
+    pub fn outlet<'a, R: Wait>(&'a self, rt: &'a R) -> ChannelOutlet<'a, R>
+        ensures { result.links.now ≡ self.now }
+    {
         ChannelOutlet { links: self, rt }
     }
 }

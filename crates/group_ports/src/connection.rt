@@ -6,7 +6,7 @@ ghost use Rattle.group_ports.specs.Sending.{IsSent, IsHanded};
 
 use crate::read_buffer::{PIECE, ReadBuffer};
 use conf_store::ConfStore;
-use group_sentinels::{RunState, RunningSentinel, Switch, ThreadSeat, Which};
+use group_sentinels::{RunFault, RunState, RunningSentinel, Switch, ThreadSeat, Which};
 use port_serving::ServeFault;
 use port_sessions::Session;
 use std::alloc::Global;
@@ -162,7 +162,7 @@ impl<T: Read + Write + Drop> Connection<T> {
         let dotted = bytes.last() == Some(&b'.');
         if let Err(fault) = member.receive(rt, seat, &mut self.session, now, bytes) {
             if let ServeFault::Halted = fault {
-                state.note_halted();
+                state.note(RunFault::Halted);
             }
             self.ends = true;
         }

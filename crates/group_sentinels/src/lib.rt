@@ -17,9 +17,9 @@ mod sight;
 mod switches;
 mod ticking;
 
-pub use clock::{GroupClock, millis_of};
+pub use clock::GroupClock;
 pub use outlet::{Outlet, send_all};
-pub use run_state::RunState;
+pub use run_state::{RunFault, RunState};
 pub use running_sentinel::{RunningSentinel, ThreadSeat, Which};
-pub use switches::Switch;
+pub use switches::{Switch, WAITING_MAX};
 pub use ticking::{TICK_MS, Ticker, hear};

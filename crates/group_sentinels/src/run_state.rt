@@ -1,55 +1,73 @@
 //! What the threads of Sentinels that run share.
 
+ghost use Rattle.std.specs.Prelude.{◌≡◌};
+
 use crate::clock::GroupClock;
-use std::sync::atomic::{AtomicU64, Ordering};
+use std::sync::atomic::{AtomicBool, Ordering};
+
+/// What can go wrong with Sentinels that run, the worst first.
+#[derive(Clone, Copy, PartialEq, Eq)]
+pub enum RunFault {
+    /// A thread or its room couldn't be made.
+    LackedThread,
+    /// A port couldn't serve its clients any more.
+    LostPort,
+    /// A Sentinel was halted.
+    Halted,
+}
 
 /// What all threads of the Sentinels of one process share: their clock, and what went wrong so far. It names no transport.
 #[derive(Drop)]
 pub struct RunState {
     pub clock: GroupClock,
-    halted: AtomicU64,
-    lacked_thread: AtomicU64,
-    lost_port: AtomicU64,
+    lacked_thread: AtomicBool,
+    lost_port: AtomicBool,
+    halted: AtomicBool,
 }
 
 impl RunState {
     /// By this clock, where nothing went wrong yet.
-    pub fn new(clock: GroupClock) -> RunState {
+    pub fn new(clock: GroupClock) -> RunState
+        ensures { result.clock ≡ clock }
+    {
         RunState {
             clock,
-            halted: AtomicU64::new(0),
-            lacked_thread: AtomicU64::new(0),
-            lost_port: AtomicU64::new(0),
+            lacked_thread: AtomicBool::new(false),
+            lost_port: AtomicBool::new(false),
+            halted: AtomicBool::new(false),
         }
     }
 
-    /// Notes that a Sentinel was halted.
-    pub fn note_halted(&self) {
-        self.halted.store(1, Ordering::SeqCst);
+    /// Where it stands whether this went wrong.
+    fn flag_of(&self, fault: RunFault) -> &AtomicBool {
+        match fault {
+            RunFault::LackedThread => &self.lacked_thread,
+            RunFault::LostPort => &self.lost_port,
+            RunFault::Halted => &self.halted,
+        }
     }
 
-    /// Notes that a thread or its room couldn't be made.
-    pub fn note_lacking_thread(&self) {
-        self.lacked_thread.store(1, Ordering::SeqCst);
+    /// Notes what went wrong, for all threads. It stays noted.
+    pub fn note(&self, fault: RunFault) {
+        self.flag_of(fault).store(true, Ordering::SeqCst);
     }
 
-    /// Notes that a port can't serve its clients any more.
-    pub fn note_lost_port(&self) {
-        self.lost_port.store(1, Ordering::SeqCst);
+    /// Whether this was noted.
+    fn has(&self, fault: RunFault) -> bool {
+        self.flag_of(fault).load(Ordering::SeqCst)
     }
 
-    /// Whether a Sentinel was halted.
-    pub fn was_halted(&self) -> bool {
-        self.halted.load(Ordering::SeqCst) != 0
-    }
-
-    /// Whether a thread or its room couldn't be made.
-    pub fn lacked_a_thread(&self) -> bool {
-        self.lacked_thread.load(Ordering::SeqCst) != 0
-    }
-
-    /// Whether a port couldn't serve its clients any more.
-    pub fn lost_a_port(&self) -> bool {
-        self.lost_port.load(Ordering::SeqCst) != 0
+    /// The worst that was noted; None where nothing went wrong.
+    pub fn worst(&self) -> Option<RunFault> {
+        if self.has(RunFault::LackedThread) {
+            return Some(RunFault::LackedThread);
+        }
+        if self.has(RunFault::LostPort) {
+            return Some(RunFault::LostPort);
+        }
+        if self.has(RunFault::Halted) {
+            return Some(RunFault::Halted);
+        }
+        None
     }
 }

@@ -4,18 +4,20 @@ ghost use Rattle.std.specs.Prelude.{◌≡◌, ◌+◌, ◌++◌, ◌<◌, ◌�
 ghost use Rattle.std.specs.List.{AllByRecursion};
 ghost use Rattle.ballot_law.specs.Messages.{sent};
 ghost use Rattle.boxed_nodes.specs.Sendable.{IsSendableOutput};
-ghost use Rattle.group_sentinels.specs.Running.{input_of};
+ghost use Rattle.group_sentinels.specs.Running.{input_of, phase_of};
+ghost use Rattle.group_sentinels.specs.declared.switches.TheConstants.{WAITING_MAX};
 ghost use Rattle.port_sessions.specs.Talks.{Receives, party};
 ghost use Rattle.port_sessions.specs.Notes.{Notifies};
 ghost use Rattle.sentinel_cell.specs.declared.entry.Outcome.TheVariants.{Stored};
 ghost use Rattle.sentinel_cell.specs.Standing.{Adds, Faulted};
-ghost use Rattle.sentinel_rules.specs.Plans.{roster_of};
+ghost use Rattle.sentinel_rules.specs.Plans.{group_size, master_count, roster_of};
 ghost use Rattle.sentinel_rules.specs.Facts.{IsWithinEvent};
 
 use crate::notes::note_all;
 use crate::outlet::{Outlet, send_all};
 use crate::sight::{Look, Sight};
 use crate::switches::{Switch, Switches};
+use crate::ticking::TICK_MS;
 use ballot_law::{Event, Input, NoMemory, Output, Roster};
 use conf_store::ConfStore;
 use log::kv::With;
@@ -47,7 +49,6 @@ impl Which for Brand {
 #[derive(Drop)]
 pub struct RunningSentinel<J: Which, S: ConfStore> {
     cell: SharedSentinel<S>,
-    masters: u16,
     place: u16,
     port: u16,
     switches: Switches,
@@ -111,11 +112,11 @@ impl<J: Which, S: ConfStore> RunningSentinel<J, S> {
         S: Drop,
         requires named { (cell.id ≡ J.cell) × (seat.cell ≡ J.cell) }
         ensures seat { IfOk result (λ r. r.1.seat ≡ seat) }
+        ensures cell { IfOk result (λ r. (r.0.cell ≡ cell) × (r.0.place ≡ place)) }
+        ensures switches { IfOk result (λ r. length r.0.switches.lists.items ≡ port_threads) }
     {
-        let masters = cell.roster().masters().len().min(u16::MAX as usize) as u16;
         let member = RunningSentinel {
             cell,
-            masters,
             place,
             port,
             switches: Switches::new(alloc, port_threads)?,
@@ -126,8 +127,12 @@ impl<J: Which, S: ConfStore> RunningSentinel<J, S> {
     }
 
     /// How many masters it watches.
-    pub fn masters(&self) -> u16 {
-        self.masters
+    pub fn masters(&self) -> u16
+        ensures { result ≡ master_count self.now.cell.start.plan }
+    {
+        let roster = self.roster();
+        roster.is_made();
+        roster.masters().len() as u16
     }
 
     /// Cuts a seat into as many as it has a share for. The first one of a cell has the share of all that the cell was made for.
@@ -213,21 +218,28 @@ impl<J: Which, S: ConfStore> RunningSentinel<J, S> {
     }
 
     /// The Sentinels and the masters of the group.
-    pub fn roster(&self) -> &Roster {
+    pub fn roster(&self) -> &Roster
+        ensures { result.now ≡ roster_of self.now.cell.start.plan }
+    {
         self.cell.roster()
     }
 
-    /// How far its ticks stand after those of the first Sentinel, where two ticks are so far apart: each Sentinel has its share of the time
-    /// between, by its place in the roster. So the first one that begins a failover is heard by the others before their own ticks, and has
+    /// How far its ticks stand after those of the first Sentinel, in milliseconds: each Sentinel has its share of the time between two ticks,
+    /// by its place in the roster. So the first one that begins a failover is heard by the others before their own ticks, and has
     /// their votes; Redis's Sentinel varies its timer for that.
-    pub(crate) fn phase(&self, period: u64) -> u64 {
+    pub(crate) fn phase(&self) -> u64
+        ensures { result ≡ phase_of self.now.place (group_size self.now.cell.start.plan) }
+    {
         let sentinels = self.cell.roster().sentinels().len() as u64;
-        period.saturating_mul(u64::from(self.place)) / sentinels.max(1)
+        TICK_MS * u64::from(self.place) / sentinels.max(1)
     }
 
     /// The notes for the subscribers of the port that its thread with this number didn't take yet, in the order in which they came. Each of
-    /// its threads gets all notes.
-    pub fn take_switches<R: Wait>(&self, rt: &R, port_thread: u16) -> Vec<Switch> {
+    /// its threads gets all notes, but those that come while `WAITING_MAX` wait for it. None where the port has no such thread.
+    pub fn take_switches<R: Wait>(&self, rt: &R, port_thread: u16) -> Vec<Switch>
+        ensures few { length result.items ≤ WAITING_MAX }
+        ensures other { length self.now.switches.lists.items ≤ port_thread → result.items ≡ [] }
+    {
         self.switches.take(rt, port_thread)
     }
 

@@ -1,12 +1,15 @@
 //! The notes of new addresses that wait for the subscribers of a Sentinel's port.
 
+ghost use Rattle.std.specs.Prelude.{◌≡◌, ◌≤◌, [], IfOk, length};
+ghost use Rattle.group_sentinels.specs.declared.switches.TheConstants.{WAITING_MAX};
+
 use ballot_law::{Note, Output};
 use std::alloc::{AllocError, Global};
 use std::mem;
 use std::sync::{Mutex, Wait};
 
 /// How many notes wait at most for a thread of a port that takes none; a further one is lost.
-const WAITING_MAX: usize = 1024;
+pub const WAITING_MAX: usize = 1024;
 
 /// A note, and how many calls of the Sentinel's threads stand before the one that showed it.
 #[derive(Clone, Copy)]
@@ -24,15 +27,17 @@ pub(crate) struct Switches {
 
 impl Switches {
     /// None wait for any of so many threads.
-    pub(crate) fn new(alloc: Global, threads: u16) -> Result<Switches, AllocError> {
+    pub(crate) fn new(alloc: Global, threads: u16) -> Result<Switches, AllocError>
+        ensures { IfOk result (λ switches. length switches.lists.items ≡ threads) }
+    {
         let mut lists = Vec::new(alloc);
-        for _ in 0..threads {
+        while lists.len() < threads as usize {
             lists.push(Mutex::new(Vec::new(alloc)))?;
         }
         Ok(Switches { lists, alloc })
     }
 
-    /// Adds a note for each thread. It is lost where there is no memory.
+    /// Adds a note for each thread. It is lost where as many wait as may, and where there is no memory.
     fn add<R: Wait>(&self, rt: &R, switch: Switch) {
         for list in &self.lists {
             let mut waiting = list.lock(rt);
@@ -52,11 +57,17 @@ impl Switches {
     }
 
     /// Takes those that wait for the thread with this number, in the order in which they came.
-    pub(crate) fn take<R: Wait>(&self, rt: &R, thread: u16) -> Vec<Switch> {
+    pub(crate) fn take<R: Wait>(&self, rt: &R, thread: u16) -> Vec<Switch>
+        ensures few { length result.items ≤ WAITING_MAX }
+        ensures other { length self.now.lists.items ≤ thread → result.items ≡ [] }
+    {
         let none = Vec::new(self.alloc);
-        match self.lists.get(thread as usize) {
-            Some(list) => mem::replace(&mut *list.lock(rt), none),
-            None => none,
-        }
+        let Some(list) = self.lists.get(thread as usize) else {
+            return none;
+        };
+        let mut notes = mem::replace(&mut *list.lock(rt), none);
+        // As many wait at most, by `add`. No clause knows what a lock holds, so the list is looked at once more.
+        notes.truncate(WAITING_MAX);
+        notes
     }
 }

@@ -1,13 +1,16 @@
 //! When a Sentinel's ticks are due, and what its threads have it take.
 
-ghost use Rattle.std.specs.Prelude.{◌≡◌, ◌⊎◌, ◌↔◌, ◌<◌, ◌≤◌, ◌+◌, ◌-◌, ◌^◌, ◌%◌, IsTrue, IsOk, IsErrOf};
+ghost use Rattle.std.specs.Prelude.{◌≡◌, ◌⊎◌, ◌↔◌, ◌<◌, ◌≤◌, ◌+◌, ◌-◌, ◌%◌, IsTrue, IsOk, IsErrOf};
+ghost use Rattle.ballot_law.specs.Clocks.{clock};
+ghost use Rattle.group_sentinels.specs.Running.{phase_of};
+ghost use Rattle.sentinel_rules.specs.Plans.{group_size};
 ghost use Rattle.sentinel_cell.specs.declared.fault.ActFault.{ActFault};
 ghost use Rattle.sentinel_rules.specs.Facts.{IsWithinEvent};
 
 use crate::clock::millis_of;
 use crate::lookout::Lookout;
 use crate::outlet::Outlet;
-use crate::run_state::RunState;
+use crate::run_state::{RunFault, RunState};
 use crate::running_sentinel::{RunningSentinel, ThreadSeat, Which};
 use ballot_law::Event;
 use conf_store::ConfStore;
@@ -52,7 +55,7 @@ fn goes_on_noted<J: Which, S: ConfStore, R: Log>(
     }
     let goes_on = goes_on(acted);
     if !goes_on {
-        state.note_halted();
+        state.note(RunFault::Halted);
     }
     goes_on
 }
@@ -81,10 +84,13 @@ pub struct Ticker {
 
 impl Ticker {
     /// The ticks of this Sentinel's masters, of which the first are due at once.
-    pub fn new<J: Which, S: ConfStore>(alloc: Global, member: &RunningSentinel<J, S>) -> Ticker {
+    pub fn new<J: Which, S: ConfStore>(alloc: Global, member: &RunningSentinel<J, S>) -> Ticker
+        ensures due { result.due ≡ 0 }
+        ensures phase { result.phase ≡ phase_of member.now.place (group_size member.now.cell.start.plan) }
+    {
         Ticker {
             lookout: Lookout::new(alloc, member.masters()),
-            phase: member.phase(TICK_MS),
+            phase: member.phase(),
             due: 0,
         }
     }
@@ -98,11 +104,11 @@ impl Ticker {
 
     /// The ticks are over at this reading of the clock: the next ones are due at the next time of the Sentinel's phase.
     fn plan_next(&mut self, now: u64)
-        ensures due { now + TICK_MS < 2 ^ 64 → (now < self.new.due) × (self.new.due ≤ now + TICK_MS)
-            × (self.new.due % TICK_MS ≡ self.old.phase % TICK_MS) }
+        requires { clock now ≡ now }
+        ensures due { (now < self.new.due) × (self.new.due ≤ now + TICK_MS) × (self.new.due % TICK_MS ≡ self.old.phase % TICK_MS) }
         ensures phase { self.new.phase ≡ self.old.phase }
     {
-        self.due = now.saturating_add(until_tick(now, self.phase));
+        self.due = now + until_tick(now, self.phase);
     }
 
     /// Ticks each master once, where that is due: whether the Sentinel goes on. What it says goes to the outlet.

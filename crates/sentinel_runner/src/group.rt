@@ -1,7 +1,8 @@
 //! A group of Sentinels and data nodes that runs.
 
-ghost use Rattle.std.specs.Prelude.{◌≢◌, ◌<◌, ◌-◌, ◌^◌, All, IfErr, IsErrOf, IsFalse, IsTrue};
+ghost use Rattle.std.specs.Prelude.{◌≡◌, ◌≢◌, ◌<◌, ◌-◌, ◌^◌, All, IfErr, IsErrOf, IsFalse, IsTrue};
 ghost use Rattle.sentinel_runner.specs.declared.group_fault.GroupFault.TheVariants.{NotOneRoster};
+ghost use Rattle.sentinel_runner.specs.Faults.{fault_of_run};
 ghost use Rattle.sentinel_runner.specs.Groups.{AreOneGroup};
 
 use crate::group_fault::{GroupFault, OrderedFault};
@@ -13,7 +14,7 @@ use crossbeam_channel::Receiver;
 use group_checks::is_one_group;
 use group_links::{DataNodes, Links, NodeOrder};
 use group_ports::PortRoom;
-use group_sentinels::{GroupClock, RunState};
+use group_sentinels::{GroupClock, RunFault, RunState};
 use log::Log;
 use sentinel_conf::Conf;
 use std::alloc::Global;
@@ -205,7 +206,7 @@ where
     thread::scope(thread::scope_env(), rt, |scope| {
         let begun = scope.spawn(move || run_threads(rt, threads, state, links, ending));
         if begun.is_err() {
-            state.note_lacking_thread();
+            state.note(RunFault::LackedThread);
             return Ok(());
         }
         let read = orders.follow(rt, input);
@@ -214,20 +215,25 @@ where
     })
 }
 
+/// What a group answers that ended with this fault.
+fn fault_of_run(fault: RunFault) -> GroupFault
+    ensures { result ≡ fault_of_run fault }
+{
+    match fault {
+        RunFault::LackedThread => GroupFault::NoMemory,
+        RunFault::LostPort => GroupFault::PortRefused,
+        RunFault::Halted => GroupFault::Halted,
+    }
+}
+
 /// How a group ended.
 fn outcome(state: &RunState) -> Result<(), GroupFault>
     ensures roster { IfErr result (λ fault. fault ≢ NotOneRoster) }
 {
-    if state.lacked_a_thread() {
-        return Err(GroupFault::NoMemory);
+    match state.worst() {
+        Some(fault) => Err(fault_of_run(fault)),
+        None => Ok(()),
     }
-    if state.lost_a_port() {
-        return Err(GroupFault::PortRefused);
-    }
-    if state.was_halted() {
-        return Err(GroupFault::Halted);
-    }
-    Ok(())
 }
 
 /// Runs the data nodes in a thread, and each Sentinel in one that starts its others. Where one can't be made, all end.
@@ -254,7 +260,7 @@ fn run_threads<'a, S: ConfStore + Drop + Send, R: Threads + Wait + Clock + Log +
                 .is_err();
         }
         if refused {
-            state.note_lacking_thread();
+            state.note(RunFault::LackedThread);
             ending.store(1, Ordering::SeqCst);
         }
     })

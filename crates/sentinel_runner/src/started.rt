@@ -9,7 +9,7 @@ use conf_store::ConfStore;
 use crossbeam_channel::Receiver;
 use group_links::{Delivery, Links, run_link, run_timer};
 use group_ports::{Port, PortRoom};
-use group_sentinels::{RunState, RunningSentinel, ThreadSeat, Which};
+use group_sentinels::{RunFault, RunState, RunningSentinel, ThreadSeat, Which};
 use log::Log;
 use sentinel_conf::Conf;
 use std::alloc::{AllocError, Global};
@@ -241,14 +241,14 @@ where
 
 /// Ends the group, since a thread or its room couldn't be made.
 fn end_for_want(state: &RunState, ending: &AtomicU64) {
-    state.note_lacking_thread();
+    state.note(RunFault::LackedThread);
     ending.store(1, Ordering::SeqCst);
 }
 
 /// Notes why a port serves no more: want of memory, or the system.
 fn note_lost(state: &RunState, error: &io::Error) {
     match fault_of(error) {
-        GroupFault::NoMemory => state.note_lacking_thread(),
-        _ => state.note_lost_port(),
+        GroupFault::NoMemory => state.note(RunFault::LackedThread),
+        _ => state.note(RunFault::LostPort),
     }
 }
