@@ -27,8 +27,10 @@ import kit
 PROGRAM = os.environ.get("SENTINEL_GROUP") or kit.kept("proved") or kit.kept("unproved") or os.path.join(kit.OUT, "proved", kit.PROGRAM)
 PACKAGES = {
     "cc": "apt-get install gcc",
+    "ip": "apt-get install iproute2",
     "redis-cli": "apt-get install redis-tools",
     "redis-sentinel": "apt-get install redis-sentinel",
+    "redis-server": "apt-get install redis-server",
     "rt": "the toolchain of Rattle, whose folder of commands stands in PATH",
     "strace": "apt-get install strace",
 }

@@ -61,11 +61,25 @@ pub fn connections_of_each<N: Net>(
 ) -> io::Result<PortRoom>
     ensures { IfOk result (λ room. 0 < threads → room.threads ≡ threads) }
 {
+    connections_beside(net, alloc, ports, threads, 0)
+}
+
+/// As `connections_of_each`, where so many descriptors are to stay free for connections that the process opens itself.
+pub fn connections_beside<N: Net>(
+    net: &N,
+    alloc: Global,
+    ports: usize,
+    threads: u16,
+    own: u64,
+) -> io::Result<PortRoom>
+    ensures { IfOk result (λ room. 0 < threads → room.threads ≡ threads) }
+{
     let ports = ports.max(1);
     let beside = beside(threads);
     let wanted = (ports as u64)
         .saturating_mul(CONNECTIONS_MAX as u64 + beside)
-        .saturating_add(FOR_THE_REST);
-    let share = share_of(descriptors_of(net, alloc, wanted)?, ports, beside);
-    Ok(PortRoom::of(share, threads))
+        .saturating_add(FOR_THE_REST)
+        .saturating_add(own);
+    let left = descriptors_of(net, alloc, wanted)?.saturating_sub(own);
+    Ok(PortRoom::of(share_of(left, ports, beside), threads))
 }

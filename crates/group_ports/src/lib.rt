@@ -1,4 +1,4 @@
-//! The ports of a group that runs: a Sentinel's clients, over TCP at 127.0.0.1, by readiness.
+//! The ports of a group that runs: a Sentinel's clients, over TCP, by readiness.
 //!
 //! A port is served by one thread or several. Each has connections of its own, none of which makes another one of them wait for bytes, or for more than
 //! one store. What a client's bytes mean is its session's to say.
@@ -13,6 +13,6 @@ mod port;
 mod port_room;
 mod read_buffer;
 
-pub use budget::connections_of_each;
+pub use budget::{connections_beside, connections_of_each};
 pub use port::Port;
 pub use port_room::{CONNECTIONS_MAX, PortRoom};

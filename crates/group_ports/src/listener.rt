@@ -6,37 +6,52 @@ use mio::net::{TcpListener, TcpStream};
 use mio::{Interest, Registry, Token};
 use std::alloc::Global;
 use std::io::{self, ErrorKind};
-use std::net::{Ipv4Addr, Net, SocketAddr};
+use std::net::{Net, SocketAddr};
 use std::sync::{Arc, Wait};
 
-/// The token of the listener; a connection's token is its key in the slab.
+/// The token of the sockets that listen; a connection's token is its key in the slab.
 pub(crate) const LISTENER: Token = Token(usize::MAX);
 
 /// How many connections are accepted before those that are there have their turn.
 const ACCEPTS_MAX: u32 = 64;
 
-/// A socket that listens, with the desks of the threads that it hands connections to. `accepts` is whether connections may wait there of which the
+/// Why no more connections are accepted of a socket for now.
+#[derive(Clone, Copy, PartialEq, Eq)]
+enum Stopped {
+    /// None wait.
+    NoneWait,
+    /// The system has no descriptor or no memory for one.
+    Refused,
+    /// Those that are there have their turn.
+    ManyCame,
+}
+
+/// The sockets that listen, with the desks of the threads that they hand connections to. `accepts` is whether connections may wait there of which the
 /// system doesn't tell again.
 #[derive(Drop)]
 pub(crate) struct Listener {
-    socket: TcpListener,
+    sockets: Vec<TcpListener>,
     desks: Vec<Arc<Desk, Global>>,
     accepts: bool,
 }
 
 impl Listener {
-    /// Listens on 127.0.0.1 at this port, for the thread that waits by this registry and those of these desks.
+    /// Listens at these addresses, for the thread that waits by this registry and those of these desks.
     pub(crate) fn open<N: Net>(
         net: &N,
+        alloc: Global,
         registry: &Registry,
-        port: u16,
+        addresses: &[SocketAddr],
         desks: Vec<Arc<Desk, Global>>,
     ) -> io::Result<Listener> {
-        let address = SocketAddr::from((Ipv4Addr::LOCALHOST, port));
-        let mut socket = TcpListener::bind(net, address)?;
-        registry.register(&mut socket, LISTENER, Interest::READABLE)?;
+        let mut sockets = Vec::new(alloc);
+        for address in addresses {
+            let mut socket = TcpListener::bind(net, *address)?;
+            registry.register(&mut socket, LISTENER, Interest::READABLE)?;
+            sockets.push(socket)?;
+        }
         Ok(Listener {
-            socket,
+            sockets,
             desks,
             accepts: false,
         })
@@ -69,25 +84,35 @@ impl Listener {
         self.accepts = true;
     }
 
+    /// Accepts what waits at a socket.
+    fn accept_at<R: Wait>(&self, rt: &R, clients: &mut Clients, socket: &TcpListener) -> Stopped {
+        for _ in 0..ACCEPTS_MAX {
+            match socket.accept() {
+                Ok((stream, _)) => self.give(rt, clients, stream),
+                Err(error) => match error.kind() {
+                    ErrorKind::WouldBlock => return Stopped::NoneWait,
+                    ErrorKind::Interrupted | ErrorKind::ConnectionAborted => {}
+                    _ => return Stopped::Refused,
+                },
+            }
+        }
+        Stopped::ManyCame
+    }
+
     /// Accepts what waits. Where the system has no descriptor or no memory for it, it is tried again after the next wait.
     pub(crate) fn accept_all<R: Wait>(&mut self, rt: &R, clients: &mut Clients) {
         if !self.accepts {
             return;
         }
-        for _ in 0..ACCEPTS_MAX {
-            match self.socket.accept() {
-                Ok((stream, _)) => self.give(rt, clients, stream),
-                Err(error) => match error.kind() {
-                    ErrorKind::WouldBlock => {
-                        self.accepts = false;
-                        return;
-                    }
-                    ErrorKind::Interrupted | ErrorKind::ConnectionAborted => {}
-                    _ => return,
-                },
+        let mut accepts = false;
+        for socket in &self.sockets {
+            let stopped = self.accept_at(rt, clients, socket);
+            accepts |= stopped != Stopped::NoneWait;
+            if stopped == Stopped::ManyCame {
+                clients.note_busy();
             }
         }
-        clients.note_busy();
+        self.accepts = accepts;
     }
 }
 

@@ -11,7 +11,7 @@ use group_sentinels::{RunState, RunningSentinel, ThreadSeat, Which};
 use mio::Events;
 use std::alloc::Global;
 use std::io;
-use std::net::Net;
+use std::net::{Ipv4Addr, Net, SocketAddr};
 use std::rt::Clock;
 use std::sync::atomic::{AtomicU64, Ordering};
 use std::sync::{Arc, Wait};
@@ -39,13 +39,26 @@ impl Port {
         })
     }
 
-    /// Listens on 127.0.0.1 at this port, with so much room: what its first thread serves, and what each further one does, in their order. The first one
-    /// accepts, and each connection goes to the thread that has the fewest; one for which none has room is closed. An error is the system's, as where the
-    /// port is taken; `OutOfMemory` is a refused allocation.
+    /// Listens on 127.0.0.1 at this port, as `open_at` does.
     pub fn open<N: Net>(
         net: &N,
         alloc: Global,
         port: u16,
+        room: PortRoom,
+    ) -> io::Result<(Port, Vec<Port>)>
+        ensures { IfOk result (λ parts. length parts.1.items + 1 ≡ room.threads) }
+    {
+        let address = SocketAddr::from((Ipv4Addr::LOCALHOST, port));
+        Port::open_at(net, alloc, &[address], room)
+    }
+
+    /// Listens at these addresses, with so much room for all of them: what the first thread serves, and what each further one does, in their order. The
+    /// first one accepts, and each connection goes to the thread that has the fewest; one for which none has room is closed. An error is the system's, as
+    /// where a port is taken; `OutOfMemory` is a refused allocation.
+    pub fn open_at<N: Net>(
+        net: &N,
+        alloc: Global,
+        addresses: &[SocketAddr],
         room: PortRoom,
     ) -> io::Result<(Port, Vec<Port>)>
         ensures { IfOk result (λ parts. length parts.1.items + 1 ≡ room.threads) }
@@ -60,7 +73,7 @@ impl Port {
             others.push(Port::of(alloc, clients, entrance, thread)?)?;
         }
         let clients = Clients::open(net, alloc, room)?;
-        let listener = Listener::open(net, clients.registry(), port, desks)?;
+        let listener = Listener::open(net, alloc, clients.registry(), addresses, desks)?;
         let first = Port::of(alloc, clients, Entrance::Listens(listener), 0)?;
         Ok((first, others))
     }

@@ -53,7 +53,7 @@ impl RunState {
     }
 
     /// Whether this was noted.
-    fn has(&self, fault: RunFault) -> bool {
+    pub fn has(&self, fault: RunFault) -> bool {
         self.flag_of(fault).load(Ordering::SeqCst)
     }
 

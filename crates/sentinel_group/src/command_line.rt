@@ -2,7 +2,7 @@
 
 use crate::failures::fail;
 use clap::error::ErrorKind;
-use clap::{Arg, ArgAction, Command, Error, value_parser};
+use clap::{Arg, ArgAction, ArgMatches, Command, Error, value_parser};
 use port_serving::ServeFault;
 use sentinel_runner::PORT_THREADS_MAX;
 use std::alloc::{AllocError, Global};
@@ -44,17 +44,26 @@ fn new_id<'a>(alloc: Global) -> Command<'a> {
     Command::new(alloc, "new-id").about("Prints a run id for a new file, made of random digits")
 }
 
+/// How many threads serve a port.
+fn port_threads<'a>(alloc: Global) -> Arg<'a> {
+    Arg::new(alloc, "port-threads")
+        .long("port-threads")
+        .value_name("number")
+        .value_parser(value_parser!(u16).range(1..=i64::from(PORT_THREADS_MAX)))
+        .help("How many threads serve each port, 1 to 16; 1 where it isn't said")
+}
+
+/// How many threads serve a port, as the words say.
+pub(crate) fn port_threads_of(words: &ArgMatches) -> u16 {
+    words.get_one::<u16>("port-threads").unwrap_or(1)
+}
+
 /// The words of `serve`.
 fn serve<'a>(alloc: Global) -> Result<Command<'a>, AllocError> {
     let notes = Arg::new(alloc, "notes")
         .long("notes")
         .action(ArgAction::SetTrue)
         .help("Notes on standard error what the Sentinels find, as +switch-master");
-    let threads = Arg::new(alloc, "port-threads")
-        .long("port-threads")
-        .value_name("number")
-        .value_parser(value_parser!(u16).range(1..=i64::from(PORT_THREADS_MAX)))
-        .help("How many threads serve each port, 1 to 16; 1 where it isn't said");
     let until_killed = Arg::new(alloc, "until-killed")
         .long("until-killed")
         .action(ArgAction::SetTrue)
@@ -64,9 +73,27 @@ fn serve<'a>(alloc: Global) -> Result<Command<'a>, AllocError> {
     Command::new(alloc, "serve")
         .about("Runs a group of Sentinels with their ports at 127.0.0.1, until standard input ends")
         .arg(notes)?
-        .arg(threads)?
+        .arg(port_threads(alloc))?
         .arg(until_killed)?
         .arg(conf_files(alloc))
+}
+
+/// The words of `watch`.
+fn watch<'a>(alloc: Global) -> Result<Command<'a>, AllocError> {
+    let quiet = Arg::new(alloc, "quiet")
+        .long("quiet")
+        .action(ArgAction::SetTrue)
+        .help("Notes nothing on standard error but why it ends");
+    let conf = Arg::new(alloc, "conf")
+        .required(true)
+        .help("The sentinel.conf of the Sentinel, which is rewritten");
+    Command::new(alloc, "watch")
+        .about(
+            "Runs one Sentinel, which watches Redis servers and speaks to the other Sentinels over TCP",
+        )
+        .arg(quiet)?
+        .arg(port_threads(alloc))?
+        .arg(conf)
 }
 
 /// The words of `answer`.
@@ -109,7 +136,8 @@ pub(crate) fn command<'a>(alloc: Global) -> Result<Command<'a>, AllocError> {
         .subcommand(check(alloc)?)?
         .subcommand(new_id(alloc))?
         .subcommand(replay(alloc)?)?
-        .subcommand(serve(alloc)?)
+        .subcommand(serve(alloc)?)?
+        .subcommand(watch(alloc)?)
 }
 
 /// The words that the program was started with, its own name first.

@@ -32,7 +32,7 @@ pub(crate) fn fail(rt: &impl Eprint, fault: ServeFault) -> ExitCode {
 }
 
 /// The exit status that tells why a group doesn't run, or didn't run whole.
-fn status_of_group(fault: GroupFault) -> u8
+pub(crate) fn status_of_group(fault: GroupFault) -> u8
     ensures { result ≡ status_of_group fault }
 {
     match fault {

@@ -1,5 +1,5 @@
 //! The program `sentinel_group`: `answer` serves the commands of standard input on standard output, `serve` runs a group with its ports,
-//! `replay` plays a story of a group, `check` tells what group files make, `new-id` prints a run id for a new one.
+//! `watch` runs one Sentinel over real Redis servers, `replay` plays a story of a group, `check` tells what group files make, `new-id` prints a run id for a new one.
 #![tactic(auto)]
 
 ghost use Rattle.std.specs.Prelude.{◌<◌, ◌-◌, ◌^◌};
@@ -13,6 +13,8 @@ mod new_ids;
 mod replaying;
 mod serving;
 mod telling;
+mod watch_lines;
+mod watching;
 
 use crate::checking::check;
 use crate::command_line::{command, refuse_unread, tell_words, words};
@@ -21,6 +23,7 @@ use crate::group_files::file_of;
 use crate::new_ids::new_id;
 use crate::replaying::replay;
 use crate::serving::{serve as serve_group, tell_end};
+use crate::watching::{tell_watched, watch, watch_level};
 use clap::ArgMatches;
 use conf_store::{ConfStore, MemoryStore};
 use log::sink::Discard;
@@ -104,6 +107,16 @@ fn main(rt: HostRuntime) -> ExitCode {
                 let ended = serve_group(rt, &noting, words);
                 drop(noting);
                 tell_end(rt, ended, writer.wait(&rt))
+            }
+            Some(("watch", words)) => {
+                // (as above)
+                let Ok((queue, writer)) = NoteQueue::open(rt, rt.alloc()) else {
+                    return fail(&rt, ServeFault::NoMemory);
+                };
+                let noting = Logged::new(rt, watch_level(words), queue);
+                let ended = watch(rt, &noting, words);
+                drop(noting);
+                tell_watched(rt, words, ended, writer.wait(&rt))
             }
             Some((_, words)) => answer(rt, words),
             None => answer_in_memory(rt),

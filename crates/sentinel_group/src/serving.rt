@@ -2,6 +2,7 @@
 
 ghost use Rattle.std.specs.Prelude.{◌<◌, ◌-◌, ◌^◌, All};
 
+use crate::command_line::port_threads_of;
 use crate::failures::{fail_ordered, status_of_ordered};
 use crate::group_files::{GroupFiles, files_of};
 use clap::ArgMatches;
@@ -22,11 +23,6 @@ pub(crate) enum Unserved {
     Refused(ExitCode),
     /// A fault of the group, or of its orders.
     Fault(OrderedFault),
-}
-
-/// How many threads serve each port, as the words say.
-fn port_threads_of(words: &ArgMatches) -> u16 {
-    words.get_one::<u16>("port-threads").unwrap_or(1)
 }
 
 /// Tells which lines standard input takes, where it is a terminal: somebody is there who can type them.

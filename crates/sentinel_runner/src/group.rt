@@ -227,7 +227,7 @@ fn fault_of_run(fault: RunFault) -> GroupFault
 }
 
 /// How a group ended.
-fn outcome(state: &RunState) -> Result<(), GroupFault>
+pub(crate) fn outcome(state: &RunState) -> Result<(), GroupFault>
     ensures roster { IfErr result (λ fault. fault ≢ NotOneRoster) }
 {
     match state.worst() {

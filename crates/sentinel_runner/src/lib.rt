@@ -1,5 +1,5 @@
-//! The group that runs: `run_group` runs its Sentinels in threads, with its data nodes, its links and its ports. The rules stand in the crates
-//! below.
+//! What runs: `run_group` runs the Sentinels of a group in threads, with its data nodes, its links and its ports, and `Watch` one Sentinel, with its
+//! connections and its port. The rules stand in the crates below.
 #![tactic(auto)]
 
 mod group;
@@ -7,8 +7,11 @@ mod group_fault;
 mod line_reader;
 mod opened;
 mod orders;
+mod port_parts;
 mod started;
+mod watch;
 
 pub use group::{Group, run_group};
 pub use group_fault::{GroupFault, OrderedFault};
 pub use opened::PORT_THREADS_MAX;
+pub use watch::{Watch, WatchSettings};

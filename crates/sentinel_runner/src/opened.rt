@@ -1,7 +1,6 @@
 //! A Sentinel that is open, before its threads run.
 
 ghost use Rattle.std.specs.Prelude.{◌≡◌, ◌≢◌, ◌<◌, ◌+◌, ◌-◌, ◌^◌, IfErr, length};
-ghost use Rattle.sentinel_runner.specs.declared.opened.TheConstants.{OTHER_SEATS};
 ghost use Rattle.std.specs.IoError.{error_kind};
 ghost use Rattle.sentinel_runner.specs.declared.group_fault.GroupFault.TheVariants.{NoMemory, NotOneRoster, PortRefused};
 
@@ -19,10 +18,8 @@ use std::net::Net;
 /// How many threads serve each port of a group at most.
 pub const PORT_THREADS_MAX: u16 = 16;
 
-/// How many threads use a Sentinel beside those of its port: its timer and its link.
-const OTHER_SEATS: u64 = 2;
-
-/// A Sentinel that is open, with its first seat, its place in the roster, what each thread of its port serves, and that port's number.
+/// A Sentinel that is open, with its first seat, its place in the roster, what each thread of its port serves, and that port's number. So many threads
+/// use it `beside` those of its port.
 #[derive(Drop)]
 pub(crate) struct Opened<S: ConfStore> {
     pub(crate) cell: SharedSentinel<S>,
@@ -32,8 +29,9 @@ pub(crate) struct Opened<S: ConfStore> {
     pub(crate) others: Vec<Port>,
     pub(crate) port_threads: u16,
     pub(crate) number: u16,
+    pub(crate) beside: u16,
     ghost own: { seat.cell ≡ cell.id },
-    ghost seats: { seat.view.share ≡ length others.items + 1 + OTHER_SEATS },
+    ghost seats: { seat.view.share ≡ length others.items + 1 + beside },
 }
 
 /// What an error of the system is: want of memory, or a port that can't be had.
@@ -69,31 +67,52 @@ pub(crate) fn room_of<R: Net>(
 }
 
 impl<S: ConfStore + Drop> Opened<S> {
-    /// Opens the port of this conf with so much room, and its Sentinel at clock 0, with a seat for each thread.
+    /// Opens the port of this conf at 127.0.0.1 with so much room, and its Sentinel, for so many threads beside those of the port.
     pub(crate) fn open<R: Net + Log>(
         rt: &R,
         alloc: Global,
         conf: Conf,
         store: S,
         room: PortRoom,
+        beside: u16,
     ) -> Result<Opened<S>, GroupFault>
         requires room { S.failure_count store < 2 ^ 64 - 1 }
         ensures roster { IfErr result (λ fault. fault ≢ NotOneRoster) }
+        ensures seats { IfOk result (λ opened. opened.beside ≡ beside) }
     {
-        let (number, place) = (conf.port(), conf.place());
-        let (port, others) = match Port::open(rt, alloc, number, room) {
-            Ok(parts) => parts,
+        let number = conf.port();
+        match Port::open(rt, alloc, number, room) {
+            Ok(ports) => Self::with_port(alloc, conf, store, ports, room.threads(), beside),
             Err(error) => {
                 if error.kind() != ErrorKind::OutOfMemory {
                     warn!(rt; "port {number} of 127.0.0.1 can't be had");
                 }
-                return Err(fault_of(&error));
+                Err(fault_of(&error))
             }
-        };
+        }
+    }
+
+    /// Opens the Sentinel of this conf at clock 0, with what each of the so many threads of its port serves, and a seat for each of them and for so many
+    /// threads beside them.
+    pub(crate) fn with_port(
+        alloc: Global,
+        conf: Conf,
+        store: S,
+        ports: (Port, Vec<Port>),
+        threads: u16,
+        beside: u16,
+    ) -> Result<Opened<S>, GroupFault>
+        requires room { S.failure_count store < 2 ^ 64 - 1 }
+        requires threads { length ports.1.items + 1 ≡ threads }
+        ensures roster { IfErr result (λ fault. fault ≢ NotOneRoster) }
+        ensures seats { IfOk result (λ opened. opened.beside ≡ beside) }
+    {
+        let (port, others) = ports;
+        let (number, place) = (conf.port(), conf.place());
         let Ok(sentinel) = Sentinel::open(alloc, conf, 0) else {
             return Err(GroupFault::NoMemory);
         };
-        let seats = OTHER_SEATS + u64::from(room.threads());
+        let seats = u64::from(threads) + u64::from(beside);
         let Ok((cell, seat)) = SharedSentinel::new(alloc, sentinel, store, seats) else {
             return Err(GroupFault::NoMemory);
         };
@@ -103,8 +122,9 @@ impl<S: ConfStore + Drop> Opened<S> {
             place,
             port,
             others,
-            port_threads: room.threads(),
+            port_threads: threads,
             number,
+            beside,
         })
     }
 }

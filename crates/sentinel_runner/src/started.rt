@@ -1,10 +1,12 @@
 //! A Sentinel of a group in one process, and its threads.
 
 ghost use Rattle.std.specs.Prelude.{◌≡◌, ◌≢◌, ◌<◌, ◌+◌, ◌-◌, ◌^◌, IfErr, IfOk, length};
+ghost use Rattle.sentinel_runner.specs.declared.started.TheConstants.{BESIDE};
 ghost use Rattle.sentinel_runner.specs.declared.group_fault.GroupFault.TheVariants.{NotOneRoster};
 
 use crate::group_fault::GroupFault;
-use crate::opened::{Opened, fault_of};
+use crate::opened::Opened;
+use crate::port_parts::{PortPart, end_for_want, parts_of, serve_parts};
 use conf_store::ConfStore;
 use crossbeam_channel::Receiver;
 use group_links::{Delivery, Links, run_link, run_timer};
@@ -13,19 +15,22 @@ use group_sentinels::{RunFault, RunState, RunningSentinel, ThreadSeat, Which};
 use log::Log;
 use sentinel_conf::Conf;
 use std::alloc::{AllocError, Global};
-use std::io;
 use std::marker::Brand;
 use std::net::Net;
 use std::rt::Clock;
 use std::sync::Wait;
-use std::sync::atomic::{AtomicU64, Ordering};
+use std::sync::atomic::AtomicU64;
 use std::thread::{self, Threads};
+
+/// How many threads use a Sentinel beside those of its port: its timer and its link.
+const BESIDE: u16 = 2;
 
 /// A Sentinel that is open, and the end of its channel.
 #[derive(Drop)]
 pub(crate) struct Started<S: ConfStore> {
     opened: Opened<S>,
     deliveries: Receiver<Delivery>,
+    ghost seats: { opened.beside ≡ BESIDE },
 }
 
 impl<S: ConfStore + Drop> Started<S> {
@@ -41,7 +46,7 @@ impl<S: ConfStore + Drop> Started<S> {
         requires room { S.failure_count store < 2 ^ 64 - 1 }
         ensures roster { IfErr result (λ fault. fault ≢ NotOneRoster) }
     {
-        let opened = Opened::open(rt, alloc, conf, store, room)?;
+        let opened = Opened::open(rt, alloc, conf, store, room, BESIDE)?;
         let deliveries = links.connect(opened.place)?;
         Ok(Started { opened, deliveries })
     }
@@ -78,6 +83,7 @@ fn run_named<J: Which + Send + Sync, S: ConfStore + Drop + Send, R>(
 where
     R: Threads + Wait + Clock + Log + Sync,
     requires named { opened.cell.id ≡ J.cell }
+    requires seats { opened.beside ≡ BESIDE }
 {
     let Opened {
         cell,
@@ -87,6 +93,7 @@ where
         others,
         port_threads,
         number,
+        beside: _,
     } = opened;
     let made = RunningSentinel::<J, S>::with_seat(alloc, cell, seat, place, number, port_threads);
     let Ok((member, seat)) = made else {
@@ -96,33 +103,6 @@ where
         return end_for_want(state, ending);
     };
     run_threads(rt, alloc, state, links, &member, seated, deliveries, ending);
-}
-
-/// What a thread of a port serves, and its seat.
-#[derive(Drop)]
-struct PortPart<J: Which> {
-    port: Port,
-    seat: ThreadSeat<J>,
-}
-
-/// What a thread of a port of such a Sentinel does. By this trait `serve_parts` knows of a part no more than that it may be sent.
-trait ServesPort<M> {
-    /// Serves the port until `ending` isn't 0.
-    fn serve<R: Wait + Clock>(&mut self, rt: &R, state: &RunState, member: &M, ending: &AtomicU64);
-}
-
-impl<J: Which, S: ConfStore> ServesPort<RunningSentinel<J, S>> for PortPart<J> {
-    fn serve<R: Wait + Clock>(
-        &mut self,
-        rt: &R,
-        state: &RunState,
-        member: &RunningSentinel<J, S>,
-        ending: &AtomicU64,
-    ) {
-        if let Err(error) = self.port.serve(rt, state, member, &mut self.seat, ending) {
-            note_lost(state, &error);
-        }
-    }
 }
 
 /// The threads of a Sentinel, each with its seat.
@@ -143,7 +123,7 @@ impl<J: Which> Seated<J> {
         port: Port,
         ports: Vec<Port>,
     ) -> Result<Seated<J>, AllocError>
-        requires { seat.seat.view.share ≡ length ports.items + 3 }
+        requires { seat.seat.view.share ≡ length ports.items + 1 + BESIDE }
     {
         let mut seats = member.seats(alloc, seat)?;
         let (Some(timer), Some(link), Some(seat)) = (seats.pop(), seats.pop(), seats.pop()) else {
@@ -156,25 +136,6 @@ impl<J: Which> Seated<J> {
             others: parts_of(alloc, ports, seats)?,
         })
     }
-}
-
-/// What each further thread of a port serves, with its seat.
-fn parts_of<J: Which>(
-    alloc: Global,
-    mut ports: Vec<Port>,
-    mut seats: Vec<ThreadSeat<J>>,
-) -> Result<Vec<PortPart<J>>, AllocError>
-    requires { length seats.items ≡ length ports.items }
-    ensures { IfOk result (λ parts. length parts.items ≡ length ports.items) }
-{
-    let mut parts = Vec::new(alloc);
-    while let Some(port) = ports.pop() {
-        let Some(seat) = seats.pop() else {
-            unreachable!()
-        };
-        parts.push(PortPart { port, seat })?;
-    }
-    Ok(parts)
 }
 
 /// Starts the timer and the link, and serves the port.
@@ -211,44 +172,4 @@ where
         }
         serve_parts(rt, state, member, first, others, ending);
     })
-}
-
-/// Starts the further threads of the port, and serves it as the first one.
-fn serve_parts<'a, M: Sync, P: ServesPort<M> + Drop + Send, R>(
-    rt: &'a R,
-    state: &'a RunState,
-    member: &'a M,
-    mut first: P,
-    others: Vec<P>,
-    ending: &'a AtomicU64,
-)
-where
-    R: Threads + Wait + Clock + Sync,
-{
-    thread::scope(thread::scope_env(), rt, |scope| {
-        let mut refused = false;
-        for mut part in others {
-            refused |= scope
-                .spawn(move || part.serve(rt, state, member, ending))
-                .is_err();
-        }
-        if refused {
-            return end_for_want(state, ending);
-        }
-        first.serve(rt, state, member, ending);
-    })
-}
-
-/// Ends the group, since a thread or its room couldn't be made.
-fn end_for_want(state: &RunState, ending: &AtomicU64) {
-    state.note(RunFault::LackedThread);
-    ending.store(1, Ordering::SeqCst);
-}
-
-/// Notes why a port serves no more: want of memory, or the system.
-fn note_lost(state: &RunState, error: &io::Error) {
-    match fault_of(error) {
-        GroupFault::NoMemory => state.note(RunFault::LackedThread),
-        _ => state.note(RunFault::LostPort),
-    }
 }

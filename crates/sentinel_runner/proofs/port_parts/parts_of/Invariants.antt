@@ -1,5 +1,5 @@
 use Rattle.std.proofs.Common.{◌≡◌, ℕ, ◌+◌, length}
-use Rattle.sentinel_runner.proofs.started.parts_of.Given as goal
+use Rattle.sentinel_runner.proofs.port_parts.parts_of.Given as goal
 
 -- a seat is left for each part that is left
 abbrev pub invariant-loop-port : goal.invariant-loop-port

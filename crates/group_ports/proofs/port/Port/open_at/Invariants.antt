@@ -1,5 +1,5 @@
 use Rattle.std.proofs.Common.{◌≡◌, ℕ, ◌+◌, length}
-use Rattle.group_ports.proofs.port.Port.open.Given as goal
+use Rattle.group_ports.proofs.port.Port.open_at.Given as goal
 
 -- each further thread has its part
 abbrev pub invariant-loop-thread : goal.invariant-loop-thread

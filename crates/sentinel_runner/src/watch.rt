@@ -1,0 +1,360 @@
+//! One Sentinel of its own, which watches Redis servers and speaks to the other Sentinels over TCP.
+
+ghost use Rattle.std.specs.Prelude.{◌≡◌, ◌<◌, ◌+◌, ◌-◌, ◌^◌, IfOk, OnOk, length};
+ghost use Rattle.sentinel_runner.specs.declared.watch.TheConstants.{BESIDE};
+
+use crate::group::outcome;
+use crate::group_fault::GroupFault;
+use crate::opened::{Opened, PORT_THREADS_MAX, fault_of};
+use crate::port_parts::{PortPart, ServesPort, end_for_want, note_lost, parts_of, serve_parts};
+use conf_store::ConfStore;
+use group_ports::{Port, PortRoom, connections_beside};
+use group_sentinels::{GroupClock, RunState, RunningSentinel, ThreadSeat, Which};
+use log::{Log, warn};
+use sentinel_conf::{Conf, ConfText, rewrite_into};
+use std::alloc::{AllocError, Global};
+use std::io::ErrorKind;
+use std::marker::Brand;
+use std::net::{Ipv4Addr, Net, SocketAddr};
+use std::rt::Clock;
+use std::sync::Wait;
+use std::sync::atomic::{AtomicU64, Ordering};
+use std::thread::{self, Threads};
+use tcp_links::connection_count;
+use tcp_wires::{FarEnd, Logins, Rounds, WatchState, Wires};
+
+/// How many threads use a Sentinel beside those of its port: that of its ticks.
+const BESIDE: u16 = 1;
+
+/// What a Sentinel of its own is told beside its conf.
+#[derive(Drop)]
+pub struct WatchSettings {
+    /// The ips at which its port listens.
+    pub ips: Vec<u32>,
+    /// How many threads serve the port: one at least, and no more than `PORT_THREADS_MAX`.
+    pub port_threads: u16,
+    /// With which words it logs in to the nodes of each master.
+    pub logins: Logins,
+}
+
+/// A Sentinel that is open, with its end of the connections, before its threads run.
+#[derive(Drop)]
+struct Watching<S: ConfStore> {
+    opened: Opened<S>,
+    far: FarEnd,
+    alloc: Global,
+    ghost seats: { opened.beside ≡ BESIDE },
+}
+
+/// A Sentinel that is open, with its port and its connections, before its threads run.
+#[derive(Drop)]
+pub struct Watch<S: ConfStore> {
+    watching: Watching<S>,
+    wires: Wires,
+    state: WatchState,
+}
+
+/// Stores what the conf keeps, once: so it is known that its file can be written.
+fn prove_store<S: ConfStore>(alloc: Global, conf: &Conf, store: &mut S) -> Result<(), GroupFault>
+    requires { S.failure_count store.old < 2 ^ 64 - 1 }
+    ensures ok { OnOk result (S.failure_count store.new ≡ S.failure_count store.old) }
+{
+    let Ok(mut text) = ConfText::room_for(alloc, conf) else {
+        return Err(GroupFault::NoMemory);
+    };
+    rewrite_into(conf, conf.kept(), &mut text);
+    if store.replace(text.as_slice()).is_err() {
+        return Err(GroupFault::Halted);
+    }
+    Ok(())
+}
+
+/// The connections of the Sentinel of this conf, and its end of them.
+fn wires_of<R: Net>(
+    rt: &R,
+    alloc: Global,
+    conf: &Conf,
+    logins: Logins,
+) -> Result<(Wires, FarEnd), GroupFault> {
+    let Ok(roster) = conf.roster().copy(alloc) else {
+        return Err(GroupFault::NoMemory);
+    };
+    match Wires::new(rt, alloc, roster, conf.place(), logins) {
+        Ok(both) => Ok(both),
+        Err(error) => Err(fault_of(&error)),
+    }
+}
+
+/// How many connections each of so many threads of its port keeps, beside those that the Sentinel of this conf opens itself.
+fn room_of<R: Net>(
+    rt: &R,
+    alloc: Global,
+    conf: &Conf,
+    port_threads: u16,
+) -> Result<PortRoom, GroupFault>
+    ensures { IfOk result (λ room. 0 < port_threads → room.threads ≡ port_threads) }
+{
+    let own = connection_count(conf.roster()) as u64;
+    match connections_beside(rt, alloc, 1, port_threads, own) {
+        Ok(room) if room.is_empty() => Err(GroupFault::PortRefused),
+        Ok(room) => Ok(room),
+        Err(error) => Err(fault_of(&error)),
+    }
+}
+
+/// The sockets' addresses of a port of this number at these ips.
+fn addresses_of(alloc: Global, ips: &[u32], number: u16) -> Result<Vec<SocketAddr>, AllocError> {
+    let mut addresses = Vec::new(alloc);
+    for ip in ips {
+        addresses.push(SocketAddr::from((Ipv4Addr::from(*ip), number)))?;
+    }
+    Ok(addresses)
+}
+
+/// The port of this number at these ips, with so much room: what its first thread serves, and what each further one does.
+fn port_of<R: Net + Log>(
+    rt: &R,
+    alloc: Global,
+    number: u16,
+    ips: &[u32],
+    room: PortRoom,
+) -> Result<(Port, Vec<Port>), GroupFault>
+    ensures { IfOk result (λ parts. length parts.1.items + 1 ≡ room.threads) }
+{
+    let addresses = addresses_of(alloc, ips, number)?;
+    match Port::open_at(rt, alloc, addresses.as_slice(), room) {
+        Ok(parts) => Ok(parts),
+        Err(error) => {
+            if error.kind() != ErrorKind::OutOfMemory {
+                warn!(rt; "port {number} can't be had: {error}");
+            }
+            Err(fault_of(&error))
+        }
+    }
+}
+
+impl<S: ConfStore + Drop> Watch<S> {
+    /// Opens the Sentinel of this conf at clock 0, and its port; no connection is opened yet. What the conf keeps is stored once before the port is opened.
+    ///
+    /// `Halted` where the store refuses that, `PortRefused` where a port can't be had, and `NoMemory`; `NotOneRoster` never comes.
+    pub fn open<R: Net + Clock + Log>(
+        rt: &R,
+        alloc: Global,
+        conf: Conf,
+        mut store: S,
+        settings: WatchSettings,
+    ) -> Result<Watch<S>, GroupFault>
+        requires { S.failure_count store < 2 ^ 64 - 1 }
+    {
+        let WatchSettings {
+            ips,
+            port_threads,
+            logins,
+        } = settings;
+        prove_store(alloc, &conf, &mut store)?;
+        let (wires, far) = wires_of(rt, alloc, &conf, logins)?;
+        let port_threads = port_threads.clamp(1, PORT_THREADS_MAX);
+        let room = room_of(rt, alloc, &conf, port_threads)?;
+        let ports = port_of(rt, alloc, conf.port(), ips.as_slice(), room)?;
+        let opened = Opened::with_port(alloc, conf, store, ports, room.threads(), BESIDE)?;
+        let state = WatchState {
+            run: RunState::new(GroupClock::start(rt)),
+            turned: AtomicU64::new(0),
+            ending: AtomicU64::new(0),
+        };
+        Ok(Watch {
+            watching: Watching { opened, far, alloc },
+            wires,
+            state,
+        })
+    }
+
+    /// Runs its threads until the Sentinel is halted; this thread has the connections. The store is gone then.
+    ///
+    /// `Halted` where the store refused a text, whichever thread met that; `PortRefused` where the system no longer tells of the connections, and `NoMemory` where a thread
+    /// couldn't be made.
+    pub fn run<R: Threads + Wait + Net + Clock + Log + Sync>(self, rt: &R) -> Result<(), GroupFault>
+    where
+        S: Send,
+    {
+        let Watch {
+            watching,
+            wires,
+            state,
+        } = self;
+        run_beside(rt, rt, watching, wires, &state);
+        outcome(&state.run)
+    }
+}
+
+/// The threads of a Sentinel beside that of its connections. By this trait `run_beside` knows of them no more than that they may be started from a thread of their own.
+trait RunsBeside {
+    /// Runs them until they end; this thread is the first one of the port.
+    fn run<R: Threads + Wait + Clock + Log + Sync>(self, rt: &R, state: &WatchState);
+}
+
+/// Starts the thread of the port, which starts that of the ticks, and runs the connections. When this returns all have ended.
+fn run_beside<'a, W: RunsBeside + Drop + Send, R, N: Net>(
+    rt: &'a R,
+    net: &N,
+    watching: W,
+    mut wires: Wires,
+    state: &'a WatchState,
+)
+where
+    R: Threads + Wait + Clock + Log + Sync,
+{
+    thread::scope(thread::scope_env(), rt, |scope| {
+        let begun = scope.spawn(move || watching.run(rt, state));
+        if begun.is_err() {
+            return end_for_want(&state.run, &state.ending);
+        }
+        if let Err(error) = wires.run(rt, net, state) {
+            note_lost(&state.run, &error);
+        }
+        state.ending.store(1, Ordering::SeqCst);
+    })
+}
+
+impl<S: ConfStore + Drop + Send> Watching<S> {
+    /// Runs its threads until they end.
+    fn run_threads<R: Threads + Wait + Clock + Log + Sync>(self, rt: &R, state: &WatchState) {
+        let Watching { opened, far, alloc } = self;
+        run_named::<Brand, S, R>(rt, alloc, state, opened, far);
+    }
+}
+
+impl<S: ConfStore + Drop + Send> RunsBeside for Watching<S> {
+    fn run<R: Threads + Wait + Clock + Log + Sync>(self, rt: &R, state: &WatchState) {
+        self.run_threads(rt, state);
+        state.ending.store(1, Ordering::SeqCst);
+    }
+}
+
+/// Runs the threads of a Sentinel that has a name for proofs.
+fn run_named<J: Which + Send + Sync, S: ConfStore + Drop + Send, R>(
+    rt: &R,
+    alloc: Global,
+    state: &WatchState,
+    opened: Opened<S>,
+    far: FarEnd,
+)
+where
+    R: Threads + Wait + Clock + Log + Sync,
+    requires named { opened.cell.id ≡ J.cell }
+    requires seats { opened.beside ≡ BESIDE }
+{
+    let Opened {
+        cell,
+        seat,
+        place,
+        port,
+        others,
+        port_threads,
+        number,
+        beside: _,
+    } = opened;
+    let made = RunningSentinel::<J, S>::with_seat(alloc, cell, seat, place, number, port_threads);
+    let Ok((member, seat)) = made else {
+        return end_for_want(&state.run, &state.ending);
+    };
+    let Ok(seated) = Seated::of(alloc, &member, seat, port, others) else {
+        return end_for_want(&state.run, &state.ending);
+    };
+    let Seated {
+        ticks,
+        first,
+        others,
+    } = seated;
+    let part = TickPart {
+        far,
+        seat: ticks,
+        alloc,
+    };
+    run_parts(rt, state, &member, part, first, others);
+}
+
+/// What the thread of a Sentinel's ticks has: its end of the connections, and its seat.
+#[derive(Drop)]
+struct TickPart<J: Which> {
+    far: FarEnd,
+    seat: ThreadSeat<J>,
+    alloc: Global,
+}
+
+/// What the thread of the ticks of such a Sentinel does. By this trait `run_parts` knows of it no more than that it may be sent.
+trait Ticks<M> {
+    /// Ticks, and hears what the connections hear, until the threads end or the Sentinel is halted.
+    fn tick<R: Wait + Clock + Log>(self, rt: &R, state: &WatchState, member: &M);
+}
+
+impl<J: Which, S: ConfStore> Ticks<RunningSentinel<J, S>> for TickPart<J> {
+    fn tick<R: Wait + Clock + Log>(
+        self,
+        rt: &R,
+        state: &WatchState,
+        member: &RunningSentinel<J, S>,
+    ) {
+        let TickPart {
+            far,
+            mut seat,
+            alloc,
+        } = self;
+        let mut rounds = Rounds::new(alloc, member, far, state.run.clock.now(rt));
+        rounds.run(rt, state, member, &mut seat);
+        state.ending.store(1, Ordering::SeqCst);
+    }
+}
+
+/// The seats of a Sentinel's threads, those of the port with what they serve.
+#[derive(Drop)]
+struct Seated<J: Which> {
+    ticks: ThreadSeat<J>,
+    first: PortPart<J>,
+    others: Vec<PortPart<J>>,
+}
+
+impl<J: Which> Seated<J> {
+    /// Cuts the seat of the Sentinel into one for each thread.
+    fn of<S: ConfStore>(
+        alloc: Global,
+        member: &RunningSentinel<J, S>,
+        seat: ThreadSeat<J>,
+        port: Port,
+        ports: Vec<Port>,
+    ) -> Result<Seated<J>, AllocError>
+        requires { seat.seat.view.share ≡ length ports.items + 1 + BESIDE }
+    {
+        let mut seats = member.seats(alloc, seat)?;
+        let (Some(ticks), Some(seat)) = (seats.pop(), seats.pop()) else {
+            unreachable!()
+        };
+        Ok(Seated {
+            ticks,
+            first: PortPart { port, seat },
+            others: parts_of(alloc, ports, seats)?,
+        })
+    }
+}
+
+/// Starts the thread of the ticks, and serves the port.
+fn run_parts<'a, M: Sync, T: Ticks<M> + Drop + Send, P: ServesPort<M> + Drop + Send, R>(
+    rt: &'a R,
+    state: &'a WatchState,
+    member: &'a M,
+    ticks: T,
+    first: P,
+    others: Vec<P>,
+)
+where
+    R: Threads + Wait + Clock + Log + Sync,
+{
+    thread::scope(thread::scope_env(), rt, |scope| {
+        let begun = scope.spawn(move || ticks.tick(rt, state, member));
+        if begun.is_err() {
+            return end_for_want(&state.run, &state.ending);
+        }
+        serve_parts(rt, &state.run, member, first, others, &state.ending);
+        state.ending.store(1, Ordering::SeqCst);
+    })
+}

@@ -1,0 +1,21 @@
+-- What a connection reads and writes: `before` and `after` are what its stream has, where that is known.
+use Rattle.std.specs.Prelude.{◌≡◌, ◌++◌, ℕ, List, Option}
+use Rattle.std.specs.Io.KnownBytes.{Appends, Consumes}
+use Rattle.ballot_law.specs.declared.events.Event.{Event}
+use Rattle.link_sessions.specs.Links.{IsHeard}
+use Rattle.tcp_links.specs.NodeLinks.{State}
+
+-- what was written is what the bytes that aren't sent yet lost at their front, and nothing else of the connection changed
+pub record Sends (before after : Option (List ℕ)) (old new : State) : Type 0 where
+  pub gone : List ℕ
+  pub front : old.talk.unsent ≡ gone ++ new.talk.unsent
+  pub written : Appends before after gone
+  pub rest : new ≡ record old { talk = record old.talk { unsent = new.talk.unsent } }
+
+-- bytes were read, and what these tell was added to the events, and nothing else
+pub record Hears (before after : Option (List ℕ)) (old new : State) (events told : List Event) : Type 0 where
+  pub bytes : List ℕ
+  pub read : Consumes before after bytes
+  pub more : List Event
+  pub added : told ≡ events ++ more
+  pub hears : IsHeard old.target.node old.target.listens old.talk.asked (old.talk.held ++ bytes) more new.talk.asked new.talk.held

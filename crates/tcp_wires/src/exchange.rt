@@ -1,0 +1,191 @@
+//! What goes between the thread of the connections and the thread that ticks the Sentinel.
+
+ghost use Rattle.std.specs.Prelude.{◌≡◌, IfSome};
+ghost use Rattle.boxed_nodes.specs.Sendable.{IsSendable};
+ghost use Rattle.messages.specs.MessageTexts.{IsWritable};
+ghost use Rattle.sentinel_rules.specs.Facts.{IsWithinEvent};
+
+use ballot_law::{Event, Message};
+use crossbeam_channel::{Receiver, Sender, unbounded};
+use group_sentinels::{Outlet, RunState};
+use messages::copy_of;
+use mio::{Registry, Token, Waker};
+use std::alloc::Global;
+use std::io;
+use std::marker::Model;
+use std::rt::Clock;
+use std::sync::Wait;
+use std::sync::atomic::AtomicU64;
+use std::time::Duration;
+
+/// How many events may wait for the Sentinel, and how many messages for the connections; a further one is lost.
+const WAITING_MAX: usize = 4_096;
+
+/// What all threads of a Sentinel of its own share. `turned` is when the connections were looked at last, by the reading of the clock in milliseconds; the threads end where
+/// `ending` isn't 0.
+#[derive(Drop)]
+pub struct WatchState {
+    pub run: RunState,
+    pub turned: AtomicU64,
+    pub ending: AtomicU64,
+}
+
+/// A message that is to go out, which can be written. Contracts see the message.
+#[derive(Drop)]
+pub(crate) struct Outgoing {
+    message: Message,
+}
+
+impl Model for Outgoing {
+    ghost use Rattle.ballot_law.specs.declared.messages.Message.{Message};
+    ghost use Rattle.messages.specs.MessageTexts.{IsWritable};
+
+    ghost Value = { Message };
+
+    ghost view = { λ outgoing. outgoing.message };
+
+    ghost invariant = { λ outgoing. IsWritable outgoing.message.body };
+}
+
+impl Outgoing {
+    /// This message.
+    fn of(message: Message) -> Outgoing
+        requires { IsWritable message.body }
+        ensures { result ≡ message }
+    {
+        Outgoing { message }
+    }
+
+    /// The message.
+    pub(crate) fn message(&self) -> &Message
+        ensures writable { IsWritable result.now.body }
+        ensures message { result.now ≡ self.now }
+    {
+        &self.message
+    }
+}
+
+/// What a connection heard, which a Sentinel may take. Contracts see the event.
+#[derive(Drop)]
+pub(crate) struct Hearing {
+    event: Event,
+}
+
+impl Model for Hearing {
+    ghost use Rattle.ballot_law.specs.declared.events.Event.{Event};
+    ghost use Rattle.sentinel_rules.specs.Facts.{IsWithinEvent};
+
+    ghost Value = { Event };
+
+    ghost view = { λ hearing. hearing.event };
+
+    ghost invariant = { λ hearing. IsWithinEvent hearing.event };
+}
+
+impl Hearing {
+    /// The hearing of this event.
+    fn of(event: Event) -> Hearing
+        requires { IsWithinEvent event }
+        ensures { result ≡ event }
+    {
+        Hearing { event }
+    }
+
+    /// The event.
+    fn into_event(self) -> Event
+        ensures within { IsWithinEvent result }
+        ensures event { result ≡ self }
+    {
+        let Hearing { event } = self;
+        event
+    }
+}
+
+/// The end of the connections: the messages that are to go out, and where what they hear goes.
+#[derive(Drop)]
+pub(crate) struct NearEnd {
+    messages: Receiver<Outgoing>,
+    heard: Sender<Hearing>,
+}
+
+/// The end of the Sentinel: what the connections hear, and where its messages go.
+#[derive(Drop)]
+pub struct FarEnd {
+    heard: Receiver<Hearing>,
+    messages: Sender<Outgoing>,
+    waker: Waker,
+    alloc: Global,
+}
+
+/// The token of the Sentinel's waker, beside those of the connections.
+const WAKER: Token = Token(usize::MAX);
+
+/// Both ends, between which nothing is under way; a message that goes out ends the wait of this registry's poll. The error is the system's, or a refused allocation.
+pub(crate) fn exchange(alloc: Global, registry: &Registry) -> io::Result<(NearEnd, FarEnd)> {
+    let waker = Waker::new(registry, WAKER)?;
+    let (to_wires, messages) = unbounded(alloc)?;
+    let (to_sentinel, heard) = unbounded(alloc)?;
+    let near = NearEnd {
+        messages,
+        heard: to_sentinel,
+    };
+    let far = FarEnd {
+        heard,
+        messages: to_wires,
+        waker,
+        alloc,
+    };
+    Ok((near, far))
+}
+
+impl NearEnd {
+    /// The next message that is to go out; none where none waits.
+    pub(crate) fn next<R: Wait>(&self, rt: &R) -> Option<Outgoing> {
+        self.messages.try_recv(rt).ok()
+    }
+
+    /// Hands an event on to the Sentinel. Where too many wait for it, the event is lost, as a message may be on its way.
+    pub(crate) fn hand_on<R: Wait>(&self, rt: &R, event: Event)
+        requires { IsWithinEvent event }
+    {
+        if self.heard.len() < WAITING_MAX {
+            drop(self.heard.send(rt, Hearing::of(event)));
+        }
+    }
+}
+
+impl FarEnd {
+    /// Waits for the next event so many milliseconds at most; none where nothing came.
+    pub(crate) fn next<R: Wait + Clock>(&self, rt: &R, millis: u64) -> Option<Event>
+        ensures { IfSome result IsWithinEvent }
+    {
+        match self.heard.recv_timeout(rt, Duration::from_millis(millis)) {
+            Ok(hearing) => Some(hearing.into_event()),
+            Err(_) => None,
+        }
+    }
+
+    /// The connections as the place where messages go.
+    pub(crate) fn outlet<'a, R: Wait>(&'a self, rt: &'a R) -> WireOutlet<'a, R> {
+        WireOutlet { end: self, rt }
+    }
+}
+
+/// The connections as the place where messages go, each in its turn. A message is lost where too many wait, where no connection takes it, and where there is no memory.
+#[derive(Clone, Copy)]
+pub(crate) struct WireOutlet<'a, R: Wait> {
+    end: &'a FarEnd,
+    rt: &'a R,
+}
+
+impl<R: Wait> Outlet for WireOutlet<'_, R> {
+    fn send(&mut self, message: &Message) {
+        if self.end.messages.len() >= WAITING_MAX {
+            return;
+        }
+        if let Ok(message) = copy_of(self.end.alloc, message) {
+            drop(self.end.messages.send(self.rt, Outgoing::of(message)));
+            drop(self.end.waker.wake());
+        }
+    }
+}

@@ -1,0 +1,230 @@
+//! One connection with its socket.
+
+ghost use Rattle.std.specs.Prelude.{◌≡◌, ◌↔◌, IsTrue, false};
+ghost use Rattle.std.specs.List.{AllByRecursion};
+ghost use Rattle.messages.specs.MessageTexts.{IsWritable};
+ghost use Rattle.sentinel_rules.specs.Facts.{IsWithinEvent};
+
+use crate::exchange::NearEnd;
+use crate::traffic::{hear, send};
+use ballot_law::{Addr, Event, Message, NodeName};
+use mio::net::TcpStream;
+use mio::{Interest, Registry, Token};
+use std::alloc::Global;
+use std::io::ErrorKind;
+use std::net::{Ipv4Addr, Net, SocketAddr};
+use std::sync::Wait;
+use tcp_links::{Login, NodeLink, Stage, Target};
+
+/// How many reads a connection makes before the next one has its turn.
+const READS_MAX: u32 = 16;
+
+/// A connection to a node, with its socket where it is open or being opened. `goes_on` is whether it may have more to read.
+#[derive(Drop)]
+pub(crate) struct Wire {
+    link: NodeLink,
+    stream: Option<TcpStream>,
+    goes_on: bool,
+    alloc: Global,
+}
+
+/// A socket's address.
+fn socket_of(addr: Addr) -> SocketAddr {
+    SocketAddr::from((Ipv4Addr::from(addr.ip), addr.port))
+}
+
+/// Begins to connect, and has the system tell of it under this token; none where it can't.
+fn connected<N: Net>(net: &N, registry: &Registry, token: Token, addr: Addr) -> Option<TcpStream> {
+    let mut stream = TcpStream::connect(net, socket_of(addr)).ok()?;
+    let interest = Interest::READABLE | Interest::WRITABLE;
+    registry.register(&mut stream, token, interest).ok()?;
+    Some(stream)
+}
+
+/// Whether the socket stands, once the system has told of it: `None` where it isn't known yet.
+fn is_connected(stream: &TcpStream) -> Option<bool> {
+    match stream.take_error() {
+        Ok(None) => {}
+        _ => return Some(false),
+    }
+    if stream.peer_addr().is_ok() {
+        return Some(true);
+    }
+    None
+}
+
+/// Hands these events on to the Sentinel, in their order. They are those of one read, so there are few.
+fn hand_on_all<R: Wait>(rt: &R, near: &NearEnd, mut events: Vec<Event>)
+    requires { AllByRecursion IsWithinEvent events.items }
+{
+    while !events.is_empty() {
+        let event = events.remove(0);
+        near.hand_on(rt, event);
+    }
+}
+
+impl Wire {
+    /// A connection that isn't open, and is to be opened at once.
+    pub(crate) fn new(alloc: Global, target: Target) -> Wire {
+        Wire {
+            link: NodeLink::new(alloc, target),
+            stream: None,
+            goes_on: false,
+            alloc,
+        }
+    }
+
+    /// The node that it is to.
+    pub(crate) fn node(&self) -> NodeName
+        ensures { result ≡ self.now.link.target.node }
+    {
+        self.link.target().node
+    }
+
+    /// Whether it takes the messages of this node.
+    pub(crate) fn takes(&self, node: NodeName) -> bool
+        ensures { IsTrue result ↔ ((self.now.link.target.node ≡ node) × (self.now.link.target.listens ≡ false)) }
+    {
+        let target = self.link.target();
+        target.node == node && !target.listens
+    }
+
+    /// Whether it may have more to read.
+    pub(crate) fn goes_on(&self) -> bool {
+        self.goes_on
+    }
+
+    /// Drops the socket where the connection is closed.
+    fn settle(&mut self) {
+        if self.link.schedule().stage == Stage::Closed {
+            self.stream = None;
+            self.goes_on = false;
+        }
+    }
+
+    /// Begins to open it.
+    fn open<N: Net>(
+        &mut self,
+        net: &N,
+        registry: &Registry,
+        token: Token,
+        login: Login<'_>,
+        now: u64,
+    ) {
+        if self.link.open(login, now).is_err() {
+            return;
+        }
+        self.stream = connected(net, registry, token, self.link.target().addr);
+        if self.stream.is_none() {
+            self.link.close(now);
+        }
+    }
+
+    /// Closes it where it is given up, opens it where that is due, and asks what it asks by itself.
+    pub(crate) fn keep<N: Net>(
+        &mut self,
+        net: &N,
+        registry: &Registry,
+        token: Token,
+        login: Login<'_>,
+        now: u64,
+    ) {
+        if self.link.stale(now).is_some() {
+            self.link.close(now);
+            self.settle();
+        }
+        if self.link.schedule().is_due(now) {
+            self.open(net, registry, token, login, now);
+        }
+        self.ask_due(now);
+    }
+
+    /// Asks what it asks by itself, and sends what it can. A fault has closed it.
+    fn ask_due(&mut self, now: u64) {
+        let _ = self.link.ask_due(now);
+        self.send_out(now);
+    }
+
+    /// What was silent so far counts no more, and it sends a PING: this Sentinel stood still.
+    pub(crate) fn ask_anew(&mut self, now: u64) {
+        self.link.excuse(now);
+        let _ = self.link.ping(now);
+        self.send_out(now);
+    }
+
+    /// Puts out a message where it is open, and sends what it can; else the message is lost. A fault has closed it.
+    pub(crate) fn ask(&mut self, message: &Message, now: u64)
+        requires writable { IsWritable message.now.body }
+        requires target { (self.old.link.target.node ≡ message.now.target) × (self.old.link.target.listens ≡ false) }
+    {
+        let _ = self.link.ask(message, now);
+        self.send_out(now);
+    }
+
+    /// Sends what is unsent, where it is open. A socket that takes no more closes it.
+    fn send_out(&mut self, now: u64) {
+        if self.link.schedule().is_open() {
+            let whole = match &mut self.stream {
+                Some(stream) => send(&mut self.link, stream),
+                None => false,
+            };
+            if !whole {
+                self.link.close(now);
+            }
+        }
+        self.settle();
+    }
+
+    /// Reads one piece, and hands on what it tells; the error says why none was taken.
+    #[tactic(auto, using(crate::proofs::Hearing::all_within_told))]
+    fn read_once<R: Wait>(
+        &mut self,
+        rt: &R,
+        near: &NearEnd,
+        room: &mut [u8],
+        now: u64,
+    ) -> Result<(), ErrorKind> {
+        let Some(stream) = &mut self.stream else {
+            return Err(ErrorKind::NotConnected);
+        };
+        let mut events = Vec::new(self.alloc);
+        let heard = hear(&mut self.link, stream, room, now, &mut events);
+        hand_on_all(rt, near, events);
+        heard
+    }
+
+    /// Reads what came, and hands on what that tells: whether the socket is whole. After many reads the next connection has its turn.
+    fn read_in<R: Wait>(&mut self, rt: &R, near: &NearEnd, room: &mut [u8], now: u64) -> bool {
+        self.goes_on = false;
+        for _ in 0..READS_MAX {
+            match self.read_once(rt, near, room, now) {
+                Ok(()) | Err(ErrorKind::Interrupted) => {}
+                Err(ErrorKind::WouldBlock) => return true,
+                Err(_) => return false,
+            }
+        }
+        self.goes_on = true;
+        true
+    }
+
+    /// Whether it is open, once the system has told of it; a socket that can't be had closes it.
+    fn has_reached(&mut self, now: u64) -> bool {
+        let Some(stream) = &self.stream else {
+            return false;
+        };
+        match is_connected(stream) {
+            Some(true) if !self.link.schedule().is_open() => self.link.reach(now),
+            Some(false) => self.link.close(now),
+            _ => {}
+        }
+        self.link.schedule().is_open()
+    }
+
+    /// Goes on once the system has told of it: reads what came, hands on what that tells, and sends what is unsent and due.
+    pub(crate) fn serve<R: Wait>(&mut self, rt: &R, near: &NearEnd, room: &mut [u8], now: u64) {
+        if self.has_reached(now) && !self.read_in(rt, near, room, now) {
+            self.link.close(now);
+        }
+        self.ask_due(now);
+    }
+}

@@ -1,0 +1,227 @@
+//! All connections of a Sentinel.
+
+use crate::exchange::{FarEnd, NearEnd, Outgoing, WatchState, exchange};
+use crate::logins::Logins;
+use crate::traffic::PIECE;
+use crate::wire::Wire;
+use ballot_law::{NodeName, Roster};
+use mio::{Events, Poll, Token};
+use std::alloc::{AllocError, Global};
+use std::io::{self, ErrorKind};
+use std::net::Net;
+use std::rt::Clock;
+use std::sync::Wait;
+use std::sync::atomic::Ordering;
+use std::time::Duration;
+use tcp_links::{Login, Pace, connection_count, place_of, target_at};
+
+/// How many connections the system tells of at once.
+const EVENTS: usize = 256;
+
+/// How long it is between two times at which connections are opened and given up, in milliseconds.
+const KEEP_MS: u64 = 50;
+
+/// How many messages are put out before the connections are heard again.
+const MESSAGES_MAX: u32 = 1_024;
+
+/// The connections of one Sentinel, each at its place (`target_at`); its own place has none.
+#[derive(Drop)]
+pub struct Wires {
+    poll: Poll,
+    told: Events<Global>,
+    wires: Vec<Option<Wire>>,
+    roster: Roster,
+    logins: Logins,
+    near: NearEnd,
+    room: Vec<u8>,
+    alloc: Global,
+}
+
+/// The connections of the Sentinel at this place of the roster, none of which is open.
+fn wires_of(alloc: Global, roster: &Roster, own: u16) -> Result<Vec<Option<Wire>>, AllocError> {
+    let mut wires = Vec::new(alloc);
+    for place in 0..connection_count(roster) {
+        match target_at(roster, own, place) {
+            Some(target) => wires.push(Some(Wire::new(alloc, target)))?,
+            None => wires.push(None)?,
+        }
+    }
+    Ok(wires)
+}
+
+/// The login of a node: that of its master's nodes; a Sentinel wants none.
+fn login_of<'a>(roster: &Roster, logins: &'a Logins, node: NodeName) -> Login<'a> {
+    let NodeName::StoreAt(number) = node else {
+        return Login::Without;
+    };
+    match roster.node_numbered(number) {
+        Some(at) => logins.of(at.master),
+        None => Login::Without,
+    }
+}
+
+impl Wires {
+    /// The connections of the Sentinel at this place of the roster, none of which is open, and the Sentinel's end of them. The error is the system's; `OutOfMemory` is a refused allocation.
+    pub fn new<N: Net>(
+        net: &N,
+        alloc: Global,
+        roster: Roster,
+        own: u16,
+        logins: Logins,
+    ) -> io::Result<(Wires, FarEnd)> {
+        let poll = Poll::new(net)?;
+        let (near, far) = exchange(alloc, poll.registry())?;
+        let wires = Wires {
+            poll,
+            told: Events::with_capacity(alloc, EVENTS)?,
+            wires: wires_of(alloc, &roster, own)?,
+            roster,
+            logins,
+            near,
+            room: vec![in alloc; 0; PIECE]?,
+            alloc,
+        };
+        Ok((wires, far))
+    }
+
+    /// Closes connections of no use, opens those that are due, and asks what they ask by themselves, at this reading of the clock.
+    fn keep_all<N: Net>(&mut self, net: &N, now: u64) {
+        for place in 0..self.wires.len() {
+            if let Some(Some(wire)) = self.wires.get_mut(place) {
+                let login = login_of(&self.roster, &self.logins, wire.node());
+                wire.keep(net, self.poll.registry(), Token(place), login, now);
+            }
+        }
+    }
+
+    /// Sends each node a PING, and forgets for how long it was silent: this Sentinel stood still.
+    fn ask_all_anew(&mut self, now: u64) {
+        for wire in self.wires.iter_mut().flatten() {
+            wire.ask_anew(now);
+        }
+    }
+
+    /// Whether a connection may have more to read.
+    fn goes_on(&self) -> bool {
+        self.wires.iter().flatten().any(|wire| wire.goes_on())
+    }
+
+    /// Waits until the system tells of a connection, or so many milliseconds; not at all where one may have more to read. The error is the system's, where it tells of no
+    /// connection any more.
+    fn wait(&mut self, millis: u64) -> io::Result<()> {
+        let millis = if self.goes_on() { 0 } else { millis };
+        match self
+            .poll
+            .poll(&mut self.told, Some(Duration::from_millis(millis)))
+        {
+            Ok(()) => Ok(()),
+            Err(error) => {
+                self.told.clear();
+                if error.kind() == ErrorKind::Interrupted {
+                    return Ok(());
+                }
+                Err(error)
+            }
+        }
+    }
+
+    /// Serves the connection at this place, at this reading of the clock.
+    fn serve<R: Wait>(&mut self, rt: &R, place: usize, now: u64) {
+        if let Some(Some(wire)) = self.wires.get_mut(place) {
+            wire.serve(rt, &self.near, self.room.as_mut_slice(), now);
+        }
+    }
+
+    /// Serves the connections that may have more to read.
+    fn serve_busy<R: Wait>(&mut self, rt: &R, now: u64) {
+        for wire in self.wires.iter_mut().flatten() {
+            if wire.goes_on() {
+                wire.serve(rt, &self.near, self.room.as_mut_slice(), now);
+            }
+        }
+    }
+
+    /// The places of the connections of which the system told.
+    fn places_told(&self) -> Result<Vec<usize>, AllocError> {
+        let mut places = Vec::new(self.alloc);
+        for event in &self.told {
+            places.push(event.token().0)?;
+        }
+        Ok(places)
+    }
+
+    /// Serves the connections of which the last wait told, at this reading of the clock. The error is a refused allocation.
+    fn serve_told<R: Wait>(&mut self, rt: &R, now: u64) -> io::Result<()> {
+        self.serve_busy(rt, now);
+        for place in self.places_told()? {
+            self.serve(rt, place, now);
+        }
+        Ok(())
+    }
+
+    /// Puts out a message on the connection to its target, and sends what can be sent at once. It is lost where that isn't open, and where no connection is to the target.
+    fn put_out(&mut self, outgoing: &Outgoing, now: u64) {
+        let message = outgoing.message();
+        let target = message.target;
+        let Some(place) = place_of(&self.roster, target) else {
+            return;
+        };
+        if let Some(Some(wire)) = self.wires.get_mut(place) {
+            if wire.takes(target) {
+                wire.ask(message, now);
+            }
+        }
+    }
+
+    /// Puts out the messages that wait, at this reading of the clock.
+    fn put_out_all<R: Wait>(&mut self, rt: &R, now: u64) {
+        for _ in 0..MESSAGES_MAX {
+            let Some(outgoing) = self.near.next(rt) else {
+                return;
+            };
+            self.put_out(&outgoing, now);
+        }
+    }
+
+    /// One turn: hears until a message is to go out or the connections are to be kept, and does that.
+    fn turn<R: Wait + Clock, N: Net>(
+        &mut self,
+        rt: &R,
+        net: &N,
+        state: &WatchState,
+        pace: &mut Pace,
+    ) -> io::Result<()> {
+        self.wait(pace.until_tick(state.run.clock.now(rt)))?;
+        self.serve_told(rt, state.run.clock.now(rt))?;
+        let now = state.run.clock.now(rt);
+        if pace.stood_still(now) {
+            self.ask_all_anew(now);
+        }
+        self.put_out_all(rt, now);
+        if pace.until_tick(now) == 0 {
+            self.keep_all(net, now);
+            pace.tick_due = now.saturating_add(KEEP_MS);
+        }
+        pace.turn(now);
+        state.turned.store(now, Ordering::SeqCst);
+        Ok(())
+    }
+
+    /// Keeps the connections, hands on what they hear and puts out what is to go out, until the threads end or the Sentinel is halted. The error is the system's, where
+    /// it tells of no connection any more, or a refused allocation.
+    pub fn run<R: Wait + Clock, N: Net>(
+        &mut self,
+        rt: &R,
+        net: &N,
+        state: &WatchState,
+    ) -> io::Result<()> {
+        let mut pace = Pace::new(state.run.clock.now(rt));
+        for _ in rt.forever() {
+            if state.ending.load(Ordering::SeqCst) != 0 || state.run.has(RunFault::Halted) {
+                return Ok(());
+            }
+            self.turn(rt, net, state, &mut pace)?;
+        }
+        unreachable!()
+    }
+}
