@@ -78,7 +78,7 @@ impl Port {
         Ok((first, others))
     }
 
-    /// Serves until `ending` isn't 0, and looks at that before each connection. The error is the system's, where it tells of no connection any more. No
+    /// Serves until `ending` isn't 0 or the Sentinel closes its port, and looks at the first of these before each connection. The error is the system's, where it tells of no connection any more. No
     /// memory is taken for that: a connection that has none is closed.
     pub fn serve<J: Which, S: ConfStore, R: Wait + Clock>(
         &mut self,
@@ -89,7 +89,7 @@ impl Port {
         ending: &AtomicU64,
     ) -> io::Result<()> {
         for _ in rt.forever() {
-            if ending.load(Ordering::SeqCst) != 0 {
+            if ending.load(Ordering::SeqCst) != 0 || member.is_closed(state) {
                 return Ok(());
             }
             self.entrance.admit(rt, &mut self.clients);

@@ -23,6 +23,7 @@ pub struct RunState {
     lacked_thread: AtomicBool,
     lost_port: AtomicBool,
     halted: AtomicBool,
+    closes_halted: AtomicBool,
 }
 
 impl RunState {
@@ -35,6 +36,7 @@ impl RunState {
             lacked_thread: AtomicBool::new(false),
             lost_port: AtomicBool::new(false),
             halted: AtomicBool::new(false),
+            closes_halted: AtomicBool::new(false),
         }
     }
 
@@ -50,6 +52,16 @@ impl RunState {
     /// Notes what went wrong, for all threads. It stays noted.
     pub fn note(&self, fault: RunFault) {
         self.flag_of(fault).store(true, Ordering::SeqCst);
+    }
+
+    /// From now on a halted Sentinel closes its port.
+    pub fn close_halted(&self) {
+        self.closes_halted.store(true, Ordering::SeqCst);
+    }
+
+    /// Whether a halted Sentinel closes its port.
+    pub(crate) fn closes_halted(&self) -> bool {
+        self.closes_halted.load(Ordering::SeqCst)
     }
 
     /// Whether this was noted.

@@ -15,6 +15,7 @@ ghost use Rattle.sentinel_rules.specs.Facts.{IsWithinEvent};
 
 use crate::notes::note_all;
 use crate::outlet::{Outlet, send_all};
+use crate::run_state::RunState;
 use crate::sight::{Look, Sight};
 use crate::switches::{Switch, Switches};
 use crate::ticking::TICK_MS;
@@ -210,6 +211,11 @@ impl<J: Which, S: ConfStore> RunningSentinel<J, S> {
     /// Whether it is still to be noted that it is halted; a second time it isn't.
     pub(crate) fn takes_halt_note(&self) -> bool {
         self.halt_noted.swap(1, Ordering::SeqCst) == 0
+    }
+
+    /// Whether its port is closed: it is halted, which a thread noted, and a halted one closes its port.
+    pub fn is_closed(&self, state: &RunState) -> bool {
+        state.closes_halted() && self.halt_noted.load(Ordering::SeqCst) != 0
     }
 
     /// Where its notes go: each names the Sentinel's port.

@@ -64,6 +64,12 @@ fn serve<'a>(alloc: Global) -> Result<Command<'a>, AllocError> {
         .long("notes")
         .action(ArgAction::SetTrue)
         .help("Notes on standard error what the Sentinels find, as +switch-master");
+    let close_halted = Arg::new(alloc, "close-halted")
+        .long("close-halted")
+        .action(ArgAction::SetTrue)
+        .help(
+            "Closes the port of a Sentinel whose file can't be written, so that clients ask another one",
+        );
     let until_killed = Arg::new(alloc, "until-killed")
         .long("until-killed")
         .action(ArgAction::SetTrue)
@@ -74,6 +80,7 @@ fn serve<'a>(alloc: Global) -> Result<Command<'a>, AllocError> {
         .about("Runs a group of Sentinels with their ports at 127.0.0.1, until standard input ends")
         .arg(notes)?
         .arg(port_threads(alloc))?
+        .arg(close_halted)?
         .arg(until_killed)?
         .arg(conf_files(alloc))
 }

@@ -8,10 +8,13 @@ mod checking;
 mod command_line;
 mod failures;
 mod group_files;
+mod locks;
 mod mending;
 mod new_ids;
+mod noted_store;
 mod replaying;
 mod serving;
+mod starting;
 mod telling;
 mod watch_lines;
 mod watching;
@@ -20,6 +23,7 @@ use crate::checking::check;
 use crate::command_line::{command, refuse_unread, tell_words, words};
 use crate::failures::fail;
 use crate::group_files::file_of;
+use crate::locks::{lock_file, refuse_lock};
 use crate::new_ids::new_id;
 use crate::replaying::replay;
 use crate::serving::{serve as serve_group, tell_end};
@@ -65,11 +69,20 @@ fn answer_in_memory(rt: HostRuntime) -> ExitCode {
     serve(rt, conf, &mut store)
 }
 
-/// Serves with the configuration of the file at the path, which is rewritten as what it holds changes.
+/// Serves with the configuration of the file at the path, which is rewritten as what it holds changes. Nobody else may run on it meanwhile.
 fn answer_from(rt: HostRuntime, path: &str) -> ExitCode {
-    match file_of(rt, path) {
-        Ok((conf, mut store)) => serve(rt, conf, &mut store),
-        Err(status) => status,
+    let locked = lock_file(rt, path);
+    let (conf, mut store) = match file_of(rt, path) {
+        Ok(file) => file,
+        Err(status) => return status,
+    };
+    match locked {
+        Ok(lock) => {
+            let status = serve(rt, conf, &mut store);
+            drop(lock);
+            status
+        }
+        Err(fault) => refuse_lock(rt, fault),
     }
 }
 

@@ -1,11 +1,14 @@
 //! `serve`: a group that runs.
 
-ghost use Rattle.std.specs.Prelude.{◌<◌, ◌-◌, ◌^◌, All};
+ghost use Rattle.std.specs.Prelude.{◌<◌, ◌-◌, ◌^◌, All, IfOk};
 
 use crate::command_line::port_threads_of;
 use crate::failures::{fail_ordered, status_of_ordered};
 use crate::group_files::{GroupFiles, files_of};
+use crate::locks::{FileLock, lock_files, refuse_lock};
+use crate::starting::note_start;
 use clap::ArgMatches;
+use group_checks::is_one_group;
 use log::Log;
 use sentinel_runner::{Group, OrderedFault};
 use std::io::{Input, IsTerminal};
@@ -39,7 +42,7 @@ fn tell_orders(rt: HostRuntime) {
 fn run<R>(
     rt: HostRuntime,
     noting: &R,
-    files: GroupFiles,
+    files: GroupFiles<'_, R>,
     words: &ArgMatches,
 ) -> Result<(), OrderedFault>
 where
@@ -49,6 +52,9 @@ where
     let ending = AtomicU64::new(0);
     let port_threads = port_threads_of(words);
     let group = Group::open_with(noting, rt.alloc(), files.confs, files.stores, port_threads)?;
+    if words.get_flag("close-halted") {
+        group.close_halted();
+    }
     if words.get_flag("until-killed") {
         return Ok(group.run(noting, &ending)?);
     }
@@ -56,16 +62,42 @@ where
     group.run_by_orders(noting, &mut noting.reader(), &ending)
 }
 
-/// Serves the group of the conf files that the words name; its notes go to the log of `noting`.
+/// The files that the words name, and their locks. Files that make no group are told as such, also where another program runs on one of them.
+fn locked_files_of<'a, R: Log>(
+    rt: HostRuntime,
+    noting: &'a R,
+    words: &ArgMatches,
+) -> Result<(GroupFiles<'a, R>, Vec<FileLock>), ExitCode>
+    ensures { IfOk result (λ files. All (λ store. store < 2 ^ 64 - 1) files.0.stores.items) }
+{
+    let paths = words.get_strs("conf").unwrap_or(&[]);
+    let locked = lock_files(rt, paths);
+    let files = files_of(rt, noting, paths)?;
+    match locked {
+        Ok(locks) => Ok((files, locks)),
+        Err(fault) => {
+            if is_one_group(files.confs.as_slice()) {
+                return Err(refuse_lock(rt, fault));
+            }
+            Ok((files, Vec::new(rt.alloc())))
+        }
+    }
+}
+
+/// Serves the group of the conf files that the words name, on which nobody else may run meanwhile; its notes go to the log of `noting`.
 pub(crate) fn serve<R>(rt: HostRuntime, noting: &R, words: &ArgMatches) -> Result<(), Unserved>
 where
     R: Threads + Wait + Net + Clock + Log + Input + Sync,
 {
-    let files = match files_of(rt, words.get_strs("conf").unwrap_or(&[])) {
-        Ok(files) => files,
+    let (files, locks) = match locked_files_of(rt, noting, words) {
+        Ok(locked) => locked,
         Err(status) => return Err(Unserved::Refused(status)),
     };
-    match run(rt, noting, files, words) {
+    let paths = words.get_strs("conf").unwrap_or(&[]);
+    note_start(rt, noting, paths, files.confs.as_slice());
+    let ended = run(rt, noting, files, words);
+    drop(locks);
+    match ended {
         Ok(()) => Ok(()),
         Err(fault) => Err(Unserved::Fault(fault)),
     }

@@ -140,6 +140,11 @@ impl<S: ConfStore + Drop> Group<S> {
         })
     }
 
+    /// From now on a Sentinel of the group that is halted closes its port, with the connections that are there.
+    pub fn close_halted(&self) {
+        self.state.close_halted();
+    }
+
     /// Takes lines that stop, start or set a data node while the group runs.
     fn orders(&self) -> Result<Orders, GroupFault>
         ensures roster { IfErr result (λ fault. fault ≢ NotOneRoster) }
