@@ -28,7 +28,7 @@ impl GroupClock {
     }
 
     /// How long the group runs. 0 where the system gives no time: a clock that falls puts a Sentinel in TILT.
-    pub(crate) fn elapsed<R: Clock>(&self, rt: &R) -> Duration
+    pub fn elapsed<R: Clock>(&self, rt: &R) -> Duration
         ensures stopped { self.now.start ≡ None → as_nanos result ≡ 0 }
         ensures within { FitsClock (as_nanos result) }
     {

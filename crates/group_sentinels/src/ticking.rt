@@ -130,7 +130,7 @@ impl Ticker {
 
     /// Ticks each master once: whether the Sentinel goes on. The random number of a tick is the part of a second that the clock shows, in
     /// nanoseconds, which differs from tick to tick and from Sentinel to Sentinel.
-    fn tick_all<J: Which, S: ConfStore, O: Outlet, R: Wait + Clock + Log>(
+    pub fn tick_all<J: Which, S: ConfStore, O: Outlet, R: Wait + Clock + Log>(
         &mut self,
         rt: &R,
         state: &RunState,

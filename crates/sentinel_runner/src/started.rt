@@ -6,12 +6,12 @@ ghost use Rattle.sentinel_runner.specs.declared.group_fault.GroupFault.TheVarian
 
 use crate::group_fault::GroupFault;
 use crate::opened::Opened;
-use crate::port_parts::{PortPart, end_for_want, parts_of, serve_parts};
+use crate::port_parts::{PortPart, ServesPort, end_for_want, parts_of, serve_parts};
 use conf_store::ConfStore;
 use crossbeam_channel::Receiver;
 use group_links::{Delivery, Links, run_link, run_timer};
 use group_ports::{Port, PortRoom};
-use group_sentinels::{RunFault, RunState, RunningSentinel, ThreadSeat, Which};
+use group_sentinels::{RunState, RunningSentinel, ThreadSeat, Which};
 use log::Log;
 use sentinel_conf::Conf;
 use std::alloc::{AllocError, Global};
@@ -102,7 +102,80 @@ where
     let Ok(seated) = Seated::of(alloc, &member, seat, port, others) else {
         return end_for_want(state, ending);
     };
-    run_threads(rt, alloc, state, links, &member, seated, deliveries, ending);
+    let Seated {
+        timer,
+        link,
+        first,
+        others,
+    } = seated;
+    let parts = Parts {
+        timer: TimerPart { seat: timer, alloc },
+        link: LinkPart {
+            seat: link,
+            deliveries,
+        },
+        first,
+        others,
+    };
+    run_threads(rt, state, links, &member, parts, ending);
+}
+
+/// What the thread of the ticks has.
+#[derive(Drop)]
+struct TimerPart<J: Which> {
+    seat: ThreadSeat<J>,
+    alloc: Global,
+}
+
+/// What the thread of the link has.
+#[derive(Drop)]
+struct LinkPart<J: Which> {
+    seat: ThreadSeat<J>,
+    deliveries: Receiver<Delivery>,
+}
+
+/// What a thread of such a Sentinel does that has its links. By this trait `run_threads` knows of a part no more than that it may be sent.
+trait UsesLinks<M> {
+    /// Does its work until `ending` isn't 0, or the Sentinel is halted.
+    fn run<R: Wait + Clock + Log>(
+        self,
+        rt: &R,
+        state: &RunState,
+        links: &Links,
+        member: &M,
+        ending: &AtomicU64,
+    );
+}
+
+impl<J: Which, S: ConfStore> UsesLinks<RunningSentinel<J, S>> for TimerPart<J> {
+    fn run<R: Wait + Clock + Log>(
+        self,
+        rt: &R,
+        state: &RunState,
+        links: &Links,
+        member: &RunningSentinel<J, S>,
+        ending: &AtomicU64,
+    ) {
+        let TimerPart { mut seat, alloc } = self;
+        run_timer(rt, alloc, state, links, member, &mut seat, ending);
+    }
+}
+
+impl<J: Which, S: ConfStore> UsesLinks<RunningSentinel<J, S>> for LinkPart<J> {
+    fn run<R: Wait + Clock + Log>(
+        self,
+        rt: &R,
+        state: &RunState,
+        links: &Links,
+        member: &RunningSentinel<J, S>,
+        ending: &AtomicU64,
+    ) {
+        let LinkPart {
+            mut seat,
+            deliveries,
+        } = self;
+        run_link(rt, state, links, member, &mut seat, &deliveries, ending);
+    }
 }
 
 /// The threads of a Sentinel, each with its seat.
@@ -138,34 +211,42 @@ impl<J: Which> Seated<J> {
     }
 }
 
+/// What each thread of a Sentinel has.
+#[derive(Drop)]
+struct Parts<T, L, P> {
+    timer: T,
+    link: L,
+    first: P,
+    others: Vec<P>,
+}
+
 /// Starts the timer and the link, and serves the port.
-///
-/// Many parameters: as above.
-fn run_threads<'a, J: Which + Send + Sync, S: ConfStore + Drop + Send, R>(
+fn run_threads<'a, M: Sync, T, L, P, R>(
     rt: &'a R,
-    alloc: Global,
     state: &'a RunState,
     links: &'a Links,
-    member: &'a RunningSentinel<J, S>,
-    seated: Seated<J>,
-    deliveries: Receiver<Delivery>,
+    member: &'a M,
+    parts: Parts<T, L, P>,
     ending: &'a AtomicU64,
 )
 where
+    T: UsesLinks<M> + Drop + Send,
+    L: UsesLinks<M> + Drop + Send,
+    P: ServesPort<M> + Drop + Send,
     R: Threads + Wait + Clock + Log + Sync,
 {
-    let Seated {
-        mut timer,
-        mut link,
+    let Parts {
+        timer,
+        link,
         first,
         others,
-    } = seated;
+    } = parts;
     thread::scope(thread::scope_env(), rt, |scope| {
         let mut refused = scope
-            .spawn(move || run_timer(rt, alloc, state, links, member, &mut timer, ending))
+            .spawn(move || timer.run(rt, state, links, member, ending))
             .is_err();
         refused |= scope
-            .spawn(move || run_link(rt, state, links, member, &mut link, &deliveries, ending))
+            .spawn(move || link.run(rt, state, links, member, ending))
             .is_err();
         if refused {
             return end_for_want(state, ending);

@@ -2,7 +2,7 @@
 
 use crate::exchange::{FarEnd, WatchState};
 use conf_store::ConfStore;
-use group_sentinels::{RunningSentinel, ThreadSeat, Ticker, Which, hear};
+use group_sentinels::{RunFault, RunningSentinel, ThreadSeat, Ticker, Which, hear};
 use log::Log;
 use std::alloc::Global;
 use std::rt::Clock;

@@ -5,6 +5,7 @@ use crate::logins::Logins;
 use crate::traffic::PIECE;
 use crate::wire::Wire;
 use ballot_law::{NodeName, Roster};
+use group_sentinels::RunFault;
 use mio::{Events, Poll, Token};
 use std::alloc::{AllocError, Global};
 use std::io::{self, ErrorKind};
