@@ -19,7 +19,7 @@ all_frames : (xs ys : List Frame) → AllByRecursion IsFrame xs → AllByRecursi
 all_frames [] ys a b = b
 all_frames (x ∷ xs) ys a b = (a.0, all_frames xs ys a.1 b)
 
-parts_join : (stream piece held : List ℕ) (xs ys : List Frame) (rest : List ℕ) → Parts stream xs held → Parts (held ++ piece) ys rest → Parts (stream ++ piece) (xs ++ ys) rest
+pub parts_join : (stream piece held : List ℕ) (xs ys : List Frame) (rest : List ℕ) → Parts stream xs held → Parts (held ++ piece) ys rest → Parts (stream ++ piece) (xs ++ ys) rest
 parts_join stream piece held xs ys rest a b =
     let first = flat_map spelling xs in
     let second = flat_map spelling ys in

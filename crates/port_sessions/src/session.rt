@@ -1,6 +1,7 @@
 //! A session as its callers see it.
 
 ghost use Rattle.std.specs.Prelude.{◌≡◌, ◌≤◌, ◌<◌, ◌++◌, ℕ, List, [], None, Some, OnOk, OnErr, IfErr, IfSome, length, drop};
+ghost use Rattle.std.specs.Option.{is_some};
 ghost use Rattle.ballot_law.specs.declared.rosters.TheConstants.{MASTERS_MAX};
 ghost use Rattle.port_sessions.specs.Notes.{none_told, is_due, Notifies};
 ghost use Rattle.port_sessions.specs.Talks.{Receives, party};
@@ -110,6 +111,13 @@ impl Session {
         ensures { result.now ≡ self.now.unsent }
     {
         self.exchange.unsent()
+    }
+
+    /// Whether it listens to notes.
+    pub fn listens(&self) -> bool
+        ensures { result ≡ is_some self.now.listens }
+    {
+        self.exchange.responder.listens.is_some()
     }
 
     /// Takes away the first `n` bytes of what isn't sent yet, which the connection took. No memory is taken. Room that they leave is used

@@ -1,0 +1,5 @@
+pub mod Joining
+pub mod Keeping
+pub mod Serving
+pub mod Stepping
+pub mod Values

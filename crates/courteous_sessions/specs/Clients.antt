@@ -1,0 +1,88 @@
+-- A client's session, with courtesies or without.
+use Rattle.std.specs.Prelude.{◌≡◌, ℕ, Bool, true, false, Option, None, Some, List, [], ◌++◌, Result, Ok, Err, OnOk, OnErr, IfErr, IfSome, map, slice_set}
+use Rattle.ballot_law.specs.declared.messages.Note.{Note}
+use Rattle.ballot_law.specs.Rosters.{Roster}
+use Rattle.port_courtesies.specs.Courtesies.{Asker}
+use Rattle.port_serving.specs.declared.fault.ServeFault.{ServeFault}
+use Rattle.port_sessions.specs.Listening.{note_frame}
+use Rattle.port_sessions.specs.Notes.{none_told, is_due, Notifies}
+use Rattle.port_sessions.specs.Talks as talks
+use Rattle.port_sessions.specs.Talks.{Talk, party}
+use Rattle.resp2_frames.specs.Frame.{spelling}
+use Rattle.sentinel_cell.specs.declared.view.View.{View}
+use Rattle.sentinel_cell.specs.Histories.{World}
+use Rattle.courteous_sessions.specs.Visits.{Visit, introduced, guest, Receives}
+use Rattle.courteous_sessions.specs.declared.client_session.ClientSession.{ClientSession}
+use Rattle.courteous_sessions.specs.declared.client_session.ClientSession.TheVariants.{Plain, Courteous}
+
+-- what is known of a connection at its beginning
+abbrev pub newcomer : (id : ℕ) → Asker
+newcomer id = record { id = id; name = []; listens = false; masters = [] }
+
+-- a session with courtesies to which no bytes came
+abbrev pub arrived : (id : ℕ) → Visit
+arrived id = record { asker = newcomer id; knows_masters = false; held = []; unsent = []; ended = None; listens = None; told = none_told }
+
+-- one to which no bytes came, of the connection with this number
+abbrev pub begun : (courteous : Bool) → (id : ℕ) → ClientSession
+begun true id = Courteous (arrived id)
+begun false id = Plain (record { held = []; unsent = []; ended = None; listens = None; told = none_told })
+
+-- what isn't sent yet
+abbrev pub unsent_of : ClientSession → List ℕ
+unsent_of (Plain talk) = talk.unsent
+unsent_of (Courteous visit) = visit.unsent
+
+abbrev pub with_unsent : ClientSession → List ℕ → ClientSession
+with_unsent (Plain talk) bytes = Plain (record talk { unsent = bytes })
+with_unsent (Courteous visit) bytes = Courteous (record visit { unsent = bytes })
+
+module _ (start : World) (now : ℕ) (piece : List ℕ) (result : Result Unit ServeFault) (v w : View) where
+  -- a session without courtesies takes a piece
+  pub record TakesPlain (talk after : Talk) : Type 0 where
+    pub received : talk.ended ≡ None → (more : List ℕ) × (after.unsent ≡ talk.unsent ++ more)
+        × talks.Receives start now (talk.held ++ piece) (party v talk.listens) result after.held more (party w after.listens)
+    pub told : after.told ≡ talk.told
+    pub goes_on : OnOk result (after.ended ≡ None)
+    pub closed : IfErr result (λ fault. after.ended ≡ Some fault)
+    pub emptied : OnErr result ((after.held ≡ []) × (after.listens ≡ None))
+    pub over : IfSome talk.ended (λ fault. (result ≡ Err fault) × (after ≡ talk) × (w ≡ v))
+
+  -- a session with courtesies takes a piece
+  pub record TakesCourteous (visit after : Visit) : Type 0 where
+    pub received : visit.ended ≡ None → (more : List ℕ) × (after.unsent ≡ visit.unsent ++ more)
+        × Receives start now (visit.held ++ piece) (guest (party v visit.listens) (introduced start visit.knows_masters visit.asker)) result after.held more
+        (guest (party w after.listens) after.asker)
+    pub knows : OnOk result (after.knows_masters ≡ true)
+    pub goes_on : OnOk result ((after.ended ≡ None) × (after.told ≡ visit.told))
+    pub closed : IfErr result (λ fault. after.ended ≡ Some fault)
+    pub emptied : OnErr result ((after.held ≡ []) × (after.listens ≡ None))
+    pub over : IfSome visit.ended (λ fault. (result ≡ Err fault) × (after ≡ visit) × (w ≡ v))
+
+  abbrev pub Takes : ClientSession → ClientSession → Type 0
+  Takes (Plain talk) (Plain after) = TakesPlain talk after
+  Takes (Plain talk) (Courteous after) = ⊥
+  Takes (Courteous visit) (Plain after) = ⊥
+  Takes (Courteous visit) (Courteous after) = TakesCourteous visit after
+
+-- ---- notes
+
+-- a session with courtesies, as one that is told notes
+abbrev pub talk_of : Visit → Talk
+talk_of visit = record { held = []; unsent = []; ended = None; listens = visit.listens; told = visit.told }
+
+abbrev pub notified : Roster → Note → Visit → Visit
+notified roster note visit =
+    record visit { unsent = visit.unsent ++ spelling (note_frame roster note); told = slice_set visit.told note.master (Some note.card.epoch) }
+
+-- what became of a note: it joins what is unsent and is remembered as told, or it isn't due, or it is due and memory for it was refused
+abbrev pub NotifiesVisit : {E : Type 0} → Roster → Note → (entry : ℕ) → Visit → Result Bool E → Visit → Type 0
+NotifiesVisit roster note entry visit (Ok true) after = (is_due (talk_of visit) note entry ≡ true) × (after ≡ notified roster note visit)
+NotifiesVisit roster note entry visit (Ok false) after = (is_due (talk_of visit) note entry ≡ false) × (after ≡ visit)
+NotifiesVisit roster note entry visit (Err refused) after = (is_due (talk_of visit) note entry ≡ true) × (after.unsent ≡ visit.unsent)
+
+abbrev pub NotifiesClient : {E : Type 0} → Roster → Note → (entry : ℕ) → ClientSession → Result Bool E → ClientSession → Type 0
+NotifiesClient roster note entry (Plain talk) result (Plain after) = Notifies roster note entry talk result after
+NotifiesClient roster note entry (Plain talk) result (Courteous after) = ⊥
+NotifiesClient roster note entry (Courteous visit) result (Plain after) = ⊥
+NotifiesClient roster note entry (Courteous visit) result (Courteous after) = NotifiesVisit roster note entry visit result after

@@ -1,0 +1,29 @@
+-- What a session with courtesies keeps of the one without.
+use Rattle.std.specs.Prelude.{◌≡◌, ◌++◌, ℕ, List, Ok}
+use Rattle.ballot_law.specs.declared.commands.Command.{Command}
+use Rattle.port_courtesies.specs.Courtesies.{said, courtesy}
+use Rattle.port_sessions.specs.Talks.{Responds}
+use Rattle.resp2.specs.Commands.{command_of}
+use Rattle.resp2_frames.specs.Frame.{Frame, spelling}
+use Rattle.sentinel_cell.specs.Histories.{World}
+use Rattle.courteous_sessions.specs.Visits.{Guest, guest, Serves, IsAnswered}
+
+-- a command of the Sentinel's rules is answered as without courtesies, and nothing else is known of the connection than before, but whether it listens
+abbrev pub AnswersOwnAsBefore : Type 0
+AnswersOwnAsBefore =
+    (start : World) (now : ℕ) (g h : Guest) (value : Frame) (command : Command) (bytes : List ℕ)
+    → command_of value ≡ Ok command → Serves start now g value bytes h
+    → Responds start now g.party (Ok command) bytes h.party × (h ≡ guest h.party g.asker)
+
+-- a value whose answer a courtesy tells is answered by that alone, and its seat sees nothing
+abbrev pub TakesNoTurn : Type 0
+TakesNoTurn =
+    (start : World) (now : ℕ) (g h : Guest) (value answer : Frame) (bytes : List ℕ)
+    → courtesy g.asker value ≡ said answer → Serves start now g value bytes h → (bytes ≡ spelling answer) × (h.party ≡ g.party)
+
+-- two pieces in a row are answered as one piece of both
+abbrev pub PiecesJoin : Type 0
+PiecesJoin =
+    (start : World) (now : ℕ) (stream piece held later bytes more : List ℕ) (g middle h : Guest)
+    → IsAnswered start now stream g held bytes middle → IsAnswered start now (held ++ piece) middle later more h
+    → IsAnswered start now (stream ++ piece) g later (bytes ++ more) h

@@ -1,0 +1,4 @@
+pub mod Visits
+pub mod OnTheWay
+pub mod Clients
+pub mod Laws

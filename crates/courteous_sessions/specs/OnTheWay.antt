@@ -1,0 +1,83 @@
+-- What is true within a call that takes a piece.
+use Rattle.std.specs.Prelude.{◌≡◌, ◌≢◌, ◌⊎◌, ℕ, Bool, true, false, Option, None, Some, List, [], ◌++◌, Result, Ok, Err, slice_set}
+use Rattle.std.specs.Option.{is_some}
+use Rattle.ballot_law.specs.declared.messages.Note.{Note}
+use Rattle.ballot_law.specs.Rosters.{Roster}
+use Rattle.port_courtesies.specs.Attendants.{Attendance}
+use Rattle.port_serving.specs.declared.fault.ServeFault.{ServeFault}
+use Rattle.port_serving.specs.declared.fault.ServeFault.TheVariants.{Frame as FaultyFrame, NoMemory as OutOfMemory}
+use Rattle.port_serving.specs.Serving.{last_line}
+use Rattle.port_sessions.specs.Listening.{note_frame}
+use Rattle.port_sessions.specs.Notes.{is_due}
+use Rattle.port_sessions.specs.Talks.{Talk, party}
+use Rattle.resp2_frames.specs.declared.fault.FrameFault.{FrameFault}
+use Rattle.resp2_frames.specs.declared.fault.FrameFault.TheVariants.{NoMemory}
+use Rattle.resp2_frames.specs.Frame.{Frame, spelling}
+use Rattle.resp2_frames.specs.Reading.{frame_at}
+use Rattle.resp2_frames.specs.Stream.{Held, reading, bytes_in, Parts}
+use Rattle.sentinel_cell.specs.declared.view.View.{View}
+use Rattle.sentinel_cell.specs.Histories.{World}
+use Rattle.courteous_sessions.specs.Visits.{Guest, guest, ServesAll, IsAnswered, Breaks}
+
+-- a session that holds nothing and goes on
+pub record IsIdle (talk : Talk) : Type 0 where
+  pub none_held : talk.held ≡ []
+  pub none_unsent : talk.unsent ≡ []
+  pub goes_on : talk.ended ≡ None
+
+-- between two values the session below holds nothing and goes on, and it is known whether it listens
+pub record IsReady (attended : Attendance) (talk : Talk) : Type 0 where
+  pub reads : attended.held ≡ reading (bytes_in attended.held)
+  pub idle : IsIdle talk
+  pub listens : attended.asker.listens ≡ is_some talk.listens
+
+-- what the next answer rests on
+abbrev pub guest_of : Attendance → Talk → View → Guest
+guest_of attended talk v = guest (party v talk.listens) attended.asker
+
+-- of what is known of a connection only whether it listens is another, and the same bytes are held
+pub record IsSameButListening (before after : Attendance) : Type 0 where
+  pub held : after.held ≡ before.held
+  pub asker : after.asker ≡ record before.asker { listens = after.asker.listens }
+
+-- the first value of these bytes
+pub record BeginsWith (bytes : List ℕ) (value : Frame) : Type 0 where
+  pub rest : List ℕ
+  pub found : frame_at bytes ≡ Ok (value, rest)
+
+-- what became of a note: it was told to the session below, and what that put out joined what isn't sent yet; or it isn't due; or memory for it was refused
+abbrev pub NotifiesBelow : {E : Type 0} → Roster → Note → (entry : ℕ) → Talk → (unsent : List ℕ) → Result Bool E → Talk → (unsent : List ℕ) → Type 0
+NotifiesBelow roster note entry talk unsent (Ok true) after more =
+    (is_due talk note entry ≡ true) × (after.listens ≡ talk.listens) × (after.told ≡ slice_set talk.told note.master (Some note.card.epoch))
+    × (more ≡ unsent ++ spelling (note_frame roster note))
+NotifiesBelow roster note entry talk unsent (Ok false) after more = (is_due talk note entry ≡ false) × (after ≡ talk) × (more ≡ unsent)
+NotifiesBelow roster note entry talk unsent (Err refused) after more =
+    (is_due talk note entry ≡ true) × (after.listens ≡ talk.listens) × (more ≡ unsent)
+
+-- the fault that ends a session at a frame's fault, and what is put out for it
+abbrev pub Refuses : FrameFault → (line : List ℕ) → ServeFault → Type 0
+Refuses fault line why = ((why ≡ OutOfMemory) × (line ≡ [])) ⊎ ((fault ≢ NoMemory) × (why ≡ FaultyFrame fault) × (line ≡ last_line))
+
+module _ (start : World) (now : ℕ) where
+  -- these values of the stream were answered, and the bytes after them are held
+  pub record IsOnTheWay (stream : List ℕ) (g : Guest) (held : Held) (bytes : List ℕ) (h : Guest) : Type 0 where
+    pub values : List Frame
+    pub rest : List ℕ
+    pub held_is : held ≡ reading rest
+    pub parts : Parts stream values rest
+    pub answers : ServesAll start now g values bytes h
+
+  -- all values of the stream were answered
+  abbrev pub IsDone : (stream : List ℕ) → Guest → Held → (bytes : List ℕ) → Guest → Type 0
+  IsDone stream g held bytes h = (rest : List ℕ) × (held ≡ reading rest) × IsAnswered start now stream g rest bytes h
+
+  -- how the answering of the first whole value ends: it was answered, or there is none
+  abbrev pub Steps : (stream : List ℕ) → Guest → Result Bool ServeFault → Held → (bytes : List ℕ) → Guest → Type 0
+  Steps stream g (Ok true) held bytes h = IsOnTheWay stream g held bytes h
+  Steps stream g (Ok false) held bytes h = IsDone stream g held bytes h
+  Steps stream g (Err fault) held bytes h = Breaks start now stream g fault bytes
+
+  -- how the answering of all whole values ends
+  abbrev pub Drains : {X : Type 0} → (stream : List ℕ) → Guest → Result X ServeFault → Held → (bytes : List ℕ) → Guest → Type 0
+  Drains stream g (Ok x) held bytes h = IsDone stream g held bytes h
+  Drains stream g (Err fault) held bytes h = Breaks start now stream g fault bytes

@@ -1,0 +1,88 @@
+//! A session with courtesies or without.
+
+ghost use Rattle.std.specs.Prelude.{◌≡◌, ◌≤◌, ◌<◌, length, drop};
+ghost use Rattle.courteous_sessions.specs.Clients.{begun, unsent_of, with_unsent, Takes, NotifiesClient};
+
+use crate::courteous_session::CourteousSession;
+use ballot_law::{NoMemory, Note, Roster};
+use conf_store::ConfStore;
+use port_serving::ServeFault;
+use port_sessions::Session;
+use sentinel_cell::{Seat, SharedSentinel};
+use std::alloc::Global;
+use std::sync::Wait;
+
+/// The conversation with one client of a port.
+#[derive(Drop)]
+pub enum ClientSession {
+    /// Without courtesies: the session of `port_sessions`.
+    Plain(Session),
+    /// With courtesies.
+    Courteous(CourteousSession),
+}
+
+impl ClientSession {
+    /// A session to which no bytes came, with courtesies or without, of the connection with this number. No memory is taken.
+    pub fn new(alloc: Global, courteous: bool, id: u64) -> ClientSession
+        ensures { result ≡ begun courteous id }
+    {
+        if courteous {
+            ClientSession::Courteous(CourteousSession::new(alloc, id))
+        } else {
+            ClientSession::Plain(Session::new(alloc))
+        }
+    }
+
+    /// Takes the next piece of what the client sends, at a reading of the clock in milliseconds: as `Session::received` without courtesies, and as
+    /// `CourteousSession::received` with them.
+    pub fn received<S: ConfStore, R: Wait>(
+        &mut self,
+        rt: &R,
+        cell: &SharedSentinel<S>,
+        seat: &mut Seat,
+        now: u64,
+        piece: &[u8],
+    ) -> Result<(), ServeFault>
+        requires own { seat.old.cell ≡ cell.now.id }
+        ensures own { seat.new.cell ≡ seat.old.cell }
+        ensures takes { Takes cell.now.start now piece.now result seat.old.view seat.new.view self.old self.new }
+    {
+        match self {
+            ClientSession::Plain(session) => session.received(rt, cell, seat, now, piece),
+            ClientSession::Courteous(session) => session.received(rt, cell, seat, now, piece),
+        }
+    }
+
+    /// The answers that aren't sent yet, as they stand on the wire.
+    pub fn unsent(&self) -> &[u8]
+        ensures { result.now ≡ unsent_of self.now }
+    {
+        match self {
+            ClientSession::Plain(session) => session.unsent(),
+            ClientSession::Courteous(session) => session.unsent(),
+        }
+    }
+
+    /// Takes away the first `n` bytes of what isn't sent yet, which the connection took. No memory is taken.
+    pub fn sent(&mut self, n: usize)
+        requires { n ≤ length (unsent_of self.old) }
+        ensures unsent { unsent_of self.new ≡ drop n (unsent_of self.old) }
+        ensures rest { self.new ≡ with_unsent self.old (drop n (unsent_of self.old)) }
+    {
+        match self {
+            ClientSession::Plain(session) => session.sent(n),
+            ClientSession::Courteous(session) => session.sent(n),
+        }
+    }
+
+    /// Tells the client of a note, where it is due, as `Session::notify` and `CourteousSession::notify` do: whether it is.
+    pub fn notify(&mut self, roster: &Roster, note: &Note, entry: u64) -> Result<bool, NoMemory>
+        requires { note.now.master < length roster.now.masters }
+        ensures { NotifiesClient roster.now note.now entry self.old result self.new }
+    {
+        match self {
+            ClientSession::Plain(session) => session.notify(roster, note, entry),
+            ClientSession::Courteous(session) => session.notify(roster, note, entry),
+        }
+    }
+}

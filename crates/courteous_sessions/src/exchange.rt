@@ -1,0 +1,416 @@
+//! What came from a client and what goes to it.
+
+ghost use Rattle.std.specs.Prelude.{◌≡◌, ◌⊎◌, ◌≤◌, ◌<◌, ◌++◌, ℕ, List, [], None, Some, OnOk, OnErr, IfOk, IfErr, IsTrue, true, false, length, drop};
+ghost use Rattle.port_courtesies.specs.Attendants.{text_at};
+ghost use Rattle.port_courtesies.specs.Courtesies.{Asker, courtesy, kind_of};
+ghost use Rattle.port_sessions.specs.Notes.{none_told};
+ghost use Rattle.port_sessions.specs.Talks.{party, Responds};
+ghost use Rattle.port_courtesies.specs.Infos.{info};
+ghost use Rattle.resp2.specs.Commands.{command_of};
+ghost use Rattle.resp2_frames.specs.Frame.{Frame, spelling, IsFrame};
+ghost use Rattle.resp2_frames.specs.Stream.{reading, held_size, bytes_in};
+ghost use Rattle.courteous_sessions.specs.Clients.{newcomer};
+ghost use Rattle.courteous_sessions.specs.OnTheWay.{IsReady, IsOnTheWay, IsSameButListening, Steps, Drains, Refuses, BeginsWith, NotifiesBelow, guest_of};
+ghost use Rattle.courteous_sessions.specs.Visits.{Guest, guest, introduced, TellsInfo, Answers, Receives};
+
+use crate::questions::{ask, ask_masters, first_value, names_of};
+use ballot_law::{NoMemory, Note, Roster, Text};
+use bytes::BytesMut;
+use conf_store::ConfStore;
+use port_courtesies::{Asker, Attendant, Courtesy};
+use port_serving::ServeFault;
+use port_sessions::Session;
+use resp2_frames::FrameFault;
+use sentinel_cell::{Seat, SharedSentinel};
+use std::alloc::Global;
+use std::sync::Wait;
+
+/// The last line of a stream that is no RESP2.
+const PROTOCOL_ERROR: &[u8] = b"-ERR Protocol error\r\n";
+
+/// How many bytes of room a client keeps for its answers once all of them are sent.
+const ROOM_KEPT: usize = 16_384;
+
+/// What tells what becomes of each value, the session that answers those that are left to it, and the answers that aren't sent yet.
+///
+/// The session is handed each value by itself, so it holds no bytes between two calls. `knows_masters` is whether the attendant was told the names of the
+/// Sentinel's masters.
+#[derive(Drop)]
+pub(crate) struct Exchange {
+    alloc: Global,
+    pub(crate) attendant: Attendant,
+    pub(crate) session: Session,
+    pub(crate) unsent: BytesMut,
+    pub(crate) knows_masters: bool,
+}
+
+/// What is known of a connection with this number at its beginning.
+fn newcomer(alloc: Global, id: u64) -> Asker
+    ensures { result ≡ newcomer id }
+{
+    Asker {
+        id,
+        name: Text::from_vec(Vec::new(alloc)),
+        listens: false,
+        masters: Vec::new(alloc),
+    }
+}
+
+/// Adds these bytes to what isn't sent yet.
+fn put_out(unsent: &mut BytesMut, bytes: &[u8]) -> Result<(), ServeFault>
+    ensures ok { OnOk result (unsent.new.items ≡ unsent.old.items ++ bytes.now) }
+    ensures err { OnErr result (unsent.new.items ≡ unsent.old.items) }
+    ensures fault { IfErr result (λ fault. fault ≡ ServeFault.NoMemory) }
+{
+    match unsent.extend_from_slice(bytes) {
+        Ok(()) => Ok(()),
+        Err(_) => Err(ServeFault::NoMemory),
+    }
+}
+
+impl Exchange {
+    /// Nothing came yet of the connection with this number. No memory is taken.
+    pub(crate) fn new(alloc: Global, id: u64) -> Exchange
+        ensures attendant { result.attendant ≡ record { held = reading []; asker = newcomer id; text = [] } }
+        ensures session { result.session ≡ record { held = []; unsent = []; ended = None; listens = None; told = none_told } }
+        ensures unsent { result.unsent.items ≡ [] }
+        ensures knows { result.knows_masters ≡ false }
+    {
+        Exchange {
+            alloc,
+            attendant: Attendant::new(alloc, newcomer(alloc, id)),
+            session: Session::new(alloc),
+            unsent: BytesMut::new(alloc),
+            knows_masters: false,
+        }
+    }
+
+    /// The answers that aren't sent yet.
+    pub(crate) fn unsent(&self) -> &[u8]
+        ensures { result.now ≡ self.now.unsent.items }
+    {
+        self.unsent.as_slice()
+    }
+
+    /// Takes the first `n` bytes of them away.
+    pub(crate) fn sent(&mut self, n: usize)
+        requires { n ≤ length self.old.unsent.items }
+        ensures unsent { self.new.unsent.items ≡ drop n self.old.unsent.items }
+        ensures attendant { self.new.attendant ≡ self.old.attendant }
+        ensures session { self.new.session ≡ self.old.session }
+        ensures knows { self.new.knows_masters ≡ self.old.knows_masters }
+        ensures room { self.new.unsent.items ≡ [] → self.new.unsent.spare ≤ ROOM_KEPT }
+    {
+        self.unsent.advance(n);
+        if self.unsent.is_empty() {
+            self.give_back();
+        }
+    }
+
+    /// Gives back the room of what was sent, where it is more than a client needs that takes its answers.
+    fn give_back(&mut self)
+        requires { self.old.unsent.items ≡ [] }
+        ensures unsent { self.new.unsent.items ≡ [] }
+        ensures attendant { self.new.attendant ≡ self.old.attendant }
+        ensures session { self.new.session ≡ self.old.session }
+        ensures knows { self.new.knows_masters ≡ self.old.knows_masters }
+        ensures room { self.new.unsent.spare ≤ ROOM_KEPT }
+    {
+        self.unsent.clear();
+        if self.unsent.capacity() > ROOM_KEPT {
+            self.unsent = BytesMut::new(self.alloc);
+        }
+    }
+
+    /// The connection ends: what is held is dropped, and its client is told of no more notes.
+    pub(crate) fn close(&mut self)
+        ensures ready { IsReady self.new.attendant self.new.session }
+        ensures held { self.new.attendant.held ≡ reading [] }
+        ensures silent { self.new.session.listens ≡ None }
+        ensures unsent { self.new.unsent.items ≡ self.old.unsent.items }
+    {
+        self.attendant.drop_held();
+        self.attendant.note_listening(false);
+        self.session = Session::new(self.alloc);
+    }
+
+    /// Takes away what the session put out.
+    #[tactic(auto, using(crate::proofs::Values::none_left))]
+    fn drop_answers(&mut self)
+        ensures session { self.new.session ≡ record self.old.session { unsent = [] } }
+        ensures attendant { self.new.attendant ≡ self.old.attendant }
+        ensures unsent { self.new.unsent ≡ self.old.unsent }
+        ensures knows { self.new.knows_masters ≡ self.old.knows_masters }
+    {
+        let count = self.session.unsent().len();
+        self.session.sent(count);
+    }
+
+    /// Adds the answers of the session to what isn't sent yet, and takes them away there.
+    fn take_answers(&mut self) -> Result<(), ServeFault>
+        ensures ok { OnOk result (self.new.unsent.items ≡ self.old.unsent.items ++ self.old.session.unsent) }
+        ensures err { OnErr result (self.new.unsent.items ≡ self.old.unsent.items) }
+        ensures session { self.new.session ≡ record self.old.session { unsent = [] } }
+        ensures attendant { self.new.attendant ≡ self.old.attendant }
+        ensures knows { self.new.knows_masters ≡ self.old.knows_masters }
+        ensures fault { IfErr result (λ fault. fault ≡ ServeFault.NoMemory) }
+    {
+        let put = put_out(&mut self.unsent, self.session.unsent());
+        self.drop_answers();
+        put
+    }
+
+    /// Tells the client of a note, where it is due: whether it is. After `NoMemory` the connection is to be closed.
+    pub(crate) fn notify(
+        &mut self,
+        roster: &Roster,
+        note: &Note,
+        entry: u64,
+    ) -> Result<bool, NoMemory>
+        requires master { note.now.master < length roster.now.masters }
+        requires ready { IsReady self.old.attendant self.old.session }
+        ensures ready { IsReady self.new.attendant self.new.session }
+        ensures told { NotifiesBelow roster.now note.now entry self.old.session self.old.unsent.items result self.new.session self.new.unsent.items }
+        ensures attendant { self.new.attendant ≡ self.old.attendant }
+        ensures knows { self.new.knows_masters ≡ self.old.knows_masters }
+    {
+        if !self.session.notify(roster, note, entry)? {
+            return Ok(false);
+        }
+        match self.take_answers() {
+            Ok(()) => Ok(true),
+            Err(_) => Err(NoMemory),
+        }
+    }
+
+    /// Has it know the masters of the Sentinel, where it doesn't yet.
+    fn learn_masters<S: ConfStore>(&mut self, cell: &SharedSentinel<S>) -> Result<(), ServeFault>
+        ensures attendant { OnOk result (self.new.attendant ≡ record self.old.attendant {
+          asker = introduced cell.now.start self.old.knows_masters self.old.attendant.asker;
+        }) }
+        ensures knows { OnOk result (self.new.knows_masters ≡ true) }
+        ensures session { self.new.session ≡ self.old.session }
+        ensures unsent { self.new.unsent ≡ self.old.unsent }
+        ensures fault { IfErr result (λ fault. fault ≡ ServeFault.NoMemory) }
+    {
+        if self.knows_masters {
+            return Ok(());
+        }
+        match names_of(self.alloc, cell.roster().masters()) {
+            Ok(names) => {
+                self.attendant.note_masters(names);
+                self.knows_masters = true;
+                Ok(())
+            }
+            Err(_) => Err(ServeFault::NoMemory),
+        }
+    }
+
+    /// Has the session answer the value that is the attendant's text.
+    fn hand_on<S: ConfStore, R: Wait>(
+        &mut self,
+        rt: &R,
+        cell: &SharedSentinel<S>,
+        seat: &mut Seat,
+        now: u64,
+    ) -> Result<(), ServeFault>
+        requires own { seat.old.cell ≡ cell.now.id }
+        requires ready { IsReady self.old.attendant self.old.session }
+        ensures own { seat.new.cell ≡ seat.old.cell }
+        ensures answered { OnOk result ((value : Frame) → IsFrame value → self.old.attendant.text ≡ spelling value
+            → (more : List ℕ) × (self.new.unsent.items ≡ self.old.unsent.items ++ more) × IsReady self.new.attendant self.new.session
+            × Responds cell.now.start now (party seat.old.view self.old.session.listens) (command_of value) more (party seat.new.view self.new.session.listens)) }
+        ensures same { IsSameButListening self.old.attendant self.new.attendant }
+        ensures told { self.new.session.told ≡ self.old.session.told }
+        ensures err { OnErr result (self.new.unsent.items ≡ self.old.unsent.items) }
+        ensures fault { IfErr result (λ fault. (fault ≡ ServeFault.Halted) ⊎ (fault ≡ ServeFault.NoMemory)) }
+        ensures knows { self.new.knows_masters ≡ self.old.knows_masters }
+    {
+        ask(
+            rt,
+            cell,
+            seat,
+            now,
+            &mut self.session,
+            self.attendant.text(),
+        )?;
+        self.take_answers()?;
+        self.attendant.note_listening(self.session.listens());
+        Ok(())
+    }
+
+    /// Answers INFO, which is the attendant's text, by what the session answers to SENTINEL MASTERS.
+    fn tell_info<S: ConfStore, R: Wait>(
+        &mut self,
+        rt: &R,
+        cell: &SharedSentinel<S>,
+        seat: &mut Seat,
+        now: u64,
+    ) -> Result<(), ServeFault>
+        requires own { seat.old.cell ≡ cell.now.id }
+        requires ready { IsReady self.old.attendant self.old.session }
+        ensures own { seat.new.cell ≡ seat.old.cell }
+        ensures answered { OnOk result ((value : Frame) → IsFrame value → self.old.attendant.text ≡ spelling value
+            → (more : List ℕ) × (self.new.unsent.items ≡ self.old.unsent.items ++ more) × IsReady self.new.attendant self.new.session
+            × TellsInfo cell.now.start now (party seat.old.view self.old.session.listens) value more (party seat.new.view self.new.session.listens)) }
+        ensures same { IsSameButListening self.old.attendant self.new.attendant }
+        ensures told { self.new.session.told ≡ self.old.session.told }
+        ensures err { OnErr result (self.new.unsent.items ≡ self.old.unsent.items) }
+        ensures fault { IfErr result (λ fault. (fault ≡ ServeFault.Halted) ⊎ (fault ≡ ServeFault.NoMemory)) }
+        ensures knows { self.new.knows_masters ≡ self.old.knows_masters }
+    {
+        ask_masters(rt, cell, seat, now, &mut self.session)?;
+        if self.inform().is_err() {
+            return Err(ServeFault::NoMemory);
+        }
+        self.drop_answers();
+        self.attendant.note_listening(self.session.listens());
+        put_out(&mut self.unsent, self.attendant.text())
+    }
+
+    /// Has the attendant's text be the answer to INFO, by the answer that the session has to SENTINEL MASTERS.
+    fn inform(&mut self) -> Result<(), NoMemory>
+        ensures text { OnOk result ((value : Frame) → IsFrame value → self.old.attendant.text ≡ spelling value
+            → (masters : Frame) × BeginsWith self.old.session.unsent masters × (self.new.attendant.text ≡ spelling (info value masters))) }
+        ensures asker { self.new.attendant.asker ≡ self.old.attendant.asker }
+        ensures held { self.new.attendant.held ≡ self.old.attendant.held }
+        ensures session { self.new.session ≡ self.old.session }
+        ensures unsent { self.new.unsent ≡ self.old.unsent }
+        ensures knows { self.new.knows_masters ≡ self.old.knows_masters }
+    {
+        let masters = first_value(self.alloc, self.session.unsent())?;
+        self.attendant.inform(&masters)
+    }
+
+    /// Puts out the line of a frame's fault, and gives the fault that ends the session.
+    fn refuse(&mut self, fault: FrameFault) -> ServeFault
+        ensures attendant { self.new.attendant ≡ self.old.attendant }
+        ensures session { self.new.session ≡ self.old.session }
+        ensures knows { self.new.knows_masters ≡ self.old.knows_masters }
+        ensures refused { (line : List ℕ) × (self.new.unsent.items ≡ self.old.unsent.items ++ line) × Refuses fault line result }
+    {
+        if let FrameFault::NoMemory = fault {
+            return ServeFault::NoMemory;
+        }
+        if put_out(&mut self.unsent, PROTOCOL_ERROR).is_err() {
+            return ServeFault::NoMemory;
+        }
+        ServeFault::Frame(fault)
+    }
+
+    /// Has the value that was attended to be answered.
+    fn answer<S: ConfStore, R: Wait>(
+        &mut self,
+        rt: &R,
+        cell: &SharedSentinel<S>,
+        seat: &mut Seat,
+        now: u64,
+        kind: Courtesy,
+    ) -> Result<(), ServeFault>
+        requires own { seat.old.cell ≡ cell.now.id }
+        requires ready { IsReady self.old.attendant self.old.session }
+        ensures own { seat.new.cell ≡ seat.old.cell }
+        ensures answered { OnOk result ((asker : Asker) (value : Frame) → IsFrame value → kind ≡ kind_of (courtesy asker value)
+            → self.old.attendant.text ≡ text_at asker value → (more : List ℕ) × (self.new.unsent.items ≡ self.old.unsent.items ++ more)
+            × IsReady self.new.attendant self.new.session × Answers cell.now.start now (courtesy asker value)
+            (party seat.old.view self.old.session.listens) value more (party seat.new.view self.new.session.listens)) }
+        ensures same { IsSameButListening self.old.attendant self.new.attendant }
+        ensures told { self.new.session.told ≡ self.old.session.told }
+        ensures err { OnErr result (self.new.unsent.items ≡ self.old.unsent.items) }
+        ensures fault { IfErr result (λ fault. (fault ≡ ServeFault.Halted) ⊎ (fault ≡ ServeFault.NoMemory)) }
+        ensures knows { self.new.knows_masters ≡ self.old.knows_masters }
+    {
+        match kind {
+            Courtesy::Left => self.hand_on(rt, cell, seat, now),
+            Courtesy::Said => put_out(&mut self.unsent, self.attendant.text()),
+            Courtesy::AsksMasters => self.tell_info(rt, cell, seat, now),
+        }
+    }
+
+    /// Answers the first value that is whole, and tells whether there was one.
+    fn answer_next<S: ConfStore, R: Wait>(
+        &mut self,
+        rt: &R,
+        cell: &SharedSentinel<S>,
+        seat: &mut Seat,
+        now: u64,
+    ) -> Result<bool, ServeFault>
+        requires own { seat.old.cell ≡ cell.now.id }
+        requires ready { IsReady self.old.attendant self.old.session }
+        ensures own { seat.new.cell ≡ seat.old.cell }
+        ensures smaller { IfOk result (λ more. IsTrue more → held_size self.new.attendant.held < held_size self.old.attendant.held) }
+        ensures ready { OnOk result (IsReady self.new.attendant self.new.session) }
+        ensures told { self.new.session.told ≡ self.old.session.told }
+        ensures knows { self.new.knows_masters ≡ self.old.knows_masters }
+        ensures answered { (stream before bytes : List ℕ) (g : Guest) → self.old.unsent.items ≡ before ++ bytes
+            → IsOnTheWay cell.now.start now stream g self.old.attendant.held bytes
+            (guest_of self.old.attendant self.old.session seat.old.view) → (more : List ℕ) × (self.new.unsent.items ≡ before ++ more)
+            × Steps cell.now.start now stream g result self.new.attendant.held more
+            (guest_of self.new.attendant self.new.session seat.new.view) }
+    {
+        match self.attendant.attend() {
+            Ok(Some(kind)) => match self.answer(rt, cell, seat, now, kind) {
+                Ok(()) => Ok(true),
+                Err(fault) => Err(fault),
+            },
+            Ok(None) => Ok(false),
+            Err(fault) => Err(self.refuse(fault)),
+        }
+    }
+
+    /// Answers each value that is whole.
+    fn answer_whole<S: ConfStore, R: Wait>(
+        &mut self,
+        rt: &R,
+        cell: &SharedSentinel<S>,
+        seat: &mut Seat,
+        now: u64,
+    ) -> Result<(), ServeFault>
+        requires own { seat.old.cell ≡ cell.now.id }
+        requires ready { IsReady self.old.attendant self.old.session }
+        ensures own { seat.new.cell ≡ seat.old.cell }
+        ensures ready { OnOk result (IsReady self.new.attendant self.new.session) }
+        ensures told { self.new.session.told ≡ self.old.session.told }
+        ensures knows { self.new.knows_masters ≡ self.old.knows_masters }
+        ensures answered { (stream before bytes : List ℕ) (g : Guest) → self.old.unsent.items ≡ before ++ bytes
+            → IsOnTheWay cell.now.start now stream g self.old.attendant.held bytes
+            (guest_of self.old.attendant self.old.session seat.old.view) → (more : List ℕ) × (self.new.unsent.items ≡ before ++ more)
+            × Drains cell.now.start now stream g result self.new.attendant.held more
+            (guest_of self.new.attendant self.new.session seat.new.view) }
+    {
+        loop {
+            match self.answer_next(rt, cell, seat, now) {
+                Ok(true) => {}
+                Ok(false) => return Ok(()),
+                Err(fault) => return Err(fault),
+            }
+        }
+    }
+
+    /// Takes the next piece, and answers the values that are whole with it.
+    pub(crate) fn take_piece<S: ConfStore, R: Wait>(
+        &mut self,
+        rt: &R,
+        cell: &SharedSentinel<S>,
+        seat: &mut Seat,
+        now: u64,
+        piece: &[u8],
+    ) -> Result<(), ServeFault>
+        requires own { seat.old.cell ≡ cell.now.id }
+        requires ready { IsReady self.old.attendant self.old.session }
+        ensures own { seat.new.cell ≡ seat.old.cell }
+        ensures ready { OnOk result (IsReady self.new.attendant self.new.session) }
+        ensures told { self.new.session.told ≡ self.old.session.told }
+        ensures knows { OnOk result (self.new.knows_masters ≡ true) }
+        ensures received { (more : List ℕ) × (self.new.unsent.items ≡ self.old.unsent.items ++ more)
+            × Receives cell.now.start now (bytes_in self.old.attendant.held ++ piece.now)
+            (guest (party seat.old.view self.old.session.listens) (introduced cell.now.start self.old.knows_masters self.old.attendant.asker)) result
+            (bytes_in self.new.attendant.held) more (guest_of self.new.attendant self.new.session seat.new.view) }
+    {
+        self.learn_masters(cell)?;
+        if self.attendant.feed(piece).is_err() {
+            return Err(ServeFault::NoMemory);
+        }
+        self.answer_whole(rt, cell, seat, now)
+    }
+}
