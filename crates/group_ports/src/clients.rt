@@ -6,6 +6,7 @@ ghost use Rattle.slab.specs.Slab.{get, slab_len};
 use crate::connection::Connection;
 use crate::port_room::{CONNECTIONS_MAX, PortRoom};
 use conf_store::ConfStore;
+use courteous_sessions::ClientSession;
 use group_sentinels::{RunState, RunningSentinel, Switch, ThreadSeat, Which};
 use mio::event::Event;
 use mio::net::TcpStream;
@@ -24,7 +25,8 @@ const WAIT_MS: u64 = 100;
 
 /// The connections that a thread of a port has, no more than its part of the port's room.
 ///
-/// `busy` is whether there is something to do before the next wait, and `last_voter` the key of the connection that asked for a vote last.
+/// `busy` is whether there is something to do before the next wait, and `last_voter` the key of the connection that asked for a vote last. `next_id` is the
+/// number of the next connection: no other one of the port has it, since each of its threads has its own numbers.
 #[derive(Drop)]
 pub(crate) struct Clients {
     poll: Poll,
@@ -32,19 +34,26 @@ pub(crate) struct Clients {
     room: PortRoom,
     busy: bool,
     last_voter: usize,
+    next_id: u64,
     alloc: Global,
     ghost few: { slab_len connections ≤ room.each },
 }
 
 impl Clients {
-    /// None yet, of a thread with its part of this room.
-    pub(crate) fn open<N: Net>(net: &N, alloc: Global, room: PortRoom) -> io::Result<Clients> {
+    /// None yet, of the thread with this number with its part of this room.
+    pub(crate) fn open<N: Net>(
+        net: &N,
+        alloc: Global,
+        room: PortRoom,
+        thread: u16,
+    ) -> io::Result<Clients> {
         Ok(Clients {
             poll: Poll::new(net)?,
             connections: Slab::new(alloc),
             room,
             busy: false,
             last_voter: 0,
+            next_id: u64::from(thread) + 1,
             alloc,
         })
     }
@@ -93,14 +102,15 @@ impl Clients {
             return Ok(());
         }
         stream.set_nodelay(true)?;
+        let session = ClientSession::new(self.alloc, self.room.courteous(), self.next_id);
+        self.next_id = self.next_id.saturating_add(u64::from(self.room.threads()));
         let key = self.connections.vacant_key();
         self.poll.registry().register(
             &mut stream,
             Token(key),
             Interest::READABLE | Interest::WRITABLE,
         )?;
-        self.connections
-            .insert(Connection::new(self.alloc, stream))?;
+        self.connections.insert(Connection::new(stream, session))?;
         Ok(())
     }
 

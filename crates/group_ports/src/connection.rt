@@ -2,14 +2,14 @@
 
 ghost use Rattle.std.specs.Prelude.{◌≡◌, ◌≢◌, ◌<◌, ◌↔◌, ◌⊎◌, ◌++◌, ℕ, List, [], None, IsTrue, false, true, length};
 ghost use Rattle.std.specs.Io.KnownBytes.{Consumes};
+ghost use Rattle.courteous_sessions.specs.Clients.{unsent_of};
 ghost use Rattle.group_ports.specs.Sending.{IsSent, IsHanded};
 
 use crate::read_buffer::{PIECE, ReadBuffer};
 use conf_store::ConfStore;
+use courteous_sessions::ClientSession;
 use group_sentinels::{RunFault, RunState, RunningSentinel, Switch, ThreadSeat, Which};
 use port_serving::ServeFault;
-use port_sessions::Session;
-use std::alloc::Global;
 use std::io::{ErrorKind, Read, Write};
 use std::rt::Clock;
 use std::sync::Wait;
@@ -28,7 +28,7 @@ pub(crate) const UNSENT_MAX: usize = 1_048_576;
 #[derive(Drop)]
 pub(crate) struct Connection<T: Read + Write + Drop> {
     stream: T,
-    session: Session,
+    session: ClientSession,
     buffer: ReadBuffer,
     readable: bool,
     half: bool,
@@ -37,11 +37,11 @@ pub(crate) struct Connection<T: Read + Write + Drop> {
 }
 
 impl<T: Read + Write + Drop> Connection<T> {
-    /// A connection from which nothing was read.
-    pub(crate) fn new(alloc: Global, stream: T) -> Connection<T> {
+    /// A connection from which nothing was read, with a session to which no bytes came.
+    pub(crate) fn new(stream: T, session: ClientSession) -> Connection<T> {
         Connection {
             stream,
-            session: Session::new(alloc),
+            session,
             buffer: ReadBuffer::new(),
             readable: false,
             half: false,
@@ -63,7 +63,7 @@ impl<T: Read + Write + Drop> Connection<T> {
 
     /// Whether a turn has something to do: there is something to read or to answer, it doesn't end, and not too much is unsent.
     pub(crate) fn wants_turn(&self) -> bool
-        ensures { IsTrue result ↔ ((self.now.ends ≡ false) × ((self.now.readable ≡ true) ⊎ (self.now.buffer ≢ [])) × (length self.now.session.unsent < UNSENT_MAX)) }
+        ensures { IsTrue result ↔ ((self.now.ends ≡ false) × ((self.now.readable ≡ true) ⊎ (self.now.buffer ≢ [])) × (length (unsent_of self.now.session) < UNSENT_MAX)) }
     {
         !self.ends
             && (self.readable || !self.buffer.is_empty())
@@ -72,7 +72,7 @@ impl<T: Read + Write + Drop> Connection<T> {
 
     /// Whether it ends and all is sent.
     pub(crate) fn is_done(&self) -> bool
-        ensures { IsTrue result ↔ ((self.now.ends ≡ true) × (self.now.session.unsent ≡ [])) }
+        ensures { IsTrue result ↔ ((self.now.ends ≡ true) × (unsent_of self.now.session ≡ [])) }
     {
         self.ends && self.session.unsent().is_empty()
     }
@@ -80,7 +80,7 @@ impl<T: Read + Write + Drop> Connection<T> {
     /// Writes once of what is unsent; the error says why nothing was taken.
     #[tactic(auto, using(crate::proofs::Sends::sent_none, crate::proofs::Sends::sent_some))]
     fn write(&mut self) -> Result<(), ErrorKind>
-        ensures sent { IsSent (T.contents self.old.stream) (T.contents self.new.stream) self.old.session.unsent self.new.session.unsent }
+        ensures sent { IsSent (T.contents self.old.stream) (T.contents self.new.stream) (unsent_of self.old.session) (unsent_of self.new.session) }
         ensures read { self.new.buffer ≡ self.old.buffer }
     {
         match self.stream.write(self.session.unsent()) {
@@ -96,7 +96,7 @@ impl<T: Read + Write + Drop> Connection<T> {
     /// Sends what is unsent until it would wait: whether the connection is whole. What its client gets is what was taken away of the front.
     #[tactic(auto, using(crate::proofs::Sends::sent_none, crate::proofs::Sends::sent_twice, crate::proofs::Sends::sent_nothing))]
     pub(crate) fn send(&mut self) -> bool
-        ensures sent { IsSent (T.contents self.old.stream) (T.contents self.new.stream) self.old.session.unsent self.new.session.unsent }
+        ensures sent { IsSent (T.contents self.old.stream) (T.contents self.new.stream) (unsent_of self.old.session) (unsent_of self.new.session) }
         ensures read { self.new.buffer ≡ self.old.buffer }
     {
         for _ in 0..u64::MAX {
@@ -153,8 +153,8 @@ impl<T: Read + Write + Drop> Connection<T> {
         seat: &mut ThreadSeat<J>,
         now: u64,
     )
-        ensures handed { (bytes : List ℕ) × (self.old.buffer ≡ bytes ++ self.new.buffer) × (self.old.session.ended ≡ None
-            → IsHanded member.now.cell.start now self.old.session seat.old.seat.view bytes self.new.session seat.new.seat.view) }
+        ensures handed { (bytes : List ℕ) × (self.old.buffer ≡ bytes ++ self.new.buffer)
+            × IsHanded member.now.cell.start now self.old.session seat.old.seat.view bytes self.new.session seat.new.seat.view }
         ensures stream { self.new.stream ≡ self.old.stream }
     {
         let bytes = self.buffer.next();

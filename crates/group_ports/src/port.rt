@@ -66,13 +66,13 @@ impl Port {
         let mut desks = Vec::new(alloc);
         let mut others = Vec::new(alloc);
         for thread in 1..room.threads() {
-            let clients = Clients::open(net, alloc, room)?;
+            let clients = Clients::open(net, alloc, room, thread)?;
             let desk = Arc::new(alloc, Desk::open(alloc, clients.registry(), room.each())?)?;
             let entrance = Entrance::IsHanded(Arc::try_clone(&desk)?);
             desks.push(desk)?;
             others.push(Port::of(alloc, clients, entrance, thread)?)?;
         }
-        let clients = Clients::open(net, alloc, room)?;
+        let clients = Clients::open(net, alloc, room, 0)?;
         let listener = Listener::open(net, alloc, clients.registry(), addresses, desks)?;
         let first = Port::of(alloc, clients, Entrance::Listens(listener), 0)?;
         Ok((first, others))

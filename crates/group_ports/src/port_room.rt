@@ -6,28 +6,50 @@ ghost use Rattle.group_ports.specs.declared.port_room.TheConstants.{CONNECTIONS_
 /// How many connections a port keeps at most, in all of its threads; a further one is closed.
 pub const CONNECTIONS_MAX: usize = 256;
 
-/// How many threads serve each port, one at least, and how many connections each of them keeps at most: no more than `CONNECTIONS_MAX` in all.
+/// How many threads serve each port, one at least, and how many connections each of them keeps at most: no more than `CONNECTIONS_MAX` in all; and whether
+/// these have courtesies.
 #[derive(Clone, Copy)]
 pub struct PortRoom {
     threads: u16,
     each: usize,
+    courteous: bool,
     ghost some: { 0 < threads },
     ghost whole: { each * threads ≤ CONNECTIONS_MAX },
 }
 
 impl PortRoom {
-    /// Equal parts of the connections of a port for so many threads; for one where there are to be none.
+    /// Equal parts of the connections of a port, without courtesies, for so many threads; for one where there are to be none.
     pub(crate) fn of(most: usize, threads: u16) -> PortRoom
         requires { most ≤ CONNECTIONS_MAX }
         ensures within { result.each * result.threads ≤ most }
         ensures full { most < (result.each + 1) * result.threads }
         ensures threads { 0 < threads → result.threads ≡ threads }
+        ensures plain { result.courteous ≡ false }
     {
         let threads = threads.max(1);
         PortRoom {
             threads,
             each: most / threads as usize,
+            courteous: false,
         }
+    }
+
+    /// The same room, for connections with courtesies or without: what `courteous_sessions` answers them.
+    pub fn with_courtesies(self, courteous: bool) -> PortRoom
+        ensures { result ≡ record self { courteous = courteous } }
+    {
+        PortRoom {
+            threads: self.threads,
+            each: self.each,
+            courteous,
+        }
+    }
+
+    /// Whether the connections have courtesies.
+    pub(crate) fn courteous(&self) -> bool
+        ensures { result ≡ self.now.courteous }
+    {
+        self.courteous
     }
 
     /// How many threads serve a port.

@@ -6,8 +6,7 @@ ghost use Rattle.ballot_law.specs.Messages.{sent};
 ghost use Rattle.boxed_nodes.specs.Sendable.{IsSendableOutput};
 ghost use Rattle.group_sentinels.specs.Running.{input_of, phase_of};
 ghost use Rattle.group_sentinels.specs.declared.switches.TheConstants.{WAITING_MAX};
-ghost use Rattle.port_sessions.specs.Talks.{Receives, party};
-ghost use Rattle.port_sessions.specs.Notes.{Notifies};
+ghost use Rattle.courteous_sessions.specs.Clients.{Takes, NotifiesClient};
 ghost use Rattle.sentinel_cell.specs.declared.entry.Outcome.TheVariants.{Stored};
 ghost use Rattle.sentinel_cell.specs.Standing.{Adds, Faulted};
 ghost use Rattle.sentinel_rules.specs.Plans.{group_size, master_count, roster_of};
@@ -21,10 +20,10 @@ use crate::switches::{Switch, Switches};
 use crate::ticking::TICK_MS;
 use ballot_law::{Event, Input, NoMemory, Output, Roster};
 use conf_store::ConfStore;
+use courteous_sessions::ClientSession;
 use log::kv::With;
 use log::{Level, Log, Span, log_enabled};
 use port_serving::ServeFault;
-use port_sessions::Session;
 use sentinel_cell::{ActFault, Seat, SharedSentinel};
 use sentinel_outbox::Outbox;
 use sentinel_rules::law_outputs_are_within;
@@ -250,9 +249,9 @@ impl<J: Which, S: ConfStore> RunningSentinel<J, S> {
     }
 
     /// Tells a session of a note: whether it is told, which joins what it sends. `NoMemory` changes nothing.
-    pub fn notify(&self, session: &mut Session, switch: &Switch) -> Result<bool, NoMemory>
+    pub fn notify(&self, session: &mut ClientSession, switch: &Switch) -> Result<bool, NoMemory>
         ensures told { let roster = roster_of self.now.cell.start.plan in switch.now.note.master < length roster.masters
-            → Notifies roster switch.now.note switch.now.entry session.old result session.new }
+            → NotifiesClient roster switch.now.note switch.now.entry session.old result session.new }
         ensures other { length (roster_of self.now.cell.start.plan).masters ≤ switch.now.note.master → (result ≡ Ok false) × (session.new ≡ session.old) }
     {
         let roster = self.cell.roster();
@@ -262,23 +261,17 @@ impl<J: Which, S: ConfStore> RunningSentinel<J, S> {
         session.notify(roster, &switch.note, switch.entry)
     }
 
-    /// Hands a session the next piece of its stream, at a reading of the clock in milliseconds: all that `Session::received` says of it holds of this
+    /// Hands a session the next piece of its stream, at a reading of the clock in milliseconds: all that `ClientSession::received` says of it holds of this
     /// Sentinel.
     pub fn receive<R: Wait>(
         &self,
         rt: &R,
         seat: &mut ThreadSeat<J>,
-        session: &mut Session,
+        session: &mut ClientSession,
         now: u64,
         piece: &[u8],
     ) -> Result<(), ServeFault>
-        ensures received { session.old.ended ≡ None → (more : List ℕ) × (session.new.unsent ≡ session.old.unsent ++ more)
-            × Receives self.now.cell.start now (session.old.held ++ piece.now) (party seat.old.seat.view session.old.listens) result session.new.held more
-            (party seat.new.seat.view session.new.listens) }
-        ensures told { session.new.told ≡ session.old.told }
-        ensures open { OnOk result (session.new.ended ≡ None) }
-        ensures closed { IfErr result (λ fault. session.new.ended ≡ Some fault) }
-        ensures ended { IfSome session.old.ended (λ fault. (result ≡ Err fault) × (session.new ≡ session.old) × (seat.new.seat ≡ seat.old.seat)) }
+        ensures { Takes self.now.cell.start now piece.now result seat.old.seat.view seat.new.seat.view session.old session.new }
     {
         session.received(rt, &self.cell, &mut seat.seat, now, piece)
     }

@@ -1,4 +1,4 @@
-//! A shared Sentinel with one seat, and two clients who are answered at it.
+//! A shared Sentinel with one seat, and two clients who are answered at it, with courtesies or without.
 
 ghost use Rattle.std.specs.Prelude.{◌≡◌, IfOk};
 ghost use Rattle.sentinel_outbox.specs.declared.phase.Phase.TheVariants.{Ready};
@@ -7,8 +7,8 @@ use crate::given::{number, number_16, says};
 use crate::told::{Told, Unplayed};
 use ballot_law::{Addr, Card, Note};
 use conf_store::MemoryStore;
+use courteous_sessions::ClientSession;
 use port_serving::ServeFault;
-use port_sessions::Session;
 use sentinel_cell::{CellFault, Seat, SharedSentinel};
 use sentinel_conf::read;
 use sentinel_core::Sentinel;
@@ -24,8 +24,9 @@ struct Talk {
     alloc: Global,
     cell: SharedSentinel<MemoryStore>,
     seat: Seat,
-    first: Session,
-    second: Session,
+    courteous: bool,
+    first: ClientSession,
+    second: ClientSession,
     /// What the first client wasn't sent of a session that lacked memory.
     part: Vec<u8>,
     ghost own: { seat.cell ≡ cell.id },
@@ -104,14 +105,20 @@ fn moved(epoch: u64, port: u16) -> Note {
 
 impl Talk {
     /// A conversation that hasn't begun, in a box.
-    fn boxed(alloc: Global, file: &[u8], refuses: bool) -> Result<Box<Talk>, Unplayed> {
+    fn boxed(
+        alloc: Global,
+        file: &[u8],
+        refuses: bool,
+        courteous: bool,
+    ) -> Result<Box<Talk>, Unplayed> {
         let (cell, seat) = shared(alloc, file, refuses)?;
         let talk = Talk {
             alloc,
             cell,
             seat,
-            first: Session::new(alloc),
-            second: Session::new(alloc),
+            courteous,
+            first: ClientSession::new(alloc, courteous, 1),
+            second: ClientSession::new(alloc, courteous, 2),
             part: Vec::new(alloc),
         };
         Ok(Box::new(alloc, talk)?)
@@ -137,9 +144,14 @@ impl Talk {
             if self.say(rt, piece) != end {
                 return Err(Unplayed::Changed);
             }
-            self.first = Session::new(self.alloc);
+            self.begin_anew();
         }
         tell_end(end, told)
+    }
+
+    /// The next client comes in place of the first.
+    fn begin_anew(&mut self) {
+        self.first = ClientSession::new(self.alloc, self.courteous, 1);
     }
 
     /// Tells what the first client wasn't sent; where a session lacked memory, that is to begin with what it had put out.
@@ -210,7 +222,7 @@ impl Talk {
                 told.yes(self.hear(&note, number(entry)?)?)
             }
             ("begins_anew", []) => {
-                self.first = Session::new(self.alloc);
+                self.begin_anew();
                 told.ok()
             }
             _ => Err(Unplayed::NoSuchCall),
@@ -238,9 +250,10 @@ impl Conversations {
         file: &[u8],
         stream: &[u8],
         place: usize,
+        courteous: bool,
     ) -> Result<Vec<u8>, Unplayed> {
         let (front, back) = stream.split_at(place.min(stream.len()));
-        let mut talk = Talk::boxed(self.alloc, file, false)?;
+        let mut talk = Talk::boxed(self.alloc, file, false, courteous)?;
         if talk.say(rt, front).is_err() || talk.say(rt, back).is_err() {
             return Err(Unplayed::NoMemory);
         }
@@ -253,11 +266,12 @@ impl Conversations {
         rt: &R,
         file: &[u8],
         stream: &[u8],
+        courteous: bool,
         told: &mut Told,
     ) -> Result<(), Unplayed> {
-        let whole = self.cut(rt, file, stream, 0)?;
+        let whole = self.cut(rt, file, stream, 0, courteous)?;
         for place in 1..=stream.len() {
-            if self.cut(rt, file, stream, place)?.as_slice() != whole.as_slice() {
+            if self.cut(rt, file, stream, place, courteous)?.as_slice() != whole.as_slice() {
                 told.word("otherwise-cut-at")?;
                 return told.number(place as u64);
             }
@@ -276,10 +290,18 @@ impl Conversations {
         match (call, words) {
             ("conversation", [file, store]) => {
                 let refuses = says(store, "refuses", "stores")?;
-                self.talk = Some(Talk::boxed(self.alloc, file, refuses)?);
+                self.talk = Some(Talk::boxed(self.alloc, file, refuses, false)?);
                 told.ok()
             }
-            ("each_cut", [file, stream]) => self.tell_cuts(rt, file, stream, told),
+            ("courteous_conversation", [file, store]) => {
+                let refuses = says(store, "refuses", "stores")?;
+                self.talk = Some(Talk::boxed(self.alloc, file, refuses, true)?);
+                told.ok()
+            }
+            ("each_cut", [file, stream]) => self.tell_cuts(rt, file, stream, false, told),
+            ("each_courteous_cut", [file, stream]) => {
+                self.tell_cuts(rt, file, stream, true, told)
+            }
             ("seats", [file, seats]) => tell_seats(self.alloc, file, number(seats)?, told),
             _ => {
                 let talk = self.talk.as_mut().ok_or(Unplayed::OutOfRange)?;

@@ -61,7 +61,8 @@ impl Stage {
             "clients" | "data_nodes_alone" => Stage::Nodes(Box::new(alloc, Nodes::new(alloc))?),
             "roster_plans" | "frame_rooms" => Stage::Plans(Box::new(alloc, Plans::new(alloc))?),
             "outboxes" => Stage::Outboxes(Box::new(alloc, Outboxes::new(alloc))?),
-            "endings"
+            "courteous_streams"
+            | "endings"
             | "listeners"
             | "refused_memory_of_sessions"
             | "seats"

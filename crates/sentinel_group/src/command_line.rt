@@ -70,6 +70,12 @@ fn serve<'a>(alloc: Global) -> Result<Command<'a>, AllocError> {
         .help(
             "Closes the port of a Sentinel whose file can't be written, so that clients ask another one",
         );
+    let compatible = Arg::new(alloc, "compatible")
+        .long("compatible")
+        .action(ArgAction::SetTrue)
+        .help(
+            "Answers what client libraries send beside a Sentinel's commands, as HELLO, CLIENT and INFO",
+        );
     let until_killed = Arg::new(alloc, "until-killed")
         .long("until-killed")
         .action(ArgAction::SetTrue)
@@ -81,6 +87,7 @@ fn serve<'a>(alloc: Global) -> Result<Command<'a>, AllocError> {
         .arg(notes)?
         .arg(port_threads(alloc))?
         .arg(close_halted)?
+        .arg(compatible)?
         .arg(until_killed)?
         .arg(conf_files(alloc))
 }

@@ -10,7 +10,7 @@ use crate::starting::note_start;
 use clap::ArgMatches;
 use group_checks::is_one_group;
 use log::Log;
-use sentinel_runner::{Group, OrderedFault};
+use sentinel_runner::{Group, OrderedFault, PortSettings};
 use std::io::{Input, IsTerminal};
 use std::net::Net;
 use std::process::ExitCode;
@@ -50,8 +50,11 @@ where
     requires { All (λ store. store < 2 ^ 64 - 1) files.stores.items }
 {
     let ending = AtomicU64::new(0);
-    let port_threads = port_threads_of(words);
-    let group = Group::open_with(noting, rt.alloc(), files.confs, files.stores, port_threads)?;
+    let port = PortSettings {
+        threads: port_threads_of(words),
+        courtesies: words.get_flag("compatible"),
+    };
+    let group = Group::open_with(noting, rt.alloc(), files.confs, files.stores, port)?;
     if words.get_flag("close-halted") {
         group.close_halted();
     }

@@ -12,7 +12,7 @@ use conf_store::FileStore;
 use log::{LevelFilter, Log, info};
 use port_serving::ServeFault;
 use sentinel_conf::{Conf, read};
-use sentinel_runner::{GroupFault, Watch, WatchSettings};
+use sentinel_runner::{GroupFault, PortSettings, Watch, WatchSettings};
 use std::net::{Ipv4Addr, Net};
 use std::process::ExitCode;
 use std::rt::Clock;
@@ -55,13 +55,21 @@ fn refuse_watch(rt: HostRuntime, path: &str, line: u64, fault: WatchFault) -> Ex
     }
 }
 
+/// How its port is served: by as many threads as the words say, and with courtesies, since whoever comes to it may be a client library of any kind.
+fn port_of(words: &ArgMatches) -> PortSettings {
+    PortSettings {
+        threads: port_threads_of(words),
+        courtesies: true,
+    }
+}
+
 /// What the lines of a file say that count for `watch` alone. A fault is told, and the status tells it too.
 fn settings_of(
     rt: HostRuntime,
     path: &str,
     conf: &Conf,
     text: &[u8],
-    port_threads: u16,
+    port: PortSettings,
 ) -> Result<WatchSettings, ExitCode> {
     if let Some(line) = resolving_line(text) {
         return Err(refuse_watch(rt, path, line, WatchFault::NamesOfHosts));
@@ -74,23 +82,19 @@ fn settings_of(
         Err((line, fault)) => return Err(refuse_watch(rt, path, line, fault)),
     };
     match logins_of(rt.alloc(), conf.roster(), text) {
-        Ok(logins) => Ok(WatchSettings {
-            ips,
-            port_threads,
-            logins,
-        }),
+        Ok(logins) => Ok(WatchSettings { ips, port, logins }),
         Err(_) => Err(fail(&rt, ServeFault::NoMemory)),
     }
 }
 
 /// The file at the path. One that is refused is told, with all that is wrong with it, and the status tells it too.
-fn watch_file(rt: HostRuntime, path: &str, port_threads: u16) -> Result<WatchFile, ExitCode>
+fn watch_file(rt: HostRuntime, path: &str, port: PortSettings) -> Result<WatchFile, ExitCode>
     ensures { IfOk result (λ file. file.store ≡ 0) }
 {
     let (text, store) = text_at(rt, path)?;
     match read(rt.alloc(), text.as_slice()) {
         Ok(conf) => {
-            let settings = settings_of(rt, path, &conf, text.as_slice(), port_threads)?;
+            let settings = settings_of(rt, path, &conf, text.as_slice(), port)?;
             Ok(WatchFile {
                 conf,
                 store,
@@ -136,7 +140,7 @@ where
         conf,
         store,
         settings,
-    } = match watch_file(rt, path_of(words), port_threads_of(words)) {
+    } = match watch_file(rt, path_of(words), port_of(words)) {
         Ok(file) => file,
         Err(status) => return Err(Unwatched::Refused(status)),
     };

@@ -6,7 +6,7 @@ ghost use Rattle.sentinel_runner.specs.Faults.{fault_of_run};
 ghost use Rattle.sentinel_runner.specs.Groups.{AreOneGroup};
 
 use crate::group_fault::{GroupFault, OrderedFault};
-use crate::opened::{PORT_THREADS_MAX, room_of};
+use crate::opened::{PortSettings, room_of};
 use crate::orders::{Orders, ReadFailed};
 use crate::started::Started;
 use conf_store::ConfStore;
@@ -73,7 +73,8 @@ fn are_one_group<S>(confs: &[Conf], stores: &[S]) -> bool
 }
 
 impl<S: ConfStore + Drop> Group<S> {
-    /// Opens each Sentinel with the store at its place in the list, and its port for one thread, and makes the data nodes of the roster and the links.
+    /// Opens each Sentinel with the store at its place in the list, and its port for one thread and without courtesies, and makes the data nodes of the
+    /// roster and the links.
     ///
     /// `NotOneRoster` comes exactly where the confs aren't those of one group, or there is another number of stores.
     pub fn open<R: Net + Clock + Log>(
@@ -86,16 +87,20 @@ impl<S: ConfStore + Drop> Group<S> {
         ensures group { AreOneGroup confs.items stores.items → IfErr result (λ fault. fault ≢ NotOneRoster) }
         ensures other { ¬ (AreOneGroup confs.items stores.items) → IsErrOf result NotOneRoster }
     {
-        Self::open_with(rt, alloc, confs, stores, 1)
+        let port = PortSettings {
+            threads: 1,
+            courtesies: false,
+        };
+        Self::open_with(rt, alloc, confs, stores, port)
     }
 
-    /// As `open`, with so many threads for each port, of which each has a seat of the Sentinel: one at least, and no more than `PORT_THREADS_MAX`.
+    /// As `open`, with ports that are served so; each thread of a port has a seat of the Sentinel.
     pub fn open_with<R: Net + Clock + Log>(
         rt: &R,
         alloc: Global,
         confs: Vec<Conf>,
         stores: Vec<S>,
-        port_threads: u16,
+        port: PortSettings,
     ) -> Result<Group<S>, GroupFault>
         requires room { All (λ s. S.failure_count s < 2 ^ 64 - 1) stores.items }
         ensures group { AreOneGroup confs.items stores.items → IfErr result (λ fault. fault ≢ NotOneRoster) }
@@ -104,7 +109,7 @@ impl<S: ConfStore + Drop> Group<S> {
         if !are_one_group(confs.as_slice(), stores.as_slice()) {
             return Err(GroupFault::NotOneRoster);
         }
-        Self::open_all(rt, alloc, confs, stores, port_threads)
+        Self::open_all(rt, alloc, confs, stores, port)
     }
 
     /// Opens what `open` opens, of confs that are those of one group.
@@ -113,7 +118,7 @@ impl<S: ConfStore + Drop> Group<S> {
         alloc: Global,
         confs: Vec<Conf>,
         stores: Vec<S>,
-        port_threads: u16,
+        port: PortSettings,
     ) -> Result<Group<S>, GroupFault>
         requires room { All (λ s. S.failure_count s < 2 ^ 64 - 1) stores.items }
         requires group { AreOneGroup confs.items stores.items }
@@ -125,8 +130,7 @@ impl<S: ConfStore + Drop> Group<S> {
         let nodes = DataNodes::of(alloc, first)?;
         let (mut links, node_orders) = Links::open(alloc, confs.len())?;
         let clock = GroupClock::start(rt);
-        let port_threads = port_threads.clamp(1, PORT_THREADS_MAX);
-        let room = room_of(rt, alloc, confs.len(), port_threads)?;
+        let room = room_of(rt, alloc, confs.len(), port)?;
         let sentinels = start_all(rt, alloc, confs, stores, &mut links, room)?;
         Ok(Group {
             threads: Beginning {

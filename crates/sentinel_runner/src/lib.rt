@@ -13,5 +13,5 @@ mod watch;
 
 pub use group::{Group, run_group};
 pub use group_fault::{GroupFault, OrderedFault};
-pub use opened::PORT_THREADS_MAX;
+pub use opened::{PORT_THREADS_MAX, PortSettings};
 pub use watch::{Watch, WatchSettings};

@@ -1,6 +1,7 @@
 //! A Sentinel that is open, before its threads run.
 
-ghost use Rattle.std.specs.Prelude.{◌≡◌, ◌≢◌, ◌<◌, ◌+◌, ◌-◌, ◌^◌, IfErr, length};
+ghost use Rattle.std.specs.Prelude.{◌≡◌, ◌≢◌, ◌<◌, ◌≤◌, ◌+◌, ◌-◌, ◌^◌, IfErr, IfOk, length};
+ghost use Rattle.sentinel_runner.specs.declared.opened.TheConstants.{PORT_THREADS_MAX};
 ghost use Rattle.std.specs.IoError.{error_kind};
 ghost use Rattle.sentinel_runner.specs.declared.group_fault.GroupFault.TheVariants.{NoMemory, NotOneRoster, PortRefused};
 
@@ -17,6 +18,27 @@ use std::net::Net;
 
 /// How many threads serve each port of a group at most.
 pub const PORT_THREADS_MAX: u16 = 16;
+
+/// How ports are served.
+#[derive(Clone, Copy)]
+pub struct PortSettings {
+    /// How many threads serve each port: what is below 1 counts as 1, and what is above `PORT_THREADS_MAX` as that.
+    pub threads: u16,
+    /// Whether clients are answered what client libraries send beside a Sentinel's commands, as `courteous_sessions` has it; else they are answered what
+    /// `port_sessions` answers.
+    pub courtesies: bool,
+}
+
+impl PortSettings {
+    /// How many threads serve each port.
+    pub(crate) fn threads_of_each(self) -> u16
+        ensures some { 0 < result }
+        ensures within { result ≤ PORT_THREADS_MAX }
+        ensures same { 0 < self.threads → self.threads ≤ PORT_THREADS_MAX → result ≡ self.threads }
+    {
+        self.threads.clamp(1, PORT_THREADS_MAX)
+    }
+}
 
 /// A Sentinel that is open, with its first seat, its place in the roster, what each thread of its port serves, and that port's number. So many threads
 /// use it `beside` those of its port.
@@ -46,24 +68,25 @@ pub(crate) fn fault_of(error: &io::Error) -> GroupFault
     GroupFault::PortRefused
 }
 
-/// How many connections each of so many ports keeps, and each of the so many threads of a port. `PortRefused` where the process may have too few
+/// How many connections each of so many ports keeps that are served so, and each of the threads of a port. `PortRefused` where the process may have too few
 /// descriptors for any.
 pub(crate) fn room_of<R: Net>(
     rt: &R,
     alloc: Global,
     ports: usize,
-    port_threads: u16,
+    port: PortSettings,
 ) -> Result<PortRoom, GroupFault>
+    ensures courtesies { IfOk result (λ room. room.courteous ≡ port.courtesies) }
     ensures roster { IfErr result (λ fault. fault ≢ NotOneRoster) }
 {
-    let room = match connections_of_each(rt, alloc, ports, port_threads) {
+    let room = match connections_of_each(rt, alloc, ports, port.threads_of_each()) {
         Ok(room) => room,
         Err(error) => return Err(fault_of(&error)),
     };
     if room.is_empty() {
         return Err(GroupFault::PortRefused);
     }
-    Ok(room)
+    Ok(room.with_courtesies(port.courtesies))
 }
 
 impl<S: ConfStore + Drop> Opened<S> {

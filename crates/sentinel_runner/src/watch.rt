@@ -1,11 +1,12 @@
 //! One Sentinel of its own, which watches Redis servers and speaks to the other Sentinels over TCP.
 
-ghost use Rattle.std.specs.Prelude.{◌≡◌, ◌<◌, ◌+◌, ◌-◌, ◌^◌, IfOk, OnOk, length};
+ghost use Rattle.std.specs.Prelude.{◌≡◌, ◌<◌, ◌≤◌, ◌+◌, ◌-◌, ◌^◌, IfOk, OnOk, length};
+ghost use Rattle.sentinel_runner.specs.declared.opened.TheConstants.{PORT_THREADS_MAX};
 ghost use Rattle.sentinel_runner.specs.declared.watch.TheConstants.{BESIDE};
 
 use crate::group::outcome;
 use crate::group_fault::GroupFault;
-use crate::opened::{Opened, PORT_THREADS_MAX, fault_of};
+use crate::opened::{Opened, PortSettings, fault_of};
 use crate::port_parts::{PortPart, ServesPort, end_for_want, note_lost, parts_of, serve_parts};
 use conf_store::ConfStore;
 use group_ports::{Port, PortRoom, connections_beside};
@@ -31,8 +32,8 @@ const BESIDE: u16 = 1;
 pub struct WatchSettings {
     /// The ips at which its port listens.
     pub ips: Vec<u32>,
-    /// How many threads serve the port: one at least, and no more than `PORT_THREADS_MAX`.
-    pub port_threads: u16,
+    /// How the port is served.
+    pub port: PortSettings,
     /// With which words it logs in to the nodes of each master.
     pub logins: Logins,
 }
@@ -85,19 +86,20 @@ fn wires_of<R: Net>(
     }
 }
 
-/// How many connections each of so many threads of its port keeps, beside those that the Sentinel of this conf opens itself.
+/// How many connections each thread of its port keeps, which is served so, beside those that the Sentinel of this conf opens itself.
 fn room_of<R: Net>(
     rt: &R,
     alloc: Global,
     conf: &Conf,
-    port_threads: u16,
+    port: PortSettings,
 ) -> Result<PortRoom, GroupFault>
-    ensures { IfOk result (λ room. 0 < port_threads → room.threads ≡ port_threads) }
+    ensures threads { IfOk result (λ room. 0 < port.threads → port.threads ≤ PORT_THREADS_MAX → room.threads ≡ port.threads) }
+    ensures courtesies { IfOk result (λ room. room.courteous ≡ port.courtesies) }
 {
     let own = connection_count(conf.roster()) as u64;
-    match connections_beside(rt, alloc, 1, port_threads, own) {
+    match connections_beside(rt, alloc, 1, port.threads_of_each(), own) {
         Ok(room) if room.is_empty() => Err(GroupFault::PortRefused),
-        Ok(room) => Ok(room),
+        Ok(room) => Ok(room.with_courtesies(port.courtesies)),
         Err(error) => Err(fault_of(&error)),
     }
 }
@@ -146,15 +148,10 @@ impl<S: ConfStore + Drop> Watch<S> {
     ) -> Result<Watch<S>, GroupFault>
         requires { S.failure_count store < 2 ^ 64 - 1 }
     {
-        let WatchSettings {
-            ips,
-            port_threads,
-            logins,
-        } = settings;
+        let WatchSettings { ips, port, logins } = settings;
         prove_store(alloc, &conf, &mut store)?;
         let (wires, far) = wires_of(rt, alloc, &conf, logins)?;
-        let port_threads = port_threads.clamp(1, PORT_THREADS_MAX);
-        let room = room_of(rt, alloc, &conf, port_threads)?;
+        let room = room_of(rt, alloc, &conf, port)?;
         let ports = port_of(rt, alloc, conf.port(), ips.as_slice(), room)?;
         let opened = Opened::with_port(alloc, conf, store, ports, room.threads(), BESIDE)?;
         let state = WatchState {

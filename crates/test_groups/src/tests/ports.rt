@@ -7,7 +7,7 @@ use crate::tests::confs::{free_port, text_of_one};
 use conf_store::MemoryStore;
 use log::Log;
 use sentinel_conf::{Conf, read};
-use sentinel_runner::{Group, GroupFault};
+use sentinel_runner::{Group, GroupFault, PortSettings};
 use std::alloc::Global;
 use std::io::{self, Read, Write};
 use std::rt::Clock;
@@ -113,7 +113,11 @@ fn two_threads_of_a_port_answer(rt: HostRuntime) -> Result<(), Fail> {
     let port = free_port(&rt)?;
     let text = text_of_one(alloc, port)?;
     let (confs, stores) = one(alloc, text.as_str()).ok_or("no conf")?;
-    let Ok(group) = Group::open_with(&rt, alloc, confs, stores, 2) else {
+    let settings = PortSettings {
+        threads: 2,
+        courtesies: false,
+    };
+    let Ok(group) = Group::open_with(&rt, alloc, confs, stores, settings) else {
         return Err(Fail::from("no group"));
     };
     // (each thread has one of the two)
