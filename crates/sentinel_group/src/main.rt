@@ -94,33 +94,6 @@ fn answer(rt: HostRuntime, words: &ArgMatches) -> ExitCode {
     }
 }
 
-/// Serves the group of the files that the words name. With `--notes` its notes have a thread of their own, which no other waits for: what it can't
-/// write, nor can a line of how the group ended.
-fn serve_by(rt: HostRuntime, words: &ArgMatches) -> ExitCode {
-    if !words.get_flag("notes") {
-        let silent = Logged::new(rt, LevelFilter::Off, Discard);
-        return tell_end(rt, serve_group(rt, &silent, words), true);
-    }
-    let Ok((queue, writer)) = NoteQueue::open(rt, rt.alloc()) else {
-        return fail(&rt, ServeFault::NoMemory);
-    };
-    let noting = Logged::new(rt, LevelFilter::Info, queue);
-    let ended = serve_group(rt, &noting, words);
-    drop(noting);
-    tell_end(rt, ended, writer.wait(&rt))
-}
-
-/// Runs the Sentinel of the file that the words name; its notes have a thread of their own, as above.
-fn watch_by(rt: HostRuntime, words: &ArgMatches) -> ExitCode {
-    let Ok((queue, writer)) = NoteQueue::open(rt, rt.alloc()) else {
-        return fail(&rt, ServeFault::NoMemory);
-    };
-    let noting = Logged::new(rt, watch_level(words), queue);
-    let ended = watch(rt, &noting, words);
-    drop(noting);
-    tell_watched(rt, ended, writer.wait(&rt))
-}
-
 fn main(rt: HostRuntime) -> ExitCode {
     let Ok(mut command) = command(rt.alloc()) else {
         return fail(&rt, ServeFault::NoMemory);
@@ -134,8 +107,30 @@ fn main(rt: HostRuntime) -> ExitCode {
             Some(("check", words)) => check(rt, words),
             Some(("new-id", _)) => new_id(rt),
             Some(("replay", words)) => replay(&rt, words),
-            Some(("serve", words)) => serve_by(rt, words),
-            Some(("watch", words)) => watch_by(rt, words),
+            Some(("serve", words)) => {
+                if !words.get_flag("notes") {
+                    let silent = Logged::new(rt, LevelFilter::Off, Discard);
+                    return tell_end(rt, serve_group(rt, &silent, words), true);
+                }
+                // (notes have a thread of their own, which no other waits for; what it can't write, nor can a line of how the group ended)
+                let Ok((queue, writer)) = NoteQueue::open(rt, rt.alloc()) else {
+                    return fail(&rt, ServeFault::NoMemory);
+                };
+                let noting = Logged::new(rt, LevelFilter::Info, queue);
+                let ended = serve_group(rt, &noting, words);
+                drop(noting);
+                tell_end(rt, ended, writer.wait(&rt))
+            }
+            Some(("watch", words)) => {
+                // (as above)
+                let Ok((queue, writer)) = NoteQueue::open(rt, rt.alloc()) else {
+                    return fail(&rt, ServeFault::NoMemory);
+                };
+                let noting = Logged::new(rt, watch_level(words), queue);
+                let ended = watch(rt, &noting, words);
+                drop(noting);
+                tell_watched(rt, ended, writer.wait(&rt))
+            }
             Some((_, words)) => answer(rt, words),
             None => answer_in_memory(rt),
         },
