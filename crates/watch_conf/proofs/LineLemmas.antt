@@ -1,5 +1,5 @@
 -- Settings that are read line by line.
-use Rattle.std.proofs.Common.{◌≡◌, ℕ, List, [], ◌∷◌, ◌++◌, Option, Some, None, refl, ap, sym, ◌∙◌, append_assoc, Result, Ok, Err}
+use Rattle.std.proofs.Common.{◌≡◌, List, [], ◌∷◌, ◌++◌, Option, Some, None, refl, ap, sym, append_assoc, Result, Ok, Err}
 use Rattle.watch_conf.specs.declared.faults.WatchFault.{WatchFault}
 use Rattle.watch_conf.specs.declared.settings.Setting.{Setting}
 use Rattle.watch_conf.specs.Binds.{joined}

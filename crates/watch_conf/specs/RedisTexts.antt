@@ -1,5 +1,5 @@
 -- The text of a file that redis-sentinel reads.
-use Rattle.std.specs.Prelude.{◌≡◌, ℕ, Bool, true, false, ◌==◌, List, [], ◌∷◌, ◌++◌}
+use Rattle.std.specs.Prelude.{◌≡◌, ℕ, Bool, true, false, ◌==◌, List, [], ◌∷◌}
 use Rattle.std.specs.List.{flat_map}
 use Rattle.ballot_law.specs.Cuts.{with_first, lines}
 use Rattle.conf_lines.specs.declared.lines.StateLine.TheVariants.{LeaderId}
