@@ -12,11 +12,11 @@ mod locks;
 mod mending;
 mod new_ids;
 mod noted_store;
+mod redis_text;
 mod replaying;
 mod serving;
 mod starting;
 mod telling;
-mod watch_lines;
 mod watching;
 
 use crate::checking::check;

@@ -1,6 +1,5 @@
 //! What is told of files on standard error beside the line of a fault: all that is wrong with them, and warnings.
 
-use crate::watch_lines::lacks_announce_ip;
 use conf_advice::{Directives, add_warnings};
 use conf_faults::add_notes;
 use conf_mending::add_sides;
@@ -54,11 +53,6 @@ fn tell_file(rt: HostRuntime, file: &NamedConf) {
     let mut lines = Vec::new(rt.alloc());
     if add_warnings(rt.alloc(), &mut lines, &known, sentinels, path, &text).is_ok() {
         tell(rt, &lines);
-    }
-    if lacks_announce_ip(&file.conf) {
-        let _ = eprintln!(rt;
-            "warning: {path}:0: others aren't on this machine, and know this Sentinel by its loopback: add a line `sentinel announce-ip <ip>`"
-        );
     }
     tell_unwritable(rt, path, &text);
 }

@@ -9,17 +9,20 @@ use crate::locks::{FileLock, lock_file, refuse_lock};
 use crate::noted_store::NotedStore;
 use crate::starting::note_sentinel;
 use crate::telling::tell_faults;
-use crate::watch_lines::{WatchFault, lacks_announce_ip, listening_ips, logins_of, resolving_line};
+use ballot_law::Roster;
 use clap::ArgMatches;
 use log::{LevelFilter, Log};
 use port_serving::ServeFault;
 use sentinel_conf::{Conf, read};
 use sentinel_runner::{GroupFault, Watch, WatchSettings};
+use std::alloc::{AllocError, Global};
 use std::net::Net;
 use std::process::ExitCode;
 use std::rt::Clock;
 use std::sync::Wait;
 use std::thread::Threads;
+use tcp_wires::Logins;
+use watch_conf::{WatchConf, WatchFault, WatchKind, read_watch};
 
 /// Why a Sentinel didn't run, or ended.
 #[derive(Drop)]
@@ -48,11 +51,36 @@ pub(crate) fn watch_level(words: &ArgMatches) -> LevelFilter {
 }
 
 /// Tells why a file that can be read isn't one for `watch`.
-fn refuse_watch(rt: HostRuntime, path: &str, line: u64, fault: WatchFault) -> ExitCode {
-    match fault {
-        WatchFault::NoMemory => fail(&rt, ServeFault::NoMemory),
-        fault => refuse_file(&rt, path, line, fault),
+fn refuse_watch(rt: HostRuntime, path: &str, fault: WatchFault) -> ExitCode {
+    match fault.kind {
+        WatchKind::NoMemory => fail(&rt, ServeFault::NoMemory),
+        kind => refuse_file(&rt, path, fault.line, kind),
     }
+}
+
+/// With which words the Sentinel logs in to the nodes of each master, and to the other Sentinels.
+fn logins_of(alloc: Global, roster: &Roster, watch: &WatchConf) -> Result<Logins, AllocError> {
+    let mut logins = Logins::new(alloc);
+    for master in roster.masters() {
+        let name = &master.name;
+        logins.add(alloc, watch.node_user(name), watch.node_pass(name))?;
+    }
+    logins.set_sentinels(alloc, watch.peer_user(), watch.peer_pass())?;
+    Ok(logins)
+}
+
+/// What the lines say that count for `watch` alone, as its Sentinel takes it.
+fn taken_settings(
+    alloc: Global,
+    roster: &Roster,
+    watch: &WatchConf,
+    port_threads: u16,
+) -> Result<WatchSettings, AllocError> {
+    Ok(WatchSettings {
+        ips: Vec::from_slice(alloc, watch.ips())?,
+        port_threads,
+        logins: logins_of(alloc, roster, watch)?,
+    })
 }
 
 /// What the lines of a file say that count for `watch` alone. A fault is told, and the status tells it too.
@@ -63,22 +91,12 @@ fn settings_of(
     text: &[u8],
     port_threads: u16,
 ) -> Result<WatchSettings, ExitCode> {
-    if let Some(line) = resolving_line(text) {
-        return Err(refuse_watch(rt, path, line, WatchFault::NamesOfHosts));
-    }
-    if lacks_announce_ip(conf) {
-        return Err(refuse_watch(rt, path, 0, WatchFault::NoAnnounceIp));
-    }
-    let ips = match listening_ips(rt.alloc(), text) {
-        Ok(ips) => ips,
-        Err((line, fault)) => return Err(refuse_watch(rt, path, line, fault)),
+    let watch = match read_watch(rt.alloc(), conf, text) {
+        Ok(watch) => watch,
+        Err(fault) => return Err(refuse_watch(rt, path, fault)),
     };
-    match logins_of(rt.alloc(), conf.roster(), text) {
-        Ok(logins) => Ok(WatchSettings {
-            ips,
-            port_threads,
-            logins,
-        }),
+    match taken_settings(rt.alloc(), conf.roster(), &watch, port_threads) {
+        Ok(settings) => Ok(settings),
         Err(_) => Err(fail(&rt, ServeFault::NoMemory)),
     }
 }
