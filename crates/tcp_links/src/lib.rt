@@ -18,7 +18,7 @@ mod speaking;
 mod target;
 
 pub use node_link::NodeLink;
-pub use pace::{Pace, is_gap};
+pub use pace::{Pace, is_gap, pause_of};
 pub use schedule::{Schedule, Stage, Stale};
 pub use speaking::Login;
 pub use target::{Target, connection_count, place_of, target_at};

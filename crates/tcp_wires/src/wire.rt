@@ -7,7 +7,7 @@ ghost use Rattle.sentinel_rules.specs.Facts.{IsWithinEvent};
 
 use crate::exchange::NearEnd;
 use crate::traffic::{hear, send};
-use ballot_law::{Addr, Event, Message, NodeName};
+use ballot_law::{Addr, Body, Event, Message, NodeName};
 use mio::net::TcpStream;
 use mio::{Interest, Registry, Token};
 use std::alloc::Global;
@@ -152,12 +152,16 @@ impl Wire {
         self.send_out(now);
     }
 
-    /// Puts out a message where it is open, and sends what it can; else the message is lost. A fault has closed it.
+    /// Puts out a message where it is open, and sends what it can; else the message is lost. What came of an order to follow a master, or none, is asked at once. A fault
+    /// has closed it.
     pub(crate) fn ask(&mut self, message: &Message, now: u64)
         requires writable { IsWritable message.now.body }
         requires target { (self.old.link.target.node ≡ message.now.target) × (self.old.link.target.listens ≡ false) }
     {
         let _ = self.link.ask(message, now);
+        if let Body::ReplicaOf(_) = message.body {
+            let _ = self.link.look(now);
+        }
         self.send_out(now);
     }
 
