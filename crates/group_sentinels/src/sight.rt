@@ -5,10 +5,11 @@ ghost use Rattle.ballot_law.specs.Ballots.{card_of, kept_of, voted_of};
 ghost use Rattle.ballot_law.specs.Clocks.{clock};
 ghost use Rattle.group_sentinels.specs.Sights.{is_other_down, is_replica_down};
 ghost use Rattle.sentinel_rules.specs.Plans.{group_size, master_count, nodes_of};
-ghost use Rattle.sentinel_rules.specs.States.{card_place, is_failing_over, is_master_down, is_odown_at, is_tilted};
+ghost use Rattle.sentinel_rules.specs.States.{card_place, failover_of, is_failing_over, is_master_down, is_odown_at, is_tilted};
 ghost use Rattle.sentinel_rules.specs.Ticks.{at_places};
 
 use ballot_law::{Card, MASTERS_MAX, NODES_MAX, RunId, SENTINELS_MAX};
+use failover_states::FailoverState;
 use sentinel_cell::Observer;
 use sentinel_core::Sentinel;
 use sentinel_state::Core;
@@ -29,13 +30,14 @@ pub(crate) struct Vote {
     pub(crate) epoch: u64,
 }
 
-/// What a Sentinel shows of a master: whether its clock isn't to be trusted, the configuration, what it finds of the master, its vote, and
-/// which of the master's replicas, by their places among its nodes, and of the other Sentinels, by their places in the roster, are down.
+/// What a Sentinel shows of a master: whether its clock isn't to be trusted, the configuration, what it finds of the master, how far its own failover has come, its vote,
+/// and which of the master's replicas, by their places among its nodes, and of the other Sentinels, by their places in the roster, are down.
 #[derive(Clone, Copy)]
 pub(crate) struct Look {
     pub(crate) is_tilted: bool,
     pub(crate) card: Card,
     pub(crate) flags: Flags,
+    pub(crate) stage: FailoverState,
     pub(crate) vote: Vote,
     pub(crate) replicas: [bool; NODES_MAX],
     pub(crate) sentinels: [bool; SENTINELS_MAX],
@@ -107,6 +109,7 @@ impl Look {
           agreed = is_odown_at plan.now core.now m (clock now);
           failing_over = is_failing_over core.now m;
         } }
+        ensures stage { result.stage ≡ (failover_of core.now m).state }
         ensures vote { result.vote ≡ record { leader = (kept_of core.now.kept m).candidate; epoch = voted_of core.now.kept m } }
         ensures replicas { take (length (nodes_of plan.now m)) result.replicas
             ≡ at_places (is_replica_down plan.now core.now m (clock now)) 0 (length (nodes_of plan.now m)) }
@@ -116,6 +119,7 @@ impl Look {
             is_tilted: core.is_tilted(),
             card: core.card(m),
             flags: flags_of(plan, core, now, m),
+            stage: core.stage(m),
             vote: Vote {
                 leader: core.leader(m),
                 epoch: core.voted(m),

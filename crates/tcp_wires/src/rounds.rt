@@ -3,6 +3,7 @@
 ghost use Rattle.sentinel_rules.specs.Facts.{IsWithinEvent};
 
 use crate::exchange::{FarEnd, WatchState};
+use crate::hello_notes::HelloNotes;
 use ballot_law::Event;
 use conf_store::ConfStore;
 use group_sentinels::{RunFault, RunningSentinel, ThreadSeat, Ticker, Which, hear};
@@ -29,6 +30,7 @@ pub struct Rounds {
     ticker: Ticker,
     pace: Pace,
     stood_still: bool,
+    hellos: HelloNotes,
 }
 
 /// The master that another Sentinel finds down, as its answer says.
@@ -61,6 +63,7 @@ impl Rounds {
             ticker: Ticker::new(alloc, member),
             pace: Pace::new(now),
             stood_still: false,
+            hellos: HelloNotes::new(now),
         }
     }
 
@@ -93,6 +96,16 @@ impl Rounds {
     {
         if let Some(master) = found_down(&event) {
             seat.look_ahead(master, self.pace.tick_due);
+        }
+        if let Event::HelloRead { text } = &event {
+            let now = state.run.clock.now(rt);
+            self.hellos.hear(
+                &member.noting(rt),
+                member.roster(),
+                member.place(),
+                now,
+                text,
+            );
         }
         let mut outlet = self.far.outlet(rt);
         let goes_on = hear(rt, &state.run, member, seat, &mut outlet, event);
@@ -166,7 +179,9 @@ impl Rounds {
         self.stood_still = false;
         self.pace.plan_tick(state.run.clock.now(rt), lot(rt, state));
         self.hold(rt, state, member, seat);
-        self.pace.turn(state.run.clock.now(rt));
+        let now = state.run.clock.now(rt);
+        self.pace.turn(now);
+        self.hellos.look(&member.noting(rt), member.roster(), now);
         goes_on
     }
 
