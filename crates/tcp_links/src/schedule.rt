@@ -17,13 +17,13 @@ pub const NO_HELLO_MS: u64 = 6_000;
 /// The shortest and the longest pause before a connection is opened again, in milliseconds.
 pub const PAUSE_MIN_MS: u64 = 100;
 
-pub const PAUSE_MAX_MS: u64 = 1_000;
+pub const PAUSE_MAX_MS: u64 = 500;
 
 /// How long it is between two PINGs that the connection sends by itself, in milliseconds.
 pub const PING_MS: u64 = 250;
 
 /// When INFO is asked again after a connection was opened, in milliseconds: a node whose role is wrong has to say so twice, 8 s apart, before it is told otherwise.
-pub const INFO_AGAIN_MS: u64 = 8_500;
+pub const INFO_AGAIN_MS: u64 = 8_300;
 
 /// Where a connection stands.
 #[derive(Clone, Copy, PartialEq, Eq)]

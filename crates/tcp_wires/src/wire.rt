@@ -7,24 +7,27 @@ ghost use Rattle.sentinel_rules.specs.Facts.{IsWithinEvent};
 
 use crate::exchange::NearEnd;
 use crate::traffic::{hear, send};
-use ballot_law::{Addr, Event, Message, NodeName};
+use ballot_law::{Addr, Body, Event, Message, NodeName};
+use log::{Log, warn};
 use mio::net::TcpStream;
 use mio::{Interest, Registry, Token};
 use std::alloc::Global;
 use std::io::ErrorKind;
 use std::net::{Ipv4Addr, Net, SocketAddr};
 use std::sync::Wait;
-use tcp_links::{Login, NodeLink, Stage, Target};
+use tcp_links::{Login, NodeLink, Stage, Target, is_refusal};
 
 /// How many reads a connection makes before the next one has its turn.
 const READS_MAX: u32 = 16;
 
-/// A connection to a node, with its socket where it is open or being opened. `goes_on` is whether it may have more to read.
+/// A connection to a node, with its socket where it is open or being opened. `goes_on` is whether it may have more to read, `is_refused` whether the node refused who asks
+/// when it was heard last.
 #[derive(Drop)]
 pub(crate) struct Wire {
     link: NodeLink,
     stream: Option<TcpStream>,
     goes_on: bool,
+    is_refused: bool,
     alloc: Global,
 }
 
@@ -70,6 +73,7 @@ impl Wire {
             link: NodeLink::new(alloc, target),
             stream: None,
             goes_on: false,
+            is_refused: false,
             alloc,
         }
     }
@@ -152,12 +156,16 @@ impl Wire {
         self.send_out(now);
     }
 
-    /// Puts out a message where it is open, and sends what it can; else the message is lost. A fault has closed it.
+    /// Puts out a message where it is open, and sends what it can; else the message is lost. What came of an order to follow a master, or none, is asked at once. A fault
+    /// has closed it.
     pub(crate) fn ask(&mut self, message: &Message, now: u64)
         requires writable { IsWritable message.now.body }
         requires target { (self.old.link.target.node ≡ message.now.target) × (self.old.link.target.listens ≡ false) }
     {
         let _ = self.link.ask(message, now);
+        if let Body::ReplicaOf(_) = message.body {
+            let _ = self.link.look(now);
+        }
         self.send_out(now);
     }
 
@@ -175,9 +183,22 @@ impl Wire {
         self.settle();
     }
 
+    /// Notes that the node refuses who asks, where it didn't before, by the piece that came.
+    fn note_refusal<R: Log>(&mut self, rt: &R, piece: &[u8]) {
+        let is_refused = is_refusal(piece);
+        if is_refused && !self.is_refused {
+            let addr = self.link.target().addr;
+            let (ip, port) = (Ipv4Addr::from(addr.ip), addr.port);
+            warn!(rt;
+                "{ip}:{port} refuses this Sentinel: see its password and user (`sentinel auth-pass`, `sentinel auth-user`), and what that user may do"
+            );
+        }
+        self.is_refused = is_refused;
+    }
+
     /// Reads one piece, and hands on what it tells; the error says why none was taken.
     #[tactic(auto, using(crate::proofs::Hearing::all_within_told))]
-    fn read_once<R: Wait>(
+    fn read_once<R: Wait + Log>(
         &mut self,
         rt: &R,
         near: &NearEnd,
@@ -190,11 +211,20 @@ impl Wire {
         let mut events = Vec::new(self.alloc);
         let heard = hear(&mut self.link, stream, room, now, &mut events);
         hand_on_all(rt, near, events);
+        if heard.is_ok() {
+            self.note_refusal(rt, room);
+        }
         heard
     }
 
     /// Reads what came, and hands on what that tells: whether the socket is whole. After many reads the next connection has its turn.
-    fn read_in<R: Wait>(&mut self, rt: &R, near: &NearEnd, room: &mut [u8], now: u64) -> bool {
+    fn read_in<R: Wait + Log>(
+        &mut self,
+        rt: &R,
+        near: &NearEnd,
+        room: &mut [u8],
+        now: u64,
+    ) -> bool {
         self.goes_on = false;
         for _ in 0..READS_MAX {
             match self.read_once(rt, near, room, now) {
@@ -221,7 +251,13 @@ impl Wire {
     }
 
     /// Goes on once the system has told of it: reads what came, hands on what that tells, and sends what is unsent and due.
-    pub(crate) fn serve<R: Wait>(&mut self, rt: &R, near: &NearEnd, room: &mut [u8], now: u64) {
+    pub(crate) fn serve<R: Wait + Log>(
+        &mut self,
+        rt: &R,
+        near: &NearEnd,
+        room: &mut [u8],
+        now: u64,
+    ) {
         if self.has_reached(now) && !self.read_in(rt, near, room, now) {
             self.link.close(now);
         }

@@ -6,6 +6,7 @@ use crate::traffic::PIECE;
 use crate::wire::Wire;
 use ballot_law::{NodeName, Roster};
 use group_sentinels::RunFault;
+use log::Log;
 use mio::{Events, Poll, Token};
 use std::alloc::{AllocError, Global};
 use std::io::{self, ErrorKind};
@@ -127,14 +128,14 @@ impl Wires {
     }
 
     /// Serves the connection at this place, at this reading of the clock.
-    fn serve<R: Wait>(&mut self, rt: &R, place: usize, now: u64) {
+    fn serve<R: Wait + Log>(&mut self, rt: &R, place: usize, now: u64) {
         if let Some(Some(wire)) = self.wires.get_mut(place) {
             wire.serve(rt, &self.near, self.room.as_mut_slice(), now);
         }
     }
 
     /// Serves the connections that may have more to read.
-    fn serve_busy<R: Wait>(&mut self, rt: &R, now: u64) {
+    fn serve_busy<R: Wait + Log>(&mut self, rt: &R, now: u64) {
         for wire in self.wires.iter_mut().flatten() {
             if wire.goes_on() {
                 wire.serve(rt, &self.near, self.room.as_mut_slice(), now);
@@ -152,7 +153,7 @@ impl Wires {
     }
 
     /// Serves the connections of which the last wait told, at this reading of the clock. The error is a refused allocation.
-    fn serve_told<R: Wait>(&mut self, rt: &R, now: u64) -> io::Result<()> {
+    fn serve_told<R: Wait + Log>(&mut self, rt: &R, now: u64) -> io::Result<()> {
         self.serve_busy(rt, now);
         for place in self.places_told()? {
             self.serve(rt, place, now);
@@ -185,7 +186,7 @@ impl Wires {
     }
 
     /// One turn: hears until a message is to go out or the connections are to be kept, and does that.
-    fn turn<R: Wait + Clock, N: Net>(
+    fn turn<R: Wait + Clock + Log, N: Net>(
         &mut self,
         rt: &R,
         net: &N,
@@ -210,7 +211,7 @@ impl Wires {
 
     /// Keeps the connections, hands on what they hear and puts out what is to go out, until the threads end or the Sentinel is halted. The error is the system's, where
     /// it tells of no connection any more, or a refused allocation.
-    pub fn run<R: Wait + Clock, N: Net>(
+    pub fn run<R: Wait + Clock + Log, N: Net>(
         &mut self,
         rt: &R,
         net: &N,
