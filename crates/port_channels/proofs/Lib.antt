@@ -1,0 +1,4 @@
+pub mod Bytes
+pub mod Fitting
+pub mod Listed
+pub mod Shorter
