@@ -3,3 +3,4 @@ pub mod Listening
 pub mod Confirming
 pub mod Telling
 pub mod Answering
+pub mod Sound
