@@ -164,6 +164,13 @@ impl NodeLink {
         self.schedule.excuse(now);
     }
 
+    /// Where it is closed, it is to be opened at once: the node ended a connection that had lasted.
+    pub fn forgive(&mut self)
+        ensures { self.new ≡ record self.old { schedule = record self.old.schedule { pause = 0 } } }
+    {
+        self.schedule.forgive();
+    }
+
     /// Takes away the first `n` bytes of what isn't sent yet, which the socket took.
     #[tactic(auto, using(crate::proofs::Keeping::kept_sent))]
     pub fn sent(&mut self, n: usize)

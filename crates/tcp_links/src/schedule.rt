@@ -19,6 +19,9 @@ pub const PAUSE_MIN_MS: u64 = 100;
 
 pub const PAUSE_MAX_MS: u64 = 500;
 
+/// For how long a connection has to be open to be opened again at once where its node ends it, in milliseconds: as at CLIENT KILL, after which hellos would be missed.
+pub const LASTING_MS: u64 = 2_000;
+
 /// How long it is between two PINGs that the connection sends by itself, in milliseconds.
 pub const PING_MS: u64 = 250;
 
@@ -155,6 +158,20 @@ impl Schedule {
             .saturating_mul(2)
             .max(PAUSE_MIN_MS)
             .min(PAUSE_MAX_MS);
+    }
+
+    /// The next time it is opened comes at once, where it is closed.
+    pub fn forgive(&mut self)
+        ensures { self.new ≡ record self.old { pause = 0 } }
+    {
+        self.pause = 0;
+    }
+
+    /// Whether it is open, and has been for so long that its node counts as a good one: where such a connection ends, it is opened again at once.
+    pub fn is_lasting(&self, now: u64) -> bool
+        ensures { IsTrue result ↔ ((self.now.stage ≡ Open) × (LASTING_MS ≤ now - self.now.since)) }
+    {
+        self.stage == Stage::Open && now.saturating_sub(self.since) >= LASTING_MS
     }
 
     /// Whether it is to send a PING by itself now.

@@ -165,6 +165,11 @@ impl FarEnd {
         }
     }
 
+    /// The allocator of what goes between the two.
+    pub(crate) fn alloc(&self) -> Global {
+        self.alloc
+    }
+
     /// The connections as the place where messages go.
     pub(crate) fn outlet<'a, R: Wait>(&'a self, rt: &'a R) -> WireOutlet<'a, R> {
         WireOutlet { end: self, rt }

@@ -4,7 +4,7 @@ ghost use Rattle.sentinel_rules.specs.Facts.{IsWithinEvent};
 
 use crate::exchange::{FarEnd, WatchState};
 use crate::hello_notes::HelloNotes;
-use ballot_law::Event;
+use ballot_law::{Event, Text};
 use conf_store::ConfStore;
 use group_sentinels::{RunFault, RunningSentinel, ThreadSeat, Ticker, Which, hear};
 use log::Log;
@@ -12,7 +12,7 @@ use std::alloc::Global;
 use std::rt::Clock;
 use std::sync::Wait;
 use std::sync::atomic::Ordering;
-use tcp_links::{Pace, is_gap, pause_of};
+use tcp_links::{Pace, is_gap, pause_of, without_names};
 
 /// How long a Sentinel hears after it or its connections stood still, before it ticks again, in milliseconds.
 const CATCH_UP_MS: u64 = 150;
@@ -42,6 +42,23 @@ fn found_down(event: &Event) -> Option<u16> {
             ..
         } => Some(*master),
         _ => None,
+    }
+}
+
+/// What was heard, without the name by which a replica may know its master; as it is where there is no memory.
+fn without_name(alloc: Global, event: Event) -> Event
+    requires { IsWithinEvent event }
+    ensures { IsWithinEvent result }
+{
+    match event {
+        Event::InfoRead { node, text } => {
+            let text = match without_names(alloc, text.as_slice()) {
+                Ok(Some(bytes)) => Text::from_vec(bytes),
+                _ => text,
+            };
+            Event::InfoRead { node, text }
+        }
+        event => event,
     }
 }
 
@@ -107,6 +124,7 @@ impl Rounds {
                 text,
             );
         }
+        let event = without_name(self.far.alloc(), event);
         let mut outlet = self.far.outlet(rt);
         let goes_on = hear(rt, &state.run, member, seat, &mut outlet, event);
         self.hold(rt, state, member, seat);

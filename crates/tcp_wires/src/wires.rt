@@ -108,6 +108,11 @@ impl Wires {
         self.wires.iter().flatten().any(|wire| wire.goes_on())
     }
 
+    /// Whether a connection is to be opened now.
+    fn is_due(&self, now: u64) -> bool {
+        self.wires.iter().flatten().any(|wire| wire.is_due(now))
+    }
+
     /// Waits until the system tells of a connection, or so many milliseconds; not at all where one may have more to read. The error is the system's, where it tells of no
     /// connection any more.
     fn wait(&mut self, millis: u64) -> io::Result<()> {
@@ -200,7 +205,7 @@ impl Wires {
             self.ask_all_anew(now);
         }
         self.put_out_all(rt, now);
-        if pace.until_tick(now) == 0 {
+        if pace.until_tick(now) == 0 || self.is_due(now) {
             self.keep_all(net, now);
             pace.tick_due = now.saturating_add(KEEP_MS);
         }
