@@ -1,6 +1,6 @@
 //! When a Sentinel ticks, and whether it stood still.
 
-ghost use Rattle.std.specs.Prelude.{◌≡◌, ◌≤◌, ◌<◌, ◌↔◌, ◌+◌, ◌-◌, ◌*◌, ◌/◌, ◌^◌, max, min, IsTrue};
+ghost use Rattle.std.specs.Prelude.{◌≡◌, ◌≤◌, ◌<◌, ◌↔◌, ◌+◌, ◌-◌, ◌*◌, ◌/◌, ◌%◌, ◌^◌, max, min, IsTrue};
 
 /// How long may lie between two turns before this Sentinel takes itself to have stood still, in milliseconds.
 pub const GAP_MS: u64 = 300;
@@ -43,6 +43,17 @@ fn slot_of(turns: u64) -> u64
     ensures most { turns * result ≤ HOLD_MAX_MS }
 {
     (HOLD_MAX_MS / turns).min(SLOT_MAX_MS)
+}
+
+/// Which turn the Sentinel at this place has, of so many: turns go by the places in the roster, and a campaign's number moves them on. So Sentinels that know the same number have
+/// different turns.
+pub fn turn_of(place: u16, number: u64, turns: u64) -> u64
+    requires some { 0 < turns }
+    requires few { turns ≤ 64 }
+    ensures turn { result ≡ (place + number % turns) % turns }
+    ensures within { result < turns }
+{
+    (u64::from(place) + number % turns) % turns
 }
 
 /// For how long a Sentinel holds its ticks back whose turn to begin a campaign is this one of so many: so those that find a master down together begin one after the other,

@@ -12,7 +12,7 @@ use std::alloc::Global;
 use std::rt::Clock;
 use std::sync::Wait;
 use std::sync::atomic::Ordering;
-use tcp_links::{Pace, is_gap, pause_of, without_names};
+use tcp_links::{Pace, is_gap, pause_of, turn_of, without_names};
 
 /// How long a Sentinel hears after it or its connections stood still, before it ticks again, in milliseconds.
 const CATCH_UP_MS: u64 = 150;
@@ -93,8 +93,10 @@ impl Rounds {
         seat: &mut ThreadSeat<J>,
     ) {
         if let Some(number) = seat.take_nearness() {
-            let turns = (member.roster().sentinels().len() as u64).max(1);
-            let turn = (u64::from(member.place()) % turns + number % turns) % turns;
+            let roster = member.roster();
+            roster.is_made();
+            let turns = (roster.sentinels().len() as u64).max(1);
+            let turn = turn_of(member.place(), number, turns);
             let pause = pause_of(turn, turns, lot(rt, state));
             self.pace.hold(state.run.clock.now(rt), pause);
         }
