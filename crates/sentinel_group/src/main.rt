@@ -129,7 +129,7 @@ fn main(rt: HostRuntime) -> ExitCode {
                 let noting = Logged::new(rt, watch_level(words), queue);
                 let ended = watch(rt, &noting, words);
                 drop(noting);
-                tell_watched(rt, words, ended, writer.wait(&rt))
+                tell_watched(rt, ended, writer.wait(&rt))
             }
             Some((_, words)) => answer(rt, words),
             None => answer_in_memory(rt),

@@ -43,19 +43,6 @@ fn tell_unwritable(rt: HostRuntime, path: &str, text: &[u8]) {
     }
 }
 
-/// Tells why the file of a Sentinel that is halted couldn't be replaced, as far as that is still so.
-pub(crate) fn tell_halt(rt: HostRuntime, path: &str) {
-    let text = fs::read(&rt, path);
-    let _ = match text.and_then(|text| try_beside(rt, path, &text)) {
-        Ok(()) => eprintln!(rt;
-            "note: {path}:0: no file could be replaced in this folder; one can again"
-        ),
-        Err(error) => eprintln!(rt;
-            "note: {path}:0: no file can be replaced in this folder: {error}"
-        ),
-    };
-}
-
 /// Tells the warnings of a file of a group of so many Sentinels, and where it can't be replaced.
 fn tell_file(rt: HostRuntime, file: &NamedConf) {
     let path = file.name.as_str();

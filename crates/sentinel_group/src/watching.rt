@@ -5,21 +5,21 @@ ghost use Rattle.std.specs.Prelude.{◌≡◌, ◌<◌, ◌-◌, ◌^◌, IfOk};
 use crate::command_line::port_threads_of;
 use crate::failures::{fail, fail_group, refuse_conf, refuse_file, status_of_group};
 use crate::group_files::text_at;
-use crate::telling::{tell_faults, tell_halt};
+use crate::locks::{FileLock, lock_file, refuse_lock};
+use crate::noted_store::NotedStore;
+use crate::starting::note_sentinel;
+use crate::telling::tell_faults;
 use crate::watch_lines::{WatchFault, lacks_announce_ip, listening_ips, logins_of, resolving_line};
 use clap::ArgMatches;
-use conf_store::FileStore;
-use log::{LevelFilter, Log, info};
+use log::{LevelFilter, Log};
 use port_serving::ServeFault;
 use sentinel_conf::{Conf, read};
 use sentinel_runner::{GroupFault, Watch, WatchSettings};
-use std::net::{Ipv4Addr, Net};
+use std::net::Net;
 use std::process::ExitCode;
 use std::rt::Clock;
-use std::str::from_utf8;
 use std::sync::Wait;
 use std::thread::Threads;
-use words::run_id_text;
 
 /// Why a Sentinel didn't run, or ended.
 #[derive(Drop)]
@@ -32,16 +32,16 @@ pub(crate) enum Unwatched {
 
 /// What a file makes of a Sentinel of its own.
 #[derive(Drop)]
-struct WatchFile {
+struct WatchFile<'a, R: Log> {
     conf: Conf,
-    store: FileStore<HostRuntime>,
+    store: NotedStore<'a, R>,
     settings: WatchSettings,
 }
 
-/// Which notes go to standard error: all, unless the words say `--quiet`.
+/// Which notes go to standard error: all, or with `--quiet` those alone that tell why it ends.
 pub(crate) fn watch_level(words: &ArgMatches) -> LevelFilter {
     if words.get_flag("quiet") {
-        LevelFilter::Off
+        LevelFilter::Warn
     } else {
         LevelFilter::Info
     }
@@ -83,42 +83,33 @@ fn settings_of(
     }
 }
 
-/// The file at the path. One that is refused is told, with all that is wrong with it, and the status tells it too.
-fn watch_file(rt: HostRuntime, path: &str, port_threads: u16) -> Result<WatchFile, ExitCode>
+/// The file at the path, as a store whose notes go to the log of `noting`. One that is refused is told, with all that is wrong with it, and the
+/// status tells it too.
+fn watch_file<'a, R: Log>(
+    rt: HostRuntime,
+    noting: &'a R,
+    path: &str,
+    port_threads: u16,
+) -> Result<WatchFile<'a, R>, ExitCode>
     ensures { IfOk result (λ file. file.store ≡ 0) }
 {
     let (text, store) = text_at(rt, path)?;
-    match read(rt.alloc(), text.as_slice()) {
-        Ok(conf) => {
-            let settings = settings_of(rt, path, &conf, text.as_slice(), port_threads)?;
-            Ok(WatchFile {
-                conf,
-                store,
-                settings,
-            })
-        }
+    let conf = match read(rt.alloc(), text.as_slice()) {
+        Ok(conf) => conf,
         Err(fault) => {
             let status = refuse_conf(&rt, path, fault);
             tell_faults(rt, path, text.as_slice());
-            Err(status)
+            return Err(status);
         }
-    }
-}
-
-/// Notes who the Sentinel is, and what it watches.
-fn note_start<R: Log>(rt: &R, conf: &Conf) {
-    let roster = conf.roster();
-    if let Some(own) = roster.sentinels().get(conf.place() as usize) {
-        let id = run_id_text(own.id);
-        info!(rt; "Sentinel ID is {}", from_utf8(id.as_slice()).unwrap_or("?"));
-    }
-    let kept = conf.kept().masters.as_slice();
-    for (watched, kept) in roster.masters().iter().zip(kept.iter()) {
-        let name = from_utf8(watched.name.as_slice()).unwrap_or("?");
-        let addr = kept.card.addr;
-        info!(rt;
-            "+monitor master {name} {} {} quorum {}", Ipv4Addr::from(addr.ip), addr.port, watched.quorum
-        );
+    };
+    let settings = settings_of(rt, path, &conf, text.as_slice(), port_threads)?;
+    match NotedStore::of(rt, noting, store, conf.port(), path) {
+        Ok(store) => Ok(WatchFile {
+            conf,
+            store,
+            settings,
+        }),
+        Err(_) => Err(fail(&rt, ServeFault::NoMemory)),
     }
 }
 
@@ -127,34 +118,52 @@ fn path_of<'a>(words: &'a ArgMatches) -> &'a str {
     words.get_str("conf").unwrap_or("")
 }
 
-/// Runs the Sentinel of the conf file that the words name; its notes go to the log of `noting`.
+/// The file that the words name, and its lock. What is wrong with it is told also where another program runs on it.
+fn locked_file<'a, R: Log>(
+    rt: HostRuntime,
+    noting: &'a R,
+    words: &ArgMatches,
+) -> Result<(WatchFile<'a, R>, FileLock), ExitCode>
+    ensures { IfOk result (λ locked. locked.0.store ≡ 0) }
+{
+    let path = path_of(words);
+    let locked = lock_file(rt, path);
+    let file = watch_file(rt, noting, path, port_threads_of(words))?;
+    match locked {
+        Ok(lock) => Ok((file, lock)),
+        Err(fault) => Err(refuse_lock(rt, fault)),
+    }
+}
+
+/// Runs the Sentinel of the conf file that the words name, on which nobody else may run meanwhile; its notes go to the log of `noting`.
 pub(crate) fn watch<R>(rt: HostRuntime, noting: &R, words: &ArgMatches) -> Result<(), Unwatched>
 where
     R: Threads + Wait + Net + Clock + Log + Sync,
 {
+    let (file, lock) = match locked_file(rt, noting, words) {
+        Ok(locked) => locked,
+        Err(status) => return Err(Unwatched::Refused(status)),
+    };
     let WatchFile {
         conf,
         store,
         settings,
-    } = match watch_file(rt, path_of(words), port_threads_of(words)) {
-        Ok(file) => file,
-        Err(status) => return Err(Unwatched::Refused(status)),
+    } = file;
+    note_sentinel(noting, &conf);
+    let ended = match Watch::open(noting, rt.alloc(), conf, store, settings) {
+        Ok(watch) => watch.run(noting),
+        Err(fault) => Err(fault),
     };
-    note_start(noting, &conf);
-    let watch = match Watch::open(noting, rt.alloc(), conf, store, settings) {
-        Ok(watch) => watch,
-        Err(fault) => return Err(Unwatched::Fault(fault)),
-    };
-    match watch.run(noting) {
+    drop(lock);
+    match ended {
         Ok(()) => Ok(()),
         Err(fault) => Err(Unwatched::Fault(fault)),
     }
 }
 
-/// Tells how a Sentinel ended, by a line, where standard error takes lines, and by the status. Of a halt it tells why no file can be replaced there.
+/// Tells how a Sentinel ended, by a line, where standard error takes lines, and by the status.
 pub(crate) fn tell_watched(
     rt: HostRuntime,
-    words: &ArgMatches,
     ended: Result<(), Unwatched>,
     takes_lines: bool,
 ) -> ExitCode {
@@ -162,13 +171,10 @@ pub(crate) fn tell_watched(
         Ok(()) => ExitCode::SUCCESS,
         Err(Unwatched::Refused(status)) => status,
         Err(Unwatched::Fault(fault)) => {
-            if !takes_lines {
-                return ExitCode::from(status_of_group(fault));
+            if takes_lines {
+                return fail_group(&rt, fault);
             }
-            if fault == GroupFault::Halted {
-                tell_halt(rt, path_of(words));
-            }
-            fail_group(&rt, fault)
+            ExitCode::from(status_of_group(fault))
         }
     }
 }

@@ -95,11 +95,14 @@ fn room_of<R: Net>(
     ensures { IfOk result (λ room. 0 < port_threads → room.threads ≡ port_threads) }
 {
     let own = connection_count(conf.roster()) as u64;
-    match connections_beside(rt, alloc, 1, port_threads, own) {
-        Ok(room) if room.is_empty() => Err(GroupFault::PortRefused),
-        Ok(room) => Ok(room),
-        Err(error) => Err(fault_of(&error)),
+    let room = match connections_beside(rt, alloc, 1, port_threads, own) {
+        Ok(room) => room,
+        Err(error) => return Err(fault_of(&error)),
+    };
+    if room.is_empty() {
+        return Err(GroupFault::PortRefused);
     }
+    Ok(room)
 }
 
 /// The sockets' addresses of a port of this number at these ips.
@@ -187,17 +190,11 @@ impl<S: ConfStore + Drop> Watch<S> {
     }
 }
 
-/// The threads of a Sentinel beside that of its connections. By this trait `run_beside` knows of them no more than that they may be started from a thread of their own.
-trait RunsBeside {
-    /// Runs them until they end; this thread is the first one of the port.
-    fn run<R: Threads + Wait + Clock + Log + Sync>(self, rt: &R, state: &WatchState);
-}
-
 /// Starts the thread of the port, which starts that of the ticks, and runs the connections. When this returns all have ended.
-fn run_beside<'a, W: RunsBeside + Drop + Send, R, N: Net>(
+fn run_beside<'a, S: ConfStore + Drop + Send, R, N: Net>(
     rt: &'a R,
     net: &N,
-    watching: W,
+    watching: Watching<S>,
     mut wires: Wires,
     state: &'a WatchState,
 )
@@ -216,17 +213,14 @@ where
     })
 }
 
-impl<S: ConfStore + Drop + Send> Watching<S> {
-    /// Runs its threads until they end.
-    fn run_threads<R: Threads + Wait + Clock + Log + Sync>(self, rt: &R, state: &WatchState) {
+impl<S: ConfStore + Drop> Watching<S> {
+    /// Runs its threads until they end; this thread is the first one of the port.
+    fn run<R: Threads + Wait + Clock + Log + Sync>(self, rt: &R, state: &WatchState)
+    where
+        S: Send,
+    {
         let Watching { opened, far, alloc } = self;
         run_named::<Brand, S, R>(rt, alloc, state, opened, far);
-    }
-}
-
-impl<S: ConfStore + Drop + Send> RunsBeside for Watching<S> {
-    fn run<R: Threads + Wait + Clock + Log + Sync>(self, rt: &R, state: &WatchState) {
-        self.run_threads(rt, state);
         state.ending.store(1, Ordering::SeqCst);
     }
 }

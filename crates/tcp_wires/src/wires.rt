@@ -51,13 +51,13 @@ fn wires_of(alloc: Global, roster: &Roster, own: u16) -> Result<Vec<Option<Wire>
     Ok(wires)
 }
 
-/// The login of a node: that of its master's nodes; a Sentinel wants none.
+/// The login of a node: that of its master's nodes, or that of all other Sentinels.
 fn login_of<'a>(roster: &Roster, logins: &'a Logins, node: NodeName) -> Login<'a> {
     let NodeName::StoreAt(number) = node else {
-        return Login::Without;
+        return logins.of_sentinels();
     };
     match roster.node_numbered(number) {
-        Some(at) => logins.of(at.master),
+        Some(at) => logins.of_master(at.master),
         None => Login::Without,
     }
 }

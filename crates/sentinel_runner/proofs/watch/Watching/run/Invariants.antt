@@ -1,4 +1,4 @@
-use Rattle.sentinel_runner.proofs.watch.Watching.run_threads.Given as goal
+use Rattle.sentinel_runner.proofs.watch.Watching.run.Given as goal
 
 -- the Sentinel has its own cell for a name
 abbrev pub ghosts-run_named : goal.ghosts-run_named

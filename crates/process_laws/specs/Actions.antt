@@ -1,4 +1,4 @@
--- What the processes of a group did, one deed after another.
+-- What the processes of a group did, one action after another.
 use Rattle.std.specs.Prelude.{◌≡◌, ℕ, ◌<◌, ◌≤◌, ◌⊎◌, eqb, Bool, true, false, cond, List, [], ◌∷◌, ◌++◌, map, length, Contains, Some}
 use Rattle.ballot_law.specs.declared.cards.Kept.{Kept}
 use Rattle.ballot_law.specs.declared.events.Event.{Event}
@@ -34,10 +34,10 @@ use Rattle.sentinel_rules.specs.Steps.{wins_of}
 -- Took: its Sentinel took an input, the next entry of its history. `asker` is the node that a question at its port came from, and `left` tells what the file
 -- holds where the store refused it. A process that is killed within a store is one whose store was refused.
 -- Told: it told a client what is stored of a master
-pub data Deed : Type 0 where
-  Opened : (place : ℕ) (world : World) (now : ℕ) → Deed
-  Took : (place : ℕ) (entry : Entry) (asker : NodeName) (left : KeptText) → Deed
-  Told : (place : ℕ) (master : ℕ) → Deed
+pub data Action : Type 0 where
+  Opened : (place : ℕ) (world : World) (now : ℕ) → Action
+  Took : (place : ℕ) (entry : Entry) (asker : NodeName) (left : KeptText) → Action
+  Told : (place : ℕ) (master : ℕ) → Action
 
 -- whether it runs, its Sentinel as the entries since its opening leave it, and what its file holds
 pub record Process : Type 0 where
@@ -45,7 +45,7 @@ pub record Process : Type 0 where
   pub world : World
   pub file : Kept
 
--- what a deed changes
+-- what an action changes
 
 abbrev pub with_process : (ℕ → Process) → ℕ → Process → (ℕ → Process)
 with_process all i p = λ j. cond (eqb j i) p (all j)
@@ -55,12 +55,12 @@ file_after Stored left p e = (after p.world e).stored
 file_after Refused left p e = kept_left left p.file (after p.world e).core.kept
 file_after Halted left p e = p.file
 
-abbrev pub deed_after : (ℕ → Process) → Deed → (ℕ → Process)
-deed_after all (Opened i w now) = with_process all i (record { runs = true; world = w; file = (all i).file })
-deed_after all (Took i e asker left) = with_process all i (record { runs = true; world = after (all i).world e; file = file_after e.outcome left (all i) e })
-deed_after all (Told i m) = all
+abbrev pub action_after : (ℕ → Process) → Action → (ℕ → Process)
+action_after all (Opened i w now) = with_process all i (record { runs = true; world = w; file = (all i).file })
+action_after all (Took i e asker left) = with_process all i (record { runs = true; world = after (all i).world e; file = file_after e.outcome left (all i) e })
+action_after all (Told i m) = all
 
--- what a deed shows
+-- what an action shows
 
 -- an answer to a question at a port goes to the node that asked there
 abbrev pub to_asker : NodeName → NodeName → NodeName
@@ -73,12 +73,12 @@ abbrev pub output_to : NodeName → Output → Output
 output_to asker (Send message) = Send (record message { target = to_asker asker message.target })
 output_to asker (Tell note) = Tell note
 
-abbrev pub sent_by : Deed → List Message
+abbrev pub sent_by : Action → List Message
 sent_by (Opened i w now) = []
 sent_by (Took i e asker left) = sent (map (output_to asker) e.outputs)
 sent_by (Told i m) = []
 
-abbrev pub said_in : Roster → (ℕ → Process) → Deed → List Advertisement
+abbrev pub said_in : Roster → (ℕ → Process) → Action → List Advertisement
 said_in roster all (Opened i w now) = []
 said_in roster all (Took i e asker left) = said_by i (advertised_by roster e.outputs)
 said_in roster all (Told i m) = (record { sentinel = i; master = m; card = card_of (all i).world.stored m }) ∷ []
@@ -89,12 +89,12 @@ elected_at Stored i w = elected_by i (wins_of w.core.won)
 elected_at Refused i w = []
 elected_at Halted i w = []
 
-abbrev pub elected_in : (ℕ → Process) → Deed → List Election
+abbrev pub elected_in : (ℕ → Process) → Action → List Election
 elected_in all (Opened i w now) = []
 elected_in all (Took i e asker left) = elected_at e.outcome i (after (all i).world e)
 elected_in all (Told i m) = []
 
--- when a deed may be done
+-- when an action may be done
 
 -- the file opens the Sentinel so: with what it holds, and nothing else
 pub record IsOpened (roster : Roster) (i : ℕ) (file : Kept) (now : ℕ) (w : World) : Type 0 where
@@ -115,35 +115,35 @@ IsHeard stores messages i event =
     ⊎ ((message : Message) × (hello : Hello) × (store : ℕ) × Contains messages message × (message.target ≡ StoreAt store) × (store < stores) ×
     (published message.body ≡ Some hello) × (event ≡ HelloRead (hello_text hello))))
 
-abbrev pub IsDeed : Roster → (stores : ℕ) → (ℕ → Process) → List Message → Deed → Type 0
-IsDeed roster stores all messages (Opened i w now) = (i < size roster) × IsOpened roster i (all i).file now w
-IsDeed roster stores all messages (Took i e asker left) = (i < size roster) × ((all i).runs ≡ true) × IsStep (all i).world e × IsHeard stores messages i e.input.event
-IsDeed roster stores all messages (Told i m) = (i < size roster) × ((all i).runs ≡ true) × (m < length roster.masters)
+abbrev pub IsAction : Roster → (stores : ℕ) → (ℕ → Process) → List Message → Action → Type 0
+IsAction roster stores all messages (Opened i w now) = (i < size roster) × IsOpened roster i (all i).file now w
+IsAction roster stores all messages (Took i e asker left) = (i < size roster) × ((all i).runs ≡ true) × IsStep (all i).world e × IsHeard stores messages i e.input.event
+IsAction roster stores all messages (Told i m) = (i < size roster) × ((all i).runs ≡ true) × (m < length roster.masters)
 
--- deeds in an order in which each process has a legal history of its own, and hears what was sent before
-abbrev pub AreDeeds : Roster → (stores : ℕ) → (ℕ → Process) → List Message → List Deed → Type 0
-AreDeeds roster stores all messages [] = Unit {0}
-AreDeeds roster stores all messages (d ∷ ds) = IsDeed roster stores all messages d × AreDeeds roster stores (deed_after all d) (messages ++ sent_by d) ds
+-- actions in an order in which each process has a legal history of its own, and hears what was sent before
+abbrev pub AreActions : Roster → (stores : ℕ) → (ℕ → Process) → List Message → List Action → Type 0
+AreActions roster stores all messages [] = Unit {0}
+AreActions roster stores all messages (d ∷ ds) = IsAction roster stores all messages d × AreActions roster stores (action_after all d) (messages ++ sent_by d) ds
 
--- all deeds together
+-- all actions together
 
-abbrev pub deeds_after : (ℕ → Process) → List Deed → (ℕ → Process)
-deeds_after all [] = all
-deeds_after all (d ∷ ds) = deeds_after (deed_after all d) ds
+abbrev pub actions_after : (ℕ → Process) → List Action → (ℕ → Process)
+actions_after all [] = all
+actions_after all (d ∷ ds) = actions_after (action_after all d) ds
 
-abbrev pub all_sent : List Deed → List Message
+abbrev pub all_sent : List Action → List Message
 all_sent [] = []
 all_sent (d ∷ ds) = sent_by d ++ all_sent ds
 
-abbrev pub all_said : Roster → (ℕ → Process) → List Deed → List Advertisement
+abbrev pub all_said : Roster → (ℕ → Process) → List Action → List Advertisement
 all_said roster all [] = []
-all_said roster all (d ∷ ds) = said_in roster all d ++ all_said roster (deed_after all d) ds
+all_said roster all (d ∷ ds) = said_in roster all d ++ all_said roster (action_after all d) ds
 
-abbrev pub all_elected : (ℕ → Process) → List Deed → List Election
+abbrev pub all_elected : (ℕ → Process) → List Action → List Election
 all_elected all [] = []
-all_elected all (d ∷ ds) = elected_in all d ++ all_elected (deed_after all d) ds
+all_elected all (d ∷ ds) = elected_in all d ++ all_elected (action_after all d) ds
 
--- before the first deed no process runs, and each file holds what it holds at the start
+-- before the first action no process runs, and each file holds what it holds at the start
 abbrev pub at_first : Group → (ℕ → Process)
 at_first start = λ i. record { runs = false; world = no_world; file = (sentinel_at start i).file }
 
@@ -154,25 +154,25 @@ pub record IsAsProcess (i : ℕ) (p : Process) (group : Group) : Type 0 where
 
 abbrev pub ProcessesAreARun : Type 0
 ProcessesAreARun =
-    (roster : Roster) (start : Group) (deeds : List Deed) →
+    (roster : Roster) (start : Group) (actions : List Action) →
     IsStart roster start →
-    AreDeeds roster (length start.stores) (at_first start) [] deeds →
+    AreActions roster (length start.stores) (at_first start) [] actions →
     (steps : List Step) × (last : Group) × Run roster steps start last
-    × (last.elected ≡ all_elected (at_first start) deeds)
-    × (last.said ≡ all_said roster (at_first start) deeds)
-    × ((message : Message) → Contains (all_sent deeds) message → Contains last.messages message)
-    × ((i : ℕ) → i < size roster → IsAsProcess i (deeds_after (at_first start) deeds i) last)
+    × (last.elected ≡ all_elected (at_first start) actions)
+    × (last.said ≡ all_said roster (at_first start) actions)
+    × ((message : Message) → Contains (all_sent actions) message → Contains last.messages message)
+    × ((i : ℕ) → i < size roster → IsAsProcess i (actions_after (at_first start) actions i) last)
 
--- no epoch of a configuration in a process's file is lower after the second list of deeds
+-- no epoch of a configuration in a process's file is lower after the second list of actions
 abbrev pub FilesNeverFall : Roster → (ℕ → Process) → (ℕ → Process) → Type 0
 FilesNeverFall roster before last = (i m : ℕ) → i < size roster → (card_of (before i).file m).epoch ≤ (card_of (last i).file m).epoch
 
 abbrev pub ProcessesAreSafe : Type 0
 ProcessesAreSafe =
-    (roster : Roster) (start : Group) (deeds more : List Deed) →
+    (roster : Roster) (start : Group) (actions more : List Action) →
     HasDistinctIds roster →
     IsStart roster start →
-    AreDeeds roster (length start.stores) (at_first start) [] (deeds ++ more) →
-    HasOneLeader (all_elected (at_first start) (deeds ++ more))
-    × HasOneAddress (all_said roster (at_first start) (deeds ++ more))
-    × FilesNeverFall roster (deeds_after (at_first start) deeds) (deeds_after (at_first start) (deeds ++ more))
+    AreActions roster (length start.stores) (at_first start) [] (actions ++ more) →
+    HasOneLeader (all_elected (at_first start) (actions ++ more))
+    × HasOneAddress (all_said roster (at_first start) (actions ++ more))
+    × FilesNeverFall roster (actions_after (at_first start) actions) (actions_after (at_first start) (actions ++ more))
