@@ -20,6 +20,9 @@ pub const HOLD_MAX_MS: u64 = 1_000;
 /// How far apart two ticks may come to be by being held back, in milliseconds: at 2,000 a Sentinel would take its clock to have leapt.
 pub const APART_MAX_MS: u64 = 1_200;
 
+/// How long after the last ticks those that are due are late, in milliseconds.
+pub const LATE_MS: u64 = 800;
+
 /// The turns of a Sentinel, by readings of one clock in milliseconds: `turned` is when the last one ended, `ticked` when the last ticks were over, and `tick_due` when the
 /// next ones are due.
 #[derive(Clone, Copy)]
@@ -92,6 +95,14 @@ impl Pace {
         ensures { result ≡ self.now.tick_due - now }
     {
         self.tick_due.saturating_sub(now)
+    }
+
+    /// Whether the ticks are due, and the last ones long ago: then nothing is to be heard before them that may be stored, since a store takes long on a slow disk, and at
+    /// 2,000 ms between two ticks the Sentinel would take its clock to have leapt.
+    pub fn is_late(&self, now: u64) -> bool
+        ensures { IsTrue result ↔ ((self.now.tick_due ≤ now) × (LATE_MS < now - self.now.ticked)) }
+    {
+        self.tick_due <= now && now.saturating_sub(self.ticked) > LATE_MS
     }
 
     /// A turn ended.
