@@ -163,6 +163,7 @@ impl<S: ConfStore + Drop> Watch<S> {
         let state = WatchState {
             run: RunState::new(GroupClock::start(rt)),
             turned: AtomicU64::new(0),
+            stood: AtomicU64::new(0),
             ending: AtomicU64::new(0),
         };
         Ok(Watch {

@@ -25,7 +25,7 @@ mod target;
 pub use flow::{FLOW_MS, Flow};
 pub use host_names::without_names;
 pub use node_link::NodeLink;
-pub use pace::{Pace, is_gap, pause_of};
+pub use pace::{Pace, is_gap, pause_of, turn_of};
 pub use quiet::{NO_HELLOS_MS, Quiet};
 pub use refusals::is_refusal;
 pub use schedule::{Schedule, Stage, Stale};

@@ -286,7 +286,7 @@ impl NodeLink {
         ensures target { self.new.target ≡ self.old.target }
     {
         self.look(now)?;
-        self.schedule.ask_info();
+        self.schedule.ask_info(now);
         Ok(())
     }
 

@@ -1,6 +1,6 @@
 //! When a Sentinel ticks, and whether it stood still.
 
-ghost use Rattle.std.specs.Prelude.{◌≡◌, ◌≤◌, ◌<◌, ◌↔◌, ◌+◌, ◌-◌, ◌*◌, ◌/◌, ◌^◌, max, min, IsTrue};
+ghost use Rattle.std.specs.Prelude.{◌≡◌, ◌≤◌, ◌<◌, ◌↔◌, ◌+◌, ◌-◌, ◌*◌, ◌/◌, ◌%◌, ◌^◌, max, min, IsTrue};
 
 /// How long may lie between two turns before this Sentinel takes itself to have stood still, in milliseconds.
 pub const GAP_MS: u64 = 300;
@@ -19,6 +19,9 @@ pub const HOLD_MAX_MS: u64 = 1_000;
 
 /// How far apart two ticks may come to be by being held back, in milliseconds: at 2,000 a Sentinel would take its clock to have leapt.
 pub const APART_MAX_MS: u64 = 1_200;
+
+/// How long after the last ticks those that are due are late, in milliseconds.
+pub const LATE_MS: u64 = 800;
 
 /// The turns of a Sentinel, by readings of one clock in milliseconds: `turned` is when the last one ended, `ticked` when the last ticks were over, and `tick_due` when the
 /// next ones are due.
@@ -43,6 +46,17 @@ fn slot_of(turns: u64) -> u64
     ensures most { turns * result ≤ HOLD_MAX_MS }
 {
     (HOLD_MAX_MS / turns).min(SLOT_MAX_MS)
+}
+
+/// Which turn the Sentinel at this place has, of so many: turns go by the places in the roster, and a campaign's number moves them on. So Sentinels that know the same number have
+/// different turns.
+pub fn turn_of(place: u16, number: u64, turns: u64) -> u64
+    requires some { 0 < turns }
+    requires few { turns ≤ 64 }
+    ensures turn { result ≡ (place + number % turns) % turns }
+    ensures within { result < turns }
+{
+    (u64::from(place) + number % turns) % turns
 }
 
 /// For how long a Sentinel holds its ticks back whose turn to begin a campaign is this one of so many: so those that find a master down together begin one after the other,
@@ -81,6 +95,14 @@ impl Pace {
         ensures { result ≡ self.now.tick_due - now }
     {
         self.tick_due.saturating_sub(now)
+    }
+
+    /// Whether the ticks are due, and the last ones long ago: then nothing is to be heard before them that may be stored, since a store takes long on a slow disk, and at
+    /// 2,000 ms between two ticks the Sentinel would take its clock to have leapt.
+    pub fn is_late(&self, now: u64) -> bool
+        ensures { IsTrue result ↔ ((self.now.tick_due ≤ now) × (LATE_MS < now - self.now.ticked)) }
+    {
+        self.tick_due <= now && now.saturating_sub(self.ticked) > LATE_MS
     }
 
     /// A turn ended.

@@ -2,7 +2,7 @@
 
 ghost use Rattle.sentinel_rules.specs.Facts.{IsWithinEvent};
 
-use crate::exchange::{FarEnd, WatchState};
+use crate::exchange::{FarEnd, Hearing, WatchState};
 use crate::hello_notes::HelloNotes;
 use ballot_law::{Event, Text};
 use conf_store::ConfStore;
@@ -12,7 +12,7 @@ use std::alloc::Global;
 use std::rt::Clock;
 use std::sync::Wait;
 use std::sync::atomic::Ordering;
-use tcp_links::{Pace, is_gap, pause_of, without_names};
+use tcp_links::{Pace, is_gap, pause_of, turn_of, without_names};
 
 /// How long a Sentinel hears after it or its connections stood still, before it ticks again, in milliseconds.
 const CATCH_UP_MS: u64 = 150;
@@ -20,10 +20,14 @@ const CATCH_UP_MS: u64 = 150;
 /// How many events it hears at once before it looks at its clock.
 const EVENTS_MAX: u32 = 1_024;
 
+/// How many events it keeps for later at most.
+const LATER_MAX: usize = 4_096;
+
 /// How long it waits for an event at most before it looks at its clock, in milliseconds.
 const WAIT_MAX_MS: u64 = 100;
 
-/// When a Sentinel ticks, and what its ticks showed. One thread has them, with its end of the connections. `stood_still` is whether it stood still since its last ticks.
+/// When a Sentinel ticks, and what its ticks showed. One thread has them, with its end of the connections. `stood_still` is whether it stood still since its last ticks, and `later`
+/// has what it hears only after the next ones, oldest first.
 #[derive(Drop)]
 pub struct Rounds {
     far: FarEnd,
@@ -31,6 +35,12 @@ pub struct Rounds {
     pace: Pace,
     stood_still: bool,
     hellos: HelloNotes,
+    later: Vec<Hearing>,
+}
+
+/// Whether what an event tells may be stored: a new configuration.
+fn may_be_stored(event: &Event) -> bool {
+    matches!(event, Event::HelloRead { .. } | Event::InfoRead { .. })
 }
 
 /// The master that another Sentinel finds down, as its answer says.
@@ -81,6 +91,7 @@ impl Rounds {
             pace: Pace::new(now),
             stood_still: false,
             hellos: HelloNotes::new(now),
+            later: Vec::new(alloc),
         }
     }
 
@@ -93,8 +104,10 @@ impl Rounds {
         seat: &mut ThreadSeat<J>,
     ) {
         if let Some(number) = seat.take_nearness() {
-            let turns = (member.roster().sentinels().len() as u64).max(1);
-            let turn = (u64::from(member.place()) % turns + number % turns) % turns;
+            let roster = member.roster();
+            roster.is_made();
+            let turns = (roster.sentinels().len() as u64).max(1);
+            let turn = turn_of(member.place(), number, turns);
             let pause = pause_of(turn, turns, lot(rt, state));
             self.pace.hold(state.run.clock.now(rt), pause);
         }
@@ -131,6 +144,43 @@ impl Rounds {
         goes_on
     }
 
+    /// Has the Sentinel take an event, or keeps it for later, where ticks are late and it may be stored: whether it goes on. It is lost where too many are kept.
+    fn hear_or_keep<J: Which, S: ConfStore, R: Wait + Clock + Log>(
+        &mut self,
+        rt: &R,
+        state: &WatchState,
+        member: &RunningSentinel<J, S>,
+        seat: &mut ThreadSeat<J>,
+        event: Event,
+    ) -> bool
+        requires { IsWithinEvent event }
+    {
+        if may_be_stored(&event) && self.pace.is_late(state.run.clock.now(rt)) {
+            if self.later.len() < LATER_MAX {
+                drop(self.later.push(Hearing::of(event)));
+            }
+            return true;
+        }
+        self.hear_one(rt, state, member, seat, event)
+    }
+
+    /// Has the Sentinel take what it kept for later, until ticks are late: whether it goes on.
+    fn hear_kept<J: Which, S: ConfStore, R: Wait + Clock + Log>(
+        &mut self,
+        rt: &R,
+        state: &WatchState,
+        member: &RunningSentinel<J, S>,
+        seat: &mut ThreadSeat<J>,
+    ) -> bool {
+        while !self.later.is_empty() && !self.pace.is_late(state.run.clock.now(rt)) {
+            let event = self.later.remove(0).into_event();
+            if !self.hear_one(rt, state, member, seat, event) {
+                return false;
+            }
+        }
+        true
+    }
+
     /// Has the Sentinel take what its connections heard: it waits for the first event so many milliseconds at most, and for no other: whether it goes on.
     fn hear_all<J: Which, S: ConfStore, R: Wait + Clock + Log>(
         &mut self,
@@ -140,24 +190,30 @@ impl Rounds {
         seat: &mut ThreadSeat<J>,
         millis: u64,
     ) -> bool {
+        if !self.hear_kept(rt, state, member, seat) {
+            return false;
+        }
         let mut wait = millis;
         for _ in 0..EVENTS_MAX {
             let Some(event) = self.far.next(rt, wait) else {
                 return true;
             };
             wait = 0;
-            if !self.hear_one(rt, state, member, seat, event) {
+            if !self.hear_or_keep(rt, state, member, seat, event) {
                 return false;
             }
         }
         true
     }
 
-    /// A turn ended: whether it or the connections stood still before it is kept.
+    /// A turn ended: whether the connections, or all of the program, stood still before it is kept. A long store alone is no such time: what was heard meanwhile waits, and is heard
+    /// before the ticks.
     fn end_turn<R: Clock>(&mut self, rt: &R, state: &WatchState) {
         let now = state.run.clock.now(rt);
         let turned = state.turned.load(Ordering::SeqCst);
-        self.stood_still |= self.pace.stood_still(now) || is_gap(turned, now);
+        let stood = state.stood.load(Ordering::SeqCst);
+        let both = self.pace.stood_still(now) && self.pace.turned <= stood;
+        self.stood_still |= both || is_gap(turned, now);
         self.pace.turn(now);
     }
 

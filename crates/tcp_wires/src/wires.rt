@@ -202,6 +202,7 @@ impl Wires {
         self.serve_told(rt, state.run.clock.now(rt))?;
         let now = state.run.clock.now(rt);
         if pace.stood_still(now) {
+            state.stood.store(now, Ordering::SeqCst);
             self.ask_all_anew(now);
         }
         self.put_out_all(rt, now);
