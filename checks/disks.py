@@ -1,9 +1,28 @@
-"""Small file systems in memory, for checks that fill a disk, and the namespace in which such a check may mount them."""
+"""Small file systems in memory, for checks that fill a disk, and the namespace in which such a check may mount them; and an fsync that is slow."""
 import os
 import subprocess
 import sys
 
 INSIDE = "CHECK_INSIDE"
+SLOW_FSYNC = r"""
+#define _GNU_SOURCE
+#include <dlfcn.h>
+#include <stdio.h>
+#include <stdlib.h>
+#include <unistd.h>
+
+/* fsync, after as many milliseconds as stand in the file that FSYNC_MS names */
+int fsync(int file) {
+    int millis = 0;
+    FILE *told = fopen(getenv("FSYNC_MS"), "r");
+    if (told) {
+        if (fscanf(told, "%d", &millis) != 1) millis = 0;
+        fclose(told);
+    }
+    usleep(1000u * millis);
+    return ((int (*)(int))dlsym(RTLD_NEXT, "fsync"))(file);
+}
+"""
 
 
 def enter_namespaces(*kinds):
@@ -46,3 +65,28 @@ class Disk:
 
     def end(self):
         subprocess.run(["umount", self.folder], check=True)
+
+
+# --- slow disks ---
+
+
+def built_fsync(folder):
+    """The library with the slow fsync. It needs `cc`."""
+    source, made = os.path.join(folder, "fsync.c"), os.path.join(folder, "fsync.so")
+    with open(source, "w", encoding="utf-8") as out:
+        out.write(SLOW_FSYNC)
+    subprocess.run(["cc", "-shared", "-fPIC", "-o", made, source, "-ldl"], check=True)
+    return made
+
+
+def with_fsync(library, told):
+    """The environment of a program whose fsyncs take as long as the file at `told` says."""
+    # (of a program with an address sanitizer, which wants to be the first library)
+    return {**os.environ, "LD_PRELOAD": library, "FSYNC_MS": told, "ASAN_OPTIONS": "verify_asan_link_order=0"}
+
+
+def set_fsync(told, millis):
+    """Each fsync takes this many milliseconds from now on. A store makes two."""
+    with open(told + ".new", "w", encoding="utf-8") as out:
+        out.write(str(millis))
+    os.rename(told + ".new", told)

@@ -12,6 +12,7 @@ import signal
 import socket
 import subprocess
 import tempfile
+import threading
 import time
 
 import common
@@ -23,6 +24,8 @@ NOBODY = "02:00:00:00:00:99"
 CLONE_NEWNET = 0x40000000
 PORT, SENTINEL_PORT = 6379, 26379
 OBSERVER = "obs"
+# Where the logs of each lab are kept, with the time of each line, where that is wanted.
+LOGS = os.environ.get("NETLAB_LOGS")
 
 
 def enter():
@@ -79,17 +82,20 @@ def ask(address, *words, password=None, timeout=1.0):
 
 class Lab:
     """A master d0 with replicas d1 .., and Sentinels s0 .. of a kind each: `ours` or `redis`. `own` has the quorum and down-after of single Sentinels, by
-    place."""
+    place; replicas know the master by the name `replicaof`, where there is one; `has_fsync` is whether stores can be made slow, which needs `cc`."""
 
-    def __init__(self, kinds, nodes=3, after=2000, password=None, quorum=None, timeout=10_000, own=None, replicaof=None):
+    def __init__(self, kinds, nodes=3, after=2000, password=None, quorum=None, timeout=10_000, own=None, replicaof=None, has_fsync=False):
         self.kinds, self.after, self.password, self.timeout = list(kinds), after, password, timeout
         self.quorum, self.own_settings, self.replicaof = quorum or len(kinds) // 2 + 1, own or {}, replicaof
         self.stores, self.sentinels = [f"d{number}" for number in range(nodes)], [f"s{place}" for place in range(len(kinds))]
         self.names = [*self.stores, *self.sentinels, OBSERVER]
         self.folder = tempfile.mkdtemp(prefix="netlab-")
-        self.processes, self.disks, self.ended = {}, {}, {}
+        self.processes, self.disks, self.ended, self.began = {}, {}, {}, time.monotonic()
         self.own = os.open("/proc/self/ns/net", os.O_RDONLY)
+        self.fsync = disks.built_fsync(self.folder) if has_fsync else None
         self._make_network()
+        if replicaof:
+            self._name_master(replicaof)
 
     # --- the network ---
 
@@ -108,6 +114,13 @@ class Lab:
             ip("link", "set", "eth0", "up", namespace=name)
         with open(f"/run/netns/{OBSERVER}", "rb") as observer:
             enter_network(observer.fileno())
+
+    def _name_master(self, name):
+        """The system knows the first master by this name, until the check ends."""
+        path = f"{self.folder}/hosts"
+        with open(path, "w", encoding="ascii") as out:
+            out.write(f"127.0.0.1 localhost\n{self.address('d0')} {name}\n")
+        subprocess.run(["mount", "--bind", path, "/etc/hosts"], check=True)
 
     def cut(self, sender, target):
         """What the sender sends to the target is lost from now on."""
@@ -134,8 +147,30 @@ class Lab:
     def start(self, name, *more):
         """Starts a node, a data node with more words of redis-server."""
         words = [*self._server(name), *more] if name in self.stores else self._sentinel(name)
+        env = None
+        if self.fsync and name in self.sentinels:
+            self.slow(name, 0)
+            env = disks.with_fsync(self.fsync, self._fsync_of(name))
+        words = ["ip", "netns", "exec", name, *words]
+        if LOGS:
+            self.processes[name] = subprocess.Popen(words, stdin=subprocess.DEVNULL, stdout=subprocess.PIPE, stderr=subprocess.STDOUT, env=env)
+            threading.Thread(target=self._keep_lines, args=(name, self.processes[name].stdout), daemon=True).start()
+            return
         with open(f"{self.folder}/{name}.log", "ab") as log:
-            self.processes[name] = subprocess.Popen(["ip", "netns", "exec", name, *words], stdin=subprocess.DEVNULL, stdout=log, stderr=log)
+            self.processes[name] = subprocess.Popen(words, stdin=subprocess.DEVNULL, stdout=log, stderr=log, env=env)
+
+    def _keep_lines(self, name, lines):
+        """Writes what a node says to its log, each line after the seconds since the lab was made."""
+        with open(f"{self.folder}/{name}.log", "ab", buffering=0) as log:
+            for line in lines:
+                log.write(b"%.3f " % (time.monotonic() - self.began) + line)
+
+    def _fsync_of(self, name):
+        return f"{self.folder}/{name}.fsync"
+
+    def slow(self, name, millis):
+        """Each fsync of a Sentinel takes this long from now on. A store makes two."""
+        disks.set_fsync(self._fsync_of(name), millis)
 
     def _server(self, name):
         folder = f"{self.folder}/{name}"
@@ -207,7 +242,9 @@ class Lab:
     # --- what they say ---
 
     def named(self, address):
-        """The node at an address, or the address."""
+        """The node at an address, or by the first master's name, or the address."""
+        if address == self.replicaof:
+            return "d0"
         return next((name for name in self.names if self.address(name) == address), address)
 
     def told(self, name):
@@ -224,6 +261,23 @@ class Lab:
         """The epoch and the node of the configuration that a Sentinel tells; None where it tells none."""
         row = self.row(name)
         return (int(row["config-epoch"]), self.named(row["ip"])) if "config-epoch" in row else None
+
+    def vote(self, name):
+        """The epoch and the run id of the last vote that stands in a Sentinel's file; None where there is none."""
+        try:
+            with open(self.conf_path(name), encoding="ascii") as text:
+                words = [line.split() for line in text if line.startswith("sentinel leader-")]
+        except OSError:
+            return None
+        lines = {line[1]: line[3] for line in words if len(line) == 4}
+        return (int(lines["leader-epoch"]), lines["leader-id"]) if "leader-id" in lines and "leader-epoch" in lines else None
+
+    def quiet_for(self, node, name):
+        """For how many seconds the most recent of a Sentinel's connections to a data node said nothing; None where it has none."""
+        found = ask((self.address(node), PORT), "CLIENT", "LIST", password=self.password)
+        lines = [dict(word.split("=", 1) for word in line.split() if "=" in word) for line in (found or "").splitlines()]
+        ages = [int(line["idle"]) for line in lines if line.get("addr", "").startswith(f"{self.address(name)}:")]
+        return min(ages, default=None)
 
     def role(self, name):
         """`master`, or the node that it follows with the state of its link; None where it says nothing."""
@@ -267,4 +321,8 @@ class Lab:
         ip("link", "del", "br0", quiet=True)
         for disk in self.disks.values():
             disk.end()
+        if LOGS:
+            shutil.copytree(self.folder, f"{LOGS}/{os.path.basename(self.folder)}", ignore=lambda _, names: [it for it in names if not it.endswith(".log")])
+        if self.replicaof:
+            subprocess.run(["umount", "/etc/hosts"], check=False)
         shutil.rmtree(self.folder, ignore_errors=True)

@@ -2,6 +2,9 @@
 use Rattle.std.specs.Prelude.{◌≡◌, ℕ, ◌-◌, List, [], ◌++◌, Option, Some, None, codes, decimal, slice_index_or}
 use Rattle.std.specs.List.{flat_map}
 use Rattle.ballot_law.specs.Cuts.{lines}
+use Rattle.watch_conf.specs.declared.settings.WatchLine.{WatchLine}
+use Rattle.watch_conf.specs.declared.settings.WatchLine.TheVariants.{Other, Says, Faulty}
+use Rattle.watch_conf.specs.WatchLines.{watch_line}
 use Rattle.conf_advice.specs.declared.line_advices.Advice.{Advice}
 use Rattle.conf_advice.specs.declared.line_advices.AdviceKind.{AdviceKind}
 use Rattle.conf_advice.specs.declared.line_advices.AdviceKind.TheVariants.{UnknownDirective, NoEffect, QuorumOutOfReach, ShortDownAfter}
@@ -17,11 +20,17 @@ abbrev pub nearest_words : Option (List ℕ) → List ℕ
 nearest_words None = []
 nearest_words (Some name) = codes "; the nearest is " ++ name
 
+-- what is told of a line that has no effect but on `watch`
+abbrev pub effect_words : WatchLine → List ℕ
+effect_words Other = codes "this directive has no effect here"
+effect_words (Says setting) = codes "this directive counts for `watch` alone"
+effect_words (Faulty kind) = codes "`watch` refuses this line"
+
 -- what is told of this line, in a group of so many Sentinels
 abbrev pub told_words : (first sentinel : List (List ℕ)) → (sentinels : ℕ) → (text : List ℕ) → AdviceKind → List ℕ
 told_words first sentinel sentinels text UnknownDirective =
     codes "no Redis knows this directive, and it has no effect" ++ nearest_words (nearest_directive first sentinel text)
-told_words first sentinel sentinels text NoEffect = codes "this directive has no effect here"
+told_words first sentinel sentinels text NoEffect = effect_words (watch_line text)
 told_words first sentinel sentinels text (QuorumOutOfReach quorum) =
     codes "the quorum is " ++ (decimal quorum ++ (codes " and there are " ++ (decimal sentinels ++ codes " Sentinels: no failover ever begins")))
 told_words first sentinel sentinels text (ShortDownAfter ms) =

@@ -21,7 +21,7 @@ pub const DOWN_AFTER_MIN: u64 = 2_000;
 pub enum AdviceKind {
     /// No Redis knows the directive.
     UnknownDirective,
-    /// A Redis knows the directive, and here it has no effect.
+    /// A Redis knows the directive, and here it has no effect, but where it counts for `watch` alone.
     NoEffect,
     /// The quorum of a master is above the number of Sentinels.
     QuorumOutOfReach(u32),

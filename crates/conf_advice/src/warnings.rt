@@ -3,12 +3,14 @@
 ghost use Rattle.std.specs.Prelude.{◌≡◌, ◌++◌, [], IfOk, OnOk, OnErr, codes, decimal};
 ghost use Rattle.ballot_law.specs.Cuts.{lines};
 ghost use Rattle.conf_advice.specs.declared.line_advices.AdviceKind.TheVariants.{QuorumOutOfReach, ShortDownAfter};
-ghost use Rattle.conf_advice.specs.Warnings.{line_at, nearest_words, told_words, warnings};
+ghost use Rattle.conf_advice.specs.Warnings.{line_at, nearest_words, effect_words, told_words, warnings};
+ghost use Rattle.watch_conf.specs.WatchLines.{watch_line};
 
 use crate::directives::Directives;
 use crate::line_advices::{Advice, AdviceKind, DOWN_AFTER_MIN, advices, nearest_directive};
 use ballot_law::{Name, NoMemory};
 use std::alloc::Global;
+use watch_conf::{WatchLine, line_of};
 use words::{add_number, split_line};
 
 /// Adds words.
@@ -72,6 +74,17 @@ fn add_short(out: &mut Vec<u8>, ms: u64) -> Result<(), NoMemory>
     add(out, " or more")
 }
 
+/// Adds what is told of a line that has no effect but on `watch`.
+fn add_effect(alloc: Global, out: &mut Vec<u8>, text: &[u8]) -> Result<(), NoMemory>
+    ensures { OnOk result (out.new.items ≡ out.old.items ++ effect_words (watch_line text.now)) }
+{
+    match line_of(alloc, text)? {
+        WatchLine::Other => add(out, "this directive has no effect here"),
+        WatchLine::Says(_) => add(out, "this directive counts for `watch` alone"),
+        WatchLine::Faulty(_) => add(out, "`watch` refuses this line"),
+    }
+}
+
 /// Adds what is told of a line.
 fn add_kind(
     alloc: Global,
@@ -89,7 +102,7 @@ fn add_kind(
             add(out, "no Redis knows this directive, and it has no effect")?;
             add_nearest(out, nearest_directive(alloc, known, text)?)
         }
-        AdviceKind::NoEffect => add(out, "this directive has no effect here"),
+        AdviceKind::NoEffect => add_effect(alloc, out, text),
         AdviceKind::QuorumOutOfReach(quorum) => add_quorum(out, quorum, sentinels),
         AdviceKind::ShortDownAfter(ms) => add_short(out, ms),
     }

@@ -24,7 +24,7 @@ sentence conf.NotUtf8 = codes "the bytes of the file aren't UTF-8"
 sentence conf.BadDirective = codes "too few or too many words after the directive; a comment stands in a line of its own, and a quote is closed"
 sentence conf.BadNumber =
     codes "no number, or out of its range: a port is 1 to 65535, milliseconds 1 to 4294967295, a quorum and parallel-syncs 0 to 4294967295, an epoch 0 to 281474976710655"
-sentence conf.BadAddress = codes "an ip is four numbers from 0 to 255 with dots between them, and its port 1 to 65535; names of hosts and IPv6 aren't read"
+sentence conf.BadAddress = codes "write the ip, four numbers from 0 to 255 with dots between them, and a port 1 to 65535: names of hosts and IPv6 aren't read"
 sentence conf.BadName = codes "the name of a master has 1 to 64 letters, digits, `.`, `-` and `_`"
 sentence conf.BadRunId = codes "a run id has 40 digits, 0 to 9 and a to f in lower case"
 sentence conf.UnknownMaster = codes "no line `sentinel monitor` of the file that can be read names this master"

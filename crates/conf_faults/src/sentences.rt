@@ -41,7 +41,7 @@ pub fn sentence(kind: ConfKind) -> &'static str
             "no number, or out of its range: a port is 1 to 65535, milliseconds 1 to 4294967295, a quorum and parallel-syncs 0 to 4294967295, an epoch 0 to 281474976710655"
         }
         ConfKind::BadAddress => {
-            "an ip is four numbers from 0 to 255 with dots between them, and its port 1 to 65535; names of hosts and IPv6 aren't read"
+            "write the ip, four numbers from 0 to 255 with dots between them, and a port 1 to 65535: names of hosts and IPv6 aren't read"
         }
         ConfKind::BadName => "the name of a master has 1 to 64 letters, digits, `.`, `-` and `_`",
         ConfKind::BadRunId => "a run id has 40 digits, 0 to 9 and a to f in lower case",

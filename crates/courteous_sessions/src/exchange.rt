@@ -53,6 +53,8 @@ fn newcomer(alloc: Global, id: u64) -> Asker
         name: Text::from_vec(Vec::new(alloc)),
         listens: false,
         masters: Vec::new(alloc),
+        password: None,
+        admitted: false,
     }
 }
 
@@ -120,6 +122,21 @@ impl Exchange {
         if self.unsent.capacity() > ROOM_KEPT {
             self.unsent = BytesMut::new(self.alloc);
         }
+    }
+
+    /// Has it want this password of its client, who didn't give it yet.
+    pub(crate) fn want_password(&mut self, password: Text)
+        ensures attendant { self.new.attendant ≡ record self.old.attendant {
+          asker = record self.old.attendant.asker {
+            password = Some password;
+            admitted = false;
+          };
+        } }
+        ensures session { self.new.session ≡ self.old.session }
+        ensures unsent { self.new.unsent ≡ self.old.unsent }
+        ensures knows { self.new.knows_masters ≡ self.old.knows_masters }
+    {
+        self.attendant.want_password(password);
     }
 
     /// The connection ends: what is held is dropped, and its client is told of no more notes.

@@ -5,7 +5,8 @@ use crate::sight::{Flags, Look, Vote};
 use ballot_law::{
     Addr, Body, Card, Member, Message, NODES_MAX, NodeName, Output, Roster, SENTINELS_MAX,
 };
-use log::{Log, info};
+use failover_states::FailoverState;
+use log::{Log, info, warn};
 use std::alloc::Global;
 
 /// What the outputs of a tick tell: the greatest epoch in a hello or a question, and the data node that is told to be a master.
@@ -49,11 +50,38 @@ fn number_of(node: NodeName) -> Option<u16> {
     }
 }
 
+/// How far the own failover of a master has come, as far as notes tell it.
+#[derive(Clone, Copy, PartialEq, Eq)]
+enum Way {
+    /// None runs.
+    Idle,
+    /// Votes are awaited.
+    Votes,
+    /// A replica is to be chosen.
+    Choice,
+    /// One was chosen.
+    Chosen,
+}
+
+impl Way {
+    /// What this state is.
+    fn of(stage: FailoverState) -> Way {
+        match stage {
+            FailoverState::Idle => Way::Idle,
+            FailoverState::WaitStart { .. } => Way::Votes,
+            FailoverState::SelectReplica { .. } => Way::Choice,
+            _ => Way::Chosen,
+        }
+    }
+}
+
 /// What was last seen of one master.
 #[derive(Drop)]
 struct Seen {
     addr: Option<Addr>,
     flags: Flags,
+    way: Way,
+    all_down: bool,
     promoting: bool,
     campaign: Option<u64>,
     begun: u64,
@@ -73,6 +101,8 @@ impl Seen {
                 agreed: false,
                 failing_over: false,
             },
+            way: Way::Idle,
+            all_down: false,
             promoting: false,
             campaign: None,
             begun: 0,
@@ -133,26 +163,43 @@ impl Seen {
         }
     }
 
-    /// Notes that an election was won, and who is promoted.
+    /// Notes that an election was won.
+    fn note_win<R: Log>(&self, rt: &R, way: Way, master: NamedMaster<'_>) {
+        if way == Way::Choice && self.way != Way::Choice {
+            info!(rt; "+elected-leader master {master}");
+            info!(rt; "+failover-state-select-slave master {master}");
+        }
+    }
+
+    /// Notes who is promoted.
     fn note_choice<R: Log>(&mut self, rt: &R, node: NamedNode, master: NamedMaster<'_>) {
-        info!(rt; "+elected-leader master {master}");
         info!(rt; "+selected-slave slave {node} @ {master}");
         info!(rt; "+failover-state-send-slaveof-noone slave {node} @ {master}");
         self.promoting = true;
     }
 
-    /// Notes how the leader's failover ended: its epoch has brought a configuration, or nobody was promoted in time. Its epoch is that of the
-    /// vote which it begins with. Who lost the election may take the winner's configuration of the same epoch: that is no end of its own.
+    /// Notes why a failover that brought no configuration has ended, by how far it had come.
+    fn note_abort<R: Log>(&self, rt: &R, master: NamedMaster<'_>) {
+        match self.way {
+            Way::Idle => {}
+            Way::Votes => info!(rt; "-failover-abort-not-elected master {master}"),
+            Way::Choice => info!(rt; "-failover-abort-no-good-slave master {master}"),
+            Way::Chosen => info!(rt; "-failover-abort-slave-timeout master {master}"),
+        }
+    }
+
+    /// Notes how a failover ended: its epoch has brought a configuration, or it was given up. Its epoch is that of the vote which it begins with. Who lost the election may
+    /// take the winner's configuration of the same epoch: that is no end of its own, and it wasn't given up.
     fn note_end<R: Log>(&mut self, rt: &R, flags: Flags, master: NamedMaster<'_>) {
         let before = self.flags.failing_over;
         if flags.failing_over && !before {
             self.campaign = self.voted;
         }
-        if self.promoting && before && !flags.failing_over {
-            if Some(self.epoch) == self.campaign {
+        if before && !flags.failing_over {
+            if self.promoting && Some(self.epoch) == self.campaign {
                 info!(rt; "+failover-end master {master}");
             } else if self.epoch == self.begun {
-                info!(rt; "-failover-abort-slave-timeout master {master}");
+                self.note_abort(rt, master);
             }
         }
         self.promoting &= flags.failing_over;
@@ -169,10 +216,13 @@ impl Seen {
     ) {
         self.note_start(rt, look.flags, master);
         self.note_vote(rt, look.vote);
+        let way = Way::of(look.stage);
+        self.note_win(rt, way, master);
         if let Some(node) = promoted {
             self.note_choice(rt, node, master);
         }
         self.note_end(rt, look.flags, master);
+        self.way = way;
     }
 
     /// Notes which replicas of the master are down.
@@ -208,6 +258,30 @@ impl Seen {
             }
         }
     }
+
+    /// Notes that all nodes of the master and all other Sentinels are down from here: what fails may be this Sentinel's own machine.
+    fn note_all_down<R: Log>(&mut self, rt: &R, all_down: bool, master: NamedMaster<'_>) {
+        if all_down && !self.all_down {
+            warn!(rt;
+                "all nodes of master {master} and all other Sentinels are down from here: it may be this machine or its network that fails"
+            );
+        }
+        self.all_down = all_down;
+    }
+}
+
+/// Whether all of so many are down but one, the master itself or this Sentinel, which isn't among them.
+fn are_others_down(down: &[bool], count: usize) -> bool {
+    let down_count = down.iter().take(count).filter(|is_down| **is_down).count();
+    down_count + 1 >= count
+}
+
+/// Whether a Sentinel that watches so many nodes with so many Sentinels finds them all down.
+fn are_all_down(look: &Look, nodes: usize, sentinels: usize) -> bool {
+    look.flags.down
+        && sentinels > 1
+        && are_others_down(&look.replicas, nodes)
+        && are_others_down(&look.sentinels, sentinels)
 }
 
 /// Notes that a replica is down, or no longer.
@@ -302,6 +376,8 @@ impl Lookout {
         seen.note_failover(rt, look, promoted, named);
         seen.note_replicas(rt, look, roster.nodes(master), named);
         seen.note_sentinels(rt, look, roster.sentinels(), named);
+        let (nodes, sentinels) = (roster.nodes(master).len(), roster.sentinels().len());
+        seen.note_all_down(rt, are_all_down(look, nodes, sentinels), named);
     }
 
     /// Notes whether a master is down.

@@ -96,6 +96,18 @@ impl<J: Which> ThreadSeat<J> {
     pub(crate) fn take_look(&mut self) -> Option<Look> {
         self.sight.take()
     }
+
+    /// Has the next turn see whether a campaign for this master is near, at this reading of the clock in milliseconds, now or later: whether the Sentinel finds it
+    /// objectively down then, where nothing else is heard, while no failover of it runs.
+    pub fn look_ahead(&mut self, master: u16, at: u64) {
+        self.sight.look_ahead(master, at);
+    }
+
+    /// The number of a campaign that has come near since this was asked last: one that is near stays so, and doesn't come again. It is the epoch of the master's
+    /// configuration with the master's own number: the same for all Sentinels that know that configuration.
+    pub fn take_nearness(&mut self) -> Option<u64> {
+        self.sight.take_nearness()
+    }
 }
 
 impl<J: Which, S: ConfStore> RunningSentinel<J, S> {
@@ -124,6 +136,13 @@ impl<J: Which, S: ConfStore> RunningSentinel<J, S> {
             of: PhantomData,
         };
         Ok((member, with_outbox(alloc, seat)))
+    }
+
+    /// Its place in the roster.
+    pub fn place(&self) -> u16
+        ensures { result ≡ self.now.place }
+    {
+        self.place
     }
 
     /// How many masters it watches.
@@ -218,7 +237,7 @@ impl<J: Which, S: ConfStore> RunningSentinel<J, S> {
     }
 
     /// Where its notes go: each names the Sentinel's port.
-    pub(crate) fn noting<'a, R: Log>(&self, rt: &'a R) -> Span<'a, &'a R, With<'a, (), u16>> {
+    pub fn noting<'a, R: Log>(&self, rt: &'a R) -> Span<'a, &'a R, With<'a, (), u16>> {
         rt.span("sentinel").with("port", self.port)
     }
 

@@ -5,10 +5,11 @@ ghost use Rattle.ballot_law.specs.Ballots.{card_of, kept_of, voted_of};
 ghost use Rattle.ballot_law.specs.Clocks.{clock};
 ghost use Rattle.group_sentinels.specs.Sights.{is_other_down, is_replica_down};
 ghost use Rattle.sentinel_rules.specs.Plans.{group_size, master_count, nodes_of};
-ghost use Rattle.sentinel_rules.specs.States.{card_place, is_failing_over, is_master_down, is_odown_at, is_tilted};
+ghost use Rattle.sentinel_rules.specs.States.{card_place, failover_of, is_failing_over, is_master_down, is_odown_at, is_tilted};
 ghost use Rattle.sentinel_rules.specs.Ticks.{at_places};
 
-use ballot_law::{Card, NODES_MAX, RunId, SENTINELS_MAX};
+use ballot_law::{Card, MASTERS_MAX, NODES_MAX, RunId, SENTINELS_MAX};
+use failover_states::FailoverState;
 use sentinel_cell::Observer;
 use sentinel_core::Sentinel;
 use sentinel_state::Core;
@@ -29,13 +30,14 @@ pub(crate) struct Vote {
     pub(crate) epoch: u64,
 }
 
-/// What a Sentinel shows of a master: whether its clock isn't to be trusted, the configuration, what it finds of the master, its vote, and
-/// which of the master's replicas, by their places among its nodes, and of the other Sentinels, by their places in the roster, are down.
+/// What a Sentinel shows of a master: whether its clock isn't to be trusted, the configuration, what it finds of the master, how far its own failover has come, its vote,
+/// and which of the master's replicas, by their places among its nodes, and of the other Sentinels, by their places in the roster, are down.
 #[derive(Clone, Copy)]
 pub(crate) struct Look {
     pub(crate) is_tilted: bool,
     pub(crate) card: Card,
     pub(crate) flags: Flags,
+    pub(crate) stage: FailoverState,
     pub(crate) vote: Vote,
     pub(crate) replicas: [bool; NODES_MAX],
     pub(crate) sentinels: [bool; SENTINELS_MAX],
@@ -107,6 +109,7 @@ impl Look {
           agreed = is_odown_at plan.now core.now m (clock now);
           failing_over = is_failing_over core.now m;
         } }
+        ensures stage { result.stage ≡ (failover_of core.now m).state }
         ensures vote { result.vote ≡ record { leader = (kept_of core.now.kept m).candidate; epoch = voted_of core.now.kept m } }
         ensures replicas { take (length (nodes_of plan.now m)) result.replicas
             ≡ at_places (is_replica_down plan.now core.now m (clock now)) 0 (length (nodes_of plan.now m)) }
@@ -116,6 +119,7 @@ impl Look {
             is_tilted: core.is_tilted(),
             card: core.card(m),
             flags: flags_of(plan, core, now, m),
+            stage: core.stage(m),
             vote: Vote {
                 leader: core.leader(m),
                 epoch: core.voted(m),
@@ -126,11 +130,41 @@ impl Look {
     }
 }
 
-/// Who takes down what a Sentinel shows of one master at the end of a turn, at the reading of its clock. Where no master is wanted nothing is.
+/// Whether a campaign of the Sentinel is near: at this reading of its clock it finds the master objectively down, and no failover of it runs.
+fn is_campaign_near(plan: &Plan, core: &Core, at: u64, m: u16) -> bool
+    requires { m < master_count plan.now }
+{
+    let flags = flags_of(plan, core, at, m);
+    flags.agreed && !flags.failing_over
+}
+
+/// Of which masters a campaign of the Sentinel was near when they were last looked at, and the number of one that has come near since that was asked.
+#[derive(Clone, Copy)]
+struct Nearness {
+    masters: [bool; MASTERS_MAX],
+    come: Option<u64>,
+}
+
+impl Nearness {
+    /// Takes in whether a campaign with this number is near.
+    fn see(&mut self, m: u16, is_near: bool, number: u64) {
+        if let Some(was_near) = self.masters.get_mut(m as usize) {
+            if is_near && !*was_near {
+                self.come = Some(number);
+            }
+            *was_near = is_near;
+        }
+    }
+}
+
+/// Who takes down what a Sentinel shows of one master at the end of a turn, at the reading of its clock, and of which masters a campaign comes near. Where no master is
+/// wanted nothing is.
 #[derive(Drop)]
 pub(crate) struct Sight {
     wanted: Option<(u16, u64)>,
     look: Option<Look>,
+    ahead: Option<(u16, u64)>,
+    nearness: Nearness,
 }
 
 impl Sight {
@@ -139,6 +173,11 @@ impl Sight {
         Sight {
             wanted: None,
             look: None,
+            ahead: None,
+            nearness: Nearness {
+                masters: [false; MASTERS_MAX],
+                come: None,
+            },
         }
     }
 
@@ -152,16 +191,39 @@ impl Sight {
         self.wanted = None;
         self.look.take()
     }
+
+    /// The next turn sees whether a campaign for this master is near at this reading of the clock in milliseconds, now or later.
+    pub(crate) fn look_ahead(&mut self, master: u16, at: u64) {
+        self.ahead = Some((master, at));
+    }
+
+    /// The number of a campaign that has come near since this was asked last.
+    pub(crate) fn take_nearness(&mut self) -> Option<u64> {
+        self.nearness.come.take()
+    }
+
+    /// Sees whether a campaign is near, where that is wanted.
+    fn see_ahead(&mut self, plan: &Plan, core: &Core) {
+        if let Some((master, at)) = self.ahead {
+            if master < plan.master_count() {
+                let is_near = is_campaign_near(plan, core, at, master);
+                let number = core.card(master).epoch.saturating_add(u64::from(master));
+                self.nearness.see(master, is_near, number);
+            }
+        }
+        self.ahead = None;
+    }
 }
 
 impl Observer for Sight {
     fn observe(&mut self, sentinel: &Sentinel) {
         self.look = None;
+        let (plan, core) = (sentinel.plan(), sentinel.core());
         if let Some((master, now)) = self.wanted {
-            let plan = sentinel.plan();
             if master < plan.master_count() {
-                self.look = Some(Look::at(plan, sentinel.core(), now, master));
+                self.look = Some(Look::at(plan, core, now, master));
             }
         }
+        self.see_ahead(plan, core);
     }
 }

@@ -144,6 +144,7 @@ impl Ticker {
             if log_enabled!(rt; Level::Info) {
                 seat.want(master, now);
             }
+            seat.look_ahead(master, now.saturating_add(TICK_MS));
             let event = Event::Tick { master, random };
             let acted = member.carry_out(rt, seat, outlet, now, event);
             if let Some(look) = seat.take_look() {

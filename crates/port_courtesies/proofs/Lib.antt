@@ -3,3 +3,4 @@ pub mod Bytes
 pub mod Held
 pub mod Lookups
 pub mod OwnValues
+pub mod Strangers

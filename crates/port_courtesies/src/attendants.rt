@@ -1,6 +1,6 @@
 //! A client's stream with courtesies.
 
-ghost use Rattle.std.specs.Prelude.{◌≡◌, ◌<◌, [], IfOk, IfSome, OnOk};
+ghost use Rattle.std.specs.Prelude.{◌≡◌, ◌<◌, [], Some, false, IfOk, IfSome, OnOk};
 ghost use Rattle.resp2_frames.specs.Frame.{Frame, view, spelling, HasLines, IsFrame};
 ghost use Rattle.resp2_frames.specs.Stream.{reading, held_size, Feeds, Answers};
 ghost use Rattle.port_courtesies.specs.Attendants.{turn_text, text_at, Attends};
@@ -10,7 +10,7 @@ ghost use Rattle.port_courtesies.specs.Infos.{info};
 use crate::asker::Asker;
 use crate::courtesies::{Courtesy, courtesy_of};
 use crate::infos::info;
-use ballot_law::{Name, NoMemory};
+use ballot_law::{Name, NoMemory, Text};
 use resp2_frames::{FrameFault, Frames, OutText, Value, write_value};
 use std::alloc::Global;
 use std::marker::Model;
@@ -112,6 +112,13 @@ impl Attendant {
         ensures { self.new ≡ record self.old { asker = record self.old.asker { masters = masters.items } } }
     {
         self.asker.watch(masters);
+    }
+
+    /// Has it want this password of the client, which didn't give it yet.
+    pub fn want_password(&mut self, password: Text)
+        ensures { self.new ≡ record self.old { asker = record self.old.asker { password = Some password; admitted = false } } }
+    {
+        self.asker.want_password(password);
     }
 
     /// Adds the next piece of the stream, of any length. `NoMemory` leaves it unchanged. Any other fault is one that `attend` has answered before, and

@@ -14,6 +14,7 @@ mod hellos;
 mod infos;
 mod laws;
 mod lookup;
+mod passwords;
 mod refusals;
 mod verbs;
 
@@ -21,4 +22,4 @@ pub use asker::Asker;
 pub use attendants::Attendant;
 pub use courtesies::{Courtesy, courtesy_of};
 pub use infos::info;
-pub use laws::{law_answers_are_values, law_own_values_are_left};
+pub use laws::{law_answers_are_values, law_own_values_are_left, law_strangers_reach_nothing};

@@ -26,7 +26,7 @@ use Rattle.sentinel_rules.specs.Plans.{roster_of}
 use Rattle.sentinel_rules.specs.Steps.{IsPartsOf}
 use Rattle.sentinel_cell.specs.EntrySteps.{IsAsLeft, Brings, MovesAlone}
 use Rattle.sentinel_cell.specs.Histories.{World, IsGood}
-use Rattle.process_laws.specs.Deeds.{Process, with_process, IsHeard, IsAsProcess}
+use Rattle.process_laws.specs.Actions.{Process, with_process, IsHeard, IsAsProcess}
 
 -- the processes stand in a world of the model, with all that was sent
 abbrev pub IsOwn : Roster → ℕ → World → Type 0
@@ -57,7 +57,7 @@ stays j p group last count same h = record {
   left = λ r. stays_as j p.world group last count same (h.left r);
 }
 
--- what holds of the process that a deed is of, and of the others
+-- what holds of the process that an action is of, and of the others
 pub with_one : (P : ℕ → Process → Type 0) (all : ℕ → Process) (i : ℕ) (p : Process) (j : ℕ) → P i p → (j ≢ i → P j (all j)) → P j (with_process all i p j)
 with_one P all i p j one others = dite (ℕ_discrete j i)
     (λ (same : j ≡ i). subst (P j) (sym (ap (λ (b : Bool). cond b p (all j)) (eq-eqb j i same))) (subst (λ (k : ℕ). P k p) (sym same) one))

@@ -1,4 +1,4 @@
--- Each deed of a process is steps of the model, and so are all of them.
+-- Each action of a process is steps of the model, and so are all of them.
 use Rattle.std.proofs.Common.{◌≡◌, ℕ, ◌<◌, Bool, true, false, cond, List, [], ◌∷◌, ◌++◌, map, length, append_assoc, refl, sym, ap, ◌∙◌, subst, inl, ⊎_elim, true≢false, arith}
 use Rattle.std.specs.Prelude.{Contains, All}
 use Rattle.std.proofs.lemmas.List.Elements.{Contains-append_left, Contains-append_right, Contains-append_cases, All-map, All-weaker}
@@ -36,13 +36,13 @@ use Rattle.sentinel_cell.specs.EntrySteps.{IsAsLeft, Brings, IsSent, MovesAlone,
 use Rattle.sentinel_cell.specs.Histories.{World, IsGood, IsOutcome, after_outcome, next_of}
 use Rattle.sentinel_cell.proofs.Cards.{good_outcome}
 use Rattle.sentinel_cell.proofs.EntrySteps.{at_self, still_inside, still_alone, alone_through, tells_stored, not_stopped, stored_with, refused_steps}
-use Rattle.process_laws.specs.Deeds.{Deed, Opened, Took, Told, Process, with_process, deed_after, deeds_after, output_to, to_asker, sent_by, said_in, elected_in, all_sent, all_said, all_elected, IsOpened, IsDeed, AreDeeds, at_first, IsAsProcess, ProcessesAreARun}
+use Rattle.process_laws.specs.Actions.{Action, Opened, Took, Told, Process, with_process, action_after, actions_after, output_to, to_asker, sent_by, said_in, elected_in, all_sent, all_said, all_elected, IsOpened, IsAction, AreActions, at_first, IsAsProcess, ProcessesAreARun}
 use Rattle.process_laws.proofs.Heard.{IsOwn, Stands, one_moved, same_sentinels, hears}
 
--- what one deed does to the model's world
-abbrev Goes : Roster → (stores : ℕ) → (ℕ → Process) → List Message → Deed → Group → Type 0
+-- what one action does to the model's world
+abbrev Goes : Roster → (stores : ℕ) → (ℕ → Process) → List Message → Action → Group → Type 0
 Goes roster stores all messages d group =
-    (steps : List Step) × (last : Group) × Run roster steps group last × Stands roster stores (deed_after all d) (messages ++ sent_by d) last
+    (steps : List Step) × (last : Group) × Run roster steps group last × Stands roster stores (action_after all d) (messages ++ sent_by d) last
     × (last.elected ≡ group.elected ++ elected_in all d) × (last.said ≡ group.said ++ said_in roster all d)
 
 sent_more : (group last : Group) (messages more : List Message) → last.messages ≡ group.messages ++ more → ((x : Message) → Contains messages x → Contains group.messages x)
@@ -184,7 +184,7 @@ more_none {A} xs ys e = ap (λ (l : List A). xs ++ l) e ∙ append-nil xs
 
 module _ (roster : Roster) (stores : ℕ) (all : ℕ → Process) (messages : List Message) (i : ℕ) (e : Entry) (asker : NodeName) (left : KeptText) (group : Group)
     (h : Stands roster stores all messages group) (low : i < size roster) (runs : (all i).runs ≡ true)
-    (heard : Rattle.process_laws.specs.Deeds.IsHeard stores messages i e.input.event) where
+    (heard : Rattle.process_laws.specs.Actions.IsHeard stores messages i e.input.event) where
   abbrev w : World
   w = (all i).world
 
@@ -247,33 +247,33 @@ module _ (roster : Roster) (stores : ℕ) (all : ℕ → Process) (messages : Li
         sym (more_none group.said (said_by i (advertised_by roster e.outputs)) (none_said roster i e.outputs is.1)),
       )
 
-one_deed : (roster : Roster) (stores : ℕ) (all : ℕ → Process) (messages : List Message) (d : Deed) (group : Group) → Stands roster stores all messages group →
-    IsDeed roster stores all messages d → Goes roster stores all messages d group
-one_deed roster stores all messages (Opened i w now) group h d = opens roster stores all messages i w now group h d.0 d.1
-one_deed roster stores all messages (Took i e asker left) group h d = takes roster stores all messages i e asker left group h d.0 d.1 d.3 e.outcome d.2
-one_deed roster stores all messages (Told i m) group h d = tells roster stores all messages i m group h d.0 d.1 d.2
+one_action : (roster : Roster) (stores : ℕ) (all : ℕ → Process) (messages : List Message) (d : Action) (group : Group) → Stands roster stores all messages group →
+    IsAction roster stores all messages d → Goes roster stores all messages d group
+one_action roster stores all messages (Opened i w now) group h d = opens roster stores all messages i w now group h d.0 d.1
+one_action roster stores all messages (Took i e asker left) group h d = takes roster stores all messages i e asker left group h d.0 d.1 d.3 e.outcome d.2
+one_action roster stores all messages (Told i m) group h d = tells roster stores all messages i m group h d.0 d.1 d.2
 
--- all deeds
+-- all actions
 
-abbrev pub AllGo : Roster → (stores : ℕ) → (ℕ → Process) → List Message → List Deed → Group → Type 0
+abbrev pub AllGo : Roster → (stores : ℕ) → (ℕ → Process) → List Message → List Action → Group → Type 0
 AllGo roster stores all messages ds group =
-    (steps : List Step) × (last : Group) × Run roster steps group last × Stands roster stores (deeds_after all ds) (messages ++ all_sent ds) last
+    (steps : List Step) × (last : Group) × Run roster steps group last × Stands roster stores (actions_after all ds) (messages ++ all_sent ds) last
     × (last.elected ≡ group.elected ++ all_elected all ds) × (last.said ≡ group.said ++ all_said roster all ds)
 
-pub merged : (roster : Roster) (stores : ℕ) (all : ℕ → Process) (messages : List Message) (ds : List Deed) (group : Group) → Stands roster stores all messages group →
-    AreDeeds roster stores all messages ds → AllGo roster stores all messages ds group
+pub merged : (roster : Roster) (stores : ℕ) (all : ℕ → Process) (messages : List Message) (ds : List Action) (group : Group) → Stands roster stores all messages group →
+    AreActions roster stores all messages ds → AllGo roster stores all messages ds group
 merged roster stores all messages [] group h a =
     ([], group, refl, subst (λ (l : List Message). Stands roster stores all l group) (sym (append-nil messages)) h, sym (append-nil group.elected), sym (append-nil group.said))
 merged roster stores all messages (d ∷ ds) group h a =
-    let one = one_deed roster stores all messages d group h a.0 in
-    let rest = merged roster stores (deed_after all d) (messages ++ sent_by d) ds one.1 one.3 a.1 in (
+    let one = one_action roster stores all messages d group h a.0 in
+    let rest = merged roster stores (action_after all d) (messages ++ sent_by d) ds one.1 one.3 a.1 in (
       one.0 ++ rest.0,
       rest.1,
       steps_join roster group one.1 rest.1 one.0 rest.0 one.2 rest.2,
-      subst (λ (l : List Message). Stands roster stores (deeds_after (deed_after all d) ds) l rest.1) (append_assoc messages (sent_by d) (all_sent ds)) rest.3,
-      rest.4 ∙ (ap (λ (l : List Election). l ++ all_elected (deed_after all d) ds) one.4 ∙ append_assoc group.elected (elected_in all d) (all_elected (deed_after all d) ds)),
-      rest.5 ∙ (ap (λ (l : List Advertisement). l ++ all_said roster (deed_after all d) ds) one.5 ∙
-          append_assoc group.said (said_in roster all d) (all_said roster (deed_after all d) ds)),
+      subst (λ (l : List Message). Stands roster stores (actions_after (action_after all d) ds) l rest.1) (append_assoc messages (sent_by d) (all_sent ds)) rest.3,
+      rest.4 ∙ (ap (λ (l : List Election). l ++ all_elected (action_after all d) ds) one.4 ∙ append_assoc group.elected (elected_in all d) (all_elected (action_after all d) ds)),
+      rest.5 ∙ (ap (λ (l : List Advertisement). l ++ all_said roster (action_after all d) ds) one.5 ∙
+          append_assoc group.said (said_in roster all d) (all_said roster (action_after all d) ds)),
     )
 
 pub stands_at_first : (roster : Roster) (start : Group) → IsStart roster start → Stands roster (length start.stores) (at_first start) [] start
@@ -286,13 +286,13 @@ stands_at_first roster start is = record {
 }
 
 pub processes_are_a_run : ProcessesAreARun
-processes_are_a_run roster start deeds is a =
-    let m = merged roster (length start.stores) (at_first start) [] deeds start (stands_at_first roster start is) a in (
+processes_are_a_run roster start actions is a =
+    let m = merged roster (length start.stores) (at_first start) [] actions start (stands_at_first roster start is) a in (
       m.0,
       m.1,
       m.2,
-      m.4 ∙ ap (λ (l : List Election). l ++ all_elected (at_first start) deeds) is.elected,
-      m.5 ∙ ap (λ (l : List Advertisement). l ++ all_said roster (at_first start) deeds) is.said,
+      m.4 ∙ ap (λ (l : List Election). l ++ all_elected (at_first start) actions) is.elected,
+      m.5 ∙ ap (λ (l : List Advertisement). l ++ all_said roster (at_first start) actions) is.said,
       m.3.sent_are,
       m.3.each,
     )

@@ -1,6 +1,6 @@
 //! What holds of all processes of a group together.
 
-ghost use Rattle.process_laws.specs.Deeds.{ProcessesAreARun, ProcessesAreSafe};
+ghost use Rattle.process_laws.specs.Actions.{ProcessesAreARun, ProcessesAreSafe};
 ghost use Rattle.process_laws.specs.LateAnswers.{LateAnswersHappen};
 
 /// What the processes of a group did, in an order in which each answer and each hello is heard after the release that sent it, is a run of the

@@ -10,6 +10,7 @@ mod best_replica;
 mod bodies;
 mod bounded_lists;
 mod broken_streams;
+mod channels;
 mod client_searches;
 mod commands;
 mod conf_files;
@@ -59,6 +60,7 @@ fn play(
     match family {
         "answers" => answers::play(rt.alloc(), call, words, told),
         "bounded_lists" => bounded_lists::play(rt.alloc(), call, words, told),
+        "channels" => channels::play(rt.alloc(), call, words, told),
         "conf_files" => conf_files::play(rt.alloc(), call, words, told),
         "commands" => commands::play(rt.alloc(), call, words, told),
         "courtesies" => courtesies::play(rt.alloc(), call, words, told),

@@ -1,29 +1,38 @@
 //! `check`: what group conf files make, before it runs.
 
-use crate::failures::{fail, fail_group, refuse_conf};
+use crate::command_line::REFUSED_WORDS;
+use crate::failures::{fail, fail_group, refuse_conf, refuse_file};
 use crate::group_files::text_at;
 use crate::mending::mend;
+use crate::redis_text::write_for_redis;
 use crate::telling::{tell_faults, tell_files};
 use clap::ArgMatches;
+use conf_store::FileText;
 use group_checks::{NamedConf, Report};
 use port_serving::ServeFault;
-use sentinel_conf::read;
+use sentinel_conf::{Conf, read};
 use sentinel_runner::GroupFault;
 use std::io::Write;
 use std::process::ExitCode;
+use watch_conf::{WatchKind, lacks_announce_ip};
 
-/// What the file at the path says, with its name. A file that is refused is told, with all that is wrong with it, and the status tells it
-/// too.
-fn named_conf(rt: HostRuntime, path: &str) -> Result<NamedConf, ExitCode> {
+/// The text of the file at the path, and what it says. A file that is refused is told, with all that is wrong with it, and the status tells
+/// it too.
+fn conf_at(rt: HostRuntime, path: &str) -> Result<(FileText, Conf), ExitCode> {
     let (text, _) = text_at(rt, path)?;
-    let conf = match read(rt.alloc(), text.as_slice()) {
-        Ok(conf) => conf,
+    match read(rt.alloc(), text.as_slice()) {
+        Ok(conf) => Ok((text, conf)),
         Err(fault) => {
             let status = refuse_conf(&rt, path, fault);
             tell_faults(rt, path, text.as_slice());
-            return Err(status);
+            Err(status)
         }
-    };
+    }
+}
+
+/// What the file at the path says, with its name.
+fn named_conf(rt: HostRuntime, path: &str) -> Result<NamedConf, ExitCode> {
+    let (_, conf) = conf_at(rt, path)?;
     match String::from_str(rt.alloc(), path) {
         Ok(name) => Ok(NamedConf { name, conf }),
         Err(_) => Err(fail(&rt, ServeFault::NoMemory)),
@@ -50,6 +59,19 @@ fn confs_of(rt: HostRuntime, paths: &[&str]) -> Result<Vec<NamedConf>, ExitCode>
     }
 }
 
+/// Tells each file whose Sentinel the others can't reach by the ip by which they know it, by the words that `watch` has. The status tells it
+/// too; none where there is no such file.
+fn refuse_unreached(rt: HostRuntime, confs: &[NamedConf]) -> Option<ExitCode> {
+    let mut refused = None;
+    for file in confs {
+        if lacks_announce_ip(&file.conf) {
+            let path = file.name.as_str();
+            refused = Some(refuse_file(&rt, path, 0, WatchKind::NoAnnounceIp));
+        }
+    }
+    refused
+}
+
 /// Tells what group these files make, and with status 3 what is wrong with it. Where a folder is named, the mended files are written there.
 fn tell_group(rt: HostRuntime, confs: &[NamedConf], folder: Option<&str>) -> ExitCode {
     let Ok(report) = Report::of(rt.alloc(), confs) else {
@@ -59,6 +81,9 @@ fn tell_group(rt: HostRuntime, confs: &[NamedConf], folder: Option<&str>) -> Exi
         return fail(&rt, ServeFault::Write);
     }
     tell_files(rt, confs);
+    if let Some(status) = refuse_unreached(rt, confs) {
+        return status;
+    }
     if let Some(folder) = folder {
         return mend(rt, folder, confs);
     }
@@ -68,9 +93,26 @@ fn tell_group(rt: HostRuntime, confs: &[NamedConf], folder: Option<&str>) -> Exi
     ExitCode::SUCCESS
 }
 
-/// Tells what group the conf files make that the words name, and with status 3 what is wrong with it.
+/// Writes the text that redis-sentinel reads of the one file among these to a new file at `path`.
+fn give_to_redis(rt: HostRuntime, files: &[&str], path: &str) -> ExitCode {
+    let [file] = files else {
+        let _ = eprintln!(rt; "sentinel_group: --for-redis takes one conf");
+        return ExitCode::from(REFUSED_WORDS);
+    };
+    match conf_at(rt, file) {
+        Ok((text, _)) => write_for_redis(rt, file, text.as_slice(), path),
+        Err(status) => status,
+    }
+}
+
+/// Tells what group the conf files make that the words name, and with status 3 what is wrong with it. Or it writes one of them for
+/// redis-sentinel.
 pub(crate) fn check(rt: HostRuntime, words: &ArgMatches) -> ExitCode {
-    match confs_of(rt, words.get_strs("conf").unwrap_or(&[])) {
+    let files = words.get_strs("conf").unwrap_or(&[]);
+    if let Some(path) = words.get_str("for-redis") {
+        return give_to_redis(rt, files, path);
+    }
+    match confs_of(rt, files) {
         Ok(confs) => tell_group(rt, confs.as_slice(), words.get_str("mend")),
         Err(status) => status,
     }

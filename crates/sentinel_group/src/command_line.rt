@@ -11,7 +11,7 @@ use std::io;
 use std::process::ExitCode;
 
 /// The exit status of refused words.
-const REFUSED_WORDS: u8 = 2;
+pub(crate) const REFUSED_WORDS: u8 = 2;
 
 /// The version of the program, as `--version` prints it.
 const VERSION: &str = "0.1.0";
@@ -33,9 +33,15 @@ fn check<'a>(alloc: Global) -> Result<Command<'a>, AllocError> {
         .help(
             "Writes the files anew into this folder, each with the newest configuration of each master, so that a group goes on with them",
         );
+    let for_redis = Arg::new(alloc, "for-redis")
+        .long("for-redis")
+        .value_name("file")
+        .help("Writes the text of the one conf that redis-sentinel reads to this new file")
+        .conflicts_with("mend")?;
     Command::new(alloc, "check")
         .about("Tells what group conf files make, and what is wrong with it")
         .arg(mend)?
+        .arg(for_redis)?
         .arg(conf_files(alloc))
 }
 

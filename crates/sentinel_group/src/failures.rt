@@ -14,6 +14,9 @@ use std::process::ExitCode;
 /// The exit status of a file that is refused or can't be read.
 const REFUSED_FILE: u8 = 3;
 
+/// The exit status where a file that was asked for isn't written.
+const UNWRITTEN_FILE: u8 = 4;
+
 /// The exit status that tells the fault.
 fn status_of(fault: ServeFault) -> u8
     ensures { result ≡ status_of fault }
@@ -74,6 +77,12 @@ pub(crate) fn refuse_file<D: Display + Drop>(
 ) -> ExitCode {
     let _ = eprintln!(rt; "sentinel_group: {path}:{line}: {kind}");
     ExitCode::from(REFUSED_FILE)
+}
+
+/// Tells why a file isn't written.
+pub(crate) fn refuse_file_to_write(rt: &impl Eprint, path: &str, kind: &str) -> ExitCode {
+    let _ = eprintln!(rt; "sentinel_group: {path}:0: {kind}");
+    ExitCode::from(UNWRITTEN_FILE)
 }
 
 /// Tells the fault of a scenario that was read.

@@ -12,11 +12,11 @@ mod locks;
 mod mending;
 mod new_ids;
 mod noted_store;
+mod redis_text;
 mod replaying;
 mod serving;
 mod starting;
 mod telling;
-mod watch_lines;
 mod watching;
 
 use crate::checking::check;
@@ -129,7 +129,7 @@ fn main(rt: HostRuntime) -> ExitCode {
                 let noting = Logged::new(rt, watch_level(words), queue);
                 let ended = watch(rt, &noting, words);
                 drop(noting);
-                tell_watched(rt, words, ended, writer.wait(&rt))
+                tell_watched(rt, ended, writer.wait(&rt))
             }
             Some((_, words)) => answer(rt, words),
             None => answer_in_memory(rt),

@@ -1,6 +1,6 @@
 //! `check --mend`: the files of a group that differ in their configurations alone, written anew.
 
-use crate::failures::{fail, fail_group, refuse_file};
+use crate::failures::{fail, fail_group, refuse_file_to_write};
 use conf_mending::{MendFault, are_one_group, mended_texts};
 use group_checks::NamedConf;
 use port_serving::ServeFault;
@@ -36,8 +36,7 @@ fn write_mended(
         return Err(fail(&rt, ServeFault::NoMemory));
     };
     if write_new(rt, path.as_str(), text).is_err() {
-        let _ = refuse_file(&rt, path.as_str(), 0, "Unwritable");
-        return Err(ExitCode::from(4));
+        return Err(refuse_file_to_write(&rt, path.as_str(), "Unwritable"));
     }
     let _ = eprintln!(rt; "note: {path} is written");
     Ok(())

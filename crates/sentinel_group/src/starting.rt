@@ -9,7 +9,7 @@ use std::net::Ipv4Addr;
 use std::str::from_utf8;
 
 /// Notes which Sentinel starts, and which masters it watches, in Redis's words.
-fn note_sentinel<R: Log>(noting: &R, conf: &Conf) {
+pub(crate) fn note_sentinel<R: Log>(noting: &R, conf: &Conf) {
     let noting = noting.span("sentinel").with("port", conf.port());
     let roster = conf.roster();
     let id = roster.sentinels()[conf.place() as usize].id;

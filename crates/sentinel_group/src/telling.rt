@@ -1,6 +1,5 @@
 //! What is told of files on standard error beside the line of a fault: all that is wrong with them, and warnings.
 
-use crate::watch_lines::lacks_announce_ip;
 use conf_advice::{Directives, add_warnings};
 use conf_faults::add_notes;
 use conf_mending::add_sides;
@@ -43,19 +42,6 @@ fn tell_unwritable(rt: HostRuntime, path: &str, text: &[u8]) {
     }
 }
 
-/// Tells why the file of a Sentinel that is halted couldn't be replaced, as far as that is still so.
-pub(crate) fn tell_halt(rt: HostRuntime, path: &str) {
-    let text = fs::read(&rt, path);
-    let _ = match text.and_then(|text| try_beside(rt, path, &text)) {
-        Ok(()) => eprintln!(rt;
-            "note: {path}:0: no file could be replaced in this folder; one can again"
-        ),
-        Err(error) => eprintln!(rt;
-            "note: {path}:0: no file can be replaced in this folder: {error}"
-        ),
-    };
-}
-
 /// Tells the warnings of a file of a group of so many Sentinels, and where it can't be replaced.
 fn tell_file(rt: HostRuntime, file: &NamedConf) {
     let path = file.name.as_str();
@@ -67,11 +53,6 @@ fn tell_file(rt: HostRuntime, file: &NamedConf) {
     let mut lines = Vec::new(rt.alloc());
     if add_warnings(rt.alloc(), &mut lines, &known, sentinels, path, &text).is_ok() {
         tell(rt, &lines);
-    }
-    if lacks_announce_ip(&file.conf) {
-        let _ = eprintln!(rt;
-            "warning: {path}:0: others aren't on this machine, and know this Sentinel by its loopback: add a line `sentinel announce-ip <ip>`"
-        );
     }
     tell_unwritable(rt, path, &text);
 }

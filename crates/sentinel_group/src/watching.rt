@@ -5,21 +5,24 @@ ghost use Rattle.std.specs.Prelude.{◌≡◌, ◌<◌, ◌-◌, ◌^◌, IfOk};
 use crate::command_line::port_threads_of;
 use crate::failures::{fail, fail_group, refuse_conf, refuse_file, status_of_group};
 use crate::group_files::text_at;
-use crate::telling::{tell_faults, tell_halt};
-use crate::watch_lines::{WatchFault, lacks_announce_ip, listening_ips, logins_of, resolving_line};
+use crate::locks::{FileLock, lock_file, refuse_lock};
+use crate::noted_store::NotedStore;
+use crate::starting::note_sentinel;
+use crate::telling::tell_faults;
+use ballot_law::Roster;
 use clap::ArgMatches;
-use conf_store::FileStore;
-use log::{LevelFilter, Log, info};
+use log::{LevelFilter, Log};
 use port_serving::ServeFault;
 use sentinel_conf::{Conf, read};
 use sentinel_runner::{GroupFault, PortSettings, Watch, WatchSettings};
-use std::net::{Ipv4Addr, Net};
+use std::alloc::{AllocError, Global};
+use std::net::Net;
 use std::process::ExitCode;
 use std::rt::Clock;
-use std::str::from_utf8;
 use std::sync::Wait;
 use std::thread::Threads;
-use words::run_id_text;
+use tcp_wires::Logins;
+use watch_conf::{WatchConf, WatchFault, WatchKind, read_watch};
 
 /// Why a Sentinel didn't run, or ended.
 #[derive(Drop)]
@@ -32,26 +35,26 @@ pub(crate) enum Unwatched {
 
 /// What a file makes of a Sentinel of its own.
 #[derive(Drop)]
-struct WatchFile {
+struct WatchFile<'a, R: Log> {
     conf: Conf,
-    store: FileStore<HostRuntime>,
+    store: NotedStore<'a, R>,
     settings: WatchSettings,
 }
 
-/// Which notes go to standard error: all, unless the words say `--quiet`.
+/// Which notes go to standard error: all, or with `--quiet` those alone that tell why it ends.
 pub(crate) fn watch_level(words: &ArgMatches) -> LevelFilter {
     if words.get_flag("quiet") {
-        LevelFilter::Off
+        LevelFilter::Warn
     } else {
         LevelFilter::Info
     }
 }
 
 /// Tells why a file that can be read isn't one for `watch`.
-fn refuse_watch(rt: HostRuntime, path: &str, line: u64, fault: WatchFault) -> ExitCode {
-    match fault {
-        WatchFault::NoMemory => fail(&rt, ServeFault::NoMemory),
-        fault => refuse_file(&rt, path, line, fault),
+fn refuse_watch(rt: HostRuntime, path: &str, fault: WatchFault) -> ExitCode {
+    match fault.kind {
+        WatchKind::NoMemory => fail(&rt, ServeFault::NoMemory),
+        kind => refuse_file(&rt, path, fault.line, kind),
     }
 }
 
@@ -63,6 +66,31 @@ fn port_of(words: &ArgMatches) -> PortSettings {
     }
 }
 
+/// With which words the Sentinel logs in to the nodes of each master, and to the other Sentinels.
+fn logins_of(alloc: Global, roster: &Roster, watch: &WatchConf) -> Result<Logins, AllocError> {
+    let mut logins = Logins::new(alloc);
+    for master in roster.masters() {
+        let name = &master.name;
+        logins.add(alloc, watch.node_user(name), watch.node_pass(name))?;
+    }
+    logins.set_sentinels(alloc, watch.peer_user(), watch.peer_pass())?;
+    Ok(logins)
+}
+
+/// What the lines say that count for `watch` alone, as its Sentinel takes it.
+fn taken_settings(
+    alloc: Global,
+    roster: &Roster,
+    watch: &WatchConf,
+    port: PortSettings,
+) -> Result<WatchSettings, AllocError> {
+    Ok(WatchSettings {
+        ips: Vec::from_slice(alloc, watch.ips())?,
+        port,
+        logins: logins_of(alloc, roster, watch)?,
+    })
+}
+
 /// What the lines of a file say that count for `watch` alone. A fault is told, and the status tells it too.
 fn settings_of(
     rt: HostRuntime,
@@ -71,58 +99,43 @@ fn settings_of(
     text: &[u8],
     port: PortSettings,
 ) -> Result<WatchSettings, ExitCode> {
-    if let Some(line) = resolving_line(text) {
-        return Err(refuse_watch(rt, path, line, WatchFault::NamesOfHosts));
-    }
-    if lacks_announce_ip(conf) {
-        return Err(refuse_watch(rt, path, 0, WatchFault::NoAnnounceIp));
-    }
-    let ips = match listening_ips(rt.alloc(), text) {
-        Ok(ips) => ips,
-        Err((line, fault)) => return Err(refuse_watch(rt, path, line, fault)),
+    let watch = match read_watch(rt.alloc(), conf, text) {
+        Ok(watch) => watch,
+        Err(fault) => return Err(refuse_watch(rt, path, fault)),
     };
-    match logins_of(rt.alloc(), conf.roster(), text) {
-        Ok(logins) => Ok(WatchSettings { ips, port, logins }),
+    match taken_settings(rt.alloc(), conf.roster(), &watch, port) {
+        Ok(settings) => Ok(settings),
         Err(_) => Err(fail(&rt, ServeFault::NoMemory)),
     }
 }
 
-/// The file at the path. One that is refused is told, with all that is wrong with it, and the status tells it too.
-fn watch_file(rt: HostRuntime, path: &str, port: PortSettings) -> Result<WatchFile, ExitCode>
+/// The file at the path, as a store whose notes go to the log of `noting`. One that is refused is told, with all that is wrong with it, and the
+/// status tells it too.
+fn watch_file<'a, R: Log>(
+    rt: HostRuntime,
+    noting: &'a R,
+    path: &str,
+    port: PortSettings,
+) -> Result<WatchFile<'a, R>, ExitCode>
     ensures { IfOk result (λ file. file.store ≡ 0) }
 {
     let (text, store) = text_at(rt, path)?;
-    match read(rt.alloc(), text.as_slice()) {
-        Ok(conf) => {
-            let settings = settings_of(rt, path, &conf, text.as_slice(), port)?;
-            Ok(WatchFile {
-                conf,
-                store,
-                settings,
-            })
-        }
+    let conf = match read(rt.alloc(), text.as_slice()) {
+        Ok(conf) => conf,
         Err(fault) => {
             let status = refuse_conf(&rt, path, fault);
             tell_faults(rt, path, text.as_slice());
-            Err(status)
+            return Err(status);
         }
-    }
-}
-
-/// Notes who the Sentinel is, and what it watches.
-fn note_start<R: Log>(rt: &R, conf: &Conf) {
-    let roster = conf.roster();
-    if let Some(own) = roster.sentinels().get(conf.place() as usize) {
-        let id = run_id_text(own.id);
-        info!(rt; "Sentinel ID is {}", from_utf8(id.as_slice()).unwrap_or("?"));
-    }
-    let kept = conf.kept().masters.as_slice();
-    for (watched, kept) in roster.masters().iter().zip(kept.iter()) {
-        let name = from_utf8(watched.name.as_slice()).unwrap_or("?");
-        let addr = kept.card.addr;
-        info!(rt;
-            "+monitor master {name} {} {} quorum {}", Ipv4Addr::from(addr.ip), addr.port, watched.quorum
-        );
+    };
+    let settings = settings_of(rt, path, &conf, text.as_slice(), port)?;
+    match NotedStore::of(rt, noting, store, conf.port(), path) {
+        Ok(store) => Ok(WatchFile {
+            conf,
+            store,
+            settings,
+        }),
+        Err(_) => Err(fail(&rt, ServeFault::NoMemory)),
     }
 }
 
@@ -131,34 +144,52 @@ fn path_of<'a>(words: &'a ArgMatches) -> &'a str {
     words.get_str("conf").unwrap_or("")
 }
 
-/// Runs the Sentinel of the conf file that the words name; its notes go to the log of `noting`.
+/// The file that the words name, and its lock. What is wrong with it is told also where another program runs on it.
+fn locked_file<'a, R: Log>(
+    rt: HostRuntime,
+    noting: &'a R,
+    words: &ArgMatches,
+) -> Result<(WatchFile<'a, R>, FileLock), ExitCode>
+    ensures { IfOk result (λ locked. locked.0.store ≡ 0) }
+{
+    let path = path_of(words);
+    let locked = lock_file(rt, path);
+    let file = watch_file(rt, noting, path, port_of(words))?;
+    match locked {
+        Ok(lock) => Ok((file, lock)),
+        Err(fault) => Err(refuse_lock(rt, fault)),
+    }
+}
+
+/// Runs the Sentinel of the conf file that the words name, on which nobody else may run meanwhile; its notes go to the log of `noting`.
 pub(crate) fn watch<R>(rt: HostRuntime, noting: &R, words: &ArgMatches) -> Result<(), Unwatched>
 where
     R: Threads + Wait + Net + Clock + Log + Sync,
 {
+    let (file, lock) = match locked_file(rt, noting, words) {
+        Ok(locked) => locked,
+        Err(status) => return Err(Unwatched::Refused(status)),
+    };
     let WatchFile {
         conf,
         store,
         settings,
-    } = match watch_file(rt, path_of(words), port_of(words)) {
-        Ok(file) => file,
-        Err(status) => return Err(Unwatched::Refused(status)),
+    } = file;
+    note_sentinel(noting, &conf);
+    let ended = match Watch::open(noting, rt.alloc(), conf, store, settings) {
+        Ok(watch) => watch.run(noting),
+        Err(fault) => Err(fault),
     };
-    note_start(noting, &conf);
-    let watch = match Watch::open(noting, rt.alloc(), conf, store, settings) {
-        Ok(watch) => watch,
-        Err(fault) => return Err(Unwatched::Fault(fault)),
-    };
-    match watch.run(noting) {
+    drop(lock);
+    match ended {
         Ok(()) => Ok(()),
         Err(fault) => Err(Unwatched::Fault(fault)),
     }
 }
 
-/// Tells how a Sentinel ended, by a line, where standard error takes lines, and by the status. Of a halt it tells why no file can be replaced there.
+/// Tells how a Sentinel ended, by a line, where standard error takes lines, and by the status.
 pub(crate) fn tell_watched(
     rt: HostRuntime,
-    words: &ArgMatches,
     ended: Result<(), Unwatched>,
     takes_lines: bool,
 ) -> ExitCode {
@@ -166,13 +197,10 @@ pub(crate) fn tell_watched(
         Ok(()) => ExitCode::SUCCESS,
         Err(Unwatched::Refused(status)) => status,
         Err(Unwatched::Fault(fault)) => {
-            if !takes_lines {
-                return ExitCode::from(status_of_group(fault));
+            if takes_lines {
+                return fail_group(&rt, fault);
             }
-            if fault == GroupFault::Halted {
-                tell_halt(rt, path_of(words));
-            }
-            fail_group(&rt, fault)
+            ExitCode::from(status_of_group(fault))
         }
     }
 }

@@ -109,11 +109,11 @@ where
         others,
     } = seated;
     let parts = Parts {
-        timer: TimerPart { seat: timer, alloc },
-        link: LinkPart {
+        timer: LinkedPart::Timer(TimerPart { seat: timer, alloc }),
+        link: LinkedPart::Link(LinkPart {
             seat: link,
             deliveries,
-        },
+        }),
         first,
         others,
     };
@@ -134,7 +134,16 @@ struct LinkPart<J: Which> {
     deliveries: Receiver<Delivery>,
 }
 
-/// What a thread of such a Sentinel does that has its links. By this trait `run_threads` knows of a part no more than that it may be sent.
+/// What a thread of a Sentinel has that uses its links.
+#[derive(Drop)]
+enum LinkedPart<J: Which> {
+    /// That of the ticks.
+    Timer(TimerPart<J>),
+    /// That of the link.
+    Link(LinkPart<J>),
+}
+
+/// What a thread of such a Sentinel does that uses its links. By this trait `run_threads` knows of a part no more than that it may be sent.
 trait UsesLinks<M> {
     /// Does its work until `ending` isn't 0, or the Sentinel is halted.
     fn run<R: Wait + Clock + Log>(
@@ -147,7 +156,7 @@ trait UsesLinks<M> {
     );
 }
 
-impl<J: Which, S: ConfStore> UsesLinks<RunningSentinel<J, S>> for TimerPart<J> {
+impl<J: Which, S: ConfStore> UsesLinks<RunningSentinel<J, S>> for LinkedPart<J> {
     fn run<R: Wait + Clock + Log>(
         self,
         rt: &R,
@@ -156,25 +165,19 @@ impl<J: Which, S: ConfStore> UsesLinks<RunningSentinel<J, S>> for TimerPart<J> {
         member: &RunningSentinel<J, S>,
         ending: &AtomicU64,
     ) {
-        let TimerPart { mut seat, alloc } = self;
-        run_timer(rt, alloc, state, links, member, &mut seat, ending);
-    }
-}
-
-impl<J: Which, S: ConfStore> UsesLinks<RunningSentinel<J, S>> for LinkPart<J> {
-    fn run<R: Wait + Clock + Log>(
-        self,
-        rt: &R,
-        state: &RunState,
-        links: &Links,
-        member: &RunningSentinel<J, S>,
-        ending: &AtomicU64,
-    ) {
-        let LinkPart {
-            mut seat,
-            deliveries,
-        } = self;
-        run_link(rt, state, links, member, &mut seat, &deliveries, ending);
+        match self {
+            LinkedPart::Timer(part) => {
+                let TimerPart { mut seat, alloc } = part;
+                run_timer(rt, alloc, state, links, member, &mut seat, ending);
+            }
+            LinkedPart::Link(part) => {
+                let LinkPart {
+                    mut seat,
+                    deliveries,
+                } = part;
+                run_link(rt, state, links, member, &mut seat, &deliveries, ending);
+            }
+        }
     }
 }
 
@@ -213,24 +216,23 @@ impl<J: Which> Seated<J> {
 
 /// What each thread of a Sentinel has.
 #[derive(Drop)]
-struct Parts<T, L, P> {
-    timer: T,
+struct Parts<L, P> {
+    timer: L,
     link: L,
     first: P,
     others: Vec<P>,
 }
 
 /// Starts the timer and the link, and serves the port.
-fn run_threads<'a, M: Sync, T, L, P, R>(
+fn run_threads<'a, M: Sync, L, P, R>(
     rt: &'a R,
     state: &'a RunState,
     links: &'a Links,
     member: &'a M,
-    parts: Parts<T, L, P>,
+    parts: Parts<L, P>,
     ending: &'a AtomicU64,
 )
 where
-    T: UsesLinks<M> + Drop + Send,
     L: UsesLinks<M> + Drop + Send,
     P: ServesPort<M> + Drop + Send,
     R: Threads + Wait + Clock + Log + Sync,

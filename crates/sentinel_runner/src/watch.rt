@@ -97,11 +97,14 @@ fn room_of<R: Net>(
     ensures courtesies { IfOk result (λ room. room.courteous ≡ port.courtesies) }
 {
     let own = connection_count(conf.roster()) as u64;
-    match connections_beside(rt, alloc, 1, port.threads_of_each(), own) {
-        Ok(room) if room.is_empty() => Err(GroupFault::PortRefused),
-        Ok(room) => Ok(room.with_courtesies(port.courtesies)),
-        Err(error) => Err(fault_of(&error)),
+    let room = match connections_beside(rt, alloc, 1, port.threads_of_each(), own) {
+        Ok(room) => room,
+        Err(error) => return Err(fault_of(&error)),
+    };
+    if room.is_empty() {
+        return Err(GroupFault::PortRefused);
     }
+    Ok(room.with_courtesies(port.courtesies))
 }
 
 /// The sockets' addresses of a port of this number at these ips.
@@ -157,6 +160,7 @@ impl<S: ConfStore + Drop> Watch<S> {
         let state = WatchState {
             run: RunState::new(GroupClock::start(rt)),
             turned: AtomicU64::new(0),
+            stood: AtomicU64::new(0),
             ending: AtomicU64::new(0),
         };
         Ok(Watch {
@@ -179,68 +183,24 @@ impl<S: ConfStore + Drop> Watch<S> {
             wires,
             state,
         } = self;
-        run_beside(rt, rt, watching, wires, &state);
+        run_named::<Brand, S, R, R>(rt, rt, &state, watching, wires);
         outcome(&state.run)
     }
 }
 
-/// The threads of a Sentinel beside that of its connections. By this trait `run_beside` knows of them no more than that they may be started from a thread of their own.
-trait RunsBeside {
-    /// Runs them until they end; this thread is the first one of the port.
-    fn run<R: Threads + Wait + Clock + Log + Sync>(self, rt: &R, state: &WatchState);
-}
-
-/// Starts the thread of the port, which starts that of the ticks, and runs the connections. When this returns all have ended.
-fn run_beside<'a, W: RunsBeside + Drop + Send, R, N: Net>(
-    rt: &'a R,
-    net: &N,
-    watching: W,
-    mut wires: Wires,
-    state: &'a WatchState,
-)
-where
-    R: Threads + Wait + Clock + Log + Sync,
-{
-    thread::scope(thread::scope_env(), rt, |scope| {
-        let begun = scope.spawn(move || watching.run(rt, state));
-        if begun.is_err() {
-            return end_for_want(&state.run, &state.ending);
-        }
-        if let Err(error) = wires.run(rt, net, state) {
-            note_lost(&state.run, &error);
-        }
-        state.ending.store(1, Ordering::SeqCst);
-    })
-}
-
-impl<S: ConfStore + Drop + Send> Watching<S> {
-    /// Runs its threads until they end.
-    fn run_threads<R: Threads + Wait + Clock + Log + Sync>(self, rt: &R, state: &WatchState) {
-        let Watching { opened, far, alloc } = self;
-        run_named::<Brand, S, R>(rt, alloc, state, opened, far);
-    }
-}
-
-impl<S: ConfStore + Drop + Send> RunsBeside for Watching<S> {
-    fn run<R: Threads + Wait + Clock + Log + Sync>(self, rt: &R, state: &WatchState) {
-        self.run_threads(rt, state);
-        state.ending.store(1, Ordering::SeqCst);
-    }
-}
-
-/// Runs the threads of a Sentinel that has a name for proofs.
-fn run_named<J: Which + Send + Sync, S: ConfStore + Drop + Send, R>(
+/// Runs the threads of a Sentinel that has a name for proofs; this one has the connections, since a thread that is started gets no handle for sockets.
+fn run_named<J: Which + Send + Sync, S: ConfStore + Drop + Send, R, N: Net>(
     rt: &R,
-    alloc: Global,
+    net: &N,
     state: &WatchState,
-    opened: Opened<S>,
-    far: FarEnd,
+    watching: Watching<S>,
+    wires: Wires,
 )
 where
     R: Threads + Wait + Clock + Log + Sync,
-    requires named { opened.cell.id ≡ J.cell }
-    requires seats { opened.beside ≡ BESIDE }
+    requires named { watching.opened.cell.id ≡ J.cell }
 {
+    let Watching { opened, far, alloc } = watching;
     let Opened {
         cell,
         seat,
@@ -263,12 +223,17 @@ where
         first,
         others,
     } = seated;
-    let part = TickPart {
-        far,
-        seat: ticks,
-        alloc,
+    let parts = WatchParts {
+        ticks: TickPart {
+            far,
+            seat: ticks,
+            alloc,
+        },
+        first,
+        others,
     };
-    run_parts(rt, state, &member, part, first, others);
+    let mut wires = NetWires { wires, net };
+    run_parts(rt, state, &member, parts, &mut wires);
 }
 
 /// What the thread of a Sentinel's ticks has: its end of the connections, and its seat.
@@ -334,24 +299,79 @@ impl<J: Which> Seated<J> {
     }
 }
 
-/// Starts the thread of the ticks, and serves the port.
-fn run_parts<'a, M: Sync, T: Ticks<M> + Drop + Send, P: ServesPort<M> + Drop + Send, R>(
-    rt: &'a R,
-    state: &'a WatchState,
-    member: &'a M,
+/// What each thread of a Sentinel has beside that of its connections.
+#[derive(Drop)]
+struct WatchParts<T, P> {
     ticks: T,
     first: P,
     others: Vec<P>,
+}
+
+/// Starts the thread of the ticks, and serves the port.
+fn run_beside<'a, M: Sync, T: Ticks<M> + Drop + Send, P: ServesPort<M> + Drop + Send, R>(
+    rt: &'a R,
+    state: &'a WatchState,
+    member: &'a M,
+    parts: WatchParts<T, P>,
 )
 where
     R: Threads + Wait + Clock + Log + Sync,
 {
+    let WatchParts {
+        ticks,
+        first,
+        others,
+    } = parts;
     thread::scope(thread::scope_env(), rt, |scope| {
         let begun = scope.spawn(move || ticks.tick(rt, state, member));
         if begun.is_err() {
             return end_for_want(&state.run, &state.ending);
         }
         serve_parts(rt, &state.run, member, first, others, &state.ending);
+        state.ending.store(1, Ordering::SeqCst);
+    })
+}
+
+/// The connections of a Sentinel. By this trait `run_parts` knows of them no more than that they run: proofs of what is sent to a thread stay short.
+trait RunsWires {
+    /// Runs them until the threads end. Where the system no longer tells of them, that is noted.
+    fn run<R: Wait + Clock>(&mut self, rt: &R, state: &WatchState);
+}
+
+/// Connections with the handle for their sockets.
+#[derive(Drop)]
+struct NetWires<'n, N: Net> {
+    wires: Wires,
+    net: &'n N,
+}
+
+impl<N: Net> RunsWires for NetWires<'_, N> {
+    fn run<R: Wait + Clock>(&mut self, rt: &R, state: &WatchState) {
+        if let Err(error) = self.wires.run(rt, self.net, state) {
+            note_lost(&state.run, &error);
+        }
+    }
+}
+
+/// Starts the thread of the port, which starts that of the ticks, and runs the connections. When this returns all have ended.
+fn run_parts<'a, M: Sync, T, P, W: RunsWires, R>(
+    rt: &'a R,
+    state: &'a WatchState,
+    member: &'a M,
+    parts: WatchParts<T, P>,
+    wires: &mut W,
+)
+where
+    T: Ticks<M> + Drop + Send,
+    P: ServesPort<M> + Drop + Send,
+    R: Threads + Wait + Clock + Log + Sync,
+{
+    thread::scope(thread::scope_env(), rt, |scope| {
+        let begun = scope.spawn(move || run_beside(rt, state, member, parts));
+        if begun.is_err() {
+            return end_for_want(&state.run, &state.ending);
+        }
+        wires.run(rt, state);
         state.ending.store(1, Ordering::SeqCst);
     })
 }

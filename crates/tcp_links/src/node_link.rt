@@ -1,8 +1,9 @@
 //! A connection of a Sentinel to a node, without its socket.
 
-ghost use Rattle.std.specs.Prelude.{◌≡◌, ◌≢◌, ◌≤◌, ◌<◌, ◌↔◌, ◌++◌, ◌-◌, true, false, Some, None, List, length, drop, OnOk, OnErr};
+ghost use Rattle.std.specs.Prelude.{◌≡◌, ◌≢◌, ◌≤◌, ◌<◌, ◌↔◌, ◌++◌, ◌-◌, ℕ, true, false, Some, None, List, length, drop, OnOk, OnErr};
 ghost use Rattle.std.specs.List.{AllByRecursion};
 ghost use Rattle.ballot_law.specs.declared.events.Event.{Event};
+ghost use Rattle.ballot_law.specs.declared.messages.NodeName.TheVariants.{StoreAt};
 ghost use Rattle.link_sessions.specs.Links.{Receives};
 ghost use Rattle.messages.specs.MessageTexts.{IsWritable};
 ghost use Rattle.tcp_links.specs.declared.schedule.Stage.TheVariants.{Closed, Opening, Open};
@@ -163,6 +164,13 @@ impl NodeLink {
         self.schedule.excuse(now);
     }
 
+    /// Where it is closed, it is to be opened at once: the node ended a connection that had lasted.
+    pub fn forgive(&mut self)
+        ensures { self.new ≡ record self.old { schedule = record self.old.schedule { pause = 0 } } }
+    {
+        self.schedule.forgive();
+    }
+
     /// Takes away the first `n` bytes of what isn't sent yet, which the socket took.
     #[tactic(auto, using(crate::proofs::Keeping::kept_sent))]
     pub fn sent(&mut self, n: usize)
@@ -258,16 +266,27 @@ impl NodeLink {
         Ok(())
     }
 
+    /// Asks for INFO, where it is open, takes messages, and is to a data node: so it is known at once what came of an order. A fault closes it.
+    pub fn look(&mut self, now: u64) -> Result<(), LinkFault>
+        ensures listens { self.old.target.listens ≡ true → self.new ≡ self.old }
+        ensures shut { self.old.schedule.stage ≢ Open → self.new ≡ self.old }
+        ensures asked { OnOk result (self.old.target.listens ≡ false → self.old.schedule.stage ≡ Open
+            → (number : ℕ) → self.old.target.node ≡ StoreAt number → self.new ≡ asked_at now Body.InfoAsk self.old) }
+        ensures err { OnErr result (self.new ≡ closed_at now self.old) }
+        ensures target { self.new.target ≡ self.old.target }
+    {
+        match self.target.node {
+            NodeName::StoreAt(_) if !self.target.listens => self.ask_alone(Body::InfoAsk, now),
+            _ => Ok(()),
+        }
+    }
+
     /// Asks for INFO by itself, where it is open, takes messages, and is to a data node. A fault closes it.
     fn ask_info(&mut self, now: u64) -> Result<(), LinkFault>
         ensures target { self.new.target ≡ self.old.target }
     {
-        if let NodeName::StoreAt(_) = self.target.node {
-            if !self.target.listens {
-                self.ask_alone(Body::InfoAsk, now)?;
-            }
-        }
-        self.schedule.ask_info();
+        self.look(now)?;
+        self.schedule.ask_info(now);
         Ok(())
     }
 

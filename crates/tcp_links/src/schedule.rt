@@ -1,6 +1,6 @@
 //! When a connection is opened, given up, and asked besides what the Sentinel asks.
 
-ghost use Rattle.std.specs.Prelude.{◌≡◌, ◌≤◌, ◌↔◌, ◌⊎◌, ◌+◌, ◌-◌, min, true, false, Some, None, IsTrue};
+ghost use Rattle.std.specs.Prelude.{◌≡◌, ◌≤◌, ◌↔◌, ◌+◌, ◌-◌, ◌/◌, true, false, Some, None, IsTrue};
 ghost use Rattle.tcp_links.specs.declared.schedule.Stage.TheVariants.{Closed, Opening, Open};
 ghost use Rattle.tcp_links.specs.declared.schedule.Stale.TheVariants.{Unreached, Silent, NoHello};
 ghost use Rattle.tcp_links.specs.Schedules.{IsPast, begun, closed};
@@ -17,13 +17,17 @@ pub const NO_HELLO_MS: u64 = 6_000;
 /// The shortest and the longest pause before a connection is opened again, in milliseconds.
 pub const PAUSE_MIN_MS: u64 = 100;
 
-pub const PAUSE_MAX_MS: u64 = 1_000;
+pub const PAUSE_MAX_MS: u64 = 500;
+
+/// For how long a connection has to be open to be opened again at once where its node ends it, in milliseconds: as at CLIENT KILL, after which hellos would be missed.
+pub const LASTING_MS: u64 = 2_000;
 
 /// How long it is between two PINGs that the connection sends by itself, in milliseconds.
 pub const PING_MS: u64 = 250;
 
-/// When INFO is asked again after a connection was opened, in milliseconds: a node whose role is wrong has to say so twice, 8 s apart, before it is told otherwise.
-pub const INFO_AGAIN_MS: u64 = 8_500;
+/// How long it is between two INFOs that the connection asks for by itself, in milliseconds. A replica whose INFO is older than 5 s isn't promoted; and a node whose role is wrong has
+/// to say so twice, 8 s apart, before it is told otherwise, which is after two of these times.
+pub const INFO_MS: u64 = 4_150;
 
 /// Where a connection stands.
 #[derive(Clone, Copy, PartialEq, Eq)]
@@ -48,7 +52,7 @@ pub enum Stale {
 }
 
 /// The times of a connection, readings of one clock in milliseconds: `since` is when its stage began, `quiet` when the silence began that counts, and `pinged` when it
-/// last sent a PING by itself. `pause` is how long it stays closed, and `infos` how often it asked for INFO by itself since it was opened.
+/// last sent a PING by itself. `pause` is how long it stays closed, and `infos` the time, of those between two INFOs since it was opened, at which it is to ask for INFO by itself again.
 #[derive(Clone, Copy)]
 pub struct Schedule {
     pub stage: Stage,
@@ -56,7 +60,7 @@ pub struct Schedule {
     pub quiet: u64,
     pub pause: u64,
     pub pinged: Option<u64>,
-    pub infos: u8,
+    pub infos: u64,
 }
 
 impl Schedule {
@@ -157,6 +161,20 @@ impl Schedule {
             .min(PAUSE_MAX_MS);
     }
 
+    /// The next time it is opened comes at once, where it is closed.
+    pub fn forgive(&mut self)
+        ensures { self.new ≡ record self.old { pause = 0 } }
+    {
+        self.pause = 0;
+    }
+
+    /// Whether it is open, and has been for so long that its node counts as a good one: where such a connection ends, it is opened again at once.
+    pub fn is_lasting(&self, now: u64) -> bool
+        ensures { IsTrue result ↔ ((self.now.stage ≡ Open) × (LASTING_MS ≤ now - self.now.since)) }
+    {
+        self.stage == Stage::Open && now.saturating_sub(self.since) >= LASTING_MS
+    }
+
     /// Whether it is to send a PING by itself now.
     pub fn is_ping_due(&self, now: u64) -> bool
         ensures { IsTrue result ↔ ((self.now.stage ≡ Open) × IsPast PING_MS self.now.pinged now) }
@@ -174,19 +192,19 @@ impl Schedule {
         self.pinged = Some(now);
     }
 
-    /// Whether it is to ask for INFO by itself now: at once, and once more after `INFO_AGAIN_MS`.
+    /// Whether it is to ask for INFO by itself now: at once, and each `INFO_MS` after it was opened.
     pub fn is_info_due(&self, now: u64) -> bool
-        ensures { IsTrue result
-            ↔ ((self.now.stage ≡ Open) × ((self.now.infos ≡ 0) ⊎ ((self.now.infos ≡ 1) × (INFO_AGAIN_MS ≤ now - self.now.since)))) }
+        ensures { IsTrue result ↔ ((self.now.stage ≡ Open) × (self.now.infos ≤ (now - self.now.since) / INFO_MS)) }
     {
-        let again = self.infos == 1 && now.saturating_sub(self.since) >= INFO_AGAIN_MS;
-        self.stage == Stage::Open && (self.infos == 0 || again)
+        let passed = now.saturating_sub(self.since) / INFO_MS;
+        self.stage == Stage::Open && self.infos <= passed
     }
 
-    /// It asked for INFO.
-    pub fn ask_info(&mut self)
-        ensures { self.new ≡ record self.old { infos = min (self.old.infos + 1) 255 } }
+    /// It asked for INFO: it is to ask again once the next `INFO_MS` have passed.
+    pub fn ask_info(&mut self, now: u64)
+        ensures { self.new ≡ record self.old { infos = (now - self.old.since) / INFO_MS + 1 } }
     {
-        self.infos = self.infos.saturating_add(1);
+        let passed = now.saturating_sub(self.since) / INFO_MS;
+        self.infos = passed + 1;
     }
 }

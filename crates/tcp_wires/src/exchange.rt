@@ -21,12 +21,13 @@ use std::time::Duration;
 /// How many events may wait for the Sentinel, and how many messages for the connections; a further one is lost.
 const WAITING_MAX: usize = 4_096;
 
-/// What all threads of a Sentinel of its own share. `turned` is when the connections were looked at last, by the reading of the clock in milliseconds; the threads end where
-/// `ending` isn't 0.
+/// What all threads of a Sentinel of its own share. `turned` is when the connections were looked at last, and `stood` when it was last found that this had not been done for too
+/// long, by readings of the clock in milliseconds; the threads end where `ending` isn't 0.
 #[derive(Drop)]
 pub struct WatchState {
     pub run: RunState,
     pub turned: AtomicU64,
+    pub stood: AtomicU64,
     pub ending: AtomicU64,
 }
 
@@ -84,7 +85,7 @@ impl Model for Hearing {
 
 impl Hearing {
     /// The hearing of this event.
-    fn of(event: Event) -> Hearing
+    pub(crate) fn of(event: Event) -> Hearing
         requires { IsWithinEvent event }
         ensures { result ≡ event }
     {
@@ -92,7 +93,7 @@ impl Hearing {
     }
 
     /// The event.
-    fn into_event(self) -> Event
+    pub(crate) fn into_event(self) -> Event
         ensures within { IsWithinEvent result }
         ensures event { result ≡ self }
     {
@@ -163,6 +164,11 @@ impl FarEnd {
             Ok(hearing) => Some(hearing.into_event()),
             Err(_) => None,
         }
+    }
+
+    /// The allocator of what goes between the two.
+    pub(crate) fn alloc(&self) -> Global {
+        self.alloc
     }
 
     /// The connections as the place where messages go.

@@ -1,6 +1,10 @@
 //! What the thread that ticks a Sentinel does until it ends.
 
-use crate::exchange::{FarEnd, WatchState};
+ghost use Rattle.sentinel_rules.specs.Facts.{IsWithinEvent};
+
+use crate::exchange::{FarEnd, Hearing, WatchState};
+use crate::hello_notes::HelloNotes;
+use ballot_law::{Event, Text};
 use conf_store::ConfStore;
 use group_sentinels::{RunFault, RunningSentinel, ThreadSeat, Ticker, Which, hear};
 use log::Log;
@@ -8,7 +12,7 @@ use std::alloc::Global;
 use std::rt::Clock;
 use std::sync::Wait;
 use std::sync::atomic::Ordering;
-use tcp_links::{Pace, is_gap};
+use tcp_links::{Pace, is_gap, pause_of, turn_of, without_names};
 
 /// How long a Sentinel hears after it or its connections stood still, before it ticks again, in milliseconds.
 const CATCH_UP_MS: u64 = 150;
@@ -16,12 +20,61 @@ const CATCH_UP_MS: u64 = 150;
 /// How many events it hears at once before it looks at its clock.
 const EVENTS_MAX: u32 = 1_024;
 
-/// When a Sentinel ticks, and what its ticks showed. One thread has them, with its end of the connections.
+/// How many events it keeps for later at most.
+const LATER_MAX: usize = 4_096;
+
+/// How long it waits for an event at most before it looks at its clock, in milliseconds.
+const WAIT_MAX_MS: u64 = 100;
+
+/// When a Sentinel ticks, and what its ticks showed. One thread has them, with its end of the connections. `stood_still` is whether it stood still since its last ticks, and `later`
+/// has what it hears only after the next ones, oldest first.
 #[derive(Drop)]
 pub struct Rounds {
     far: FarEnd,
     ticker: Ticker,
     pace: Pace,
+    stood_still: bool,
+    hellos: HelloNotes,
+    later: Vec<Hearing>,
+}
+
+/// Whether what an event tells may be stored: a new configuration.
+fn may_be_stored(event: &Event) -> bool {
+    matches!(event, Event::HelloRead { .. } | Event::InfoRead { .. })
+}
+
+/// The master that another Sentinel finds down, as its answer says.
+fn found_down(event: &Event) -> Option<u16> {
+    match event {
+        Event::Answered {
+            master,
+            down: true,
+            ..
+        } => Some(*master),
+        _ => None,
+    }
+}
+
+/// What was heard, without the name by which a replica may know its master; as it is where there is no memory.
+fn without_name(alloc: Global, event: Event) -> Event
+    requires { IsWithinEvent event }
+    ensures { IsWithinEvent result }
+{
+    match event {
+        Event::InfoRead { node, text } => {
+            let text = match without_names(alloc, text.as_slice()) {
+                Ok(Some(bytes)) => Text::from_vec(bytes),
+                _ => text,
+            };
+            Event::InfoRead { node, text }
+        }
+        event => event,
+    }
+}
+
+/// A number by lot: the part of a second that the clock shows, in nanoseconds.
+fn lot<R: Clock>(rt: &R, state: &WatchState) -> u64 {
+    u64::from(state.run.clock.elapsed(rt).subsec_nanos())
 }
 
 impl Rounds {
@@ -36,46 +89,148 @@ impl Rounds {
             far,
             ticker: Ticker::new(alloc, member),
             pace: Pace::new(now),
+            stood_still: false,
+            hellos: HelloNotes::new(now),
+            later: Vec::new(alloc),
         }
     }
 
-    /// Has the Sentinel take what its connections heard: it waits for the first event so many milliseconds at most, and for no other: whether it goes on.
-    fn hear_all<J: Which, S: ConfStore, R: Wait + Clock + Log>(
-        &self,
+    /// Holds the ticks back where a campaign has come near, until the Sentinel has its turn: that goes by its place, and moves on with each configuration of the master.
+    fn hold<J: Which, S: ConfStore, R: Clock>(
+        &mut self,
         rt: &R,
         state: &WatchState,
         member: &RunningSentinel<J, S>,
         seat: &mut ThreadSeat<J>,
-        millis: u64,
-    ) -> bool {
+    ) {
+        if let Some(number) = seat.take_nearness() {
+            let roster = member.roster();
+            roster.is_made();
+            let turns = (roster.sentinels().len() as u64).max(1);
+            let turn = turn_of(member.place(), number, turns);
+            let pause = pause_of(turn, turns, lot(rt, state));
+            self.pace.hold(state.run.clock.now(rt), pause);
+        }
+    }
+
+    /// Has the Sentinel take an event: whether it goes on. An answer may bring a campaign near.
+    fn hear_one<J: Which, S: ConfStore, R: Wait + Clock + Log>(
+        &mut self,
+        rt: &R,
+        state: &WatchState,
+        member: &RunningSentinel<J, S>,
+        seat: &mut ThreadSeat<J>,
+        event: Event,
+    ) -> bool
+        requires { IsWithinEvent event }
+    {
+        if let Some(master) = found_down(&event) {
+            seat.look_ahead(master, self.pace.tick_due);
+        }
+        if let Event::HelloRead { text } = &event {
+            let now = state.run.clock.now(rt);
+            self.hellos.hear(
+                &member.noting(rt),
+                member.roster(),
+                member.place(),
+                now,
+                text,
+            );
+        }
+        let event = without_name(self.far.alloc(), event);
         let mut outlet = self.far.outlet(rt);
-        let mut wait = millis;
-        for _ in 0..EVENTS_MAX {
-            let Some(event) = self.far.next(rt, wait) else {
-                return true;
-            };
-            wait = 0;
-            if !hear(rt, &state.run, member, seat, &mut outlet, event) {
+        let goes_on = hear(rt, &state.run, member, seat, &mut outlet, event);
+        self.hold(rt, state, member, seat);
+        goes_on
+    }
+
+    /// Has the Sentinel take an event, or keeps it for later, where ticks are late and it may be stored: whether it goes on. It is lost where too many are kept.
+    fn hear_or_keep<J: Which, S: ConfStore, R: Wait + Clock + Log>(
+        &mut self,
+        rt: &R,
+        state: &WatchState,
+        member: &RunningSentinel<J, S>,
+        seat: &mut ThreadSeat<J>,
+        event: Event,
+    ) -> bool
+        requires { IsWithinEvent event }
+    {
+        if may_be_stored(&event) && self.pace.is_late(state.run.clock.now(rt)) {
+            if self.later.len() < LATER_MAX {
+                drop(self.later.push(Hearing::of(event)));
+            }
+            return true;
+        }
+        self.hear_one(rt, state, member, seat, event)
+    }
+
+    /// Has the Sentinel take what it kept for later, until ticks are late: whether it goes on.
+    fn hear_kept<J: Which, S: ConfStore, R: Wait + Clock + Log>(
+        &mut self,
+        rt: &R,
+        state: &WatchState,
+        member: &RunningSentinel<J, S>,
+        seat: &mut ThreadSeat<J>,
+    ) -> bool {
+        while !self.later.is_empty() && !self.pace.is_late(state.run.clock.now(rt)) {
+            let event = self.later.remove(0).into_event();
+            if !self.hear_one(rt, state, member, seat, event) {
                 return false;
             }
         }
         true
     }
 
-    /// Hears until this reading of the clock: whether it goes on.
-    fn hear_until<J: Which, S: ConfStore, R: Wait + Clock + Log>(
-        &self,
+    /// Has the Sentinel take what its connections heard: it waits for the first event so many milliseconds at most, and for no other: whether it goes on.
+    fn hear_all<J: Which, S: ConfStore, R: Wait + Clock + Log>(
+        &mut self,
         rt: &R,
         state: &WatchState,
         member: &RunningSentinel<J, S>,
         seat: &mut ThreadSeat<J>,
-        until: u64,
+        millis: u64,
     ) -> bool {
-        for _ in 0..u64::MAX {
-            let left = until.saturating_sub(state.run.clock.now(rt));
-            if !self.hear_all(rt, state, member, seat, left) {
+        if !self.hear_kept(rt, state, member, seat) {
+            return false;
+        }
+        let mut wait = millis;
+        for _ in 0..EVENTS_MAX {
+            let Some(event) = self.far.next(rt, wait) else {
+                return true;
+            };
+            wait = 0;
+            if !self.hear_or_keep(rt, state, member, seat, event) {
                 return false;
             }
+        }
+        true
+    }
+
+    /// A turn ended: whether the connections, or all of the program, stood still before it is kept. A long store alone is no such time: what was heard meanwhile waits, and is heard
+    /// before the ticks.
+    fn end_turn<R: Clock>(&mut self, rt: &R, state: &WatchState) {
+        let now = state.run.clock.now(rt);
+        let turned = state.turned.load(Ordering::SeqCst);
+        let stood = state.stood.load(Ordering::SeqCst);
+        let both = self.pace.stood_still(now) && self.pace.turned <= stood;
+        self.stood_still |= both || is_gap(turned, now);
+        self.pace.turn(now);
+    }
+
+    /// Hears until the ticks are due, which may come to be later meanwhile: whether it goes on.
+    fn hear_until_due<J: Which, S: ConfStore, R: Wait + Clock + Log>(
+        &mut self,
+        rt: &R,
+        state: &WatchState,
+        member: &RunningSentinel<J, S>,
+        seat: &mut ThreadSeat<J>,
+    ) -> bool {
+        for _ in 0..u64::MAX {
+            let left = self.pace.until_tick(state.run.clock.now(rt));
+            if !self.hear_all(rt, state, member, seat, left.min(WAIT_MAX_MS)) {
+                return false;
+            }
+            self.end_turn(rt, state);
             if left == 0 {
                 return true;
             }
@@ -83,11 +238,25 @@ impl Rounds {
         true
     }
 
-    /// Whether the Sentinel or its connections stood still.
-    fn stood_still<R: Clock>(&self, rt: &R, state: &WatchState) -> bool {
+    /// Ticks each master, and plans the next ticks: whether the Sentinel goes on.
+    fn tick<J: Which, S: ConfStore, R: Wait + Clock + Log>(
+        &mut self,
+        rt: &R,
+        state: &WatchState,
+        member: &RunningSentinel<J, S>,
+        seat: &mut ThreadSeat<J>,
+    ) -> bool {
+        let mut outlet = self.far.outlet(rt);
+        let goes_on = self
+            .ticker
+            .tick_all(rt, &state.run, member, seat, &mut outlet);
+        self.stood_still = false;
+        self.pace.plan_tick(state.run.clock.now(rt), lot(rt, state));
+        self.hold(rt, state, member, seat);
         let now = state.run.clock.now(rt);
-        let turned = state.turned.load(Ordering::SeqCst);
-        self.pace.stood_still(now) || is_gap(turned, now)
+        self.pace.turn(now);
+        self.hellos.look(&member.noting(rt), member.roster(), now);
+        goes_on
     }
 
     /// Hears until the next ticks are due, and ticks each master: whether the Sentinel goes on. Where it or its connections stood still, it hears what was asked anew
@@ -99,27 +268,16 @@ impl Rounds {
         member: &RunningSentinel<J, S>,
         seat: &mut ThreadSeat<J>,
     ) -> bool {
-        if !self.hear_until(rt, state, member, seat, self.pace.tick_due) {
+        if !self.hear_until_due(rt, state, member, seat) {
             return false;
         }
-        if self.stood_still(rt, state) {
-            let until = state.run.clock.now(rt).saturating_add(CATCH_UP_MS);
-            if !self.hear_until(rt, state, member, seat, until) {
+        if self.stood_still {
+            self.pace.tick_due = state.run.clock.now(rt).saturating_add(CATCH_UP_MS);
+            if !self.hear_until_due(rt, state, member, seat) {
                 return false;
             }
         }
-        let mut outlet = self.far.outlet(rt);
-        if !self
-            .ticker
-            .tick_all(rt, &state.run, member, seat, &mut outlet)
-        {
-            return false;
-        }
-        let lot = u64::from(state.run.clock.elapsed(rt).subsec_nanos());
-        let now = state.run.clock.now(rt);
-        self.pace.plan_tick(now, lot);
-        self.pace.turn(now);
-        true
+        self.tick(rt, state, member, seat)
     }
 
     /// Has the Sentinel take what its connections hear, and ticks each master 50 to 100 ms after its last tick, until the threads end or the Sentinel is halted, by

@@ -7,24 +7,34 @@ ghost use Rattle.sentinel_rules.specs.Facts.{IsWithinEvent};
 
 use crate::exchange::NearEnd;
 use crate::traffic::{hear, send};
-use ballot_law::{Addr, Event, Message, NodeName};
+use ballot_law::{Addr, Body, Event, Message, NodeName};
+use log::{Log, warn};
 use mio::net::TcpStream;
 use mio::{Interest, Registry, Token};
 use std::alloc::Global;
 use std::io::ErrorKind;
 use std::net::{Ipv4Addr, Net, SocketAddr};
 use std::sync::Wait;
-use tcp_links::{Login, NodeLink, Stage, Target};
+use tcp_links::{FLOW_MS, Flow, Login, NodeLink, Stage, Target, is_refusal};
 
 /// How many reads a connection makes before the next one has its turn.
 const READS_MAX: u32 = 16;
 
-/// A connection to a node, with its socket where it is open or being opened. `goes_on` is whether it may have more to read.
+/// How long it is from an order to follow a master, or none, to the question what came of it, in milliseconds. The node's clients are sent away by that order, other Sentinels among
+/// them, and what comes of it is told by a hello: so they have as long to listen again.
+const LOOK_MS: u64 = 100;
+
+/// A connection to a node, with its socket where it is open or being opened. `goes_on` is whether it may have more to read, `is_refused` whether the node refused who asks
+/// when it was heard last, `look_at` when it is to be asked what came of an order, and `shut_until` until when it stays closed, since too much came on it.
 #[derive(Drop)]
 pub(crate) struct Wire {
     link: NodeLink,
     stream: Option<TcpStream>,
     goes_on: bool,
+    is_refused: bool,
+    look_at: Option<u64>,
+    flow: Flow,
+    shut_until: u64,
     alloc: Global,
 }
 
@@ -70,6 +80,10 @@ impl Wire {
             link: NodeLink::new(alloc, target),
             stream: None,
             goes_on: false,
+            is_refused: false,
+            look_at: None,
+            flow: Flow::new(),
+            shut_until: 0,
             alloc,
         }
     }
@@ -87,6 +101,11 @@ impl Wire {
     {
         let target = self.link.target();
         target.node == node && !target.listens
+    }
+
+    /// Whether it is to be opened now.
+    pub(crate) fn is_due(&self, now: u64) -> bool {
+        self.shut_until <= now && self.link.schedule().is_due(now)
     }
 
     /// Whether it may have more to read.
@@ -133,7 +152,7 @@ impl Wire {
             self.link.close(now);
             self.settle();
         }
-        if self.link.schedule().is_due(now) {
+        if self.is_due(now) {
             self.open(net, registry, token, login, now);
         }
         self.ask_due(now);
@@ -142,6 +161,12 @@ impl Wire {
     /// Asks what it asks by itself, and sends what it can. A fault has closed it.
     fn ask_due(&mut self, now: u64) {
         let _ = self.link.ask_due(now);
+        if let Some(at) = self.look_at {
+            if at <= now {
+                let _ = self.link.look(now);
+                self.look_at = None;
+            }
+        }
         self.send_out(now);
     }
 
@@ -152,12 +177,16 @@ impl Wire {
         self.send_out(now);
     }
 
-    /// Puts out a message where it is open, and sends what it can; else the message is lost. A fault has closed it.
+    /// Puts out a message where it is open, and sends what it can; else the message is lost. What came of an order to follow a master, or none, is asked soon. A fault
+    /// has closed it.
     pub(crate) fn ask(&mut self, message: &Message, now: u64)
         requires writable { IsWritable message.now.body }
         requires target { (self.old.link.target.node ≡ message.now.target) × (self.old.link.target.listens ≡ false) }
     {
         let _ = self.link.ask(message, now);
+        if let Body::ReplicaOf(_) = message.body {
+            self.look_at = Some(now.saturating_add(LOOK_MS));
+        }
         self.send_out(now);
     }
 
@@ -175,9 +204,23 @@ impl Wire {
         self.settle();
     }
 
-    /// Reads one piece, and hands on what it tells; the error says why none was taken.
+    /// Notes that the node refuses who asks, where it didn't before, by the piece that came.
+    fn note_refusal<R: Log>(&mut self, rt: &R, piece: &[u8]) {
+        let is_refused = is_refusal(piece);
+        if is_refused && !self.is_refused {
+            let addr = self.link.target().addr;
+            let (ip, port) = (Ipv4Addr::from(addr.ip), addr.port);
+            warn!(rt;
+                "{ip}:{port} refuses this Sentinel: see its password and user (`sentinel auth-pass`, `sentinel auth-user`), and what that user may do"
+            );
+        }
+        self.is_refused = is_refused;
+    }
+
+    /// Reads one piece, and hands on what it tells; the error says why none was taken, or that more comes than a node has to say: then the connection is shut for a second, so that
+    /// what other nodes say isn't lost beside it.
     #[tactic(auto, using(crate::proofs::Hearing::all_within_told))]
-    fn read_once<R: Wait>(
+    fn read_once<R: Wait + Log>(
         &mut self,
         rt: &R,
         near: &NearEnd,
@@ -189,12 +232,26 @@ impl Wire {
         };
         let mut events = Vec::new(self.alloc);
         let heard = hear(&mut self.link, stream, room, now, &mut events);
+        let is_flooded = self.flow.add(now, events.len() as u64);
         hand_on_all(rt, near, events);
+        if is_flooded {
+            self.shut_until = now.saturating_add(FLOW_MS);
+            return Err(ErrorKind::InvalidData);
+        }
+        if heard.is_ok() {
+            self.note_refusal(rt, room);
+        }
         heard
     }
 
     /// Reads what came, and hands on what that tells: whether the socket is whole. After many reads the next connection has its turn.
-    fn read_in<R: Wait>(&mut self, rt: &R, near: &NearEnd, room: &mut [u8], now: u64) -> bool {
+    fn read_in<R: Wait + Log>(
+        &mut self,
+        rt: &R,
+        near: &NearEnd,
+        room: &mut [u8],
+        now: u64,
+    ) -> bool {
         self.goes_on = false;
         for _ in 0..READS_MAX {
             match self.read_once(rt, near, room, now) {
@@ -220,10 +277,21 @@ impl Wire {
         self.link.schedule().is_open()
     }
 
-    /// Goes on once the system has told of it: reads what came, hands on what that tells, and sends what is unsent and due.
-    pub(crate) fn serve<R: Wait>(&mut self, rt: &R, near: &NearEnd, room: &mut [u8], now: u64) {
+    /// Goes on once the system has told of it: reads what came, hands on what that tells, and sends what is unsent and due. Where the node ends a connection that had lasted,
+    /// it is to be opened again at once.
+    pub(crate) fn serve<R: Wait + Log>(
+        &mut self,
+        rt: &R,
+        near: &NearEnd,
+        room: &mut [u8],
+        now: u64,
+    ) {
+        let is_lasting = self.link.schedule().is_lasting(now);
         if self.has_reached(now) && !self.read_in(rt, near, room, now) {
             self.link.close(now);
+            if is_lasting {
+                self.link.forgive();
+            }
         }
         self.ask_due(now);
     }

@@ -6,6 +6,7 @@ use crate::traffic::PIECE;
 use crate::wire::Wire;
 use ballot_law::{NodeName, Roster};
 use group_sentinels::RunFault;
+use log::Log;
 use mio::{Events, Poll, Token};
 use std::alloc::{AllocError, Global};
 use std::io::{self, ErrorKind};
@@ -50,13 +51,13 @@ fn wires_of(alloc: Global, roster: &Roster, own: u16) -> Result<Vec<Option<Wire>
     Ok(wires)
 }
 
-/// The login of a node: that of its master's nodes; a Sentinel wants none.
+/// The login of a node: that of its master's nodes, or that of all other Sentinels.
 fn login_of<'a>(roster: &Roster, logins: &'a Logins, node: NodeName) -> Login<'a> {
     let NodeName::StoreAt(number) = node else {
-        return Login::Without;
+        return logins.of_sentinels();
     };
     match roster.node_numbered(number) {
-        Some(at) => logins.of(at.master),
+        Some(at) => logins.of_master(at.master),
         None => Login::Without,
     }
 }
@@ -107,6 +108,11 @@ impl Wires {
         self.wires.iter().flatten().any(|wire| wire.goes_on())
     }
 
+    /// Whether a connection is to be opened now.
+    fn is_due(&self, now: u64) -> bool {
+        self.wires.iter().flatten().any(|wire| wire.is_due(now))
+    }
+
     /// Waits until the system tells of a connection, or so many milliseconds; not at all where one may have more to read. The error is the system's, where it tells of no
     /// connection any more.
     fn wait(&mut self, millis: u64) -> io::Result<()> {
@@ -127,14 +133,14 @@ impl Wires {
     }
 
     /// Serves the connection at this place, at this reading of the clock.
-    fn serve<R: Wait>(&mut self, rt: &R, place: usize, now: u64) {
+    fn serve<R: Wait + Log>(&mut self, rt: &R, place: usize, now: u64) {
         if let Some(Some(wire)) = self.wires.get_mut(place) {
             wire.serve(rt, &self.near, self.room.as_mut_slice(), now);
         }
     }
 
     /// Serves the connections that may have more to read.
-    fn serve_busy<R: Wait>(&mut self, rt: &R, now: u64) {
+    fn serve_busy<R: Wait + Log>(&mut self, rt: &R, now: u64) {
         for wire in self.wires.iter_mut().flatten() {
             if wire.goes_on() {
                 wire.serve(rt, &self.near, self.room.as_mut_slice(), now);
@@ -152,7 +158,7 @@ impl Wires {
     }
 
     /// Serves the connections of which the last wait told, at this reading of the clock. The error is a refused allocation.
-    fn serve_told<R: Wait>(&mut self, rt: &R, now: u64) -> io::Result<()> {
+    fn serve_told<R: Wait + Log>(&mut self, rt: &R, now: u64) -> io::Result<()> {
         self.serve_busy(rt, now);
         for place in self.places_told()? {
             self.serve(rt, place, now);
@@ -185,7 +191,7 @@ impl Wires {
     }
 
     /// One turn: hears until a message is to go out or the connections are to be kept, and does that.
-    fn turn<R: Wait + Clock, N: Net>(
+    fn turn<R: Wait + Clock + Log, N: Net>(
         &mut self,
         rt: &R,
         net: &N,
@@ -196,10 +202,11 @@ impl Wires {
         self.serve_told(rt, state.run.clock.now(rt))?;
         let now = state.run.clock.now(rt);
         if pace.stood_still(now) {
+            state.stood.store(now, Ordering::SeqCst);
             self.ask_all_anew(now);
         }
         self.put_out_all(rt, now);
-        if pace.until_tick(now) == 0 {
+        if pace.until_tick(now) == 0 || self.is_due(now) {
             self.keep_all(net, now);
             pace.tick_due = now.saturating_add(KEEP_MS);
         }
@@ -210,7 +217,7 @@ impl Wires {
 
     /// Keeps the connections, hands on what they hear and puts out what is to go out, until the threads end or the Sentinel is halted. The error is the system's, where
     /// it tells of no connection any more, or a refused allocation.
-    pub fn run<R: Wait + Clock, N: Net>(
+    pub fn run<R: Wait + Clock + Log, N: Net>(
         &mut self,
         rt: &R,
         net: &N,

@@ -1,0 +1,5 @@
+pub mod Bytes
+pub mod Fitting
+pub mod Listed
+pub mod Shorter
+pub mod Sounding

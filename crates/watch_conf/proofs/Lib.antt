@@ -1,0 +1,3 @@
+pub mod QuoteLemmas
+pub mod LineLemmas
+pub mod WholeLines

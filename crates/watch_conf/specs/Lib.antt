@@ -1,0 +1,5 @@
+pub mod Quotes
+pub mod Binds
+pub mod WatchLines
+pub mod WatchConfs
+pub mod RedisTexts

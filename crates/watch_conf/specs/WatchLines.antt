@@ -1,0 +1,137 @@
+-- What a line says that counts for `watch` alone.
+use Rattle.std.specs.Prelude.{ℕ, Bool, true, false, List, [], ◌∷◌, Option, Some, None, min, bytes_eq, codes}
+use Rattle.ballot_law.specs.Orders.{same_bytes}
+use Rattle.ballot_law.specs.Words.{some_if, name, number_within, lower}
+use Rattle.watch_conf.specs.declared.faults.WatchKind.{WatchKind}
+use Rattle.watch_conf.specs.declared.faults.WatchKind.TheVariants.{BadDirective, BadName, BadNumber, BadBind, BadYesNo, BadQuotes, NamesOfHosts}
+use Rattle.watch_conf.specs.declared.settings.Setting.{Setting}
+use Rattle.watch_conf.specs.declared.settings.Setting.TheVariants.{Bind, NodePass, NodeUser, OwnPass, PeerPass, PeerUser, MaxClients, ProtectedMode}
+use Rattle.watch_conf.specs.declared.settings.TheConstants.{CLIENTS_MAX}
+use Rattle.watch_conf.specs.declared.settings.WatchLine.{WatchLine}
+use Rattle.watch_conf.specs.declared.settings.WatchLine.TheVariants as line
+use Rattle.watch_conf.specs.Quotes.{is_comment, redis_words}
+use Rattle.watch_conf.specs.Binds.{bound}
+
+abbrev pub given_or : {X : Type 0} → WatchKind → Option X → (X → WatchLine) → WatchLine
+given_or kind None f = line.Faulty kind
+given_or kind (Some x) f = f x
+
+-- a directive that wants so many words
+abbrev pub one : (List ℕ → WatchLine) → List (List ℕ) → WatchLine
+one f (a ∷ []) = f a
+one f _ = line.Faulty BadDirective
+
+abbrev pub two : (List ℕ → List ℕ → WatchLine) → List (List ℕ) → WatchLine
+two f (a ∷ b ∷ []) = f a b
+two f _ = line.Faulty BadDirective
+
+-- yes or no, in whatever case
+abbrev pub yes_or_no : List ℕ → Option Bool
+yes_or_no word =
+    elim (bytes_eq (lower word) (codes "yes")) as (λ _. Option Bool) [
+      | true ↦ Some true
+      | false ↦ elim (bytes_eq (lower word) (codes "no")) as (λ _. Option Bool) [ true ↦ Some false | false ↦ None ]
+    ]
+
+-- the lines of each directive, from the words after it
+abbrev pub bind_line : List (List ℕ) → WatchLine
+bind_line args = given_or BadBind (bound args) (λ ips. line.Says (Bind ips))
+
+abbrev pub node_pass_line : List (List ℕ) → WatchLine
+node_pass_line = two (λ n pass. given_or BadName (name n) (λ name. line.Says (NodePass name pass)))
+
+abbrev pub node_user_line : List (List ℕ) → WatchLine
+node_user_line = two (λ n user. given_or BadName (name n) (λ name. line.Says (NodeUser name user)))
+
+abbrev pub own_pass_line : List (List ℕ) → WatchLine
+own_pass_line = one (λ pass. line.Says (OwnPass pass))
+
+abbrev pub peer_pass_line : List (List ℕ) → WatchLine
+peer_pass_line = one (λ pass. line.Says (PeerPass pass))
+
+abbrev pub peer_user_line : List (List ℕ) → WatchLine
+peer_user_line = one (λ user. line.Says (PeerUser user))
+
+-- more connections than a port keeps are as many as it keeps
+abbrev pub max_clients_line : List (List ℕ) → WatchLine
+max_clients_line = one (λ n. given_or BadNumber (number_within 1 4294967295 n) (λ count. line.Says (MaxClients (min count CLIENTS_MAX))))
+
+abbrev pub protected_line : List (List ℕ) → WatchLine
+protected_line = one (λ w. given_or BadYesNo (yes_or_no w) (λ on. line.Says (ProtectedMode on)))
+
+-- names of hosts aren't resolved
+abbrev pub resolved : Bool → WatchLine
+resolved true = line.Faulty NamesOfHosts
+resolved false = line.Other
+
+abbrev pub resolve_line : List (List ℕ) → WatchLine
+resolve_line = one (λ w. given_or BadYesNo (yes_or_no w) resolved)
+
+-- the directive of this name, with the words after it, or else what comes next
+abbrev pub first_named : List ℕ → List (List ℕ × (List (List ℕ) → WatchLine)) → List (List ℕ) → WatchLine
+first_named word [] args = line.Other
+first_named word (directive ∷ directives) args =
+    elim (bytes_eq (lower word) directive.0) [ true ↦ directive.1 args | false ↦ first_named word directives args ]
+
+abbrev pub sentinel_directives : List (List ℕ × (List (List ℕ) → WatchLine))
+sentinel_directives =
+    (codes "auth-pass", node_pass_line)
+    ∷ (codes "auth-user", node_user_line)
+    ∷ (codes "sentinel-pass", peer_pass_line)
+    ∷ (codes "sentinel-user", peer_user_line)
+    ∷ (codes "resolve-hostnames", resolve_line)
+    ∷ []
+
+abbrev pub sentinel_line : List (List ℕ) → WatchLine
+sentinel_line [] = line.Other
+sentinel_line (word ∷ args) = first_named word sentinel_directives args
+
+abbrev pub first_directives : List (List ℕ × (List (List ℕ) → WatchLine))
+first_directives =
+    (codes "sentinel", sentinel_line)
+    ∷ (codes "bind", bind_line)
+    ∷ (codes "requirepass", own_pass_line)
+    ∷ (codes "maxclients", max_clients_line)
+    ∷ (codes "protected-mode", protected_line)
+    ∷ []
+
+abbrev pub line_of_words : List (List ℕ) → WatchLine
+line_of_words [] = line.Other
+line_of_words (word ∷ args) = first_named word first_directives args
+
+-- a comment says nothing, whatever quotes stand in it; any other line whose quotes are wrong is faulty, as Redis has it
+abbrev pub watch_line : List ℕ → WatchLine
+watch_line text = elim (is_comment text) as (λ _. WatchLine) [ true ↦ line.Other | false ↦ given_or BadQuotes (redis_words text) line_of_words ]
+
+-- what a setting gives, where it gives anything of the kind
+abbrev pub ips_of : Setting → Option (List ℕ)
+ips_of (Bind ips) = Some ips
+ips_of _ = None
+
+abbrev pub node_pass_of : List ℕ → Setting → Option (List ℕ)
+node_pass_of name (NodePass other pass) = some_if (same_bytes name other) pass
+node_pass_of name _ = None
+
+abbrev pub node_user_of : List ℕ → Setting → Option (List ℕ)
+node_user_of name (NodeUser other user) = some_if (same_bytes name other) user
+node_user_of name _ = None
+
+abbrev pub own_pass_of : Setting → Option (List ℕ)
+own_pass_of (OwnPass pass) = Some pass
+own_pass_of _ = None
+
+abbrev pub peer_pass_of : Setting → Option (List ℕ)
+peer_pass_of (PeerPass pass) = Some pass
+peer_pass_of _ = None
+
+abbrev pub peer_user_of : Setting → Option (List ℕ)
+peer_user_of (PeerUser user) = Some user
+peer_user_of _ = None
+
+abbrev pub clients_of : Setting → Option ℕ
+clients_of (MaxClients count) = Some count
+clients_of _ = None
+
+abbrev pub protected_of : Setting → Option Bool
+protected_of (ProtectedMode on) = Some on
+protected_of _ = None

@@ -1,0 +1,237 @@
+//! What a line says, by its directive.
+
+ghost use Rattle.std.specs.Prelude.{◌≡◌, IfOk, bytes_eq};
+ghost use Rattle.ballot_law.specs.Words.{lower};
+ghost use Rattle.watch_conf.specs.WatchLines.{yes_or_no, bind_line, node_pass_line, node_user_line, own_pass_line, peer_pass_line, peer_user_line, max_clients_line, protected_line, resolved, resolve_line, first_named, sentinel_directives, sentinel_line, first_directives, line_of_words, watch_line};
+
+use crate::binds::bound;
+use crate::faults::WatchKind;
+use crate::quotes::{is_comment, redis_words};
+use crate::settings::{CLIENTS_MAX, Setting, WatchLine};
+use ballot_law::{Name, NoMemory, Text};
+use std::alloc::Global;
+use words::number_of;
+
+/// The greatest number of clients that a Redis takes.
+const COUNT_MAX: u64 = 4_294_967_295;
+
+/// Whether the word is this name, but for the case of its ASCII letters.
+fn is_named(word: &Text, name: &[u8]) -> bool
+    ensures { result ≡ bytes_eq (lower word.now) (lower name.now) }
+{
+    word.as_slice().eq_ignore_ascii_case(name)
+}
+
+/// A copy of a word.
+fn copy_of(alloc: Global, word: &Text) -> Result<Text, NoMemory>
+    ensures { IfOk result (λ copy. copy ≡ word.now) }
+{
+    Text::from_slice(alloc, word.as_slice())
+}
+
+/// `yes` or `no`, in whatever case.
+fn yes_or_no(word: &Text) -> Option<bool>
+    ensures { result ≡ yes_or_no word.now }
+{
+    if is_named(word, b"yes") {
+        return Some(true);
+    }
+    if is_named(word, b"no") {
+        return Some(false);
+    }
+    None
+}
+
+/// `bind <ip>..`.
+fn bind_line(alloc: Global, args: &[Text]) -> Result<WatchLine, NoMemory>
+    ensures { IfOk result (λ line. line ≡ bind_line args.now) }
+{
+    match bound(alloc, args)? {
+        Some(ips) => Ok(WatchLine::Says(Setting::Bind(ips))),
+        None => Ok(WatchLine::Faulty(WatchKind::BadBind)),
+    }
+}
+
+/// `sentinel auth-pass <name> <password>`.
+#[tactic(auto, using(ballot_law::specs::NameWords::name_is, ballot_law::specs::NameWords::name_not))]
+fn node_pass_line(alloc: Global, args: &[Text]) -> Result<WatchLine, NoMemory>
+    ensures { IfOk result (λ line. line ≡ node_pass_line args.now) }
+{
+    let [name, pass] = args else {
+        return Ok(WatchLine::Faulty(WatchKind::BadDirective));
+    };
+    let Some(name) = Name::from_slice(name.as_slice()) else {
+        return Ok(WatchLine::Faulty(WatchKind::BadName));
+    };
+    let pass = copy_of(alloc, pass)?;
+    Ok(WatchLine::Says(Setting::NodePass { name, pass }))
+}
+
+/// `sentinel auth-user <name> <user>`.
+#[tactic(auto, using(ballot_law::specs::NameWords::name_is, ballot_law::specs::NameWords::name_not))]
+fn node_user_line(alloc: Global, args: &[Text]) -> Result<WatchLine, NoMemory>
+    ensures { IfOk result (λ line. line ≡ node_user_line args.now) }
+{
+    let [name, user] = args else {
+        return Ok(WatchLine::Faulty(WatchKind::BadDirective));
+    };
+    let Some(name) = Name::from_slice(name.as_slice()) else {
+        return Ok(WatchLine::Faulty(WatchKind::BadName));
+    };
+    let user = copy_of(alloc, user)?;
+    Ok(WatchLine::Says(Setting::NodeUser { name, user }))
+}
+
+/// `requirepass <password>`.
+fn own_pass_line(alloc: Global, args: &[Text]) -> Result<WatchLine, NoMemory>
+    ensures { IfOk result (λ line. line ≡ own_pass_line args.now) }
+{
+    let [pass] = args else {
+        return Ok(WatchLine::Faulty(WatchKind::BadDirective));
+    };
+    let pass = copy_of(alloc, pass)?;
+    Ok(WatchLine::Says(Setting::OwnPass(pass)))
+}
+
+/// `sentinel sentinel-pass <password>`.
+fn peer_pass_line(alloc: Global, args: &[Text]) -> Result<WatchLine, NoMemory>
+    ensures { IfOk result (λ line. line ≡ peer_pass_line args.now) }
+{
+    let [pass] = args else {
+        return Ok(WatchLine::Faulty(WatchKind::BadDirective));
+    };
+    let pass = copy_of(alloc, pass)?;
+    Ok(WatchLine::Says(Setting::PeerPass(pass)))
+}
+
+/// `sentinel sentinel-user <user>`.
+fn peer_user_line(alloc: Global, args: &[Text]) -> Result<WatchLine, NoMemory>
+    ensures { IfOk result (λ line. line ≡ peer_user_line args.now) }
+{
+    let [user] = args else {
+        return Ok(WatchLine::Faulty(WatchKind::BadDirective));
+    };
+    let user = copy_of(alloc, user)?;
+    Ok(WatchLine::Says(Setting::PeerUser(user)))
+}
+
+/// `maxclients <number>`.
+fn max_clients_line(args: &[Text]) -> WatchLine
+    ensures { result ≡ max_clients_line args.now }
+{
+    let [count] = args else {
+        return WatchLine::Faulty(WatchKind::BadDirective);
+    };
+    match number_of(count.as_slice(), 1, COUNT_MAX) {
+        Some(count) => {
+            let count = count.min(u64::from(CLIENTS_MAX));
+            WatchLine::Says(Setting::MaxClients(count as u16))
+        }
+        None => WatchLine::Faulty(WatchKind::BadNumber),
+    }
+}
+
+/// `protected-mode yes` or `no`.
+fn protected_line(args: &[Text]) -> WatchLine
+    ensures { result ≡ protected_line args.now }
+{
+    let [word] = args else {
+        return WatchLine::Faulty(WatchKind::BadDirective);
+    };
+    match yes_or_no(word) {
+        Some(yes) => WatchLine::Says(Setting::ProtectedMode(yes)),
+        None => WatchLine::Faulty(WatchKind::BadYesNo),
+    }
+}
+
+/// `sentinel resolve-hostnames yes` or `no`.
+fn resolve_line(args: &[Text]) -> WatchLine
+    ensures { result ≡ resolve_line args.now }
+{
+    let [word] = args else {
+        return WatchLine::Faulty(WatchKind::BadDirective);
+    };
+    match yes_or_no(word) {
+        Some(true) => WatchLine::Faulty(WatchKind::NamesOfHosts),
+        Some(false) => WatchLine::Other,
+        None => WatchLine::Faulty(WatchKind::BadYesNo),
+    }
+}
+
+/// The line of a `sentinel` directive of this name.
+fn sentinel_named(alloc: Global, name: &Text, args: &[Text]) -> Result<WatchLine, NoMemory>
+    ensures { IfOk result (λ line. line ≡ first_named name.now sentinel_directives args.now) }
+{
+    if is_named(name, b"auth-pass") {
+        return node_pass_line(alloc, args);
+    }
+    if is_named(name, b"auth-user") {
+        return node_user_line(alloc, args);
+    }
+    if is_named(name, b"sentinel-pass") {
+        return peer_pass_line(alloc, args);
+    }
+    if is_named(name, b"sentinel-user") {
+        return peer_user_line(alloc, args);
+    }
+    if is_named(name, b"resolve-hostnames") {
+        return Ok(resolve_line(args));
+    }
+    Ok(WatchLine::Other)
+}
+
+/// The line whose first word is `sentinel`, by the words after it.
+fn sentinel_line(alloc: Global, words: &[Text]) -> Result<WatchLine, NoMemory>
+    ensures { IfOk result (λ line. line ≡ sentinel_line words.now) }
+{
+    match words.split_first() {
+        Some((name, args)) => sentinel_named(alloc, name, args),
+        None => Ok(WatchLine::Other),
+    }
+}
+
+/// The line of a directive of this name.
+fn first_named(alloc: Global, name: &Text, args: &[Text]) -> Result<WatchLine, NoMemory>
+    ensures { IfOk result (λ line. line ≡ first_named name.now first_directives args.now) }
+{
+    if is_named(name, b"sentinel") {
+        return sentinel_line(alloc, args);
+    }
+    if is_named(name, b"bind") {
+        return bind_line(alloc, args);
+    }
+    if is_named(name, b"requirepass") {
+        return own_pass_line(alloc, args);
+    }
+    if is_named(name, b"maxclients") {
+        return Ok(max_clients_line(args));
+    }
+    if is_named(name, b"protected-mode") {
+        return Ok(protected_line(args));
+    }
+    Ok(WatchLine::Other)
+}
+
+/// The line with these words.
+fn line_of_words(alloc: Global, words: &[Text]) -> Result<WatchLine, NoMemory>
+    ensures { IfOk result (λ line. line ≡ line_of_words words.now) }
+{
+    match words.split_first() {
+        Some((name, args)) => first_named(alloc, name, args),
+        None => Ok(WatchLine::Other),
+    }
+}
+
+/// What a line says to `watch`. The name of a directive may be quoted, and the case of its ASCII letters doesn't matter. NoMemory: memory was
+/// refused.
+pub fn line_of(alloc: Global, text: &[u8]) -> Result<WatchLine, NoMemory>
+    ensures { IfOk result (λ line. line ≡ watch_line text.now) }
+{
+    if is_comment(text) {
+        return Ok(WatchLine::Other);
+    }
+    match redis_words(alloc, text)? {
+        Some(words) => line_of_words(alloc, words.as_slice()),
+        None => Ok(WatchLine::Faulty(WatchKind::BadQuotes)),
+    }
+}

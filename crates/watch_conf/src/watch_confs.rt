@@ -1,0 +1,200 @@
+//! What all lines of a file say that count for `watch` alone.
+
+ghost use Rattle.std.specs.Prelude.{◌≡◌, ◌⊎◌, ◌∷◌, [], true, false, None, Some, Ok, Err, ◌++◌, OnOk, MatchResult};
+ghost use Rattle.ballot_law.specs.Cuts.{lines};
+ghost use Rattle.sentinel_conf.specs.Meaning.{last};
+ghost use Rattle.watch_conf.specs.WatchLines.{ips_of, node_pass_of, node_user_of, own_pass_of, peer_pass_of, peer_user_of, clients_of, protected_of};
+ghost use Rattle.watch_conf.specs.WatchConfs.{no_memory, settings_from, watch_settings};
+ghost use Rattle.watch_conf.specs.declared.settings.TheConstants.{CLIENTS_MAX};
+
+use crate::announcing::lacks_announce_ip;
+use crate::binds::EVERYWHERE;
+use crate::directives::line_of;
+use crate::faults::{WatchFault, WatchKind};
+use crate::settings::{CLIENTS_MAX, Setting, WatchLine};
+use ballot_law::{Name, NoMemory};
+use sentinel_conf::Conf;
+use std::alloc::Global;
+use std::marker::Model;
+use words::split_line;
+
+/// What a file says to `watch` alone: the last line of a kind counts. It can't be printed, since it can hold passwords. Contracts see the
+/// settings of all lines, in order.
+#[derive(Drop)]
+pub struct WatchConf {
+    settings: Vec<Setting>,
+}
+
+impl Model for WatchConf {
+    ghost use Rattle.std.specs.Prelude.{List};
+    ghost use Rattle.watch_conf.specs.declared.settings.Setting.{Setting};
+
+    ghost Value = { List Setting };
+
+    ghost view = { λ conf. conf.settings.items };
+}
+
+/// At which ips the port listens where no line says it: at all of the machine.
+const ALL_IPS: &[u32] = &[EVERYWHERE];
+
+impl WatchConf {
+    /// At which ips the port listens, in order: those of the last line `bind`, from 1 to `IPS_MAX` of them, or `EVERYWHERE` alone.
+    pub fn ips(&self) -> &[u32]
+        ensures { result.now ≡ last ips_of (0 ∷ []) self.now }
+    {
+        let mut found = ALL_IPS;
+        let mut rest = self.settings.as_slice();
+        while let [setting, more @ ..] = rest {
+            if let Some(ips) = setting.ips() {
+                found = ips;
+            }
+            rest = more;
+        }
+        found
+    }
+
+    /// The password for the data nodes of the master of this name: that of its last line `sentinel auth-pass`. An empty one is none.
+    pub fn node_pass(&self, name: &Name) -> &[u8]
+        ensures { result.now ≡ last (node_pass_of name.now) [] self.now }
+    {
+        let mut found: &[u8] = b"";
+        let mut rest = self.settings.as_slice();
+        while let [setting, more @ ..] = rest {
+            if let Some(pass) = setting.node_pass(name) {
+                found = pass;
+            }
+            rest = more;
+        }
+        found
+    }
+
+    /// The user at the data nodes of the master of this name: that of its last line `sentinel auth-user`. An empty one is the default user.
+    pub fn node_user(&self, name: &Name) -> &[u8]
+        ensures { result.now ≡ last (node_user_of name.now) [] self.now }
+    {
+        let mut found: &[u8] = b"";
+        let mut rest = self.settings.as_slice();
+        while let [setting, more @ ..] = rest {
+            if let Some(user) = setting.node_user(name) {
+                found = user;
+            }
+            rest = more;
+        }
+        found
+    }
+
+    /// The password that a client of the own port has to give: that of the last line `requirepass`. An empty one is none.
+    pub fn own_pass(&self) -> &[u8]
+        ensures { result.now ≡ last own_pass_of [] self.now }
+    {
+        let mut found: &[u8] = b"";
+        let mut rest = self.settings.as_slice();
+        while let [setting, more @ ..] = rest {
+            if let Some(pass) = setting.own_pass() {
+                found = pass;
+            }
+            rest = more;
+        }
+        found
+    }
+
+    /// The password that is given at the ports of the other Sentinels: that of the last line `sentinel sentinel-pass`. An empty one is none.
+    pub fn peer_pass(&self) -> &[u8]
+        ensures { result.now ≡ last peer_pass_of [] self.now }
+    {
+        let mut found: &[u8] = b"";
+        let mut rest = self.settings.as_slice();
+        while let [setting, more @ ..] = rest {
+            if let Some(pass) = setting.peer_pass() {
+                found = pass;
+            }
+            rest = more;
+        }
+        found
+    }
+
+    /// The user that is named at the ports of the other Sentinels: that of the last line `sentinel sentinel-user`. An empty one is the default
+    /// user.
+    pub fn peer_user(&self) -> &[u8]
+        ensures { result.now ≡ last peer_user_of [] self.now }
+    {
+        let mut found: &[u8] = b"";
+        let mut rest = self.settings.as_slice();
+        while let [setting, more @ ..] = rest {
+            if let Some(user) = setting.peer_user() {
+                found = user;
+            }
+            rest = more;
+        }
+        found
+    }
+
+    /// How many connections the port keeps: what the last line `maxclients` says, or `CLIENTS_MAX`, which is also the most.
+    pub fn max_clients(&self) -> u16
+        ensures { result ≡ last clients_of CLIENTS_MAX self.now }
+    {
+        self.settings.iter().fold(
+            CLIENTS_MAX,
+            |count, setting| setting.max_clients().unwrap_or(count),
+        )
+    }
+
+    /// Whether the protected mode is on: what the last line `protected-mode` says, or no, as redis-sentinel has it.
+    pub fn protected_mode(&self) -> bool
+        ensures { result ≡ last protected_of false self.now }
+    {
+        self.settings.iter().fold(
+            false,
+            |yes, setting| setting.protected_mode().unwrap_or(yes),
+        )
+    }
+}
+
+/// Adds a setting.
+fn add(list: &mut Vec<Setting>, setting: Setting) -> Result<(), NoMemory>
+    ensures { OnOk result (list.new.items ≡ list.old.items ++ setting ∷ []) }
+{
+    list.push(setting)?;
+    Ok(())
+}
+
+/// The settings of all lines in order, or the fault of the first faulty one.
+fn settings_of(alloc: Global, bytes: &[u8]) -> Result<Vec<Setting>, WatchFault>
+    ensures { MatchResult result (λ list. settings_from 1 (lines bytes.now) ≡ Ok list.items)
+        (λ fault. (fault ≡ no_memory) ⊎ (settings_from 1 (lines bytes.now) ≡ Err fault)) }
+{
+    let mut list = Vec::new(alloc);
+    let mut number: u64 = 1;
+    let mut rest = bytes;
+    while !rest.is_empty() {
+        let (text, more) = split_line(rest);
+        match line_of(alloc, text)? {
+            WatchLine::Other => {}
+            WatchLine::Says(setting) => add(&mut list, setting)?,
+            WatchLine::Faulty(kind) => return Err(WatchFault { line: number, kind }),
+        }
+        number += 1;
+        rest = more;
+    }
+    Ok(list)
+}
+
+/// What the file with these bytes says to `watch`, where `conf` is what it says else; or its first fault. Faults are judged in this order: line
+/// by line `BadQuotes`, `BadDirective`, `BadName`, `BadNumber`, `BadBind`, `BadYesNo` and `NamesOfHosts`; then `NoAnnounceIp`, with line 0.
+/// `NoMemory`, with line 0, may stand in place of any other answer.
+pub fn read_watch(alloc: Global, conf: &Conf, bytes: &[u8]) -> Result<WatchConf, WatchFault>
+    ensures { MatchResult result (λ read. watch_settings conf.now bytes.now ≡ Ok read)
+        (λ fault. (fault ≡ no_memory) ⊎ (watch_settings conf.now bytes.now ≡ Err fault)) }
+{
+    let settings = match settings_of(alloc, bytes) {
+        Ok(settings) => settings,
+        Err(fault) => return Err(fault),
+    };
+    if lacks_announce_ip(conf) {
+        return Err(WatchFault {
+            line: 0,
+            kind: WatchKind::NoAnnounceIp,
+        });
+    }
+    Ok(WatchConf { settings })
+}
