@@ -1,6 +1,6 @@
 //! How many threads serve a port, and how many connections each of them keeps.
 
-ghost use Rattle.std.specs.Prelude.{◌≡◌, ◌≤◌, ◌<◌, ◌+◌, ◌*◌, ◌↔◌, IsTrue};
+ghost use Rattle.std.specs.Prelude.{◌≡◌, ◌≤◌, ◌<◌, ◌+◌, ◌*◌, ◌↔◌, IsTrue, false};
 ghost use Rattle.group_ports.specs.declared.port_room.TheConstants.{CONNECTIONS_MAX};
 
 /// How many connections a port keeps at most, in all of its threads; a further one is closed.

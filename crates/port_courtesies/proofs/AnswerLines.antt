@@ -11,8 +11,9 @@ use Rattle.port_courtesies.specs.declared.hellos.Expects.{Expects}
 use Rattle.port_courtesies.specs.declared.hellos.Expects.TheVariants.{Start, User, Password, NewName}
 use Rattle.port_courtesies.specs.Refusals.{is_called, printed_byte, printed, wrong_arguments, unknown_subcommand, shown_words, unknown_command, no_option, wrong_password, no_password, no_auth, no_auth_yet, no_name, not_while_listening}
 use Rattle.resp2.specs.Commands.{command_of}
+use Rattle.port_courtesies.specs.declared.tables.Table.{Table}
 use Rattle.port_courtesies.specs.Courtesies as table
-use Rattle.port_courtesies.specs.Courtesies.{Asker, Answer, left, said, asks_masters, Looked, known, refused, verb_name, Greeted, greeted, expected, taken, is_user, is_password, is_some, admits, is_stranger, lacks_password, is_barred, greeted_by, is_client_name, asks_for_2, is_integer, after_first, first, or_else, hello_map, answered, courtesy, left_over, or_left}
+use Rattle.port_courtesies.specs.Courtesies.{Asker, Answer, left, widens, said, asks_masters, Looked, known, refused, verb_name, Greeted, greeted, expected, taken, is_user, is_password, is_some, admits, is_stranger, lacks_password, is_barred, greeted_by, is_client_name, asks_for_2, is_integer, after_first, first, or_else, hello_map, answered, courtesy, left_over, or_left}
 
 -- ---- lines
 
@@ -70,7 +71,8 @@ arguments_line name h = around (codes "ERR wrong number of arguments for '") nam
 
 subcommand_line : (help word : List ℕ) → IsLine help → HasLines (unknown_subcommand help word)
 subcommand_line help word h =
-    around (codes "ERR unknown subcommand '") (printed 128 word) (codes "'. Try " ++ help) refl (shown (take 128 word)) (joined (codes "'. Try ") help (checked (codes "'. Try ") refl) h)
+    around (codes "ERR unknown subcommand '") (printed 128 word) (codes "'. Try " ++ help) refl (shown (take 128 word))
+    (joined (codes "'. Try ") help (checked (codes "'. Try ") refl) h)
 
 unknown_line : (name : List ℕ) (words : List (List ℕ)) → HasLines (unknown_command name words)
 unknown_line name words =
@@ -99,7 +101,8 @@ verb_line Info = checked (codes "info") refl
 
 listener_line : (verb : Verb) → HasLines (not_while_listening (verb_name verb))
 listener_line verb =
-    around (codes "ERR Can't execute '") (verb_name verb) (codes "': only (P|S)SUBSCRIBE / (P|S)UNSUBSCRIBE / PING / QUIT / RESET are allowed in this context") refl (verb_line verb)
+    around (codes "ERR Can't execute '") (verb_name verb) (codes "': only (P|S)SUBSCRIBE / (P|S)UNSUBSCRIBE / PING / QUIT / RESET are allowed in this context") refl
+    (verb_line verb)
     (checked (codes "': only (P|S)SUBSCRIBE / (P|S)UNSUBSCRIBE / PING / QUIT / RESET are allowed in this context") refl)
 
 -- ---- the commands
@@ -262,6 +265,7 @@ publish_lines words =
 
 abbrev AreAnswerLines : Answer → Type 0
 AreAnswerLines left = Unit {0}
+AreAnswerLines widens = Unit {0}
 AreAnswerLines (said answer) = HasLines answer
 AreAnswerLines asks_masters = Unit {0}
 
@@ -320,15 +324,20 @@ in_lines : (miscounted : Bool) (words : List (List ℕ)) → AreLinesOrNone (tab
 in_lines miscounted [] = tt
 in_lines miscounted (name ∷ words) = maybe (table.names_channels (name ∷ words)) _ _ tt (looked_up_lines miscounted name words)
 
-over_lines : (value : Frame) → AreLinesOrNone (left_over value)
-over_lines value = maybe (table.is_refused (command_of value)) _ _ (in_lines (table.is_miscounted (command_of value)) (table.words_of value)) tt
+own_lines : (own : Option Table) → AreAnswerLines (table.own_answer own)
+own_lines None = tt
+own_lines (Some own) = tt
 
 or_left_lines : (asker : Asker) (looked : Option Looked) → AreLinesOrNone looked → AreAnswerLines (or_left asker looked)
 or_left_lines asker None h = one_answer (is_stranger asker) _ _ no_auth_line tt
 or_left_lines asker (Some looked) h = answered_lines asker looked h
 
 courtesy_lines : (asker : Asker) (value : Frame) → AreAnswerLines (courtesy asker value)
-courtesy_lines asker value = or_left_lines asker (left_over value) (over_lines value)
+courtesy_lines asker value =
+    one_answer (table.is_refused (command_of value)) _ _
+    (or_left_lines asker (table.looked_up_in (table.is_miscounted (command_of value)) (table.words_of value))
+    (in_lines (table.is_miscounted (command_of value)) (table.words_of value)))
+    (one_answer (is_stranger asker) _ _ no_auth_line (own_lines (table.table_of (command_of value))))
 
 pub said_has_lines : (asker : Asker) (value answer : Frame) → courtesy asker value ≡ said answer → HasLines answer
 said_has_lines asker value answer is = subst AreAnswerLines is (courtesy_lines asker value)

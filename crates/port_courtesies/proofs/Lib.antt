@@ -4,3 +4,4 @@ pub mod Held
 pub mod Lookups
 pub mod OwnValues
 pub mod Strangers
+pub mod WideRows

@@ -48,7 +48,10 @@ told_of asker (Some (refused refusal)) h = refl
 told_of asker (Some (known verb words)) h = told asker verb words h
 
 pub strangers_are_answered : (asker : Asker) (value : Frame) → is_stranger asker ≡ true → kind_of (courtesy asker value) ≡ Said
-strangers_are_answered asker value h = told_of asker (left_over value) h
+strangers_are_answered asker value h =
+    one_kind (table.is_refused (command_of value)) _ _
+    (told_of asker (table.looked_up_in (table.is_miscounted (command_of value)) (words_of value)) h)
+    (ap (λ (t : Bool). kind_of (elim t as (λ _. Answer) [ true ↦ said no_auth | false ↦ table.own_answer (table.table_of (command_of value)) ])) h)
 
 -- ---- HELLO and AUTH have the words after the name
 
@@ -188,17 +191,20 @@ or_case false b h k = k
 hello_needs : (asker : Asker) (words : List (List ℕ)) → asker.admitted ≡ false → hello_admitted asker words ≡ true → Holds asker.password words
 hello_needs asker words h k =
     after asker.password words
-    (greeted_needs asker.password Start [] asker.name asker.admitted (after_first words) h (then_case (asks_for_2 words) (table.greeted_by asker words).admitted asker.admitted h k))
+    (greeted_needs asker.password Start [] asker.name asker.admitted (after_first words) h
+    (then_case (asks_for_2 words) (table.greeted_by asker words).admitted asker.admitted h k))
 
 -- ---- the whole
 
-known_needs : (asker : Asker) (verb : Verb) (words : List (List ℕ)) → asker.admitted ≡ false → admitted_by asker (known verb words) ≡ true → (is_for_strangers verb ≡ true) × Holds asker.password words
+known_needs : (asker : Asker) (verb : Verb) (words : List (List ℕ)) → asker.admitted ≡ false → admitted_by asker (known verb words) ≡ true →
+    (is_for_strangers verb ≡ true) × Holds asker.password words
 known_needs asker Hello words h k =
     (refl, hello_needs asker words h (else_case (is_barred asker Hello || asker.listens) asker.admitted (hello_admitted asker words) h k))
 known_needs asker Auth words h k = (
   refl,
   admits_holds asker.password words
-      (or_case asker.admitted (admits asker.password words) h (else_case (is_barred asker Auth || asker.listens) asker.admitted (asker.admitted || admits asker.password words) h k)),
+      (or_case asker.admitted (admits asker.password words) h
+      (else_case (is_barred asker Auth || asker.listens) asker.admitted (asker.admitted || admits asker.password words) h k)),
 )
 known_needs asker Ping words h k = never asker.admitted h (else_case (is_barred asker Ping || asker.listens) asker.admitted asker.admitted h k)
 known_needs asker SetName words h k = never asker.admitted h (else_case (is_barred asker SetName || asker.listens) asker.admitted asker.admitted h k)
@@ -214,7 +220,8 @@ known_needs asker Role words h k = never asker.admitted h (else_case (is_barred 
 known_needs asker Publish words h k = never asker.admitted h (else_case (is_barred asker Publish || asker.listens) asker.admitted asker.admitted h k)
 known_needs asker Info words h k = never asker.admitted h (else_case (is_barred asker Info || asker.listens) asker.admitted asker.admitted h k)
 
-looked_needs : (asker : Asker) (words : List (List ℕ)) (looked : Looked) → Keeps words looked → asker.admitted ≡ false → admitted_by asker looked ≡ true → Holds asker.password words
+looked_needs : (asker : Asker) (words : List (List ℕ)) (looked : Looked) → Keeps words looked → asker.admitted ≡ false → admitted_by asker looked ≡ true →
+    Holds asker.password words
 looked_needs asker words (refused refusal) keeps h k = never asker.admitted h k
 looked_needs asker words (known verb args) keeps h k =
     let needs = known_needs asker verb args h k in

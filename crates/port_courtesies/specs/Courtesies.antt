@@ -1,7 +1,8 @@
 -- What a port answers to the values that a Sentinel's rules call unknown, or refuse for their number of words.
-use Rattle.std.specs.Prelude.{ℕ, pos, Bool, true, false, not, ◌||◌, ◌&&◌, ◌==◌, nat_lt, nat_le, List, [], ◌∷◌, ◌++◌, map, length, bytes_eq, codes, Option, Some, None, Result, Err}
+use Rattle.std.specs.Prelude.{ℕ, pos, Bool, true, false, not, ◌||◌, ◌&&◌, ◌==◌, nat_lt, nat_le, List, [], ◌∷◌, ◌++◌, map, length, bytes_eq, codes, Option, Some, None, Result, Ok, Err}
 use Rattle.std.specs.List.{list_all}
 use Rattle.ballot_law.specs.declared.commands.Command.{Command}
+use Rattle.ballot_law.specs.declared.commands.Command.TheVariants.{Masters, Master, Replicas, Sentinels}
 use Rattle.ballot_law.specs.Words.{lower, canonical_within}
 use Rattle.resp2.specs.declared.command.CommandFault.{CommandFault}
 use Rattle.resp2.specs.declared.command.CommandFault.TheVariants.{UnknownCommand, WrongArguments}
@@ -11,8 +12,10 @@ use Rattle.port_courtesies.specs.declared.verbs.Verb.{Verb}
 use Rattle.port_courtesies.specs.declared.verbs.Verb.TheVariants.{Ping, Hello, Auth, SetName, SetInfo, GetName, Id, NoEvict, Reply, Commands, Docs, Count, Role, Publish, Info}
 use Rattle.port_courtesies.specs.declared.hellos.Expects.{Expects}
 use Rattle.port_courtesies.specs.declared.hellos.Expects.TheVariants.{Start, User, Password, NewName}
+use Rattle.port_courtesies.specs.declared.tables.Table.{Table}
+use Rattle.port_courtesies.specs.declared.tables.Table.TheVariants.{OneMaster, AllMasters, OfReplicas, OfSentinels}
 use Rattle.port_courtesies.specs.declared.courtesies.Courtesy.{Courtesy}
-use Rattle.port_courtesies.specs.declared.courtesies.Courtesy.TheVariants.{Left, Said, AsksMasters}
+use Rattle.port_courtesies.specs.declared.courtesies.Courtesy.TheVariants.{Left, Widens, Said, AsksMasters}
 use Rattle.port_courtesies.specs.Refusals.{is_called, printed_byte, wrong_arguments, unknown_subcommand, unknown_command, syntax_error, wrong_password, no_password, no_auth, no_auth_yet, no_name, no_such_protocol, no_protocol, no_option, no_hello, not_while_listening}
 
 -- what is known of a connection: its number, the name that its client gave it, whether it listens to notes, the names of the Sentinel's masters, the password that is
@@ -25,9 +28,11 @@ pub record Asker : Type 0 where
   pub password : Option (List ℕ)
   pub admitted : Bool
 
--- what becomes of a value: the Sentinel's rules answer it, it is answered by this value, or by what is told of the Sentinel's masters
+-- what becomes of a value: the Sentinel's rules answer it, the answer that they give is told with more fields, it is answered by this value, or by what is told of the
+-- Sentinel's masters
 pub data Answer : Type 0 where
   left : Answer
+  widens : Answer
   said : Frame → Answer
   asks_masters : Answer
 
@@ -423,8 +428,24 @@ looked_up_in miscounted (name ∷ words) = elim (names_channels (name ∷ words)
 abbrev pub left_over : Frame → Option Looked
 left_over value = elim (is_refused (command_of value)) [ true ↦ looked_up_in (is_miscounted (command_of value)) (words_of value) | false ↦ None ]
 
+-- the answers of the Sentinel's rules that are told with more fields
+abbrev pub table_of : Result Command CommandFault → Option Table
+table_of (Ok (Master name)) = Some OneMaster
+table_of (Ok Masters) = Some AllMasters
+table_of (Ok (Replicas name)) = Some OfReplicas
+table_of (Ok (Sentinels name)) = Some OfSentinels
+table_of asked = None
+
+-- what becomes of a value that the rules answer
+abbrev pub own_answer : Option Table → Answer
+own_answer None = left
+own_answer (Some table) = widens
+
+abbrev pub unless_stranger : Asker → Answer → Answer
+unless_stranger asker answer = elim (is_stranger asker) [ true ↦ said no_auth | false ↦ answer ]
+
 abbrev pub or_left : Asker → Option Looked → Answer
-or_left asker None = elim (is_stranger asker) [ true ↦ said no_auth | false ↦ left ]
+or_left asker None = unless_stranger asker left
 or_left asker (Some looked) = answered asker looked
 
 abbrev pub or_same : Asker → Option Looked → List ℕ
@@ -437,7 +458,11 @@ or_admitted asker (Some looked) = admitted_by asker looked
 
 -- the answer to a value of a connection
 abbrev pub courtesy : Asker → Frame → Answer
-courtesy asker value = or_left asker (left_over value)
+courtesy asker value =
+    elim (is_refused (command_of value)) [
+      | true ↦ or_left asker (looked_up_in (is_miscounted (command_of value)) (words_of value))
+      | false ↦ unless_stranger asker (own_answer (table_of (command_of value)))
+    ]
 
 -- what is known of the connection after it
 abbrev pub asker_after : Asker → Frame → Asker
@@ -447,11 +472,13 @@ asker_after asker value = record asker { name = or_same asker (left_over value);
 
 abbrev pub kind_of : Answer → Courtesy
 kind_of left = Left
+kind_of widens = Widens
 kind_of (said answer) = Said
 kind_of asks_masters = AsksMasters
 
 -- its bytes on the wire, where it is known
 abbrev pub text_of : Answer → List ℕ
 text_of left = []
+text_of widens = []
 text_of (said answer) = spelling answer
 text_of asks_masters = []

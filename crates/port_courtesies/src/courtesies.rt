@@ -3,7 +3,7 @@
 ghost use Rattle.std.specs.Prelude.{◌≡◌, ℕ, List, [], None, IfOk, OnOk};
 ghost use Rattle.resp2.specs.Commands as commands;
 ghost use Rattle.resp2_frames.specs.Frame.{view, frames_view, spelling};
-ghost use Rattle.port_courtesies.specs.Courtesies.{Asker, known, executed, while_listening, name_after, admitted_after, is_barred, admitted_by, or_admitted, words_of, is_miscounted, is_refused, names_channels, answered, named, looked_up_in, or_left, or_same, courtesy, asker_after, kind_of, text_of};
+ghost use Rattle.port_courtesies.specs.Courtesies.{Asker, known, executed, while_listening, name_after, admitted_after, is_barred, admitted_by, or_admitted, words_of, is_miscounted, is_refused, names_channels, answered, named, looked_up_in, own_answer, unless_stranger, or_left, or_same, courtesy, asker_after, kind_of, text_of};
 
 use crate::asker::Asker;
 use crate::clients::{
@@ -12,6 +12,7 @@ use crate::clients::{
 use crate::hellos::{auth, first, hello, is_client_name, set_name};
 use crate::lookup::looked_up;
 use crate::refusals::{is_called, refuse_listener, say};
+use crate::tables::{Table, table_of};
 use crate::verbs::Verb;
 use ballot_law::{Command, NoMemory, Text};
 use resp2::{CommandFault, command_of};
@@ -25,6 +26,8 @@ const NO_AUTH: &[u8] = b"-NOAUTH Authentication required.\r\n";
 pub enum Courtesy {
     /// The Sentinel's rules answer it.
     Left,
+    /// The Sentinel's rules answer it, and the answer is then told with redis-sentinel's fields.
+    Widens,
     /// Its answer is told.
     Said,
     /// It is INFO, whose answer is made of that to SENTINEL MASTERS.
@@ -63,7 +66,7 @@ fn word_of(value: &Value) -> &[u8]
 }
 
 /// The words that the items of an array are.
-fn words_of_items(alloc: Global, items: &[Value]) -> Result<Vec<Text>, NoMemory>
+pub(crate) fn words_of_items(alloc: Global, items: &[Value]) -> Result<Vec<Text>, NoMemory>
     ensures { IfOk result (λ words. words.items ≡ commands.words (frames_view items.now)) }
 {
     let mut words = Vec::new(alloc);
@@ -223,17 +226,21 @@ fn answer_known(
     Ok(kind_of(verb))
 }
 
-/// What becomes of a value that the rules of the Sentinel answer: it is left to them, once the client gave the password that is wanted.
-fn leave(asker: &Asker, out: &mut OutText) -> Result<Courtesy, NoMemory>
+/// What becomes of a value that the rules of the Sentinel answer, the answer being told with more fields where there is a table: it is left to them, once
+/// the client gave the password that is wanted.
+fn leave(asker: &Asker, table: Option<Table>, out: &mut OutText) -> Result<Courtesy, NoMemory>
     requires { out.old ≡ [] }
-    ensures kind { IfOk result (λ kind. kind ≡ kind_of (or_left asker.now None)) }
-    ensures text { OnOk result (out.new ≡ text_of (or_left asker.now None)) }
+    ensures kind { IfOk result (λ kind. kind ≡ kind_of (unless_stranger asker.now (own_answer table))) }
+    ensures text { OnOk result (out.new ≡ text_of (unless_stranger asker.now (own_answer table))) }
 {
     if asker.is_stranger() {
         say(out, NO_AUTH)?;
         return Ok(Courtesy::Said);
     }
-    Ok(Courtesy::Left)
+    match table {
+        Some(_) => Ok(Courtesy::Widens),
+        None => Ok(Courtesy::Left),
+    }
 }
 
 /// What becomes of these words, which the Sentinel's rules call unknown or refuse for their number.
@@ -251,10 +258,10 @@ fn answer_words(
     ensures asker { OnOk result (asker.new ≡ record asker.old { name = or_same asker.old (looked_up_in miscounted words.now); admitted = or_admitted asker.old (looked_up_in miscounted words.now) }) }
 {
     let Some((name, more)) = words.split_first() else {
-        return leave(asker, out);
+        return leave(asker, None, out);
     };
     if names_channels(words) {
-        return leave(asker, out);
+        return leave(asker, None, out);
     }
     match looked_up(miscounted, name.as_slice(), more, out)? {
         Some((verb, args)) => answer_known(alloc, asker, verb, args, out),
@@ -281,7 +288,7 @@ pub fn courtesy_of(
     out.clear();
     let asked = command_of(value);
     if !is_refused(&asked) {
-        return leave(asker, out);
+        return leave(asker, table_of(&asked), out);
     }
     let words = words_of(alloc, value)?;
     answer_words(alloc, asker, is_miscounted(&asked), words.as_slice(), out)

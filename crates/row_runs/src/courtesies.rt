@@ -3,7 +3,7 @@
 use crate::commands::{array, value_of};
 use crate::told::{Told, Unplayed};
 use ballot_law::{Name, Text};
-use port_courtesies::{Asker, Attendant, Courtesy, courtesy_of, info};
+use port_courtesies::{Asker, Attendant, Courtesy, courtesy_of, info, wide};
 use resp2_frames::{FrameFault, OutText};
 use std::alloc::Global;
 
@@ -36,6 +36,7 @@ fn locked(alloc: Global, admitted: bool) -> Result<Asker, Unplayed> {
 fn tell_kind(kind: Courtesy, text: &[u8], told: &mut Told) -> Result<(), Unplayed> {
     match kind {
         Courtesy::Left => told.word("left"),
+        Courtesy::Widens => told.word("widens"),
         Courtesy::Said => told.bytes(text),
         Courtesy::AsksMasters => told.word("asks_masters"),
     }
@@ -78,8 +79,25 @@ fn tell_info(
     told.bytes(out.as_slice())
 }
 
-/// Tells what becomes of the values that are whole, a value that is left by its bytes; of INFO also its answer, where SENTINEL MASTERS is answered with
-/// no masters. Whether the stream goes on.
+/// Tells the answer to a command with these words with redis-sentinel's fields, where a Sentinel answers it with `answer`.
+fn tell_wide(
+    alloc: Global,
+    answer: &[u8],
+    words: &[Vec<u8>],
+    told: &mut Told,
+) -> Result<(), Unplayed> {
+    let mut out = OutText::new(alloc);
+    wide(
+        alloc,
+        &array(alloc, words)?,
+        &value_of(alloc, answer)?,
+        &mut out,
+    )?;
+    told.bytes(out.as_slice())
+}
+
+/// Tells what becomes of the values that are whole, a value that is left by its bytes; of INFO also its answer, and of a command whose answer is told with
+/// more fields its bytes and that answer, where the Sentinel answers with no masters. Whether the stream goes on.
 fn tell_whole(alloc: Global, attendant: &mut Attendant, told: &mut Told) -> Result<bool, Unplayed> {
     for _ in 0..u64::MAX {
         let kind = match attendant.attend() {
@@ -95,6 +113,11 @@ fn tell_whole(alloc: Global, attendant: &mut Attendant, told: &mut Told) -> Resu
         match kind {
             Courtesy::Said => {}
             Courtesy::Left => told.bytes(attendant.text())?,
+            Courtesy::Widens => {
+                told.bytes(attendant.text())?;
+                attendant.widen(&array(alloc, &[])?)?;
+                told.bytes(attendant.text())?;
+            }
             Courtesy::AsksMasters => {
                 attendant.inform(&array(alloc, &[])?)?;
                 told.bytes(attendant.text())?;
@@ -155,6 +178,7 @@ pub(crate) fn play(
         ("ask_admitted", words) => tell(alloc, &mut locked(alloc, true)?, words, told),
         ("ask_as", [name, words @ ..]) => tell(alloc, &mut asker(alloc, name, false)?, words, told),
         ("info", [masters, words @ ..]) => tell_info(alloc, masters, words, told),
+        ("widen", [answer, words @ ..]) => tell_wide(alloc, answer, words, told),
         ("attend", pieces) => tell_stream(alloc, &mut attendant(alloc)?, pieces, told),
         ("attend_listening", pieces) => tell_stream(alloc, &mut listening(alloc)?, pieces, told),
         ("attend_locked", pieces) => tell_stream(alloc, &mut demanding(alloc)?, pieces, told),
