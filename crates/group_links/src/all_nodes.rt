@@ -1,16 +1,19 @@
 //! All data nodes of a group.
 
-ghost use Rattle.std.specs.Prelude.{◌≡◌, ◌⊎◌, ◌≤◌, [], IfOk, length};
+ghost use Rattle.std.specs.Prelude.{◌≡◌, ◌⊎◌, ◌≤◌, [], IfOk, IfSome, length};
 ghost use Rattle.std.specs.List.{AllByRecursion};
 ghost use Rattle.boxed_nodes.specs.Sendable.{IsSendableOutput, IsTakeable};
-ghost use Rattle.data_nodes.specs.Servers.{changed_by};
-ghost use Rattle.group_links.specs.DataNodes.{AreNodesOf, ObeysAt};
+ghost use Rattle.ballot_law.specs.declared.events.Event.TheVariants.{Handed};
+ghost use Rattle.ballot_law.specs.declared.messages.NodeName.TheVariants.{StoreAt};
+ghost use Rattle.data_nodes.specs.Servers.{changed_by, said};
+ghost use Rattle.node_texts.specs.Infos.{IsInfo};
+ghost use Rattle.group_links.specs.DataNodes.{AreNodesOf, ObeysAt, SameServers, ShownBy, client_order, first_info};
 ghost use Rattle.group_links.specs.declared.all_nodes.TheConstants.{NODE_COUNT_MAX};
 ghost use Rattle.group_links.specs.declared.node_orders.Action.TheVariants.{Take, Stop, Start};
 
 use crate::links::Links;
 use crate::node_orders::{Action, NodeOrder};
-use ballot_law::{Event, Input, KeptText};
+use ballot_law::{Addr, Body, Event, Info, Input, KeptText, Message, NodeName, Output};
 use boxed_nodes::{HowStored, Node};
 use crossbeam_channel::{Receiver, RecvTimeoutError};
 use data_nodes::DataNode;
@@ -24,7 +27,7 @@ use std::sync::atomic::{AtomicU64, Ordering};
 use std::time::Duration;
 
 /// How long the nodes wait for an order before they look whether the group ends, in milliseconds.
-const ORDER_MS: u64 = 50;
+pub(crate) const ORDER_MS: u64 = 50;
 
 /// How many data nodes a group has at most.
 pub const NODE_COUNT_MAX: usize = 4_096;
@@ -46,6 +49,8 @@ fn carry_out(node: &mut DataNode, input: &Input, outbox: &mut Outbox)
     ensures sendable { AllByRecursion IsSendableOutput outbox.new.shown }
     ensures taken { (node.new ≡ node.old)
         ⊎ ((node.new.number ≡ node.old.number) × (node.new.server ≡ changed_by input.entry.now.event node.old.server)) }
+    ensures said { (outbox.new.shown ≡ [])
+        ⊎ (outbox.new.shown ≡ said (StoreAt node.old.number) node.old.sentinels node.new.server input.entry.now.event) }
 {
     outbox.clear();
     let room = node.room();
@@ -57,6 +62,21 @@ fn carry_out(node: &mut DataNode, input: &Input, outbox: &mut Outbox)
         let _released = node.release(outbox);
     }
     outbox.drop_held();
+}
+
+/// What the first of these outputs says of a node, where it is an INFO.
+fn first_info(outputs: &[Output]) -> Option<Info>
+    requires { AllByRecursion IsSendableOutput outputs.now }
+    ensures info { result ≡ first_info outputs.now }
+    ensures within { IfSome result IsInfo }
+{
+    match outputs.first()? {
+        Output::Send(message) => match message.body {
+            Body::InfoText(info) => Some(info),
+            _ => None,
+        },
+        Output::Tell(_) => None,
+    }
 }
 
 impl DataNodes {
@@ -94,6 +114,40 @@ impl DataNodes {
             carry_out(node, &input, &mut self.outbox);
             send_all(&mut links.outlet(rt), self.outbox.outputs());
         }
+    }
+
+    /// What the node with this number tells a client that asks it for INFO: what it keeps. None where it is stopped, where there is no such node, and
+    /// where there is no memory.
+    pub fn shown(&mut self, number: u16, now: u64) -> Option<Info>
+        ensures same { SameServers self.old.nodes.items self.new.nodes.items }
+        ensures info { IfSome result (ShownBy self.old.nodes.items number) }
+        ensures within { IfSome result IsInfo }
+    {
+        let node = self.nodes.get_mut(number as usize)?;
+        let event = Event::Handed(Message {
+            sender: NodeName::PortAt(0),
+            target: NodeName::StoreAt(number),
+            body: Body::InfoAsk,
+        });
+        let input = Input { now, event };
+        carry_out(node, &input, &mut self.outbox);
+        first_info(self.outbox.outputs())
+    }
+
+    /// Has the node with this number follow the master at the address, or nobody, as a client that sends it REPLICAOF does. Its `+OK` goes to nobody.
+    pub fn follow(&mut self, number: u16, now: u64, follows: Option<Addr>)
+        ensures { ObeysAt number (Take (Handed (client_order number follows))) self.old.nodes.items self.new.nodes.items }
+    {
+        let Some(node) = self.nodes.get_mut(number as usize) else {
+            return;
+        };
+        let event = Event::Handed(Message {
+            sender: NodeName::PortAt(0),
+            target: NodeName::StoreAt(number),
+            body: Body::ReplicaOf(follows),
+        });
+        let input = Input { now, event };
+        carry_out(node, &input, &mut self.outbox);
     }
 
     /// Stops the node with this number.
