@@ -2,7 +2,7 @@
 use Rattle.std.specs.Prelude.{◌≡◌, ◌≢◌, ℕ, ◌⊎◌, List, [], ◌∷◌, Option, Some, None, length, slice_get}
 use Rattle.ballot_law.specs.declared.addresses.Addr.{Addr}
 use Rattle.ballot_law.specs.declared.messages.Body.{Body}
-use Rattle.ballot_law.specs.declared.messages.Body.TheVariants.{InfoText, ReplicaOf}
+use Rattle.ballot_law.specs.declared.messages.Body.TheVariants.{InfoAsk, InfoText, ReplicaOf}
 use Rattle.ballot_law.specs.declared.messages.Message.{Message}
 use Rattle.ballot_law.specs.declared.messages.NodeName.TheVariants.{StoreAt, PortAt}
 use Rattle.ballot_law.specs.declared.messages.Output.{Output}
@@ -42,6 +42,10 @@ pub record ObeysAt (number : ℕ) (action : Action) (old new : List DataPlan) : 
 abbrev pub client_order : (number : ℕ) → Option Addr → Message
 client_order number follows = record { sender = PortAt 0; target = StoreAt number; body = ReplicaOf follows }
 
+-- INFO of such a client
+abbrev pub client_question : (number : ℕ) → Message
+client_question number = record { sender = PortAt 0; target = StoreAt number; body = InfoAsk }
+
 -- what the first output says of a node, where it is an INFO
 abbrev pub info_in : Body → Option Info
 info_in (InfoText info) = Some info
@@ -58,8 +62,3 @@ first_info (output ∷ outputs) = info_said output
 -- what the node with this number keeps
 abbrev pub ShownBy : List DataPlan → (number : ℕ) → Info → Type 0
 ShownBy nodes number info = (node : DataPlan) × (slice_get nodes number ≡ Some node) × (info ≡ info_of node.server)
-
--- no node keeps anything else
-pub record SameServers (old new : List DataPlan) : Type 0 where
-  pub count : length new ≡ length old
-  pub each : (k : ℕ) (before after : DataPlan) → slice_get old k ≡ Some before → slice_get new k ≡ Some after → after.server ≡ before.server

@@ -5,9 +5,9 @@ ghost use Rattle.std.specs.List.{AllByRecursion};
 ghost use Rattle.boxed_nodes.specs.Sendable.{IsSendableOutput, IsTakeable};
 ghost use Rattle.ballot_law.specs.declared.events.Event.TheVariants.{Handed};
 ghost use Rattle.ballot_law.specs.declared.messages.NodeName.TheVariants.{StoreAt};
-ghost use Rattle.data_nodes.specs.Servers.{changed_by, said};
+ghost use Rattle.data_nodes.specs.Servers.{changed_by, info_of, said};
 ghost use Rattle.node_texts.specs.Infos.{IsInfo};
-ghost use Rattle.group_links.specs.DataNodes.{AreNodesOf, ObeysAt, SameServers, ShownBy, client_order, first_info};
+ghost use Rattle.group_links.specs.DataNodes.{AreNodesOf, ObeysAt, ShownBy, client_order, client_question, first_info};
 ghost use Rattle.group_links.specs.declared.all_nodes.TheConstants.{NODE_COUNT_MAX};
 ghost use Rattle.group_links.specs.declared.node_orders.Action.TheVariants.{Take, Stop, Start};
 
@@ -42,6 +42,7 @@ pub struct DataNodes {
 }
 
 /// Has a node take an input. The outbox shows what it says, which is nothing where it is stopped or where there is no memory.
+#[tactic(auto, using(crate::proofs::Shown::said_or_not))]
 fn carry_out(node: &mut DataNode, input: &Input, outbox: &mut Outbox)
     requires takeable { IsTakeable input.now.event }
     requires held { outbox.old.held ≡ [] }
@@ -77,6 +78,26 @@ fn first_info(outputs: &[Output]) -> Option<Info>
         },
         Output::Tell(_) => None,
     }
+}
+
+/// What a node tells a client that asks it for INFO.
+#[tactic(auto, using(crate::proofs::Shown::told_info))]
+fn ask_info(node: &mut DataNode, number: u16, now: u64, outbox: &mut Outbox) -> Option<Info>
+    requires held { outbox.old.held ≡ [] }
+    ensures held { outbox.new.held ≡ [] }
+    ensures taken { (node.new ≡ node.old)
+        ⊎ ((node.new.number ≡ node.old.number) × (node.new.server ≡ changed_by (Handed (client_question number)) node.old.server)) }
+    ensures info { IfSome result (λ info. info ≡ info_of node.old.server) }
+    ensures within { IfSome result IsInfo }
+{
+    let event = Event::Handed(Message {
+        sender: NodeName::PortAt(0),
+        target: NodeName::StoreAt(number),
+        body: Body::InfoAsk,
+    });
+    let input = Input { now, event };
+    carry_out(node, &input, outbox);
+    first_info(outbox.outputs())
 }
 
 impl DataNodes {
@@ -119,19 +140,12 @@ impl DataNodes {
     /// What the node with this number tells a client that asks it for INFO: what it keeps. None where it is stopped, where there is no such node, and
     /// where there is no memory.
     pub fn shown(&mut self, number: u16, now: u64) -> Option<Info>
-        ensures same { SameServers self.old.nodes.items self.new.nodes.items }
+        ensures obeys { ObeysAt number (Take (Handed (client_question number))) self.old.nodes.items self.new.nodes.items }
         ensures info { IfSome result (ShownBy self.old.nodes.items number) }
         ensures within { IfSome result IsInfo }
     {
         let node = self.nodes.get_mut(number as usize)?;
-        let event = Event::Handed(Message {
-            sender: NodeName::PortAt(0),
-            target: NodeName::StoreAt(number),
-            body: Body::InfoAsk,
-        });
-        let input = Input { now, event };
-        carry_out(node, &input, &mut self.outbox);
-        first_info(self.outbox.outputs())
+        ask_info(node, number, now, &mut self.outbox)
     }
 
     /// Has the node with this number follow the master at the address, or nobody, as a client that sends it REPLICAOF does. Its `+OK` goes to nobody.

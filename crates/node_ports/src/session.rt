@@ -103,6 +103,7 @@ impl Session {
     /// by an error, and it ends.
     ///
     /// `NoMemory`: memory was refused, and commands are lost; the connection is to be closed.
+    #[tactic(auto, using(crate::proofs::Talking::asked_next, crate::proofs::Talking::waits_next, crate::proofs::Talking::broken_next))]
     pub fn next(&mut self) -> Result<Option<Ask>, NoMemory>
         ensures { Nexts self.old result self.new }
     {
