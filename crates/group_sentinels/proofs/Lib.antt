@@ -1,3 +1,4 @@
 mod Cutting
 mod Handing
+mod Hearing
 mod Saying

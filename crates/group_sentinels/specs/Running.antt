@@ -1,7 +1,12 @@
--- What a running Sentinel is handed, and when it ticks.
-use Rattle.std.specs.Prelude.{ℕ, ◌*◌, ◌/◌, max}
+-- What a running Sentinel is handed, when it ticks, which notes wait for its port, and what went wrong.
+use Rattle.std.specs.Prelude.{ℕ, ◌*◌, ◌/◌, max, Bool, true, false, Option, Some, None}
 use Rattle.ballot_law.specs.declared.events.Event.{Event}
 use Rattle.ballot_law.specs.declared.events.Input.{Input}
+use Rattle.ballot_law.specs.declared.messages.Output.{Output}
+use Rattle.ballot_law.specs.declared.messages.Output.TheVariants.{Send, Tell}
+use Rattle.group_sentinels.specs.declared.run_state.RunFault.{RunFault}
+use Rattle.group_sentinels.specs.declared.run_state.RunFault.TheVariants.{LackedThread, LostPort, Halted}
+use Rattle.group_sentinels.specs.declared.switches.Switch.{Switch}
 use Rattle.group_sentinels.specs.declared.ticking.TheConstants.{TICK_MS}
 
 -- an event at a reading of the clock
@@ -11,3 +16,15 @@ input_of now event = record { now = now; event = event }
 -- how far the ticks of the Sentinel at this place of the roster stand after those of the first one, in milliseconds: its share of the time between two
 abbrev pub phase_of : (place sentinels : ℕ) → ℕ
 phase_of place sentinels = TICK_MS * place / max sentinels 1
+
+-- the note among what the call with this entry showed, where the output is one
+abbrev pub switch_of : Output → (entry : ℕ) → Option Switch
+switch_of (Send message) entry = None
+switch_of (Tell note) entry = Some (record { note = note; entry = entry })
+
+-- the worst of what went wrong
+abbrev pub worst_of : (lacked_thread lost_port halted : Bool) → Option RunFault
+worst_of true lost_port halted = Some LackedThread
+worst_of false true halted = Some LostPort
+worst_of false false true = Some Halted
+worst_of false false false = None

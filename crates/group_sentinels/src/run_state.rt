@@ -1,6 +1,7 @@
 //! What the threads of Sentinels that run share.
 
 ghost use Rattle.std.specs.Prelude.{◌≡◌};
+ghost use Rattle.group_sentinels.specs.Running.{worst_of};
 
 use crate::clock::GroupClock;
 use std::sync::atomic::{AtomicBool, Ordering};
@@ -71,15 +72,26 @@ impl RunState {
 
     /// The worst that was noted; None where nothing went wrong.
     pub fn worst(&self) -> Option<RunFault> {
-        if self.has(RunFault::LackedThread) {
-            return Some(RunFault::LackedThread);
-        }
-        if self.has(RunFault::LostPort) {
-            return Some(RunFault::LostPort);
-        }
-        if self.has(RunFault::Halted) {
-            return Some(RunFault::Halted);
-        }
-        None
+        worst_of(
+            self.has(RunFault::LackedThread),
+            self.has(RunFault::LostPort),
+            self.has(RunFault::Halted),
+        )
     }
+}
+
+/// The worst of what went wrong.
+fn worst_of(lacked_thread: bool, lost_port: bool, halted: bool) -> Option<RunFault>
+    ensures { result ≡ worst_of lacked_thread lost_port halted }
+{
+    if lacked_thread {
+        return Some(RunFault::LackedThread);
+    }
+    if lost_port {
+        return Some(RunFault::LostPort);
+    }
+    if halted {
+        return Some(RunFault::Halted);
+    }
+    None
 }

@@ -89,12 +89,16 @@ impl<J: Which> ThreadSeat<J> {
     }
 
     /// Has the next turn, at this reading of the clock in milliseconds, take down what the Sentinel shows of a master.
-    pub(crate) fn want(&mut self, master: u16, now: u64) {
+    pub(crate) fn want(&mut self, master: u16, now: u64)
+        ensures { (self.new.seat ≡ self.old.seat) × (self.new.outbox ≡ self.old.outbox) }
+    {
         self.sight.want(master, now);
     }
 
     /// What the last turn took down.
-    pub(crate) fn take_look(&mut self) -> Option<Look> {
+    pub(crate) fn take_look(&mut self) -> Option<Look>
+        ensures { (self.new.seat ≡ self.old.seat) × (self.new.outbox ≡ self.old.outbox) }
+    {
         self.sight.take()
     }
 }

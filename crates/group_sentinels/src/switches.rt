@@ -1,6 +1,7 @@
 //! The notes of new addresses that wait for the subscribers of a Sentinel's port.
 
-ghost use Rattle.std.specs.Prelude.{◌≡◌, ◌≤◌, [], IfOk, length};
+ghost use Rattle.std.specs.Prelude.{◌≡◌, ◌≤◌, ◌⊎◌, ◌++◌, ◌∷◌, [], IfOk, length};
+ghost use Rattle.group_sentinels.specs.Running.{switch_of};
 ghost use Rattle.group_sentinels.specs.declared.switches.TheConstants.{WAITING_MAX};
 
 use ballot_law::{Note, Output};
@@ -16,6 +17,26 @@ pub const WAITING_MAX: usize = 1024;
 pub struct Switch {
     pub note: Note,
     pub entry: u64,
+}
+
+/// Puts a note after those that wait. It is lost where as many wait as may, and where there is no memory.
+fn put(waiting: &mut Vec<Switch>, switch: Switch)
+    ensures put { (waiting.new.items ≡ waiting.old.items) ⊎ (waiting.new.items ≡ waiting.old.items ++ switch ∷ []) }
+    ensures few { length waiting.old.items ≤ WAITING_MAX → length waiting.new.items ≤ WAITING_MAX }
+{
+    if waiting.len() < WAITING_MAX {
+        drop(waiting.push(switch));
+    }
+}
+
+/// The note that an output of the call with this entry is.
+fn switch_of(output: &Output, entry: u64) -> Option<Switch>
+    ensures { result ≡ switch_of output.now entry }
+{
+    match output {
+        Output::Tell(note) => Some(Switch { note: *note, entry }),
+        Output::Send(_) => None,
+    }
 }
 
 /// The notes that the threads of a Sentinel showed: each thread of its port has a list of its own, until it takes them.
@@ -37,21 +58,18 @@ impl Switches {
         Ok(Switches { lists, alloc })
     }
 
-    /// Adds a note for each thread. It is lost where as many wait as may, and where there is no memory.
+    /// Adds a note for each thread.
     fn add<R: Wait>(&self, rt: &R, switch: Switch) {
         for list in &self.lists {
-            let mut waiting = list.lock(rt);
-            if waiting.len() < WAITING_MAX {
-                drop(waiting.push(switch));
-            }
+            put(&mut *list.lock(rt), switch);
         }
     }
 
     /// Adds the notes among what a call showed.
     pub(crate) fn add_all<R: Wait>(&self, rt: &R, outputs: &[Output], entry: u64) {
         for output in outputs {
-            if let Output::Tell(note) = output {
-                self.add(rt, Switch { note: *note, entry });
+            if let Some(switch) = switch_of(output, entry) {
+                self.add(rt, switch);
             }
         }
     }

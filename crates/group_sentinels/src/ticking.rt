@@ -1,9 +1,12 @@
 //! When a Sentinel's ticks are due, and what its threads have it take.
 
-ghost use Rattle.std.specs.Prelude.{◌≡◌, ◌⊎◌, ◌↔◌, ◌<◌, ◌≤◌, ◌+◌, ◌-◌, ◌%◌, IsTrue, IsOk, IsErrOf};
+ghost use Rattle.std.specs.Prelude.{◌≡◌, ◌⊎◌, ◌↔◌, ◌<◌, ◌≤◌, ◌+◌, ◌-◌, ◌%◌, ◌++◌, ℕ, List, Some, IfSome, IsTrue, IsOk, IsErrOf};
 ghost use Rattle.ballot_law.specs.Clocks.{clock};
-ghost use Rattle.group_sentinels.specs.Running.{phase_of};
-ghost use Rattle.sentinel_rules.specs.Plans.{group_size};
+ghost use Rattle.ballot_law.specs.Messages.{sent};
+ghost use Rattle.ballot_law.specs.declared.messages.Message.{Message};
+ghost use Rattle.group_sentinels.specs.Running.{input_of, phase_of};
+ghost use Rattle.group_sentinels.specs.Ticking.{IsDueNext, Ticks, TicksAt, TickTook, Took};
+ghost use Rattle.sentinel_rules.specs.Plans.{group_size, master_count};
 ghost use Rattle.sentinel_cell.specs.declared.fault.ActFault.{ActFault};
 ghost use Rattle.sentinel_rules.specs.Facts.{IsWithinEvent};
 
@@ -112,6 +115,7 @@ impl Ticker {
     }
 
     /// Ticks each master once, where that is due: whether the Sentinel goes on. What it says goes to the outlet.
+    #[tactic(auto, using(crate::proofs::Hearing::tick_waits, crate::proofs::Hearing::tick_comes))]
     pub fn tick<J: Which, S: ConfStore, O: Outlet, R: Wait + Clock + Log>(
         &mut self,
         rt: &R,
@@ -119,7 +123,12 @@ impl Ticker {
         member: &RunningSentinel<J, S>,
         seat: &mut ThreadSeat<J>,
         outlet: &mut O,
-    ) -> bool {
+    ) -> bool
+        ensures ticked { (now : ℕ) × (said : List Message) × IfSome (O.handed outlet.old) (λ before. O.handed outlet.new ≡ Some (before ++ said))
+            × TicksAt self.old.due now member.now.cell.start seat.old.seat.view (master_count member.now.cell.start.plan) said seat.new.seat.view result
+            × IsDueNext self.old.due now self.old.phase self.new.due }
+        ensures phase { self.new.phase ≡ self.old.phase }
+    {
         if state.clock.now(rt) < self.due {
             return true;
         }
@@ -128,8 +137,8 @@ impl Ticker {
         goes_on
     }
 
-    /// Ticks each master once: whether the Sentinel goes on. The random number of a tick is the part of a second that the clock shows, in
-    /// nanoseconds, which differs from tick to tick and from Sentinel to Sentinel.
+    /// Ticks each master once, in their order, up to one whose tick halts the Sentinel: whether the Sentinel goes on. What it says goes to the outlet.
+    #[tactic(auto, using(crate::proofs::Hearing::ticks_more, crate::proofs::Hearing::ticks_stop, crate::proofs::Hearing::ticks_none))]
     pub fn tick_all<J: Which, S: ConfStore, O: Outlet, R: Wait + Clock + Log>(
         &mut self,
         rt: &R,
@@ -137,29 +146,72 @@ impl Ticker {
         member: &RunningSentinel<J, S>,
         seat: &mut ThreadSeat<J>,
         outlet: &mut O,
-    ) -> bool {
+    ) -> bool
+        ensures ticked { (said : List Message) × IfSome (O.handed outlet.old) (λ before. O.handed outlet.new ≡ Some (before ++ said))
+            × Ticks member.now.cell.start seat.old.seat.view (master_count member.now.cell.start.plan) said seat.new.seat.view result }
+        ensures due { (self.new.due ≡ self.old.due) × (self.new.phase ≡ self.old.phase) }
+    {
         for master in 0..member.masters() {
-            let elapsed = state.clock.elapsed(rt);
-            let (now, random) = (millis_of(elapsed), u64::from(elapsed.subsec_nanos()));
-            if log_enabled!(rt; Level::Info) {
-                seat.want(master, now);
-            }
-            let event = Event::Tick { master, random };
-            let acted = member.carry_out(rt, seat, outlet, now, event);
-            if let Some(look) = seat.take_look() {
-                self.lookout.note(
-                    &member.noting(rt),
-                    member.roster(),
-                    master,
-                    &look,
-                    seat.outputs(),
-                );
-            }
-            if !goes_on_noted(rt, state, member, acted) {
+            if !self.tick_one(rt, state, member, seat, outlet, master) {
                 return false;
             }
         }
         true
+    }
+
+    /// Ticks one master: whether the Sentinel goes on. The random number of a tick is the part of a second that the clock shows, in nanoseconds,
+    /// which differs from tick to tick and from Sentinel to Sentinel.
+    fn tick_one<J: Which, S: ConfStore, O: Outlet, R: Wait + Clock + Log>(
+        &mut self,
+        rt: &R,
+        state: &RunState,
+        member: &RunningSentinel<J, S>,
+        seat: &mut ThreadSeat<J>,
+        outlet: &mut O,
+        master: u16,
+    ) -> bool
+        ensures ticked { (said : List Message) × IfSome (O.handed outlet.old) (λ before. O.handed outlet.new ≡ Some (before ++ said))
+            × TickTook member.now.cell.start seat.old.seat.view master said seat.new.seat.view result }
+        ensures due { (self.new.due ≡ self.old.due) × (self.new.phase ≡ self.old.phase) }
+    {
+        let elapsed = state.clock.elapsed(rt);
+        let (now, random) = (millis_of(elapsed), u64::from(elapsed.subsec_nanos()));
+        want_noted(rt, seat, master, now);
+        let acted = member.carry_out(rt, seat, outlet, now, Event::Tick { master, random });
+        self.note_look(rt, member, seat, master);
+        goes_on_noted(rt, state, member, acted)
+    }
+
+    /// Notes what the last turn took down of a master.
+    fn note_look<J: Which, S: ConfStore, R: Log>(
+        &mut self,
+        rt: &R,
+        member: &RunningSentinel<J, S>,
+        seat: &mut ThreadSeat<J>,
+        master: u16,
+    )
+        ensures seat { (seat.new.seat ≡ seat.old.seat) × (seat.new.outbox ≡ seat.old.outbox) }
+        ensures due { (self.new.due ≡ self.old.due) × (self.new.phase ≡ self.old.phase) }
+    {
+        let Some(look) = seat.take_look() else {
+            return;
+        };
+        self.lookout.note(
+            &member.noting(rt),
+            member.roster(),
+            master,
+            &look,
+            seat.outputs(),
+        );
+    }
+}
+
+/// Has the next turn take down what the Sentinel shows of a master, where that is noted.
+fn want_noted<J: Which, R: Log>(rt: &R, seat: &mut ThreadSeat<J>, master: u16, now: u64)
+    ensures { (seat.new.seat ≡ seat.old.seat) × (seat.new.outbox ≡ seat.old.outbox) }
+{
+    if log_enabled!(rt; Level::Info) {
+        seat.want(master, now);
     }
 }
 
@@ -173,6 +225,8 @@ pub fn hear<J: Which, S: ConfStore, O: Outlet, R: Wait + Clock + Log>(
     event: Event,
 ) -> bool
     requires { IsWithinEvent event }
+    ensures took { (now : ℕ) × Took member.now.cell.start seat.old.seat.view (input_of now event) seat.new.outbox.shown seat.new.seat.view result }
+    ensures handed { IfSome (O.handed outlet.old) (λ before. O.handed outlet.new ≡ Some (before ++ sent seat.new.outbox.shown)) }
 {
     let now = state.clock.now(rt);
     let acted = member.carry_out(rt, seat, outlet, now, event);
