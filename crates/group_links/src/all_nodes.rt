@@ -1,10 +1,11 @@
 //! All data nodes of a group.
 
-ghost use Rattle.std.specs.Prelude.{◌≡◌, ◌⊎◌, ◌≤◌, [], IfOk, length};
+ghost use Rattle.std.specs.Prelude.{◌≡◌, ◌≤◌, ◌++◌, [], List, Some, IfOk, IfSome, length};
 ghost use Rattle.std.specs.List.{AllByRecursion};
+ghost use Rattle.ballot_law.specs.declared.messages.Output.{Output};
+ghost use Rattle.ballot_law.specs.Messages.{sent};
 ghost use Rattle.boxed_nodes.specs.Sendable.{IsSendableOutput, IsTakeable};
-ghost use Rattle.data_nodes.specs.Servers.{changed_by};
-ghost use Rattle.group_links.specs.DataNodes.{AreNodesOf, ObeysAt};
+ghost use Rattle.group_links.specs.DataNodes.{AreNodesOf, Heeds, ObeysAt};
 ghost use Rattle.group_links.specs.declared.all_nodes.TheConstants.{NODE_COUNT_MAX};
 ghost use Rattle.group_links.specs.declared.node_orders.Action.TheVariants.{Take, Stop, Start};
 
@@ -14,7 +15,7 @@ use ballot_law::{Event, Input, KeptText};
 use boxed_nodes::{HowStored, Node};
 use crossbeam_channel::{Receiver, RecvTimeoutError};
 use data_nodes::DataNode;
-use group_sentinels::{RunState, send_all};
+use group_sentinels::{Outlet, RunState, send_all};
 use sentinel_conf::Conf;
 use sentinel_outbox::Outbox;
 use std::alloc::{AllocError, Global};
@@ -44,8 +45,7 @@ fn carry_out(node: &mut DataNode, input: &Input, outbox: &mut Outbox)
     requires held { outbox.old.held ≡ [] }
     ensures held { outbox.new.held ≡ [] }
     ensures sendable { AllByRecursion IsSendableOutput outbox.new.shown }
-    ensures taken { (node.new ≡ node.old)
-        ⊎ ((node.new.number ≡ node.old.number) × (node.new.server ≡ changed_by input.entry.now.event node.old.server)) }
+    ensures heeded { Heeds input.entry.now.event node.old node.new outbox.new.shown }
 {
     outbox.clear();
     let room = node.room();
@@ -84,21 +84,22 @@ impl DataNodes {
         self.nodes.len() as u16
     }
 
-    /// Has the node with this number take an event, and sends what it says.
-    fn take<R: Wait>(&mut self, rt: &R, links: &Links, number: u16, now: u64, event: Event)
+    /// Has the node with this number take an event, and hands on what it says.
+    fn take<O: Outlet>(&mut self, outlet: &mut O, number: u16, now: u64, event: Event)
         requires { IsTakeable event }
-        ensures { ObeysAt number (Take event) self.old.nodes.items self.new.nodes.items }
+        ensures { (outputs : List Output) × ObeysAt number (Take event) self.old.nodes.items self.new.nodes.items outputs
+            × IfSome (O.handed outlet.old) (λ before. O.handed outlet.new ≡ Some (before ++ sent outputs)) }
     {
         if let Some(node) = self.nodes.get_mut(number as usize) {
             let input = Input { now, event };
             carry_out(node, &input, &mut self.outbox);
-            send_all(&mut links.outlet(rt), self.outbox.outputs());
+            send_all(outlet, self.outbox.outputs());
         }
     }
 
     /// Stops the node with this number.
     fn stop(&mut self, number: u16)
-        ensures { ObeysAt number Stop self.old.nodes.items self.new.nodes.items }
+        ensures { ObeysAt number Stop self.old.nodes.items self.new.nodes.items [] }
     {
         if let Some(node) = self.nodes.get_mut(number as usize) {
             node.stop(KeptText::Old);
@@ -107,27 +108,28 @@ impl DataNodes {
 
     /// Starts the node with this number.
     fn start(&mut self, number: u16, now: u64)
-        ensures { ObeysAt number Start self.old.nodes.items self.new.nodes.items }
+        ensures { ObeysAt number Start self.old.nodes.items self.new.nodes.items [] }
     {
         if let Some(node) = self.nodes.get_mut(number as usize) {
             drop(node.start(now));
         }
     }
 
-    /// Has the node with the order's number do what it is to; nothing where no node has it.
-    pub fn obey<R: Wait + Clock>(
+    /// Has the node with the order's number do what it is to; nothing where no node has it. What it says goes to the outlet, once and in order.
+    pub fn obey<O: Outlet, R: Clock>(
         &mut self,
         rt: &R,
         state: &RunState,
-        links: &Links,
+        outlet: &mut O,
         order: NodeOrder,
     )
-        ensures { ObeysAt order.number order.action self.old.nodes.items self.new.nodes.items }
+        ensures { (outputs : List Output) × ObeysAt order.number order.action self.old.nodes.items self.new.nodes.items outputs
+            × IfSome (O.handed outlet.old) (λ before. O.handed outlet.new ≡ Some (before ++ sent outputs)) }
     {
         let now = state.clock.now(rt);
         let NodeOrder { number, action } = order;
         match action {
-            Action::Take(takeable) => self.take(rt, links, number, now, takeable.into_event()),
+            Action::Take(takeable) => self.take(outlet, number, now, takeable.into_event()),
             Action::Stop => self.stop(number),
             Action::Start => self.start(number, now),
         }
@@ -142,12 +144,13 @@ impl DataNodes {
         orders: &Receiver<NodeOrder>,
         ending: &AtomicU64,
     ) {
+        let mut outlet = links.outlet(rt);
         for _ in rt.forever() {
             if ending.load(Ordering::SeqCst) != 0 {
                 return;
             }
             match orders.recv_timeout(rt, Duration::from_millis(ORDER_MS)) {
-                Ok(order) => self.obey(rt, state, links, order),
+                Ok(order) => self.obey(rt, state, &mut outlet, order),
                 Err(RecvTimeoutError::Timeout) => {}
                 Err(RecvTimeoutError::Disconnected) => return,
             }

@@ -1,6 +1,6 @@
 //! The channels between the nodes of a group.
 
-ghost use Rattle.std.specs.Prelude.{◌≡◌, ◌≢◌, ◌<◌, ℕ, None, All, IfOk, OnOk, OnErr, length, slice_get, slice_index_or};
+ghost use Rattle.std.specs.Prelude.{◌≡◌, ◌≢◌, ◌<◌, ℕ, None, Some, All, IfOk, IfSome, OnOk, OnErr, length, slice_get, slice_index_or};
 ghost use Rattle.boxed_nodes.specs.Sendable.{IsSendable};
 
 use crate::delivery::Delivery;
@@ -58,12 +58,20 @@ impl Links {
         self.nodes.clone()
     }
 
+    /// The end at which what is for the Sentinel at this place goes in; None where it isn't connected.
+    fn end_of(&self, place: u16) -> Option<&Sender<Delivery>>
+        ensures end { IfSome result (λ end. slice_index_or self.now.sentinels.items place None ≡ Some end.now) }
+        ensures none { result ≡ None → slice_index_or self.now.sentinels.items place None ≡ None }
+    {
+        self.sentinels.get(place as usize)?.as_ref()
+    }
+
     /// Puts a message into the channel of its target. It is lost where that isn't connected, where there is no such node, and where its end is
     /// gone.
     fn dispatch<R: Wait>(&self, rt: &R, dispatch: Dispatch) {
         match dispatch {
             Dispatch::ToSentinel(place, delivery) => {
-                if let Some(Some(to)) = self.sentinels.get(place as usize) {
+                if let Some(to) = self.end_of(place) {
                     drop(to.send(rt, delivery));
                 }
             }

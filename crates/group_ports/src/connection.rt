@@ -1,8 +1,9 @@
 //! One client's connection.
 
-ghost use Rattle.std.specs.Prelude.{◌≡◌, ◌≢◌, ◌<◌, ◌↔◌, ◌⊎◌, ◌++◌, ℕ, List, [], None, IsTrue, false, true, length};
+ghost use Rattle.std.specs.Prelude.{◌≡◌, ◌≢◌, ◌<◌, ◌↔◌, ◌⊎◌, ℕ, [], IsTrue, false, true, length};
 ghost use Rattle.std.specs.Io.KnownBytes.{Consumes};
-ghost use Rattle.group_ports.specs.Sending.{IsSent, IsHanded};
+ghost use Rattle.group_ports.specs.Sending.{Answers, IsSent, IsToldBy, ReadsMore};
+ghost use Rattle.sentinel_rules.specs.Plans.{roster_of};
 
 use crate::read_buffer::{PIECE, ReadBuffer};
 use conf_store::ConfStore;
@@ -78,9 +79,10 @@ impl<T: Read + Write + Drop> Connection<T> {
     }
 
     /// Writes once of what is unsent; the error says why nothing was taken.
-    #[tactic(auto, using(crate::proofs::Sends::sent_none, crate::proofs::Sends::sent_some))]
+    #[tactic(auto, using(crate::proofs::Sends::sent_none, crate::proofs::Sends::sent_some, crate::proofs::Sends::kept_sent))]
     fn write(&mut self) -> Result<(), ErrorKind>
         ensures sent { IsSent (T.contents self.old.stream) (T.contents self.new.stream) self.old.session.unsent self.new.session.unsent }
+        ensures session { self.new.session ≡ record self.old.session { unsent = self.new.session.unsent } }
         ensures read { self.new.buffer ≡ self.old.buffer }
     {
         match self.stream.write(self.session.unsent()) {
@@ -94,9 +96,10 @@ impl<T: Read + Write + Drop> Connection<T> {
     }
 
     /// Sends what is unsent until it would wait: whether the connection is whole. What its client gets is what was taken away of the front.
-    #[tactic(auto, using(crate::proofs::Sends::sent_none, crate::proofs::Sends::sent_twice, crate::proofs::Sends::sent_nothing))]
+    #[tactic(auto, using(crate::proofs::Sends::sent_none, crate::proofs::Sends::sent_twice, crate::proofs::Sends::sent_nothing, crate::proofs::Sends::kept_talk))]
     pub(crate) fn send(&mut self) -> bool
         ensures sent { IsSent (T.contents self.old.stream) (T.contents self.new.stream) self.old.session.unsent self.new.session.unsent }
+        ensures session { self.new.session ≡ record self.old.session { unsent = self.new.session.unsent } }
         ensures read { self.new.buffer ≡ self.old.buffer }
     {
         for _ in 0..u64::MAX {
@@ -113,11 +116,16 @@ impl<T: Read + Write + Drop> Connection<T> {
     }
 
     /// Tells its client of a master's new address where it has subscribed: whether the connection is whole, and had memory for it.
+    #[tactic(auto, using(crate::proofs::Sends::told_nothing, crate::proofs::Sends::told_sent))]
     pub(crate) fn tell<J: Which, S: ConfStore>(
         &mut self,
         member: &RunningSentinel<J, S>,
         switch: &Switch,
-    ) -> bool {
+    ) -> bool
+        ensures told { IsToldBy (T.contents self.old.stream) (T.contents self.new.stream) (roster_of member.now.cell.start.plan) switch.now.note switch.now.entry
+            self.old.session self.new.session }
+        ensures read { self.new.buffer ≡ self.old.buffer }
+    {
         match member.notify(&mut self.session, switch) {
             Ok(false) => true,
             Ok(true) => self.send(),
@@ -144,8 +152,21 @@ impl<T: Read + Write + Drop> Connection<T> {
         true
     }
 
+    /// Reads where nothing is left to hand over: whether the connection is whole.
+    #[tactic(auto, using(crate::proofs::Sends::reads_more, crate::proofs::Sends::reads_nothing))]
+    fn read_more(&mut self) -> bool
+        ensures read { ReadsMore (T.remaining self.old.stream) (T.remaining self.new.stream) self.old.buffer self.new.buffer }
+        ensures session { self.new.session ≡ self.old.session }
+    {
+        if !self.buffer.is_empty() {
+            return true;
+        }
+        self.read()
+    }
+
     /// Hands the session the bytes that are next, at a reading of the clock.
-    fn hand_over<J: Which, S: ConfStore, R: Wait + Clock>(
+    #[tactic(auto, using(crate::proofs::Sends::answers_piece))]
+    fn hand_piece<J: Which, S: ConfStore, R: Wait + Clock>(
         &mut self,
         rt: &R,
         state: &RunState,
@@ -153,9 +174,8 @@ impl<T: Read + Write + Drop> Connection<T> {
         seat: &mut ThreadSeat<J>,
         now: u64,
     )
-        ensures handed { (bytes : List ℕ) × (self.old.buffer ≡ bytes ++ self.new.buffer) × (self.old.session.ended ≡ None
-            → IsHanded member.now.cell.start now self.old.session seat.old.seat.view bytes self.new.session seat.new.seat.view) }
-        ensures stream { self.new.stream ≡ self.old.stream }
+        ensures { Answers member.now.cell.start now (T.remaining self.old.stream) (T.remaining self.new.stream) self.old.buffer self.old.session seat.old.seat.view
+            self.new.buffer self.new.session seat.new.seat.view }
     {
         let bytes = self.buffer.next();
         let count = bytes.len();
@@ -170,7 +190,26 @@ impl<T: Read + Write + Drop> Connection<T> {
         self.buffer.take(count);
     }
 
+    /// Hands the session the bytes that are next, where there are any, at a reading of the clock.
+    #[tactic(auto, using(crate::proofs::Sends::answers_nothing))]
+    fn hand_over<J: Which, S: ConfStore, R: Wait + Clock>(
+        &mut self,
+        rt: &R,
+        state: &RunState,
+        member: &RunningSentinel<J, S>,
+        seat: &mut ThreadSeat<J>,
+        now: u64,
+    )
+        ensures { Answers member.now.cell.start now (T.remaining self.old.stream) (T.remaining self.new.stream) self.old.buffer self.old.session seat.old.seat.view
+            self.new.buffer self.new.session seat.new.seat.view }
+    {
+        if !self.buffer.is_empty() {
+            self.hand_piece(rt, state, member, seat, now);
+        }
+    }
+
     /// Reads where nothing is left to hand over, and hands over what is next: whether the connection is whole.
+    #[tactic(auto, using(crate::proofs::Sends::answers_read, crate::proofs::Sends::answers_after))]
     fn step<J: Which, S: ConfStore, R: Wait + Clock>(
         &mut self,
         rt: &R,
@@ -178,25 +217,30 @@ impl<T: Read + Write + Drop> Connection<T> {
         member: &RunningSentinel<J, S>,
         seat: &mut ThreadSeat<J>,
         now: u64,
-    ) -> bool {
-        if self.buffer.is_empty() && !self.read() {
+    ) -> bool
+        ensures { Answers member.now.cell.start now (T.remaining self.old.stream) (T.remaining self.new.stream) self.old.buffer self.old.session seat.old.seat.view
+            self.new.buffer self.new.session seat.new.seat.view }
+    {
+        if !self.read_more() {
             return false;
         }
-        if !self.buffer.is_empty() {
-            self.hand_over(rt, state, member, seat, now);
-        }
+        self.hand_over(rt, state, member, seat, now);
         true
     }
 
     /// Reads and answers until it would wait, or until others have their turn: after the step in which the clock's millisecond ended, or from which on it
     /// may ask for votes. The answer is whether it is whole.
+    #[tactic(auto, using(crate::proofs::Sends::answers_nothing, crate::proofs::Sends::answers_twice, crate::proofs::Sends::answered, crate::proofs::Sends::answered_twice))]
     pub(crate) fn turn<J: Which, S: ConfStore, R: Wait + Clock>(
         &mut self,
         rt: &R,
         state: &RunState,
         member: &RunningSentinel<J, S>,
         seat: &mut ThreadSeat<J>,
-    ) -> bool {
+    ) -> bool
+        ensures { (now : ℕ) × Answers member.now.cell.start now (T.remaining self.old.stream) (T.remaining self.new.stream) self.old.buffer self.old.session
+            seat.old.seat.view self.new.buffer self.new.session seat.new.seat.view }
+    {
         let began = state.clock.now(rt);
         let asked_for_votes = self.votes;
         for _ in 0..STEPS_MAX {

@@ -38,3 +38,27 @@ order_of nodes line = order_of_words nodes (cut_at 32 line)
 abbrev pub with_byte : Option (List ℕ) → ℕ → Option (List ℕ)
 with_byte None byte = None
 with_byte (Some line) byte = some_if (nat_lt (length line) LINE_MAX) (line ++ byte ∷ [])
+
+-- the order that a line is, where it is one
+abbrev pub listed : Option NodeOrder → List NodeOrder
+listed None = []
+listed (Some order) = order ∷ []
+
+abbrev pub ordered_by : (nodes : ℕ) → Option (List ℕ) → List NodeOrder
+ordered_by nodes None = []
+ordered_by nodes (Some line) = listed (order_of nodes line)
+
+-- what is read of a line after these bytes, where this was read before them
+abbrev pub line_after : Option (List ℕ) → List ℕ → Option (List ℕ)
+line_after line [] = line
+line_after line (byte ∷ bytes) = elim (byte == 10) [ true ↦ line_after (Some []) bytes | false ↦ line_after (with_byte line byte) bytes ]
+
+-- the orders of the lines that end within these bytes
+abbrev pub orders_in : (nodes : ℕ) → Option (List ℕ) → List ℕ → List NodeOrder
+orders_in nodes line [] = []
+orders_in nodes line (byte ∷ bytes) =
+    elim (byte == 10) [ true ↦ ordered_by nodes line ++ orders_in nodes (Some []) bytes | false ↦ orders_in nodes (with_byte line byte) bytes ]
+
+-- the orders of an input, whose last line needs no LF
+abbrev pub all_orders : (nodes : ℕ) → Option (List ℕ) → List ℕ → List NodeOrder
+all_orders nodes line bytes = orders_in nodes line bytes ++ ordered_by nodes (line_after line bytes)

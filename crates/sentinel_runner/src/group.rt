@@ -2,6 +2,7 @@
 
 ghost use Rattle.std.specs.Prelude.{◌≡◌, ◌≢◌, ◌<◌, ◌-◌, ◌^◌, All, IfErr, IsErrOf, IsFalse, IsTrue};
 ghost use Rattle.sentinel_runner.specs.declared.group_fault.GroupFault.TheVariants.{NotOneRoster};
+ghost use Rattle.sentinel_runner.specs.declared.group_fault.OrderedFault.{OrderedFault};
 ghost use Rattle.sentinel_runner.specs.Faults.{fault_of_run};
 ghost use Rattle.sentinel_runner.specs.Groups.{AreOneGroup};
 
@@ -10,7 +11,7 @@ use crate::opened::{PORT_THREADS_MAX, room_of};
 use crate::orders::{Orders, ReadFailed};
 use crate::started::Started;
 use conf_store::ConfStore;
-use crossbeam_channel::Receiver;
+use crossbeam_channel::{Receiver, Sender};
 use group_checks::is_one_group;
 use group_links::{DataNodes, Links, NodeOrder};
 use group_ports::PortRoom;
@@ -146,7 +147,7 @@ impl<S: ConfStore + Drop> Group<S> {
     }
 
     /// Takes lines that stop, start or set a data node while the group runs.
-    fn orders(&self) -> Result<Orders, GroupFault>
+    fn orders(&self) -> Result<Orders<Sender<NodeOrder>>, GroupFault>
         ensures roster { IfErr result (λ fault. fault ≢ NotOneRoster) }
     {
         let node_orders = self.links.node_orders()?;
@@ -180,7 +181,9 @@ impl<S: ConfStore + Drop + Send> Group<S> {
         rt: &R,
         input: &mut I,
         ending: &AtomicU64,
-    ) -> Result<(), OrderedFault> {
+    ) -> Result<(), OrderedFault>
+        ensures roster { IfErr result (λ fault. fault ≢ OrderedFault.Group NotOneRoster) }
+    {
         let orders = self.orders()?;
         let Group {
             threads,
@@ -198,7 +201,7 @@ impl<S: ConfStore + Drop + Send> Group<S> {
 fn follow_beside<'a, S, I: Read, R>(
     rt: &'a R,
     threads: Beginning<S>,
-    mut orders: Orders,
+    mut orders: Orders<Sender<NodeOrder>>,
     input: &mut I,
     state: &'a RunState,
     links: &'a Links,

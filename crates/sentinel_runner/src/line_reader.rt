@@ -1,6 +1,6 @@
 //! The lines of an input that comes in pieces.
 
-ghost use Rattle.std.specs.Prelude.{◌≡◌, None, Some, [], IfSome};
+ghost use Rattle.std.specs.Prelude.{◌≡◌, ◌↔◌, None, Some, [], IfSome, IsTrue};
 ghost use Rattle.sentinel_runner.specs.Orders.{with_byte};
 
 use arrayvec::ArrayVec;
@@ -36,7 +36,9 @@ impl LineReader {
     }
 
     /// Whether nothing was read of a line.
-    pub(crate) fn is_empty(&self) -> bool {
+    pub(crate) fn is_empty(&self) -> bool
+        ensures { IsTrue result ↔ (self.now ≡ Some []) }
+    {
         self.line.is_empty() && !self.too_long
     }
 

@@ -1,8 +1,9 @@
 //! Lines that stop, start or set a data node while a group runs.
 
-ghost use Rattle.std.specs.Prelude.{◌≡◌, ◌∷◌, [], ℕ, None, Some, IfSome};
+ghost use Rattle.std.specs.Prelude.{◌≡◌, ◌∷◌, ◌++◌, [], ℕ, List, None, Some, IfSome, OnOk};
 ghost use Rattle.ballot_law.specs.Words.{cut_at};
-ghost use Rattle.sentinel_runner.specs.Orders.{node_of, order_of, order_of_words, plain_order, set_order};
+ghost use Rattle.std.specs.Io.KnownBytes.{Consumes, IsAtEnd};
+ghost use Rattle.sentinel_runner.specs.Orders.{all_orders, line_after, listed, node_of, order_of, order_of_words, ordered_by, orders_in, plain_order, set_order};
 
 use crate::line_reader::LineReader;
 use ballot_law::is_same_bytes;
@@ -16,10 +17,28 @@ use words::{number_of, split_at_byte};
 /// How many bytes one read asks for.
 const PIECE: usize = 512;
 
-/// Where orders go, and how many data nodes there are.
+/// Where orders go. `given` has all orders that it was given, oldest first, for an end that keeps them; a channel says nothing.
+pub(crate) trait OrderEnd {
+    ghost use Rattle.std.specs.Prelude.{◌≡◌, ◌++◌, ◌∷◌, [], List, Option, None, Some, IfSome};
+    ghost use Rattle.group_links.specs.declared.node_orders.NodeOrder.{NodeOrder};
+
+    ghost given: { Self → Option (List NodeOrder) } = { λ _. None };
+
+    /// Gives an order on; it may be lost on the way.
+    fn give<R: Wait>(&mut self, rt: &R, order: NodeOrder)
+        ensures given { IfSome (given self.old) (λ before. given self.new ≡ Some (before ++ order ∷ [])) };
+}
+
+impl OrderEnd for Sender<NodeOrder> {
+    fn give<R: Wait>(&mut self, rt: &R, order: NodeOrder) {
+        drop(self.send(rt, order));
+    }
+}
+
+/// Where orders go, how many data nodes there are, and what was read of a line.
 #[derive(Drop)]
-pub(crate) struct Orders {
-    node_orders: Sender<NodeOrder>,
+pub(crate) struct Orders<E: OrderEnd + Drop> {
+    end: E,
     nodes: u16,
     reader: LineReader,
 }
@@ -90,48 +109,68 @@ fn order_of(line: &[u8], nodes: u16) -> Option<NodeOrder>
     }
 }
 
-impl Orders {
-    /// Orders that go to this end of the data nodes' channel, of which there are so many.
-    pub(crate) fn new(node_orders: Sender<NodeOrder>, nodes: u16) -> Orders {
+impl<E: OrderEnd + Drop> Orders<E> {
+    /// Orders that go to this end, of so many data nodes.
+    pub(crate) fn new(end: E, nodes: u16) -> Orders<E>
+        ensures { (result.end ≡ end) × (result.nodes ≡ nodes) × (result.reader ≡ Some []) }
+    {
         Orders {
-            node_orders,
+            end,
             nodes,
             reader: LineReader::new(),
         }
     }
 
     /// What the line orders that was read, where it is an order.
-    fn order(&self) -> Option<NodeOrder> {
+    fn order(&self) -> Option<NodeOrder>
+        ensures { listed result ≡ ordered_by self.now.nodes self.now.reader }
+    {
         order_of(self.reader.line()?, self.nodes)
     }
 
-    /// Sends what the line orders; a line that orders nothing gets a note. The next line begins.
-    fn obey<R: Wait + Log>(&mut self, rt: &R) {
+    /// Gives on what the line orders; a line that orders nothing gets a note. The next line begins.
+    fn obey<R: Wait + Log>(&mut self, rt: &R)
+        ensures given { IfSome (E.given self.old.end) (λ before. E.given self.new.end ≡ Some (before ++ ordered_by self.old.nodes self.old.reader)) }
+        ensures reader { (self.new.nodes ≡ self.old.nodes) × (self.new.reader ≡ Some []) }
+    {
         match self.order() {
-            Some(order) => drop(self.node_orders.send(rt, order)),
+            Some(order) => self.end.give(rt, order),
             None =>
                 warn!(rt; "a line of standard input is no order: stop d0, start d0, set d0 100 0 0"),
         }
         self.reader = LineReader::new();
     }
 
-    /// Takes a piece of the input: each LF ends a line, which is obeyed.
-    fn take<R: Wait + Log>(&mut self, rt: &R, piece: &[u8]) {
+    /// Takes a byte of the input: LF ends a line, which is obeyed.
+    fn take_byte<R: Wait + Log>(&mut self, rt: &R, byte: u8)
+        ensures given { IfSome (E.given self.old.end) (λ before. E.given self.new.end ≡ Some (before ++ orders_in self.old.nodes self.old.reader (byte ∷ []))) }
+        ensures reader { (self.new.nodes ≡ self.old.nodes) × (self.new.reader ≡ line_after self.old.reader (byte ∷ [])) }
+    {
+        if byte == b'\n' {
+            self.obey(rt);
+        } else {
+            self.reader.add(byte);
+        }
+    }
+
+    /// Takes a piece of the input.
+    fn take<R: Wait + Log>(&mut self, rt: &R, piece: &[u8])
+        ensures given { IfSome (E.given self.old.end) (λ before. E.given self.new.end ≡ Some (before ++ orders_in self.old.nodes self.old.reader piece.now)) }
+        ensures reader { (self.new.nodes ≡ self.old.nodes) × (self.new.reader ≡ line_after self.old.reader piece.now) }
+    {
         for byte in piece {
-            if *byte == b'\n' {
-                self.obey(rt);
-            } else {
-                self.reader.add(*byte);
-            }
+            self.take_byte(rt, *byte);
         }
     }
 
     /// Reads to the end of the input.
-    fn read_all<I: Read, R: Wait + Log>(
-        &mut self,
-        rt: &R,
-        input: &mut I,
-    ) -> Result<(), ReadFailed> {
+    fn read_all<I: Read, R: Wait + Log>(&mut self, rt: &R, input: &mut I) -> Result<(), ReadFailed>
+        ensures read { (bytes : List ℕ) × Consumes (I.remaining input.old) (I.remaining input.new) bytes
+            × IfSome (E.given self.old.end) (λ before. E.given self.new.end ≡ Some (before ++ orders_in self.old.nodes self.old.reader bytes))
+            × (self.new.reader ≡ line_after self.old.reader bytes) }
+        ensures nodes { self.new.nodes ≡ self.old.nodes }
+        ensures end { OnOk result (IsAtEnd (I.remaining input.new)) }
+    {
         let mut piece = [0u8; PIECE];
         for _ in 0..u64::MAX {
             match input.read(&mut piece) {
@@ -147,12 +186,16 @@ impl Orders {
         Err(ReadFailed)
     }
 
-    /// Obeys each line of the input until its end, or until it can't be read. A last line without LF is obeyed too.
+    /// Obeys each line of the input once, in their order, until its end, or until it can't be read. A last line without LF is obeyed too.
     pub(crate) fn follow<I: Read, R: Wait + Log>(
         &mut self,
         rt: &R,
         input: &mut I,
-    ) -> Result<(), ReadFailed> {
+    ) -> Result<(), ReadFailed>
+        ensures read { (bytes : List ℕ) × Consumes (I.remaining input.old) (I.remaining input.new) bytes
+            × IfSome (E.given self.old.end) (λ before. E.given self.new.end ≡ Some (before ++ all_orders self.old.nodes self.old.reader bytes)) }
+        ensures end { OnOk result (IsAtEnd (I.remaining input.new)) }
+    {
         let read = self.read_all(rt, input);
         if !self.reader.is_empty() {
             self.obey(rt);

@@ -1,6 +1,8 @@
 //! One Sentinel of its own, which watches Redis servers and speaks to the other Sentinels over TCP.
 
-ghost use Rattle.std.specs.Prelude.{◌≡◌, ◌<◌, ◌+◌, ◌-◌, ◌^◌, IfOk, OnOk, length};
+ghost use Rattle.std.specs.Prelude.{◌≡◌, ◌≢◌, ◌<◌, ◌+◌, ◌-◌, ◌^◌, IfErr, IfOk, IfSome, OnOk, length};
+ghost use Rattle.sentinel_conf.specs.Rewritten.{rewritten};
+ghost use Rattle.sentinel_runner.specs.declared.group_fault.GroupFault.TheVariants.{NotOneRoster};
 ghost use Rattle.sentinel_runner.specs.declared.watch.TheConstants.{BESIDE};
 
 use crate::group::outcome;
@@ -58,6 +60,8 @@ pub struct Watch<S: ConfStore> {
 fn prove_store<S: ConfStore>(alloc: Global, conf: &Conf, store: &mut S) -> Result<(), GroupFault>
     requires { S.failure_count store.old < 2 ^ 64 - 1 }
     ensures ok { OnOk result (S.failure_count store.new ≡ S.failure_count store.old) }
+    ensures stored { OnOk result (IfSome (S.held store.new) (λ bytes. bytes ≡ rewritten conf.now conf.now.kept)) }
+    ensures roster { IfErr result (λ fault. fault ≢ NotOneRoster) }
 {
     let Ok(mut text) = ConfText::room_for(alloc, conf) else {
         return Err(GroupFault::NoMemory);
@@ -75,7 +79,9 @@ fn wires_of<R: Net>(
     alloc: Global,
     conf: &Conf,
     logins: Logins,
-) -> Result<(Wires, FarEnd), GroupFault> {
+) -> Result<(Wires, FarEnd), GroupFault>
+    ensures roster { IfErr result (λ fault. fault ≢ NotOneRoster) }
+{
     let Ok(roster) = conf.roster().copy(alloc) else {
         return Err(GroupFault::NoMemory);
     };
@@ -92,7 +98,8 @@ fn room_of<R: Net>(
     conf: &Conf,
     port_threads: u16,
 ) -> Result<PortRoom, GroupFault>
-    ensures { IfOk result (λ room. 0 < port_threads → room.threads ≡ port_threads) }
+    ensures threads { IfOk result (λ room. 0 < port_threads → room.threads ≡ port_threads) }
+    ensures roster { IfErr result (λ fault. fault ≢ NotOneRoster) }
 {
     let own = connection_count(conf.roster()) as u64;
     match connections_beside(rt, alloc, 1, port_threads, own) {
@@ -119,7 +126,8 @@ fn port_of<R: Net + Log>(
     ips: &[u32],
     room: PortRoom,
 ) -> Result<(Port, Vec<Port>), GroupFault>
-    ensures { IfOk result (λ parts. length parts.1.items + 1 ≡ room.threads) }
+    ensures parts { IfOk result (λ parts. length parts.1.items + 1 ≡ room.threads) }
+    ensures roster { IfErr result (λ fault. fault ≢ NotOneRoster) }
 {
     let addresses = addresses_of(alloc, ips, number)?;
     match Port::open_at(rt, alloc, addresses.as_slice(), room) {
@@ -145,6 +153,7 @@ impl<S: ConfStore + Drop> Watch<S> {
         settings: WatchSettings,
     ) -> Result<Watch<S>, GroupFault>
         requires { S.failure_count store < 2 ^ 64 - 1 }
+        ensures roster { IfErr result (λ fault. fault ≢ NotOneRoster) }
     {
         let WatchSettings {
             ips,
@@ -176,6 +185,7 @@ impl<S: ConfStore + Drop> Watch<S> {
     pub fn run<R: Threads + Wait + Net + Clock + Log + Sync>(self, rt: &R) -> Result<(), GroupFault>
     where
         S: Send,
+        ensures roster { IfErr result (λ fault. fault ≢ NotOneRoster) }
     {
         let Watch {
             watching,

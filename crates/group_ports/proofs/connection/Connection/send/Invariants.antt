@@ -6,4 +6,5 @@ use Rattle.group_ports.proofs.connection.Connection.send.Given as goal
 abbrev pub invariant-loop : goal.invariant-loop
 invariant-loop g l =
     IsSent (g.T.Write.contents l.fn.self.stream) (g.T.Write.contents l.self.stream) l.fn.self.session.unsent l.self.session.unsent
+    × (l.self.session ≡ record l.fn.self.session { unsent = l.self.session.unsent })
     × (l.self.buffer ≡ l.fn.self.buffer)
