@@ -77,10 +77,7 @@ fn wires_of<R: Net>(
     conf: &Conf,
     logins: Logins,
 ) -> Result<(Wires, FarEnd), GroupFault> {
-    let Ok(roster) = conf.roster().copy(alloc) else {
-        return Err(GroupFault::NoMemory);
-    };
-    match Wires::new(rt, alloc, roster, conf.place(), logins) {
+    match Wires::new(rt, alloc, conf, logins) {
         Ok(both) => Ok(both),
         Err(error) => Err(fault_of(&error)),
     }

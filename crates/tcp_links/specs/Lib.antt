@@ -1,4 +1,5 @@
 pub mod NodeLinks
+pub mod RecentHellos
 pub mod Schedules
 pub mod Speaking
 pub mod Targets

@@ -11,7 +11,7 @@ ghost use Rattle.tcp_links.specs.declared.schedule.Stale.TheVariants.{Unreached,
 ghost use Rattle.tcp_links.specs.NodeLinks.{fresh, closed_at, opening_at, asked_at, IsHeardOn, IsBounded};
 ghost use Rattle.tcp_links.specs.Schedules.{IsPast, closed};
 
-use crate::schedule::{CONNECT_MS, NO_HELLO_MS, PING_MS, SILENT_MS, Schedule, Stale};
+use crate::schedule::{CONNECT_MS, NO_HELLO_MS, SILENT_MS, Schedule, Stale};
 use crate::speaking::{Login, put_first_words, put_message};
 use crate::target::Target;
 use ballot_law::{Body, Event, Message, NodeName};
@@ -64,17 +64,18 @@ fn closed(alloc: Global, target: Target, schedule: &mut Schedule, now: u64) -> L
 }
 
 impl NodeLink {
-    /// A connection that isn't open, and is to be opened at once. No memory is taken.
+    /// A connection that isn't open, and is to be opened at once, with so many milliseconds between two PINGs. No memory is taken.
     #[tactic(auto, using(crate::proofs::Keeping::kept_anew))]
-    pub fn new(alloc: Global, target: Target) -> NodeLink
+    pub fn new(alloc: Global, target: Target, ping_each: u64) -> NodeLink
         ensures target { result.target ≡ target }
         ensures stage { result.schedule.stage ≡ Closed }
         ensures pause { result.schedule.pause ≡ 0 }
+        ensures ping { result.schedule.ping_each ≡ ping_each }
         ensures talk { result.talk ≡ fresh target }
     {
         NodeLink {
             target,
-            schedule: Schedule::new(),
+            schedule: Schedule::new(ping_each),
             session: fresh(alloc, target),
             alloc,
         }
@@ -251,7 +252,7 @@ impl NodeLink {
         self.ask(&message, now)
     }
 
-    /// Sends a PING by itself, where it is open and takes messages. A fault closes it.
+    /// Sends a PING, where it is open and takes messages. A fault closes it.
     pub fn ping(&mut self, now: u64) -> Result<(), LinkFault>
         ensures pinged { OnOk result (self.new.schedule.pinged ≡ Some now) }
         ensures listens { self.old.target.listens ≡ true → self.new.talk ≡ self.old.talk }

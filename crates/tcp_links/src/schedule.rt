@@ -1,6 +1,6 @@
 //! When a connection is opened, given up, and asked besides what the Sentinel asks.
 
-ghost use Rattle.std.specs.Prelude.{◌≡◌, ◌≤◌, ◌↔◌, ◌+◌, ◌-◌, ◌/◌, true, false, Some, None, IsTrue};
+ghost use Rattle.std.specs.Prelude.{◌≡◌, ◌≤◌, ◌↔◌, ◌+◌, ◌-◌, ◌/◌, true, false, Some, None, IsTrue, max, min};
 ghost use Rattle.tcp_links.specs.declared.schedule.Stage.TheVariants.{Closed, Opening, Open};
 ghost use Rattle.tcp_links.specs.declared.schedule.Stale.TheVariants.{Unreached, Silent, NoHello};
 ghost use Rattle.tcp_links.specs.Schedules.{IsPast, begun, closed};
@@ -22,8 +22,13 @@ pub const PAUSE_MAX_MS: u64 = 500;
 /// For how long a connection has to be open to be opened again at once where its node ends it, in milliseconds: as at CLIENT KILL, after which hellos would be missed.
 pub const LASTING_MS: u64 = 2_000;
 
-/// How long it is between two PINGs that the connection sends by itself, in milliseconds.
-pub const PING_MS: u64 = 250;
+/// The shortest and the longest time between two PINGs that a connection sends, in milliseconds.
+pub const PING_MIN_MS: u64 = 250;
+
+pub const PING_MAX_MS: u64 = 1_000;
+
+/// How many PINGs a connection sends in the time after which its node would be down, within these limits.
+pub const PINGS: u64 = 8;
 
 /// How long it is between two INFOs that the connection asks for by itself, in milliseconds. A replica whose INFO is older than 5 s isn't promoted; and a node whose role is wrong has
 /// to say so twice, 8 s apart, before it is told otherwise, which is after two of these times.
@@ -52,7 +57,8 @@ pub enum Stale {
 }
 
 /// The times of a connection, readings of one clock in milliseconds: `since` is when its stage began, `quiet` when the silence began that counts, and `pinged` when it
-/// last sent a PING by itself. `pause` is how long it stays closed, and `infos` the time, of those between two INFOs since it was opened, at which it is to ask for INFO by itself again.
+/// last sent a PING. `ping_each` is how long it is between two PINGs, `pause` how long it stays closed, and `infos` the time, of those between two INFOs since it was opened, at
+/// which it is to ask for INFO by itself again.
 #[derive(Clone, Copy)]
 pub struct Schedule {
     pub stage: Stage,
@@ -60,14 +66,24 @@ pub struct Schedule {
     pub quiet: u64,
     pub pause: u64,
     pub pinged: Option<u64>,
+    pub ping_each: u64,
     pub infos: u64,
 }
 
+/// How long it is between two PINGs to a node that is down after a silence of so many milliseconds: an eighth of that, so that a pause of the node's own machine is seldom taken for
+/// one, and within the limits.
+pub fn ping_each(down_after: u64) -> u64
+    ensures { result ≡ min (max (down_after / PINGS) PING_MIN_MS) PING_MAX_MS }
+{
+    (down_after / PINGS).max(PING_MIN_MS).min(PING_MAX_MS)
+}
+
 impl Schedule {
-    /// A connection that is to be opened at once.
-    pub fn new() -> Schedule
+    /// A connection that is to be opened at once, with so many milliseconds between two PINGs.
+    pub fn new(ping_each: u64) -> Schedule
         ensures stage { result.stage ≡ Closed }
         ensures pause { result.pause ≡ 0 }
+        ensures ping { result.ping_each ≡ ping_each }
     {
         Schedule {
             stage: Stage::Closed,
@@ -75,6 +91,7 @@ impl Schedule {
             quiet: 0,
             pause: 0,
             pinged: None,
+            ping_each,
             infos: 0,
         }
     }
@@ -175,12 +192,14 @@ impl Schedule {
         self.stage == Stage::Open && now.saturating_sub(self.since) >= LASTING_MS
     }
 
-    /// Whether it is to send a PING by itself now.
+    /// Whether it is to send a PING now.
     pub fn is_ping_due(&self, now: u64) -> bool
-        ensures { IsTrue result ↔ ((self.now.stage ≡ Open) × IsPast PING_MS self.now.pinged now) }
+        ensures { IsTrue result ↔ ((self.now.stage ≡ Open) × IsPast self.now.ping_each self.now.pinged now) }
     {
         match self.pinged {
-            Some(pinged) => self.stage == Stage::Open && now.saturating_sub(pinged) >= PING_MS,
+            Some(pinged) => {
+                self.stage == Stage::Open && now.saturating_sub(pinged) >= self.ping_each
+            }
             None => self.stage == Stage::Open,
         }
     }

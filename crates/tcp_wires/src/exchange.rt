@@ -17,6 +17,7 @@ use std::rt::Clock;
 use std::sync::Wait;
 use std::sync::atomic::AtomicU64;
 use std::time::Duration;
+use tcp_links::RecentHellos;
 
 /// How many events may wait for the Sentinel, and how many messages for the connections; a further one is lost.
 const WAITING_MAX: usize = 4_096;
@@ -102,11 +103,12 @@ impl Hearing {
     }
 }
 
-/// The end of the connections: the messages that are to go out, and where what they hear goes.
+/// The end of the connections: the messages that are to go out, and where what they hear goes. `hellos` are those that were heard last.
 #[derive(Drop)]
 pub(crate) struct NearEnd {
     messages: Receiver<Outgoing>,
     heard: Sender<Hearing>,
+    hellos: RecentHellos,
 }
 
 /// The end of the Sentinel: what the connections hear, and where its messages go.
@@ -129,6 +131,7 @@ pub(crate) fn exchange(alloc: Global, registry: &Registry) -> io::Result<(NearEn
     let near = NearEnd {
         messages,
         heard: to_sentinel,
+        hellos: RecentHellos::new(alloc),
     };
     let far = FarEnd {
         heard,
@@ -145,10 +148,16 @@ impl NearEnd {
         self.messages.try_recv(rt).ok()
     }
 
-    /// Hands an event on to the Sentinel. Where too many wait for it, the event is lost, as a message may be on its way.
-    pub(crate) fn hand_on<R: Wait>(&self, rt: &R, event: Event)
+    /// Hands an event on to the Sentinel that a connection heard at this reading of the clock. Where too many wait for it, the event is lost, as a message may be on its way; so
+    /// is a hello that another connection heard a moment ago.
+    pub(crate) fn hand_on<R: Wait>(&mut self, rt: &R, event: Event, now: u64)
         requires { IsWithinEvent event }
     {
+        if let Event::HelloRead { text } = &event {
+            if !self.hellos.hear(now, text.as_slice()) {
+                return;
+            }
+        }
         if self.heard.len() < WAITING_MAX {
             drop(self.heard.send(rt, Hearing::of(event)));
         }
@@ -177,7 +186,8 @@ impl FarEnd {
     }
 }
 
-/// The connections as the place where messages go, each in its turn. A message is lost where too many wait, where no connection takes it, and where there is no memory.
+/// The connections as the place where messages go, each in its turn. A message is lost where too many wait, where no connection takes it, and where there is no memory. Where one
+/// waits already, the thread of the connections was woken for that, and takes this one too.
 #[derive(Clone, Copy)]
 pub(crate) struct WireOutlet<'a, R: Wait> {
     end: &'a FarEnd,
@@ -191,7 +201,9 @@ impl<R: Wait> Outlet for WireOutlet<'_, R> {
         }
         if let Ok(message) = copy_of(self.end.alloc, message) {
             drop(self.end.messages.send(self.rt, Outgoing::of(message)));
-            drop(self.end.waker.wake());
+            if self.end.messages.len() < 2 {
+                drop(self.end.waker.wake());
+            }
         }
     }
 }

@@ -59,7 +59,7 @@ fn read<T: Read>(stream: &mut T, room: &mut [u8]) -> Result<usize, ErrorKind>
     }
 }
 
-/// Reads one piece, and adds what the values tell that are whole with it. The error says why none was taken: `WouldBlock` where nothing is there, `UnexpectedEof` at the
+/// Reads one piece, and adds what the values tell that are whole with it: how long it is. The error says why none was taken: `WouldBlock` where nothing is there, `UnexpectedEof` at the
 /// end of the stream, and `InvalidData` where it was taken up to a fault, which closed the connection; what the values before the fault told was added.
 #[tactic(auto, using(crate::proofs::Hearing::hears_of, crate::proofs::Hearing::hears_none))]
 pub(crate) fn hear<T: Read>(
@@ -68,14 +68,14 @@ pub(crate) fn hear<T: Read>(
     room: &mut [u8],
     now: u64,
     events: &mut Vec<Event>,
-) -> Result<(), ErrorKind>
+) -> Result<usize, ErrorKind>
     ensures hears { OnOk result (Hears (T.remaining stream.old) (T.remaining stream.new) link.old link.new events.old.items events.new.items) }
     ensures heard_on { (more : List Event) × (events.new.items ≡ events.old.items ++ more) × AllByRecursion (IsHeardOn link.old.target) more }
     ensures target { link.new.target ≡ link.old.target }
 {
     let count = read(stream, room)?;
     match link.received(&room[..count], now, events) {
-        Ok(()) => Ok(()),
+        Ok(()) => Ok(count),
         Err(_) => Err(ErrorKind::InvalidData),
     }
 }

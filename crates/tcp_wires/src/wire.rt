@@ -24,13 +24,14 @@ const READS_MAX: u32 = 16;
 /// them, and what comes of it is told by a hello: so they have as long to listen again.
 const LOOK_MS: u64 = 100;
 
-/// A connection to a node, with its socket where it is open or being opened. `goes_on` is whether it may have more to read, `is_refused` whether the node refused who asks
+/// A connection to a node, with its socket where it is open or being opened. `goes_on` is whether it may have more to read, `is_ending` whether the system told of its end, `is_refused` whether the node refused who asks
 /// when it was heard last, `look_at` when it is to be asked what came of an order, and `shut_until` until when it stays closed, since too much came on it.
 #[derive(Drop)]
 pub(crate) struct Wire {
     link: NodeLink,
     stream: Option<TcpStream>,
     goes_on: bool,
+    is_ending: bool,
     is_refused: bool,
     look_at: Option<u64>,
     flow: Flow,
@@ -64,22 +65,23 @@ fn is_connected(stream: &TcpStream) -> Option<bool> {
 }
 
 /// Hands these events on to the Sentinel, in their order. They are those of one read, so there are few.
-fn hand_on_all<R: Wait>(rt: &R, near: &NearEnd, mut events: Vec<Event>)
+fn hand_on_all<R: Wait>(rt: &R, near: &mut NearEnd, mut events: Vec<Event>, now: u64)
     requires { AllByRecursion IsWithinEvent events.items }
 {
     while !events.is_empty() {
         let event = events.remove(0);
-        near.hand_on(rt, event);
+        near.hand_on(rt, event, now);
     }
 }
 
 impl Wire {
-    /// A connection that isn't open, and is to be opened at once.
-    pub(crate) fn new(alloc: Global, target: Target) -> Wire {
+    /// A connection that isn't open, and is to be opened at once, with so many milliseconds between two PINGs.
+    pub(crate) fn new(alloc: Global, target: Target, ping_each: u64) -> Wire {
         Wire {
-            link: NodeLink::new(alloc, target),
+            link: NodeLink::new(alloc, target, ping_each),
             stream: None,
             goes_on: false,
+            is_ending: false,
             is_refused: false,
             look_at: None,
             flow: Flow::new(),
@@ -113,6 +115,11 @@ impl Wire {
         self.goes_on
     }
 
+    /// The system told that the node ends it, or that it broke: it is read to its end.
+    pub(crate) fn note_end(&mut self) {
+        self.is_ending = true;
+    }
+
     /// Drops the socket where the connection is closed.
     fn settle(&mut self) {
         if self.link.schedule().stage == Stage::Closed {
@@ -133,6 +140,7 @@ impl Wire {
         if self.link.open(login, now).is_err() {
             return;
         }
+        self.is_ending = false;
         self.stream = connected(net, registry, token, self.link.target().addr);
         if self.stream.is_none() {
             self.link.close(now);
@@ -177,12 +185,15 @@ impl Wire {
         self.send_out(now);
     }
 
-    /// Puts out a message where it is open, and sends what it can; else the message is lost. What came of an order to follow a master, or none, is asked soon. A fault
-    /// has closed it.
+    /// Puts out a message where it is open, and sends what it can; else the message is lost, and so is a PING where the connection has sent one a moment ago. What came of an order to
+    /// follow a master, or none, is asked soon. A fault has closed it.
     pub(crate) fn ask(&mut self, message: &Message, now: u64)
         requires writable { IsWritable message.now.body }
         requires target { (self.old.link.target.node ≡ message.now.target) × (self.old.link.target.listens ≡ false) }
     {
+        if let Body::Ping = message.body {
+            return self.ask_due(now);
+        }
         let _ = self.link.ask(message, now);
         if let Body::ReplicaOf(_) = message.body {
             self.look_at = Some(now.saturating_add(LOOK_MS));
@@ -217,23 +228,23 @@ impl Wire {
         self.is_refused = is_refused;
     }
 
-    /// Reads one piece, and hands on what it tells; the error says why none was taken, or that more comes than a node has to say: then the connection is shut for a second, so that
+    /// Reads one piece, and hands on what it tells: how long it is; the error says why none was taken, or that more comes than a node has to say: then the connection is shut for a second, so that
     /// what other nodes say isn't lost beside it.
     #[tactic(auto, using(crate::proofs::Hearing::all_within_told))]
     fn read_once<R: Wait + Log>(
         &mut self,
         rt: &R,
-        near: &NearEnd,
+        near: &mut NearEnd,
         room: &mut [u8],
         now: u64,
-    ) -> Result<(), ErrorKind> {
+    ) -> Result<usize, ErrorKind> {
         let Some(stream) = &mut self.stream else {
             return Err(ErrorKind::NotConnected);
         };
         let mut events = Vec::new(self.alloc);
         let heard = hear(&mut self.link, stream, room, now, &mut events);
         let is_flooded = self.flow.add(now, events.len() as u64);
-        hand_on_all(rt, near, events);
+        hand_on_all(rt, near, events, now);
         if is_flooded {
             self.shut_until = now.saturating_add(FLOW_MS);
             return Err(ErrorKind::InvalidData);
@@ -244,18 +255,20 @@ impl Wire {
         heard
     }
 
-    /// Reads what came, and hands on what that tells: whether the socket is whole. After many reads the next connection has its turn.
+    /// Reads what came, and hands on what that tells: whether the socket is whole. After many reads the next connection has its turn. A read that gave less than it asked for took all that
+    /// was there: what comes later is told by the system, an end that it told of before isn't.
     fn read_in<R: Wait + Log>(
         &mut self,
         rt: &R,
-        near: &NearEnd,
+        near: &mut NearEnd,
         room: &mut [u8],
         now: u64,
     ) -> bool {
         self.goes_on = false;
         for _ in 0..READS_MAX {
             match self.read_once(rt, near, room, now) {
-                Ok(()) | Err(ErrorKind::Interrupted) => {}
+                Ok(count) if count < room.len() && !self.is_ending => return true,
+                Ok(_) | Err(ErrorKind::Interrupted) => {}
                 Err(ErrorKind::WouldBlock) => return true,
                 Err(_) => return false,
             }
@@ -266,13 +279,16 @@ impl Wire {
 
     /// Whether it is open, once the system has told of it; a socket that can't be had closes it.
     fn has_reached(&mut self, now: u64) -> bool {
+        if self.link.schedule().is_open() {
+            return true;
+        }
         let Some(stream) = &self.stream else {
             return false;
         };
         match is_connected(stream) {
-            Some(true) if !self.link.schedule().is_open() => self.link.reach(now),
+            Some(true) => self.link.reach(now),
             Some(false) => self.link.close(now),
-            _ => {}
+            None => {}
         }
         self.link.schedule().is_open()
     }
@@ -282,7 +298,7 @@ impl Wire {
     pub(crate) fn serve<R: Wait + Log>(
         &mut self,
         rt: &R,
-        near: &NearEnd,
+        near: &mut NearEnd,
         room: &mut [u8],
         now: u64,
     ) {

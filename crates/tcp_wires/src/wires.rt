@@ -8,20 +8,25 @@ use ballot_law::{NodeName, Roster};
 use group_sentinels::RunFault;
 use log::Log;
 use mio::{Events, Poll, Token};
+use sentinel_conf::Conf;
 use std::alloc::{AllocError, Global};
 use std::io::{self, ErrorKind};
 use std::net::Net;
 use std::rt::Clock;
 use std::sync::Wait;
 use std::sync::atomic::Ordering;
+use std::thread;
 use std::time::Duration;
-use tcp_links::{Login, Pace, connection_count, place_of, target_at};
+use tcp_links::{Login, Pace, connection_count, ping_each, place_of, target_at};
 
 /// How many connections the system tells of at once.
 const EVENTS: usize = 256;
 
 /// How long it is between two times at which connections are opened and given up, in milliseconds.
-const KEEP_MS: u64 = 50;
+const KEEP_MS: u64 = 100;
+
+/// How long the connections rest after each turn, in milliseconds: answers to what was asked together are then heard together, and the Sentinel is woken once for them.
+const REST_MS: u64 = 5;
 
 /// How many messages are put out before the connections are heard again.
 const MESSAGES_MAX: u32 = 1_024;
@@ -39,16 +44,34 @@ pub struct Wires {
     alloc: Global,
 }
 
-/// The connections of the Sentinel at this place of the roster, none of which is open.
-fn wires_of(alloc: Global, roster: &Roster, own: u16) -> Result<Vec<Option<Wire>>, AllocError> {
+/// The connections of the Sentinel of this conf, none of which is open.
+fn wires_of(alloc: Global, conf: &Conf) -> Result<Vec<Option<Wire>>, AllocError> {
     let mut wires = Vec::new(alloc);
-    for place in 0..connection_count(roster) {
-        match target_at(roster, own, place) {
-            Some(target) => wires.push(Some(Wire::new(alloc, target)))?,
+    for place in 0..connection_count(conf.roster()) {
+        match target_at(conf.roster(), conf.place(), place) {
+            Some(target) => {
+                let ping_each = pings_of(conf, target.node);
+                wires.push(Some(Wire::new(alloc, target, ping_each)))?;
+            }
             None => wires.push(None)?,
         }
     }
     Ok(wires)
+}
+
+/// How long it is between two PINGs to this node, in milliseconds: by the settings of its master; for another Sentinel by those of the first one, by which it is down.
+fn pings_of(conf: &Conf, node: NodeName) -> u64 {
+    let master = match node {
+        NodeName::StoreAt(number) => conf
+            .roster()
+            .node_numbered(number)
+            .map_or(0, |at| at.master),
+        _ => 0,
+    };
+    match conf.settings(master) {
+        Some(settings) => ping_each(settings.after_ms),
+        None => ping_each(0),
+    }
 }
 
 /// The login of a node: that of its master's nodes, or that of all other Sentinels.
@@ -63,20 +86,22 @@ fn login_of<'a>(roster: &Roster, logins: &'a Logins, node: NodeName) -> Login<'a
 }
 
 impl Wires {
-    /// The connections of the Sentinel at this place of the roster, none of which is open, and the Sentinel's end of them. The error is the system's; `OutOfMemory` is a refused allocation.
+    /// The connections of the Sentinel of this conf, none of which is open, and the Sentinel's end of them. The error is the system's; `OutOfMemory` is a refused allocation.
     pub fn new<N: Net>(
         net: &N,
         alloc: Global,
-        roster: Roster,
-        own: u16,
+        conf: &Conf,
         logins: Logins,
     ) -> io::Result<(Wires, FarEnd)> {
+        let Ok(roster) = conf.roster().copy(alloc) else {
+            return Err(io::Error::from(ErrorKind::OutOfMemory));
+        };
         let poll = Poll::new(net)?;
         let (near, far) = exchange(alloc, poll.registry())?;
         let wires = Wires {
             poll,
             told: Events::with_capacity(alloc, EVENTS)?,
-            wires: wires_of(alloc, &roster, own)?,
+            wires: wires_of(alloc, conf)?,
             roster,
             logins,
             near,
@@ -132,10 +157,13 @@ impl Wires {
         }
     }
 
-    /// Serves the connection at this place, at this reading of the clock.
-    fn serve<R: Wait + Log>(&mut self, rt: &R, place: usize, now: u64) {
+    /// Serves the connection at this place, of whose end the system told or didn't, at this reading of the clock.
+    fn serve<R: Wait + Log>(&mut self, rt: &R, place: usize, is_ending: bool, now: u64) {
         if let Some(Some(wire)) = self.wires.get_mut(place) {
-            wire.serve(rt, &self.near, self.room.as_mut_slice(), now);
+            if is_ending {
+                wire.note_end();
+            }
+            wire.serve(rt, &mut self.near, self.room.as_mut_slice(), now);
         }
     }
 
@@ -143,16 +171,17 @@ impl Wires {
     fn serve_busy<R: Wait + Log>(&mut self, rt: &R, now: u64) {
         for wire in self.wires.iter_mut().flatten() {
             if wire.goes_on() {
-                wire.serve(rt, &self.near, self.room.as_mut_slice(), now);
+                wire.serve(rt, &mut self.near, self.room.as_mut_slice(), now);
             }
         }
     }
 
-    /// The places of the connections of which the system told.
-    fn places_told(&self) -> Result<Vec<usize>, AllocError> {
+    /// The places of the connections of which the system told, and whether it told of the end of one.
+    fn places_told(&self) -> Result<Vec<(usize, bool)>, AllocError> {
         let mut places = Vec::new(self.alloc);
         for event in &self.told {
-            places.push(event.token().0)?;
+            let is_ending = event.is_read_closed() || event.is_error();
+            places.push((event.token().0, is_ending))?;
         }
         Ok(places)
     }
@@ -160,8 +189,8 @@ impl Wires {
     /// Serves the connections of which the last wait told, at this reading of the clock. The error is a refused allocation.
     fn serve_told<R: Wait + Log>(&mut self, rt: &R, now: u64) -> io::Result<()> {
         self.serve_busy(rt, now);
-        for place in self.places_told()? {
-            self.serve(rt, place, now);
+        for (place, is_ending) in self.places_told()? {
+            self.serve(rt, place, is_ending, now);
         }
         Ok(())
     }
@@ -190,7 +219,7 @@ impl Wires {
         }
     }
 
-    /// One turn: hears until a message is to go out or the connections are to be kept, and does that.
+    /// One turn: hears until a message is to go out or the connections are to be kept, does that, and rests.
     fn turn<R: Wait + Clock + Log, N: Net>(
         &mut self,
         rt: &R,
@@ -212,6 +241,7 @@ impl Wires {
         }
         pace.turn(now);
         state.turned.store(now, Ordering::SeqCst);
+        thread::sleep(rt, Duration::from_millis(REST_MS));
         Ok(())
     }
 
