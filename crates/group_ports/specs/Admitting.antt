@@ -10,7 +10,7 @@ abbrev pub is_full : (limit : Option ℕ) → (count : ℕ) → Bool
 is_full None count = false
 is_full (Some most) count = nat_le most count
 
--- what becomes of a connection that came, at a port that has so many
+-- what becomes of a connection that came, at a port that has `count` of them
 abbrev pub arrival_of : (limit : Option ℕ) → (near_only is_near : Bool) → (count : ℕ) → Arrival
 arrival_of limit near_only is_near count =
     elim (is_full limit count) [ true ↦ TooMany | false ↦ elim (near_only && not is_near) [ true ↦ Denied | false ↦ Kept ] ]

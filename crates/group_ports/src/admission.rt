@@ -53,7 +53,7 @@ pub(crate) enum Arrival {
     TooMany,
 }
 
-/// What becomes of a connection that came from this machine or from another one, at a port that has so many.
+/// What becomes of a connection that came from this machine or from another one, at a port that has `count` of them.
 pub(crate) fn arrival_of(
     limit: Option<u16>,
     near_only: bool,

@@ -85,7 +85,7 @@ impl Listener {
         }
     }
 
-    /// How many connections the port has, where this thread has so many.
+    /// How many connections the port has, where this thread has `own` of them.
     fn count<R: Wait>(&self, rt: &R, own: usize) -> usize {
         let mut count = own;
         for desk in &self.desks {
