@@ -3,9 +3,9 @@ use Rattle.std.proofs.Common.{◌≡◌, ◌≢◌, ◌⊎◌, ℕ, Bool, true, 
 use Rattle.std.specs.Option.{is_some}
 use Rattle.std.specs.Prelude.{is_err}
 use Rattle.port_courtesies.specs.Attendants.{Attendance, IsAttended, Attends, turn_text}
-use Rattle.port_courtesies.specs.Courtesies.{Asker, Answer, left, said, asks_masters, courtesy, asker_after, kind_of, text_of}
+use Rattle.port_courtesies.specs.Courtesies.{Asker, Answer, left, widens, said, asks_masters, courtesy, asker_after, kind_of, text_of}
 use Rattle.port_courtesies.specs.declared.courtesies.Courtesy.{Courtesy}
-use Rattle.port_courtesies.specs.declared.courtesies.Courtesy.TheVariants.{Left, Said, AsksMasters}
+use Rattle.port_courtesies.specs.declared.courtesies.Courtesy.TheVariants.{Left, Widens, Said, AsksMasters}
 use Rattle.port_serving.specs.declared.fault.ServeFault.{ServeFault}
 use Rattle.port_serving.specs.declared.fault.ServeFault.TheVariants.{Halted, NoMemory as OutOfMemory}
 use Rattle.port_serving.specs.Serving.{last_line}
@@ -20,7 +20,7 @@ use Rattle.resp2_frames.specs.Stream.{Held, reading, ended, bytes_in, Feeds}
 use Rattle.resp2_frames.proofs.Streams.{parts_next}
 use Rattle.sentinel_cell.specs.declared.view.View.{View}
 use Rattle.sentinel_cell.specs.Histories.{World}
-use Rattle.courteous_sessions.specs.Visits.{Guest, guest, TellsInfo, Answers, Serves, ServesAll, IsAnswered, IsRefused, IsCut, Breaks, Receives}
+use Rattle.courteous_sessions.specs.Visits.{Guest, guest, TellsInfo, TellsWide, Answers, Serves, ServesAll, IsAnswered, IsRefused, IsCut, Breaks, Receives}
 use Rattle.courteous_sessions.specs.OnTheWay.{IsReady, IsSameButListening, IsOnTheWay, IsDone, Steps, Drains, Refuses, guest_of}
 
 -- ---- what an attendant's turn says
@@ -32,30 +32,48 @@ was_attended (ended fault) asker kind after is h = absurd (let no : ⊥ = cc in 
 
 pub left_text : (answer : Answer) (value : Frame) → Left ≡ kind_of answer → turn_text (kind_of answer) (text_of answer) value ≡ spelling value
 left_text left value is = refl
+left_text widens value is = refl
 left_text (said answer) value is = absurd (let no : ⊥ = cc in no)
 left_text asks_masters value is = refl
 
 pub asked_text : (answer : Answer) (value : Frame) → AsksMasters ≡ kind_of answer → turn_text (kind_of answer) (text_of answer) value ≡ spelling value
 asked_text left value is = absurd (let no : ⊥ = cc in no)
+asked_text widens value is = refl
 asked_text (said answer) value is = absurd (let no : ⊥ = cc in no)
 asked_text asks_masters value is = refl
+
+pub wide_text : (answer : Answer) (value : Frame) → Widens ≡ kind_of answer → turn_text (kind_of answer) (text_of answer) value ≡ spelling value
+wide_text left value is = refl
+wide_text widens value is = refl
+wide_text (said answer) value is = absurd (let no : ⊥ = cc in no)
+wide_text asks_masters value is = refl
 
 module _ (start : World) (now : ℕ) where
   pub left_answered : (answer : Answer) (p : Party) (value : Frame) (bytes : List ℕ) (q : Party) → Left ≡ kind_of answer → Responds start now p (command_of value) bytes q
       → Answers start now answer p value bytes q
   left_answered left p value bytes q is h = h
+  left_answered widens p value bytes q is h = absurd (let no : ⊥ = cc in no)
   left_answered (said answer) p value bytes q is h = absurd (let no : ⊥ = cc in no)
   left_answered asks_masters p value bytes q is h = absurd (let no : ⊥ = cc in no)
 
   pub said_answered : (answer : Answer) (p : Party) (value : Frame) (bytes : List ℕ) → Said ≡ kind_of answer → bytes ≡ turn_text (kind_of answer) (text_of answer) value
       → Answers start now answer p value bytes p
   said_answered left p value bytes is text = absurd (let no : ⊥ = cc in no)
+  said_answered widens p value bytes is text = absurd (let no : ⊥ = cc in no)
   said_answered (said answer) p value bytes is text = (text, refl)
   said_answered asks_masters p value bytes is text = absurd (let no : ⊥ = cc in no)
+
+  pub wide_answered : (answer : Answer) (p : Party) (value : Frame) (bytes : List ℕ) (q : Party) → Widens ≡ kind_of answer → TellsWide start now p value bytes q
+      → Answers start now answer p value bytes q
+  wide_answered left p value bytes q is h = absurd (let no : ⊥ = cc in no)
+  wide_answered widens p value bytes q is h = h
+  wide_answered (said answer) p value bytes q is h = absurd (let no : ⊥ = cc in no)
+  wide_answered asks_masters p value bytes q is h = absurd (let no : ⊥ = cc in no)
 
   pub asked_answered : (answer : Answer) (p : Party) (value : Frame) (bytes : List ℕ) (q : Party) → AsksMasters ≡ kind_of answer → TellsInfo start now p value bytes q
       → Answers start now answer p value bytes q
   asked_answered left p value bytes q is h = absurd (let no : ⊥ = cc in no)
+  asked_answered widens p value bytes q is h = absurd (let no : ⊥ = cc in no)
   asked_answered (said answer) p value bytes q is h = absurd (let no : ⊥ = cc in no)
   asked_answered asks_masters p value bytes q is h = h
 

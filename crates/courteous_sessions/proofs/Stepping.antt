@@ -6,6 +6,8 @@ use Rattle.port_courtesies.specs.Attendants.{Attendance, Attends, text_at}
 use Rattle.port_courtesies.specs.Courtesies.{Asker, courtesy, kind_of}
 use Rattle.port_courtesies.specs.declared.courtesies.Courtesy.{Courtesy}
 use Rattle.port_courtesies.specs.Infos.{info}
+use Rattle.port_courtesies.specs.Widening.{wide}
+use Rattle.resp2.specs.Commands.{command_of}
 use Rattle.port_serving.specs.declared.fault.ServeFault.{ServeFault}
 use Rattle.port_serving.specs.declared.fault.ServeFault.TheVariants.{Halted, NoMemory as OutOfMemory}
 use Rattle.port_sessions.specs.Talks.{Talk, Party, party, Responds}
@@ -16,7 +18,7 @@ use Rattle.resp2_frames.specs.Stream.{Held, reading, ended, bytes_in, Feeds}
 use Rattle.resp2_frames.proofs.Streams.{read_is_spelled}
 use Rattle.sentinel_cell.specs.declared.view.View.{View}
 use Rattle.sentinel_cell.specs.Histories.{World}
-use Rattle.courteous_sessions.specs.Visits.{Guest, guest, master_names, introduced, TellsInfo, Answers, Breaks, Receives}
+use Rattle.courteous_sessions.specs.Visits.{Guest, guest, master_names, introduced, TellsInfo, TellsWide, Answers, Breaks, Receives}
 use Rattle.courteous_sessions.specs.OnTheWay.{IsIdle, IsReady, IsSameButListening, BeginsWith, IsOnTheWay, IsDone, Drains, Refuses, guest_of}
 use Rattle.courteous_sessions.proofs.Serving.{was_attended, served, value_served, all_served, refused, cut_by, begun, was_received}
 
@@ -137,6 +139,26 @@ module _ (start : World) (now : ℕ) where
       let answer = subst (λ (x : Option ℕ). Responds start now p (Ok Masters) asked.unsent (party w x)) since turned.0 in
       let text = ap (λ (a : Attendance). a.text) is_after ∙ told.2 in
       (after.text, is_out, again, info_told value p (party w left.listens) asked.unsent after.text answer (told.0, told.1, text))
+
+  -- the session below answered a value, whose answer is told with more fields, and what it put out was taken away
+  pub wide_told : (value : Frame) (before informed after : Attendance) (talk asked left : Talk) (v w : View) (unsent out : List ℕ) → IsReady before talk
+      → Responds start now (party v talk.listens) (command_of value) asked.unsent (party w asked.listens) × (asked.held ≡ []) → asked.ended ≡ None
+      → informed.held ≡ before.held → left ≡ record asked { unsent = [] } → after ≡ record informed { asker = record informed.asker { listens = is_some left.listens } }
+      → (answer : Frame) × BeginsWith asked.unsent answer × (informed.text ≡ spelling (wide value answer)) → out ≡ unsent ++ after.text
+      → (more : List ℕ) × (out ≡ unsent ++ more) × IsReady after left × TellsWide start now (party v talk.listens) value more (party w left.listens)
+  wide_told value before informed after talk asked left v w unsent out ready turned goes_on held is_left is_after told is_out =
+      let p = party v talk.listens in
+      let since : asked.listens ≡ left.listens = sym (ap (λ (t : Talk). t.listens) is_left) in
+      let again =
+      ready_again before after talk left ready (ap (λ (a : Attendance). a.held) is_after ∙ held) (ap (λ (a : Attendance). a.asker.listens) is_after)
+      (ap (λ (t : Talk). t.held) is_left ∙ turned.1) (ap (λ (t : Talk). t.unsent) is_left) (ap (λ (t : Talk). t.ended) is_left ∙ goes_on)
+      in
+      let answer = subst (λ (x : Option ℕ). Responds start now p (command_of value) asked.unsent (party w x)) since turned.0 in
+      let text = ap (λ (a : Attendance). a.text) is_after ∙ told.2 in
+      let wide_answer : TellsWide start now p value after.text (party w left.listens) =
+      record { answer = asked.unsent; turned = answer; told = told.0; rest = told.1.rest; first = told.1.found; bytes_are = text }
+      in
+      (after.text, is_out, again, wide_answer)
 
   -- a piece was added, and all whole values were answered
   pub piece_received : {X Y : Type 0} (fed : Result X FrameFault) (answer : Result Y ServeFault) (before known begins after : Attendance) (knows : Bool) (piece : List ℕ)

@@ -17,7 +17,7 @@ use Rattle.courteous_sessions.specs.declared.client_session.ClientSession.TheVar
 
 -- what is known of a connection at its beginning
 abbrev pub newcomer : (id : ℕ) → Asker
-newcomer id = record { id = id; name = []; listens = false; masters = [] }
+newcomer id = record { id = id; name = []; listens = false; masters = []; password = None; admitted = false }
 
 -- a session with courtesies to which no bytes came
 abbrev pub arrived : (id : ℕ) → Visit
@@ -27,6 +27,14 @@ arrived id = record { asker = newcomer id; knows_masters = false; held = []; uns
 abbrev pub begun : (courteous : Bool) → (id : ℕ) → ClientSession
 begun true id = Courteous (arrived id)
 begun false id = Plain (record { held = []; unsent = []; ended = None; listens = None; told = none_told })
+
+-- one that wants this password of its client, who didn't give it yet; without courtesies none is wanted
+abbrev pub wanting : Visit → (password : List ℕ) → Visit
+wanting visit password = record visit { asker = record visit.asker { password = Some password; admitted = false } }
+
+abbrev pub wanting_password : ClientSession → (password : List ℕ) → ClientSession
+wanting_password (Plain talk) password = Plain talk
+wanting_password (Courteous visit) password = Courteous (wanting visit password)
 
 -- what isn't sent yet
 abbrev pub unsent_of : ClientSession → List ℕ

@@ -3,8 +3,9 @@ use Rattle.std.specs.Prelude.{◌≡◌, ◌++◌, ◌∷◌, ℕ, Bool, true, f
 use Rattle.std.specs.Option.{is_some}
 use Rattle.ballot_law.specs.declared.commands.Command.TheVariants.{Masters}
 use Rattle.ballot_law.specs.Rosters.{MasterPlan}
-use Rattle.port_courtesies.specs.Courtesies.{Asker, Answer, left, said, asks_masters, courtesy, asker_after}
+use Rattle.port_courtesies.specs.Courtesies.{Asker, Answer, left, widens, said, asks_masters, courtesy, asker_after}
 use Rattle.port_courtesies.specs.Infos.{info}
+use Rattle.port_courtesies.specs.Widening.{wide}
 use Rattle.port_serving.specs.declared.fault.ServeFault.{ServeFault}
 use Rattle.port_serving.specs.declared.fault.ServeFault.TheVariants.{Frame as FaultyFrame, Read, Write, Halted, NoMemory}
 use Rattle.port_serving.specs.Serving.{last_line}
@@ -56,10 +57,20 @@ module _ (start : World) (now : ℕ) where
     pub first : frame_at answer ≡ Ok (told, rest)
     pub bytes_are : bytes ≡ spelling (info value told)
 
+  -- the answer of the session without courtesies, the first value of it told with more fields
+  pub record TellsWide (p : Party) (value : Frame) (bytes : List ℕ) (q : Party) : Type 0 where
+    pub answer : List ℕ
+    pub turned : Responds start now p (command_of value) answer q
+    pub told : Frame
+    pub rest : List ℕ
+    pub first : frame_at answer ≡ Ok (told, rest)
+    pub bytes_are : bytes ≡ spelling (wide value told)
+
   -- The answer to a value by what becomes of it. One that is left is answered by the session without courtesies; a courtesy takes no turn, and changes nothing of
   -- what the seat has seen
   abbrev pub Answers : Answer → Party → Frame → List ℕ → Party → Type 0
   Answers left p value bytes q = Responds start now p (command_of value) bytes q
+  Answers widens p value bytes q = TellsWide p value bytes q
   Answers (said answer) p value bytes q = (bytes ≡ spelling answer) × (q ≡ p)
   Answers asks_masters p value bytes q = TellsInfo p value bytes q
 

@@ -1,10 +1,10 @@
 //! A session with courtesies or without.
 
 ghost use Rattle.std.specs.Prelude.{◌≡◌, ◌≤◌, ◌<◌, length, drop};
-ghost use Rattle.courteous_sessions.specs.Clients.{begun, unsent_of, with_unsent, Takes, NotifiesClient};
+ghost use Rattle.courteous_sessions.specs.Clients.{begun, unsent_of, wanting_password, with_unsent, Takes, NotifiesClient};
 
 use crate::courteous_session::CourteousSession;
-use ballot_law::{NoMemory, Note, Roster};
+use ballot_law::{NoMemory, Note, Roster, Text};
 use conf_store::ConfStore;
 use port_serving::ServeFault;
 use port_sessions::Session;
@@ -30,6 +30,16 @@ impl ClientSession {
             ClientSession::Courteous(CourteousSession::new(alloc, id))
         } else {
             ClientSession::Plain(Session::new(alloc))
+        }
+    }
+
+    /// Has a session with courtesies want this password of its client, who didn't give it yet; one without wants none.
+    pub fn want_password(&mut self, password: Text)
+        ensures { self.new ≡ wanting_password self.old password }
+    {
+        match self {
+            ClientSession::Plain(_) => {}
+            ClientSession::Courteous(session) => session.want_password(password),
         }
     }
 

@@ -2,11 +2,11 @@
 
 ghost use Rattle.std.specs.Prelude.{◌≡◌, ◌≤◌, ◌<◌, ◌++◌, ℕ, List, [], None, Some, Err, true, OnOk, OnErr, IfErr, IfSome, length, drop};
 ghost use Rattle.port_sessions.specs.Talks.{party};
-ghost use Rattle.courteous_sessions.specs.Clients.{arrived, NotifiesVisit};
+ghost use Rattle.courteous_sessions.specs.Clients.{arrived, wanting, NotifiesVisit};
 ghost use Rattle.courteous_sessions.specs.Visits.{guest, introduced, Receives};
 
 use crate::exchange::Exchange;
-use ballot_law::{NoMemory, Note, Roster};
+use ballot_law::{NoMemory, Note, Roster, Text};
 use conf_store::ConfStore;
 use port_serving::ServeFault;
 use sentinel_cell::{Seat, SharedSentinel};
@@ -54,6 +54,14 @@ impl CourteousSession {
             exchange: Exchange::new(alloc, id),
             fault: None,
         }
+    }
+
+    /// Has it want this password of its client, who didn't give it yet. Until the client gives it, each value is answered by a courtesy, and none reaches the
+    /// Sentinel.
+    pub fn want_password(&mut self, password: Text)
+        ensures { self.new ≡ wanting self.old password }
+    {
+        self.exchange.want_password(password);
     }
 
     /// Takes the next piece of what the client sends, of any length, at a reading of the clock in milliseconds, and puts out the answer to each value that is

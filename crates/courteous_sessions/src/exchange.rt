@@ -6,12 +6,13 @@ ghost use Rattle.port_courtesies.specs.Courtesies.{Asker, courtesy, kind_of};
 ghost use Rattle.port_sessions.specs.Notes.{none_told};
 ghost use Rattle.port_sessions.specs.Talks.{party, Responds};
 ghost use Rattle.port_courtesies.specs.Infos.{info};
+ghost use Rattle.port_courtesies.specs.Widening.{wide};
 ghost use Rattle.resp2.specs.Commands.{command_of};
 ghost use Rattle.resp2_frames.specs.Frame.{Frame, spelling, IsFrame};
 ghost use Rattle.resp2_frames.specs.Stream.{reading, held_size, bytes_in};
 ghost use Rattle.courteous_sessions.specs.Clients.{newcomer};
 ghost use Rattle.courteous_sessions.specs.OnTheWay.{IsReady, IsOnTheWay, IsSameButListening, Steps, Drains, Refuses, BeginsWith, NotifiesBelow, guest_of};
-ghost use Rattle.courteous_sessions.specs.Visits.{Guest, guest, introduced, TellsInfo, Answers, Receives};
+ghost use Rattle.courteous_sessions.specs.Visits.{Guest, guest, introduced, TellsInfo, TellsWide, Answers, Receives};
 
 use crate::questions::{ask, ask_masters, first_value, names_of};
 use ballot_law::{NoMemory, Note, Roster, Text};
@@ -53,6 +54,8 @@ fn newcomer(alloc: Global, id: u64) -> Asker
         name: Text::from_vec(Vec::new(alloc)),
         listens: false,
         masters: Vec::new(alloc),
+        password: None,
+        admitted: false,
     }
 }
 
@@ -120,6 +123,21 @@ impl Exchange {
         if self.unsent.capacity() > ROOM_KEPT {
             self.unsent = BytesMut::new(self.alloc);
         }
+    }
+
+    /// Has it want this password of its client, who didn't give it yet.
+    pub(crate) fn want_password(&mut self, password: Text)
+        ensures attendant { self.new.attendant ≡ record self.old.attendant {
+          asker = record self.old.attendant.asker {
+            password = Some password;
+            admitted = false;
+          };
+        } }
+        ensures session { self.new.session ≡ self.old.session }
+        ensures unsent { self.new.unsent ≡ self.old.unsent }
+        ensures knows { self.new.knows_masters ≡ self.old.knows_masters }
+    {
+        self.attendant.want_password(password);
     }
 
     /// The connection ends: what is held is dropped, and its client is told of no more notes.
@@ -282,6 +300,56 @@ impl Exchange {
         self.attendant.inform(&masters)
     }
 
+    /// Answers the value that is the attendant's text by what the session answers to it, told with more fields.
+    fn tell_wide<S: ConfStore, R: Wait>(
+        &mut self,
+        rt: &R,
+        cell: &SharedSentinel<S>,
+        seat: &mut Seat,
+        now: u64,
+    ) -> Result<(), ServeFault>
+        requires own { seat.old.cell ≡ cell.now.id }
+        requires ready { IsReady self.old.attendant self.old.session }
+        ensures own { seat.new.cell ≡ seat.old.cell }
+        ensures answered { OnOk result ((value : Frame) → IsFrame value → self.old.attendant.text ≡ spelling value
+            → (more : List ℕ) × (self.new.unsent.items ≡ self.old.unsent.items ++ more) × IsReady self.new.attendant self.new.session
+            × TellsWide cell.now.start now (party seat.old.view self.old.session.listens) value more (party seat.new.view self.new.session.listens)) }
+        ensures same { IsSameButListening self.old.attendant self.new.attendant }
+        ensures told { self.new.session.told ≡ self.old.session.told }
+        ensures err { OnErr result (self.new.unsent.items ≡ self.old.unsent.items) }
+        ensures fault { IfErr result (λ fault. (fault ≡ ServeFault.Halted) ⊎ (fault ≡ ServeFault.NoMemory)) }
+        ensures knows { self.new.knows_masters ≡ self.old.knows_masters }
+    {
+        ask(
+            rt,
+            cell,
+            seat,
+            now,
+            &mut self.session,
+            self.attendant.text(),
+        )?;
+        if self.widen().is_err() {
+            return Err(ServeFault::NoMemory);
+        }
+        self.drop_answers();
+        self.attendant.note_listening(self.session.listens());
+        put_out(&mut self.unsent, self.attendant.text())
+    }
+
+    /// Has the attendant's text be the answer to the value that it is, by the answer that the session has to that.
+    fn widen(&mut self) -> Result<(), NoMemory>
+        ensures text { OnOk result ((value : Frame) → IsFrame value → self.old.attendant.text ≡ spelling value
+            → (answer : Frame) × BeginsWith self.old.session.unsent answer × (self.new.attendant.text ≡ spelling (wide value answer))) }
+        ensures asker { self.new.attendant.asker ≡ self.old.attendant.asker }
+        ensures held { self.new.attendant.held ≡ self.old.attendant.held }
+        ensures session { self.new.session ≡ self.old.session }
+        ensures unsent { self.new.unsent ≡ self.old.unsent }
+        ensures knows { self.new.knows_masters ≡ self.old.knows_masters }
+    {
+        let answer = first_value(self.alloc, self.session.unsent())?;
+        self.attendant.widen(&answer)
+    }
+
     /// Puts out the line of a frame's fault, and gives the fault that ends the session.
     fn refuse(&mut self, fault: FrameFault) -> ServeFault
         ensures attendant { self.new.attendant ≡ self.old.attendant }
@@ -322,6 +390,7 @@ impl Exchange {
     {
         match kind {
             Courtesy::Left => self.hand_on(rt, cell, seat, now),
+            Courtesy::Widens => self.tell_wide(rt, cell, seat, now),
             Courtesy::Said => put_out(&mut self.unsent, self.attendant.text()),
             Courtesy::AsksMasters => self.tell_info(rt, cell, seat, now),
         }

@@ -15,4 +15,5 @@ pub use client_session::ClientSession;
 pub use courteous_session::CourteousSession;
 pub use laws::{
     law_courtesies_take_no_turn, law_own_commands_are_answered_as_before, law_pieces_join,
+    law_strangers_take_no_turn,
 };

@@ -4,15 +4,16 @@ use Rattle.std.specs.Prelude.{nat_lt, nat_le}
 use Rattle.std.specs.List.{list_all}
 use Rattle.std.proofs.lemmas.Bool.{and_parts}
 use Rattle.ballot_law.specs.Words.{lower}
-use Rattle.resp2_frames.specs.Frame.{Frame, fault, bulk, items, frames_of, IsLine, HasLines, HaveLines}
+use Rattle.resp2_frames.specs.Frame.{Frame, fault, bulk, frames_of, IsLine, HasLines, HaveLines}
 use Rattle.port_courtesies.specs.declared.verbs.Verb.{Verb}
 use Rattle.port_courtesies.specs.declared.verbs.Verb.TheVariants.{Ping, Hello, Auth, SetName, SetInfo, GetName, Id, NoEvict, Reply, Commands, Docs, Count, Role, Publish, Info}
 use Rattle.port_courtesies.specs.declared.hellos.Expects.{Expects}
 use Rattle.port_courtesies.specs.declared.hellos.Expects.TheVariants.{Start, User, Password, NewName}
-use Rattle.port_courtesies.specs.Refusals.{is_called, printed_byte, printed, wrong_arguments, unknown_subcommand, shown_words, unknown_command, no_option, no_name, not_while_listening}
+use Rattle.port_courtesies.specs.Refusals.{is_called, printed_byte, printed, wrong_arguments, unknown_subcommand, shown_words, unknown_command, no_option, wrong_password, no_password, no_auth, no_auth_yet, no_name, not_while_listening}
 use Rattle.resp2.specs.Commands.{command_of}
+use Rattle.port_courtesies.specs.declared.tables.Table.{Table}
 use Rattle.port_courtesies.specs.Courtesies as table
-use Rattle.port_courtesies.specs.Courtesies.{Asker, Answer, left, said, asks_masters, Looked, known, refused, verb_name, Greeted, greeted, expected, taken, is_user, is_client_name, asks_for_2, is_integer, after_first, first, or_else, hello_map, answered, courtesy, left_over, or_left}
+use Rattle.port_courtesies.specs.Courtesies.{Asker, Answer, left, widens, said, asks_masters, Looked, known, refused, verb_name, Greeted, greeted, expected, taken, is_user, is_password, is_some, admits, is_stranger, lacks_password, is_barred, greeted_by, is_client_name, asks_for_2, is_integer, after_first, first, or_else, hello_map, answered, courtesy, left_over, or_left}
 
 -- ---- lines
 
@@ -70,7 +71,8 @@ arguments_line name h = around (codes "ERR wrong number of arguments for '") nam
 
 subcommand_line : (help word : List ℕ) → IsLine help → HasLines (unknown_subcommand help word)
 subcommand_line help word h =
-    around (codes "ERR unknown subcommand '") (printed 128 word) (codes "'. Try " ++ help) refl (shown (take 128 word)) (joined (codes "'. Try ") help (checked (codes "'. Try ") refl) h)
+    around (codes "ERR unknown subcommand '") (printed 128 word) (codes "'. Try " ++ help) refl (shown (take 128 word))
+    (joined (codes "'. Try ") help (checked (codes "'. Try ") refl) h)
 
 unknown_line : (name : List ℕ) (words : List (List ℕ)) → HasLines (unknown_command name words)
 unknown_line name words =
@@ -99,7 +101,8 @@ verb_line Info = checked (codes "info") refl
 
 listener_line : (verb : Verb) → HasLines (not_while_listening (verb_name verb))
 listener_line verb =
-    around (codes "ERR Can't execute '") (verb_name verb) (codes "': only (P|S)SUBSCRIBE / (P|S)UNSUBSCRIBE / PING / QUIT / RESET are allowed in this context") refl (verb_line verb)
+    around (codes "ERR Can't execute '") (verb_name verb) (codes "': only (P|S)SUBSCRIBE / (P|S)UNSUBSCRIBE / PING / QUIT / RESET are allowed in this context") refl
+    (verb_line verb)
     (checked (codes "': only (P|S)SUBSCRIBE / (P|S)UNSUBSCRIBE / PING / QUIT / RESET are allowed in this context") refl)
 
 -- ---- the commands
@@ -177,26 +180,38 @@ abbrev IsLineOrNone : Option Frame → Type 0
 IsLineOrNone None = Unit {0}
 IsLineOrNone (Some refusal) = HasLines refusal
 
-next_lines : (next : Option Expects) (word name : List ℕ) (words : List (List ℕ)) → ((e : Expects) → IsLineOrNone (greeted e word name words).refusal)
-    → IsLineOrNone (elim next as (λ _. Greeted) [ Some e ↦ greeted e word name words | None ↦ record { name = name; refusal = Some (no_option word) } ]).refusal
-next_lines (Some e) word name words each = each e
-next_lines None word name words each = option_line word
+next_lines : (wanted : Option (List ℕ)) (next : Option Expects) (word name : List ℕ) (admitted : Bool) (words : List (List ℕ))
+    → ((e : Expects) → IsLineOrNone (greeted wanted e word name admitted words).refusal)
+    → IsLineOrNone (elim next as (λ _. Greeted) [
+      | Some e ↦ greeted wanted e word name admitted words
+      | None ↦ record { name = name; admitted = admitted; refusal = Some (no_option word) }
+    ]).refusal
+next_lines wanted (Some e) word name admitted words each = each e
+next_lines wanted None word name admitted words each = option_line word
 
-named_lines : (test : Bool) (option name word : List ℕ) (words : List (List ℕ)) → IsLineOrNone (greeted Start option word words).refusal
-    → IsLineOrNone (elim test as (λ _. Greeted) [ true ↦ greeted Start option word words | false ↦ record { name = name; refusal = Some no_name } ]).refusal
-named_lines true option name word words h = h
-named_lines false option name word words h = name_line
+given_lines : (test : Bool) (name : List ℕ) (admitted : Bool) (g : Greeted) → IsLineOrNone g.refusal
+    → IsLineOrNone (elim test as (λ _. Greeted) [ true ↦ g | false ↦ record { name = name; admitted = admitted; refusal = Some wrong_password } ]).refusal
+given_lines true name admitted g h = h
+given_lines false name admitted g h = password_line
 
-greeted_lines : (expects : Expects) (option name : List ℕ) (words : List (List ℕ)) → IsLineOrNone (greeted expects option name words).refusal
-greeted_lines Start option name [] = tt
-greeted_lines User option name [] = option_line option
-greeted_lines (Password familiar) option name [] = option_line option
-greeted_lines NewName option name [] = option_line option
-greeted_lines Start option name (word ∷ words) = next_lines (expected word) word name words (λ (next : Expects). greeted_lines next word name words)
-greeted_lines User option name (word ∷ words) = greeted_lines (Password (is_user word)) option name words
-greeted_lines (Password true) option name (word ∷ words) = greeted_lines Start option name words
-greeted_lines (Password false) option name (word ∷ words) = password_line
-greeted_lines NewName option name (word ∷ words) = named_lines (is_client_name word) option name word words (greeted_lines Start option word words)
+named_lines : (test : Bool) (name : List ℕ) (admitted : Bool) (g : Greeted) → IsLineOrNone g.refusal
+    → IsLineOrNone (elim test as (λ _. Greeted) [ true ↦ g | false ↦ record { name = name; admitted = admitted; refusal = Some no_name } ]).refusal
+named_lines true name admitted g h = h
+named_lines false name admitted g h = name_line
+
+greeted_lines : (wanted : Option (List ℕ)) (expects : Expects) (option name : List ℕ) (admitted : Bool) (words : List (List ℕ))
+    → IsLineOrNone (greeted wanted expects option name admitted words).refusal
+greeted_lines wanted Start option name admitted [] = tt
+greeted_lines wanted User option name admitted [] = option_line option
+greeted_lines wanted (Password familiar) option name admitted [] = option_line option
+greeted_lines wanted NewName option name admitted [] = option_line option
+greeted_lines wanted Start option name admitted (word ∷ words) =
+    next_lines wanted (expected word) word name admitted words (λ (next : Expects). greeted_lines wanted next word name admitted words)
+greeted_lines wanted User option name admitted (word ∷ words) = greeted_lines wanted (Password (is_user word)) option name admitted words
+greeted_lines wanted (Password familiar) option name admitted (word ∷ words) =
+    given_lines (familiar && is_password wanted word) name admitted _ (greeted_lines wanted Start option name true words)
+greeted_lines wanted NewName option name admitted (word ∷ words) =
+    named_lines (is_client_name word) name admitted _ (greeted_lines wanted Start option word admitted words)
 
 map_lines : (id : ℕ) → HasLines (hello_map id)
 map_lines id = (tt, (tt, (tt, (tt, (tt, (tt, (tt, (tt, (tt, (tt, (tt, (tt, tt))))))))))))
@@ -205,18 +220,36 @@ or_else_lines : (refusal : Option Frame) (answer : Frame) → IsLineOrNone refus
 or_else_lines None answer h k = k
 or_else_lines (Some refusal) answer h k = h
 
-hello_lines : (id : ℕ) (name : List ℕ) (words : List (List ℕ)) → HasLines (table.hello id name words)
-hello_lines id name words =
+no_auth_line : HasLines no_auth
+no_auth_line = checked (codes "NOAUTH Authentication required.") refl
+
+no_auth_yet_line : HasLines no_auth_yet
+no_auth_yet_line =
+    checked
+    (codes "NOAUTH HELLO must be called with the client already authenticated, otherwise the HELLO AUTH <user> <pass> option can be used to authenticate the client"
+    ++ codes " and select the RESP protocol version at the same time")
+    refl
+
+welcome_lines : (asker : Asker) (g : Greeted) → IsLineOrNone g.refusal → HasLines (table.welcome asker g)
+welcome_lines asker g h = or_else_lines g.refusal _ h (one_of (lacks_password asker.password g.admitted) _ _ no_auth_yet_line (map_lines asker.id))
+
+hello_lines : (asker : Asker) (words : List (List ℕ)) → HasLines (table.hello asker words)
+hello_lines asker words =
     one_of (asks_for_2 words) _ _
-    (or_else_lines (greeted Start [] name (after_first words)).refusal (hello_map id) (greeted_lines Start [] name (after_first words)) (map_lines id))
+    (welcome_lines asker (greeted_by asker words) (greeted_lines asker.password Start [] asker.name asker.admitted (after_first words)))
     (one_of (is_integer (first words)) _ _ (checked (codes "NOPROTO unsupported protocol version") refl)
     (checked (codes "ERR Protocol version is not an integer or out of range") refl))
 
-auth_lines : (words : List (List ℕ)) → HasLines (table.auth words)
-auth_lines words =
-    one_of (length words == 1) _ _
-    (checked (codes "ERR AUTH <password> called without any password configured for the default user. Are you sure your configuration is correct?") refl)
-    (one_of (length words == 2) _ _ (one_of (is_user (first words)) _ _ ok_line password_line) syntax_line)
+no_password_line : HasLines no_password
+no_password_line =
+    checked (codes "ERR AUTH <password> called without any password configured for the default user. Are you sure your configuration is correct?") refl
+
+unadmitted_lines : (wanted : Option (List ℕ)) (count : ℕ) → HasLines (table.unadmitted wanted count)
+unadmitted_lines wanted count =
+    one_of (count == 1) _ _ (one_of (is_some wanted) _ _ password_line no_password_line) (one_of (count == 2) _ _ password_line syntax_line)
+
+auth_lines : (wanted : Option (List ℕ)) (words : List (List ℕ)) → HasLines (table.auth wanted words)
+auth_lines wanted words = one_of (admits wanted words) _ _ ok_line (unadmitted_lines wanted (length words))
 
 get_name_lines : (name : List ℕ) → HasLines (table.get_name name)
 get_name_lines [] = tt
@@ -232,13 +265,14 @@ publish_lines words =
 
 abbrev AreAnswerLines : Answer → Type 0
 AreAnswerLines left = Unit {0}
+AreAnswerLines widens = Unit {0}
 AreAnswerLines (said answer) = HasLines answer
 AreAnswerLines asks_masters = Unit {0}
 
 executed_lines : (asker : Asker) (verb : Verb) (words : List (List ℕ)) → AreAnswerLines (table.executed asker verb words)
 executed_lines asker Ping words = tt
-executed_lines asker Hello words = hello_lines asker.id asker.name words
-executed_lines asker Auth words = auth_lines words
+executed_lines asker Hello words = hello_lines asker words
+executed_lines asker Auth words = auth_lines asker.password words
 executed_lines asker SetName words = one_of (is_client_name (first words)) _ _ ok_line name_line
 executed_lines asker SetInfo words = ok_line
 executed_lines asker GetName words = get_name_lines asker.name
@@ -274,7 +308,8 @@ one_answer true one two h k = h
 one_answer false one two h k = k
 
 answered_lines : (asker : Asker) (looked : Looked) → AreLines looked → AreAnswerLines (answered asker looked)
-answered_lines asker (known verb words) h = one_answer asker.listens _ _ (listening_lines verb words) (executed_lines asker verb words)
+answered_lines asker (known verb words) h =
+    one_answer (is_barred asker verb) _ _ no_auth_line (one_answer asker.listens _ _ (listening_lines verb words) (executed_lines asker verb words))
 answered_lines asker (refused refusal) h = h
 
 abbrev AreLinesOrNone : Option Looked → Type 0
@@ -289,15 +324,20 @@ in_lines : (miscounted : Bool) (words : List (List ℕ)) → AreLinesOrNone (tab
 in_lines miscounted [] = tt
 in_lines miscounted (name ∷ words) = maybe (table.names_channels (name ∷ words)) _ _ tt (looked_up_lines miscounted name words)
 
-over_lines : (value : Frame) → AreLinesOrNone (left_over value)
-over_lines value = maybe (table.is_refused (command_of value)) _ _ (in_lines (table.is_miscounted (command_of value)) (table.words_of value)) tt
+own_lines : (own : Option Table) → AreAnswerLines (table.own_answer own)
+own_lines None = tt
+own_lines (Some own) = tt
 
 or_left_lines : (asker : Asker) (looked : Option Looked) → AreLinesOrNone looked → AreAnswerLines (or_left asker looked)
-or_left_lines asker None h = tt
+or_left_lines asker None h = one_answer (is_stranger asker) _ _ no_auth_line tt
 or_left_lines asker (Some looked) h = answered_lines asker looked h
 
 courtesy_lines : (asker : Asker) (value : Frame) → AreAnswerLines (courtesy asker value)
-courtesy_lines asker value = or_left_lines asker (left_over value) (over_lines value)
+courtesy_lines asker value =
+    one_answer (table.is_refused (command_of value)) _ _
+    (or_left_lines asker (table.looked_up_in (table.is_miscounted (command_of value)) (table.words_of value))
+    (in_lines (table.is_miscounted (command_of value)) (table.words_of value)))
+    (one_answer (is_stranger asker) _ _ no_auth_line (own_lines (table.table_of (command_of value))))
 
 pub said_has_lines : (asker : Asker) (value answer : Frame) → courtesy asker value ≡ said answer → HasLines answer
 said_has_lines asker value answer is = subst AreAnswerLines is (courtesy_lines asker value)

@@ -1,18 +1,15 @@
 -- The bytes of some answers.
-use Rattle.std.proofs.Common.{◌≡◌, ◌∙◌, ◌≤◌, ◌<◌, ℕ, suc, List, [], ◌∷◌, ◌++◌, length, map, decimal, refl, sym, ap, arith, subst, append_assoc, append-nil, Result, Option, None, Some}
+use Rattle.std.proofs.Common.{◌≡◌, ◌∙◌, ℕ, suc, List, [], ◌∷◌, ◌++◌, length, map, decimal, refl, sym, ap, arith, subst, append-nil, Result, Option, None, Some, Bool, true, false, true≢false}
 use Rattle.std.proofs.lemmas.Fmt.{decimal_digit, decimal_step}
 use Rattle.std.specs.Prelude.{OnOk}
 use Rattle.resp2_frames.specs.declared.value.Value.{Value}
 use Rattle.resp2_frames.specs.Frame.{Frame, bulk, items, no_frames, count, frames_of, frames_view, spelling, spellings, line_end}
-use Rattle.port_courtesies.specs.Courtesies.{or_else, refusal_text, hello_map, role, pong, first}
+use Rattle.port_courtesies.specs.Refusals.{no_auth_yet}
+use Rattle.port_courtesies.specs.Courtesies.{Asker, or_else, is_some, lacks_password, refusal_text, greeting_of, hello_map, role, pong, first}
 
 -- a text that was set to the bytes of an answer
 pub set_to : {X E : Type 0} (answer : Result X E) (text bytes wanted : List ℕ) → wanted ≡ bytes → OnOk answer (text ≡ bytes) → OnOk answer (text ≡ wanted)
 set_to answer text bytes wanted same is = subst (λ (t : List ℕ). OnOk answer (text ≡ t)) (sym same) is
-
-pub refused_or_else : (refusal : Option Frame) (answer : Frame) → refusal_text (spelling answer) refusal ≡ spelling (or_else refusal answer)
-refused_or_else None answer = refl
-refused_or_else (Some refusal) answer = refl
 
 none : decimal 0 ≡ 48 ∷ []
 none = decimal_digit 0 (omega arith)
@@ -79,3 +76,18 @@ role_bytes names =
 pub count_views : (rows : List Value) → count (frames_view rows) ≡ length rows
 count_views [] = refl
 count_views (row ∷ rows) = ap suc (count_views rows)
+
+-- the answer to HELLO, where an option was refused or none was
+pub refused_welcome : (before : List ℕ) (refusal : Option Frame) (answer : Frame) → true ≡ is_some refusal → refusal_text before refusal ≡ spelling (or_else refusal answer)
+refused_welcome before None answer h = absurd (true≢false h)
+refused_welcome before (Some refusal) answer h = refl
+
+pub plain_welcome : (refusal : Option Frame) (answer : Frame) → false ≡ is_some refusal → spelling answer ≡ spelling (or_else refusal answer)
+plain_welcome None answer h = refl
+plain_welcome (Some refusal) answer h = absurd (true≢false (sym h))
+
+-- the answer to HELLO of a client that gave the password
+pub greeting_bytes : (asker : Asker) (admitted : Bool) (id : ℕ) → lacks_password asker.password admitted ≡ false → id ≡ asker.id
+    → spelling (greeting_of asker admitted) ≡ spelling (hello_map id)
+greeting_bytes asker admitted id given same =
+    ap (λ (t : Bool). spelling (elim t as (λ _. Frame) [ true ↦ no_auth_yet | false ↦ hello_map asker.id ])) given ∙ ap (λ (n : ℕ). spelling (hello_map n)) (sym same)

@@ -1,9 +1,8 @@
 -- What a reader holds: fewer bytes with each value that is given, and a whole value where its spelling was fed.
-use Rattle.std.proofs.Common.{◌≡◌, ◌<◌, List, [], ◌++◌, ℕ, length, ap, sym, ◌∙◌, arith, append-nil, Option, Some, None, Bool, false, true≢false, Result, Ok, Err}
+use Rattle.std.proofs.Common.{◌≡◌, ◌<◌, List, [], ◌++◌, ℕ, length, ap, sym, ◌∙◌, arith, append-nil, Option, Some, None, false, true≢false, Result, Ok, Err}
 use Rattle.std.specs.Prelude.{IfOk, IfSome, is_err}
 use Rattle.std.proofs.lemmas.List.{length-append}
 use Rattle.resp2_frames.specs.declared.fault.FrameFault.{FrameFault}
-use Rattle.resp2_frames.specs.declared.fault.FrameFault.TheVariants.{NoMemory}
 use Rattle.resp2_frames.specs.declared.value.Value.{Value}
 use Rattle.resp2_frames.specs.Frame.{Frame, view, spelling}
 use Rattle.resp2_frames.specs.Stream.{Held, reading, ended, held_size, Answers, Feeds}

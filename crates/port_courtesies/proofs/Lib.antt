@@ -3,3 +3,5 @@ pub mod Bytes
 pub mod Held
 pub mod Lookups
 pub mod OwnValues
+pub mod Strangers
+pub mod WideRows

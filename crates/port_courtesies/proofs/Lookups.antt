@@ -1,7 +1,6 @@
 -- A command that was looked up, seen by what it gave and by what was written.
 use Rattle.std.proofs.Common.{◌≡◌, ℕ, List, Option, None, Some, refl, sym, ap}
 use Rattle.port_courtesies.specs.declared.verbs.Verb.{Verb}
-use Rattle.port_courtesies.specs.declared.courtesies.Courtesy.{Courtesy}
 use Rattle.port_courtesies.specs.declared.courtesies.Courtesy.TheVariants.{Said}
 use Rattle.port_courtesies.specs.Courtesies.{Asker, Looked, known, refused, found, text_after, answered, named, kind_of, text_of}
 

@@ -1,32 +1,57 @@
 -- A value that the Sentinel's rules answer is left to them.
-use Rattle.std.proofs.Common.{◌≡◌, ◌⊎◌, inl, inr, ℕ, List, Option, None, Some, Bool, true, false, Result, Ok, Err, refl, ap}
+use Rattle.std.proofs.Common.{◌≡◌, ◌∙◌, ◌⊎◌, inl, inr, Option, None, Some, Bool, true, false, Result, Ok, Err, refl, ap}
 use Rattle.ballot_law.specs.declared.commands.Command.{Command}
 use Rattle.resp2.specs.declared.command.CommandFault.{CommandFault}
 use Rattle.resp2.specs.declared.command.CommandFault.TheVariants.{NotACommand, UnknownCommand, WrongArguments, BadAddress, BadEpoch, BadRunId, UnknownChannel}
 use Rattle.resp2.specs.Commands.{command_of}
 use Rattle.resp2_frames.specs.Frame.{Frame}
-use Rattle.port_courtesies.specs.Courtesies.{Asker, Answer, Looked, left, courtesy, asker_after, or_left, or_same, is_refused, is_miscounted, looked_up_in, left_over, words_of}
+use Rattle.port_courtesies.specs.declared.tables.Table.{Table}
+use Rattle.port_courtesies.specs.Refusals.{no_auth}
+use Rattle.port_courtesies.specs.Courtesies.{Asker, Answer, Looked, left, widens, said, courtesy, asker_after, table_of, own_answer, unless_stranger, or_left, or_same, or_admitted, is_stranger, is_refused, is_miscounted, looked_up_in, words_of}
 
 -- what is left over of a value that was judged so
 abbrev over : Result Command CommandFault → Frame → Option Looked
 over asked value = elim (is_refused asked) as (λ _. Option Looked) [ true ↦ looked_up_in (is_miscounted asked) (words_of value) | false ↦ None ]
 
-pub own_is_left : (asker : Asker) (value : Frame) (command : Command) → command_of value ≡ Ok command → courtesy asker value ≡ left
-own_is_left asker value command is = ap (λ (asked : Result Command CommandFault). or_left asker (over asked value)) is
+-- the answer to a value that was judged so
+abbrev answer_at : Asker → Result Command CommandFault → Frame → Answer
+answer_at asker asked value =
+    elim (is_refused asked) as (λ _. Answer) [
+      | true ↦ or_left asker (looked_up_in (is_miscounted asked) (words_of value))
+      | false ↦ unless_stranger asker (own_answer (table_of asked))
+    ]
+
+-- a client that gave the password, or needn't
+admitted_is : (asker : Asker) (answer : Answer) → is_stranger asker ≡ false → unless_stranger asker answer ≡ answer
+admitted_is asker answer known = ap (λ (test : Bool). elim test as (λ _. Answer) [ true ↦ said no_auth | false ↦ answer ]) known
+
+pub own_is_left : (asker : Asker) (value : Frame) (command : Command) → is_stranger asker ≡ false → command_of value ≡ Ok command
+    → courtesy asker value ≡ own_answer (table_of (Ok command))
+own_is_left asker value command known is =
+    ap (λ (asked : Result Command CommandFault). answer_at asker asked value) is ∙ admitted_is asker (own_answer (table_of (Ok command))) known
 
 pub own_is_same : (asker : Asker) (value : Frame) (command : Command) → command_of value ≡ Ok command → asker_after asker value ≡ asker
-own_is_same asker value command is = ap (λ (asked : Result Command CommandFault). let a : Asker = record asker { name = or_same asker (over asked value) } in a) is
+own_is_same asker value command is =
+    ap (λ (asked : Result Command CommandFault).
+    let a : Asker = record asker { name = or_same asker (over asked value); admitted = or_admitted asker (over asked value) } in a) is
 
-judged : (asker : Asker) (value : Frame) (asked : Result Command CommandFault)
-    → (or_left asker (over asked value) ≡ left) ⊎ ((asked ≡ Err UnknownCommand) ⊎ (asked ≡ Err WrongArguments))
-judged asker value (Ok command) = inl refl
-judged asker value (Err NotACommand) = inl refl
-judged asker value (Err UnknownCommand) = inr (inl refl)
-judged asker value (Err WrongArguments) = inr (inr refl)
-judged asker value (Err BadAddress) = inl refl
-judged asker value (Err BadEpoch) = inl refl
-judged asker value (Err BadRunId) = inl refl
-judged asker value (Err UnknownChannel) = inl refl
+-- it is left, or its answer is told with more fields
+left_or_widens : (asker : Asker) (own : Option Table) → is_stranger asker ≡ false
+    → (unless_stranger asker (own_answer own) ≡ left) ⊎ (unless_stranger asker (own_answer own) ≡ widens)
+left_or_widens asker None known = inl (admitted_is asker left known)
+left_or_widens asker (Some own) known = inr (admitted_is asker widens known)
 
-pub refused_or_left : (asker : Asker) (value : Frame) → (courtesy asker value ≡ left) ⊎ ((command_of value ≡ Err UnknownCommand) ⊎ (command_of value ≡ Err WrongArguments))
-refused_or_left asker value = judged asker value (command_of value)
+judged : (asker : Asker) (value : Frame) (asked : Result Command CommandFault) → is_stranger asker ≡ false
+    → ((answer_at asker asked value ≡ left) ⊎ (answer_at asker asked value ≡ widens)) ⊎ ((asked ≡ Err UnknownCommand) ⊎ (asked ≡ Err WrongArguments))
+judged asker value (Ok command) known = inl (left_or_widens asker (table_of (Ok command)) known)
+judged asker value (Err NotACommand) known = inl (inl (admitted_is asker left known))
+judged asker value (Err UnknownCommand) known = inr (inl refl)
+judged asker value (Err WrongArguments) known = inr (inr refl)
+judged asker value (Err BadAddress) known = inl (inl (admitted_is asker left known))
+judged asker value (Err BadEpoch) known = inl (inl (admitted_is asker left known))
+judged asker value (Err BadRunId) known = inl (inl (admitted_is asker left known))
+judged asker value (Err UnknownChannel) known = inl (inl (admitted_is asker left known))
+
+pub refused_or_left : (asker : Asker) (value : Frame) → is_stranger asker ≡ false
+    → ((courtesy asker value ≡ left) ⊎ (courtesy asker value ≡ widens)) ⊎ ((command_of value ≡ Err UnknownCommand) ⊎ (command_of value ≡ Err WrongArguments))
+refused_or_left asker value known = judged asker value (command_of value) known

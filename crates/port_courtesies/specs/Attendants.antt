@@ -7,7 +7,7 @@ use Rattle.resp2_frames.specs.Frame.{Frame, spelling}
 use Rattle.resp2_frames.specs.Reading.{frame_at}
 use Rattle.resp2_frames.specs.Stream.{Held, reading, ended}
 use Rattle.port_courtesies.specs.declared.courtesies.Courtesy.{Courtesy}
-use Rattle.port_courtesies.specs.declared.courtesies.Courtesy.TheVariants.{Left, Said, AsksMasters}
+use Rattle.port_courtesies.specs.declared.courtesies.Courtesy.TheVariants.{Left, Widens, Said, AsksMasters}
 use Rattle.port_courtesies.specs.Courtesies.{Asker, courtesy, asker_after, kind_of, text_of}
 
 -- the bytes that came and aren't attended to yet, what is known of the connection, and the text of the last turn
@@ -19,6 +19,7 @@ pub record Attendance : Type 0 where
 -- a value that isn't answered is handed on as it came
 abbrev pub turn_text : Courtesy → (answer : List ℕ) → Frame → List ℕ
 turn_text Left answer value = spelling value
+turn_text Widens answer value = spelling value
 turn_text Said answer value = answer
 turn_text AsksMasters answer value = spelling value
 

@@ -2,6 +2,7 @@
 use Rattle.std.specs.Prelude.{ℕ, pos, Bool, true, false, not, ◌||◌, ◌&&◌, ◌==◌, nat_lt, nat_le, List, [], ◌∷◌, ◌++◌, map, length, bytes_eq, codes, Option, Some, None, Result, Ok, Err}
 use Rattle.std.specs.List.{list_all}
 use Rattle.ballot_law.specs.declared.commands.Command.{Command}
+use Rattle.ballot_law.specs.declared.commands.Command.TheVariants.{Masters, Master, Replicas, Sentinels}
 use Rattle.ballot_law.specs.Words.{lower, canonical_within}
 use Rattle.resp2.specs.declared.command.CommandFault.{CommandFault}
 use Rattle.resp2.specs.declared.command.CommandFault.TheVariants.{UnknownCommand, WrongArguments}
@@ -11,20 +12,27 @@ use Rattle.port_courtesies.specs.declared.verbs.Verb.{Verb}
 use Rattle.port_courtesies.specs.declared.verbs.Verb.TheVariants.{Ping, Hello, Auth, SetName, SetInfo, GetName, Id, NoEvict, Reply, Commands, Docs, Count, Role, Publish, Info}
 use Rattle.port_courtesies.specs.declared.hellos.Expects.{Expects}
 use Rattle.port_courtesies.specs.declared.hellos.Expects.TheVariants.{Start, User, Password, NewName}
+use Rattle.port_courtesies.specs.declared.tables.Table.{Table}
+use Rattle.port_courtesies.specs.declared.tables.Table.TheVariants.{OneMaster, AllMasters, OfReplicas, OfSentinels}
 use Rattle.port_courtesies.specs.declared.courtesies.Courtesy.{Courtesy}
-use Rattle.port_courtesies.specs.declared.courtesies.Courtesy.TheVariants.{Left, Said, AsksMasters}
-use Rattle.port_courtesies.specs.Refusals.{is_called, printed_byte, wrong_arguments, unknown_subcommand, unknown_command, syntax_error, wrong_password, no_password, no_name, no_such_protocol, no_protocol, no_option, no_hello, not_while_listening}
+use Rattle.port_courtesies.specs.declared.courtesies.Courtesy.TheVariants.{Left, Widens, Said, AsksMasters}
+use Rattle.port_courtesies.specs.Refusals.{is_called, printed_byte, wrong_arguments, unknown_subcommand, unknown_command, syntax_error, wrong_password, no_password, no_auth, no_auth_yet, no_name, no_such_protocol, no_protocol, no_option, no_hello, not_while_listening}
 
--- what is known of a connection: its number, the name that its client gave it, whether it listens to notes, and the names of the Sentinel's masters
+-- what is known of a connection: its number, the name that its client gave it, whether it listens to notes, the names of the Sentinel's masters, the password that is
+-- wanted of its client, where one is, and whether the client gave it
 pub record Asker : Type 0 where
   pub id : ℕ
   pub name : List ℕ
   pub listens : Bool
   pub masters : List (List ℕ)
+  pub password : Option (List ℕ)
+  pub admitted : Bool
 
--- what becomes of a value: the Sentinel's rules answer it, it is answered by this value, or by what is told of the Sentinel's masters
+-- what becomes of a value: the Sentinel's rules answer it, the answer that they give is told with more fields, it is answered by this value, or by what is told of the
+-- Sentinel's masters
 pub data Answer : Type 0 where
   left : Answer
+  widens : Answer
   said : Frame → Answer
   asks_masters : Answer
 
@@ -150,6 +158,35 @@ looked_up miscounted name words =
       ]
     ]
 
+-- ---- passwords
+
+abbrev pub is_some : {X : Type 0} → Option X → Bool
+is_some None = false
+is_some (Some x) = true
+
+-- a password is wanted that wasn't given
+abbrev pub lacks_password : (wanted : Option (List ℕ)) → (admitted : Bool) → Bool
+lacks_password None admitted = false
+lacks_password (Some password) admitted = not admitted
+
+abbrev pub is_stranger : Asker → Bool
+is_stranger asker = lacks_password asker.password asker.admitted
+
+-- the whole password that is wanted; any word where none is
+abbrev pub is_password : (wanted : Option (List ℕ)) → List ℕ → Bool
+is_password None word = true
+is_password (Some password) word = bytes_eq word password
+
+-- the commands by which a client gives its password
+abbrev pub is_for_strangers : Verb → Bool
+is_for_strangers Hello = true
+is_for_strangers Auth = true
+is_for_strangers verb = false
+
+-- a client that didn't give its password may not carry out the command
+abbrev pub is_barred : Asker → Verb → Bool
+is_barred asker verb = is_stranger asker && not (is_for_strangers verb)
+
 -- ---- what each is answered
 
 abbrev pub ok : Frame
@@ -166,7 +203,7 @@ is_name_byte b = nat_le 33 b && nat_le b 126
 abbrev pub is_client_name : List ℕ → Bool
 is_client_name word = list_all is_name_byte word
 
--- there is the user of whom nobody asks a password, and no other
+-- there is this user and no other
 abbrev pub is_user : List ℕ → Bool
 is_user word = bytes_eq word (codes "default")
 
@@ -176,10 +213,6 @@ hello_map id =
     items (frames_of (bulk (codes "server") ∷ bulk (codes "redis") ∷ bulk (codes "version") ∷ bulk (codes "7.2.0") ∷ bulk (codes "proto") ∷ int (pos 2)
     ∷ bulk (codes "id") ∷ int (pos id) ∷ bulk (codes "mode") ∷ bulk (codes "sentinel") ∷ bulk (codes "modules") ∷ items no_frames ∷ []))
 
-abbrev pub is_some : {X : Type 0} → Option X → Bool
-is_some None = false
-is_some (Some x) = true
-
 abbrev pub is_negative : List ℕ → Bool
 is_negative [] = false
 is_negative (b ∷ bs) = (b == 45) && is_some (canonical_within 1 9223372036854775808 bs)
@@ -188,9 +221,10 @@ is_negative (b ∷ bs) = (b == 45) && is_some (canonical_within 1 92233720368547
 abbrev pub is_integer : List ℕ → Bool
 is_integer word = is_some (canonical_within 0 9223372036854775807 word) || is_negative word
 
--- the name that the options of HELLO leave a connection, and why they are refused, if so
+-- the name that the options of HELLO leave a connection, whether its client gave the password then, and why they are refused, if so
 pub record Greeted : Type 0 where
   pub name : List ℕ
+  pub admitted : Bool
   pub refusal : Option Frame
 
 -- what the next word is to be after the name of an option
@@ -199,18 +233,27 @@ expected word =
     elim (is_called (codes "auth") word) [ true ↦ Some User | false ↦ elim (is_called (codes "setname") word) [ true ↦ Some NewName | false ↦ None ] ]
 
 -- each option in turn, from a word that is expected after the option; what comes after the first option that is refused has no effect
-abbrev pub greeted : Expects → (option name : List ℕ) → List (List ℕ) → Greeted
-greeted Start option name [] = record { name = name; refusal = None }
-greeted User option name [] = record { name = name; refusal = Some (no_option option) }
-greeted (Password familiar) option name [] = record { name = name; refusal = Some (no_option option) }
-greeted NewName option name [] = record { name = name; refusal = Some (no_option option) }
-greeted Start option name (word ∷ words) =
-    elim (expected word) [ Some next ↦ greeted next word name words | None ↦ record { name = name; refusal = Some (no_option word) } ]
-greeted User option name (word ∷ words) = greeted (Password (is_user word)) option name words
-greeted (Password true) option name (word ∷ words) = greeted Start option name words
-greeted (Password false) option name (word ∷ words) = record { name = name; refusal = Some wrong_password }
-greeted NewName option name (word ∷ words) =
-    elim (is_client_name word) [ true ↦ greeted Start option word words | false ↦ record { name = name; refusal = Some no_name } ]
+abbrev pub greeted : (wanted : Option (List ℕ)) → Expects → (option name : List ℕ) → (admitted : Bool) → List (List ℕ) → Greeted
+greeted wanted Start option name admitted [] = record { name = name; admitted = admitted; refusal = None }
+greeted wanted User option name admitted [] = record { name = name; admitted = admitted; refusal = Some (no_option option) }
+greeted wanted (Password familiar) option name admitted [] = record { name = name; admitted = admitted; refusal = Some (no_option option) }
+greeted wanted NewName option name admitted [] = record { name = name; admitted = admitted; refusal = Some (no_option option) }
+greeted wanted Start option name admitted (word ∷ words) =
+    elim (expected word) [
+      | Some next ↦ greeted wanted next word name admitted words
+      | None ↦ record { name = name; admitted = admitted; refusal = Some (no_option word) }
+    ]
+greeted wanted User option name admitted (word ∷ words) = greeted wanted (Password (is_user word)) option name admitted words
+greeted wanted (Password familiar) option name admitted (word ∷ words) =
+    elim (familiar && is_password wanted word) [
+      | true ↦ greeted wanted Start option name true words
+      | false ↦ record { name = name; admitted = admitted; refusal = Some wrong_password }
+    ]
+greeted wanted NewName option name admitted (word ∷ words) =
+    elim (is_client_name word) [
+      | true ↦ greeted wanted Start option word admitted words
+      | false ↦ record { name = name; admitted = admitted; refusal = Some no_name }
+    ]
 
 abbrev pub or_else : Option Frame → Frame → Frame
 or_else None answer = answer
@@ -230,27 +273,50 @@ abbrev pub after_first : List (List ℕ) → List (List ℕ)
 after_first [] = []
 after_first (word ∷ words) = words
 
+-- what the options of HELLO with these words leave a connection
+abbrev pub greeted_by : Asker → List (List ℕ) → Greeted
+greeted_by asker words = greeted asker.password Start [] asker.name asker.admitted (after_first words)
+
+-- HELLO is answered to clients alone that gave the password before it or with it
+abbrev pub greeting_of : Asker → (admitted : Bool) → Frame
+greeting_of asker admitted = elim (lacks_password asker.password admitted) [ true ↦ no_auth_yet | false ↦ hello_map asker.id ]
+
+abbrev pub welcome : Asker → Greeted → Frame
+welcome asker g = or_else g.refusal (greeting_of asker g.admitted)
+
 -- at the refusal of protocol 3 clients go on with protocol 2
-abbrev pub hello : ℕ → List ℕ → List (List ℕ) → Frame
-hello id name words =
+abbrev pub hello : Asker → List (List ℕ) → Frame
+hello asker words =
     elim (asks_for_2 words) [
-      | true ↦ or_else (greeted Start [] name (after_first words)).refusal (hello_map id)
+      | true ↦ welcome asker (greeted_by asker words)
       | false ↦ elim (is_integer (first words)) [ true ↦ no_such_protocol | false ↦ no_protocol ]
     ]
 
 -- the name that a connection has after HELLO
-abbrev pub hello_name : List ℕ → List (List ℕ) → List ℕ
-hello_name name words = elim (asks_for_2 words) [ true ↦ (greeted Start [] name (after_first words)).name | false ↦ name ]
+abbrev pub hello_name : Asker → List (List ℕ) → List ℕ
+hello_name asker words = elim (asks_for_2 words) [ true ↦ (greeted_by asker words).name | false ↦ asker.name ]
 
-abbrev pub auth : List (List ℕ) → Frame
-auth words =
-    elim (length words == 1) [
-      | true ↦ no_password
-      | false ↦ elim (length words == 2) [
-        | true ↦ elim (is_user (first words)) [ true ↦ ok | false ↦ wrong_password ]
-        | false ↦ syntax_error
-      ]
+-- whether the client gave the password then
+abbrev pub hello_admitted : Asker → List (List ℕ) → Bool
+hello_admitted asker words = elim (asks_for_2 words) [ true ↦ (greeted_by asker words).admitted | false ↦ asker.admitted ]
+
+-- AUTH with these words is answered OK: a password that is wanted, or a user and its password
+abbrev pub admits : (wanted : Option (List ℕ)) → List (List ℕ) → Bool
+admits wanted [] = false
+admits wanted (word ∷ []) = is_some wanted && is_password wanted word
+admits wanted (user ∷ word ∷ []) = is_user user && is_password wanted word
+admits wanted (user ∷ word ∷ next ∷ words) = false
+
+-- why AUTH with so many words isn't answered OK
+abbrev pub unadmitted : (wanted : Option (List ℕ)) → (count : ℕ) → Frame
+unadmitted wanted count =
+    elim (count == 1) [
+      | true ↦ elim (is_some wanted) [ true ↦ wrong_password | false ↦ no_password ]
+      | false ↦ elim (count == 2) [ true ↦ wrong_password | false ↦ syntax_error ]
     ]
+
+abbrev pub auth : (wanted : Option (List ℕ)) → List (List ℕ) → Frame
+auth wanted words = elim (admits wanted words) [ true ↦ ok | false ↦ unadmitted wanted (length words) ]
 
 abbrev pub set_name : List (List ℕ) → Frame
 set_name words = elim (is_client_name (first words)) [ true ↦ ok | false ↦ no_name ]
@@ -280,8 +346,8 @@ publish words = elim (is_hello_channel (first words)) [ true ↦ int (pos 1) | f
 -- the answer to a command of a connection that doesn't listen; no command is described
 abbrev pub executed : Asker → Verb → List (List ℕ) → Answer
 executed asker Ping words = said (bulk (first words))
-executed asker Hello words = said (hello asker.id asker.name words)
-executed asker Auth words = said (auth words)
+executed asker Hello words = said (hello asker words)
+executed asker Auth words = said (auth asker.password words)
 executed asker SetName words = said (set_name words)
 executed asker SetInfo words = said ok
 executed asker GetName words = said (get_name asker.name)
@@ -307,8 +373,14 @@ while_listening verb words = not_while_listening (verb_name verb)
 -- the name that a connection has after a command
 abbrev pub name_after : Asker → Verb → List (List ℕ) → List ℕ
 name_after asker SetName words = elim (is_client_name (first words)) [ true ↦ first words | false ↦ asker.name ]
-name_after asker Hello words = hello_name asker.name words
+name_after asker Hello words = hello_name asker words
 name_after asker verb words = asker.name
+
+-- whether its client gave the password then
+abbrev pub admitted_after : Asker → Verb → List (List ℕ) → Bool
+admitted_after asker Auth words = asker.admitted || admits asker.password words
+admitted_after asker Hello words = hello_admitted asker words
+admitted_after asker verb words = asker.admitted
 
 -- ---- the answer to a value
 
@@ -334,11 +406,19 @@ names_channels (name ∷ word ∷ words) = is_called (codes "subscribe") name
 
 abbrev pub answered : Asker → Looked → Answer
 answered asker (refused refusal) = said refusal
-answered asker (known verb words) = elim asker.listens [ true ↦ said (while_listening verb words) | false ↦ executed asker verb words ]
+answered asker (known verb words) =
+    elim (is_barred asker verb) [
+      | true ↦ said no_auth
+      | false ↦ elim asker.listens [ true ↦ said (while_listening verb words) | false ↦ executed asker verb words ]
+    ]
 
 abbrev pub named : Asker → Looked → List ℕ
 named asker (refused refusal) = asker.name
-named asker (known verb words) = elim asker.listens [ true ↦ asker.name | false ↦ name_after asker verb words ]
+named asker (known verb words) = elim (is_barred asker verb || asker.listens) [ true ↦ asker.name | false ↦ name_after asker verb words ]
+
+abbrev pub admitted_by : Asker → Looked → Bool
+admitted_by asker (refused refusal) = asker.admitted
+admitted_by asker (known verb words) = elim (is_barred asker verb || asker.listens) [ true ↦ asker.admitted | false ↦ admitted_after asker verb words ]
 
 abbrev pub looked_up_in : (miscounted : Bool) → List (List ℕ) → Option Looked
 looked_up_in miscounted [] = None
@@ -348,31 +428,57 @@ looked_up_in miscounted (name ∷ words) = elim (names_channels (name ∷ words)
 abbrev pub left_over : Frame → Option Looked
 left_over value = elim (is_refused (command_of value)) [ true ↦ looked_up_in (is_miscounted (command_of value)) (words_of value) | false ↦ None ]
 
+-- the answers of the Sentinel's rules that are told with more fields
+abbrev pub table_of : Result Command CommandFault → Option Table
+table_of (Ok (Master name)) = Some OneMaster
+table_of (Ok Masters) = Some AllMasters
+table_of (Ok (Replicas name)) = Some OfReplicas
+table_of (Ok (Sentinels name)) = Some OfSentinels
+table_of asked = None
+
+-- what becomes of a value that the rules answer
+abbrev pub own_answer : Option Table → Answer
+own_answer None = left
+own_answer (Some table) = widens
+
+abbrev pub unless_stranger : Asker → Answer → Answer
+unless_stranger asker answer = elim (is_stranger asker) [ true ↦ said no_auth | false ↦ answer ]
+
 abbrev pub or_left : Asker → Option Looked → Answer
-or_left asker None = left
+or_left asker None = unless_stranger asker left
 or_left asker (Some looked) = answered asker looked
 
 abbrev pub or_same : Asker → Option Looked → List ℕ
 or_same asker None = asker.name
 or_same asker (Some looked) = named asker looked
 
+abbrev pub or_admitted : Asker → Option Looked → Bool
+or_admitted asker None = asker.admitted
+or_admitted asker (Some looked) = admitted_by asker looked
+
 -- the answer to a value of a connection
 abbrev pub courtesy : Asker → Frame → Answer
-courtesy asker value = or_left asker (left_over value)
+courtesy asker value =
+    elim (is_refused (command_of value)) [
+      | true ↦ or_left asker (looked_up_in (is_miscounted (command_of value)) (words_of value))
+      | false ↦ unless_stranger asker (own_answer (table_of (command_of value)))
+    ]
 
 -- what is known of the connection after it
 abbrev pub asker_after : Asker → Frame → Asker
-asker_after asker value = record asker { name = or_same asker (left_over value) }
+asker_after asker value = record asker { name = or_same asker (left_over value); admitted = or_admitted asker (left_over value) }
 
 -- ---- an answer as it is handed out
 
 abbrev pub kind_of : Answer → Courtesy
 kind_of left = Left
+kind_of widens = Widens
 kind_of (said answer) = Said
 kind_of asks_masters = AsksMasters
 
 -- its bytes on the wire, where it is known
 abbrev pub text_of : Answer → List ℕ
 text_of left = []
+text_of widens = []
 text_of (said answer) = spelling answer
 text_of asks_masters = []

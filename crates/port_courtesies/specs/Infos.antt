@@ -1,5 +1,5 @@
 -- What INFO says of a Sentinel, from its answer to SENTINEL MASTERS.
-use Rattle.std.specs.Prelude.{ℕ, ◌+◌, Bool, true, false, ◌||◌, ◌&&◌, List, [], ◌∷◌, ◌++◌, Option, Some, None, length, take, bytes_eq, codes, decimal}
+use Rattle.std.specs.Prelude.{ℕ, ◌+◌, Bool, true, false, ◌||◌, ◌&&◌, List, [], ◌∷◌, ◌++◌, Option, Some, None, take, bytes_eq, codes, decimal}
 use Rattle.ballot_law.specs.Words.{number_within}
 use Rattle.resp2_frames.specs.Frame.{Frame, FrameList, bulk, items, no_frames, frame, count, line_end}
 use Rattle.port_courtesies.specs.Refusals.{is_called}

@@ -1,4 +1,5 @@
 pub mod Refusals
 pub mod Courtesies
 pub mod Infos
+pub mod Widening
 pub mod Attendants

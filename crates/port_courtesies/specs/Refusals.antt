@@ -62,6 +62,16 @@ no_option word = fault (codes "ERR Syntax error in HELLO option '" ++ (printed (
 abbrev pub no_hello : Frame
 no_hello = fault (codes "ERR Only HELLO messages are accepted by Sentinel instances.")
 
+-- the client didn't give the password that is wanted
+abbrev pub no_auth : Frame
+no_auth = fault (codes "NOAUTH Authentication required.")
+
+-- HELLO, where the client didn't give the password and doesn't with it
+abbrev pub no_auth_yet : Frame
+no_auth_yet =
+    fault (codes "NOAUTH HELLO must be called with the client already authenticated, otherwise the HELLO AUTH <user> <pass> option can be used to authenticate the client"
+    ++ codes " and select the RESP protocol version at the same time")
+
 -- a connection that listens is told so at the command with this name
 abbrev pub not_while_listening : List ℕ → Frame
 not_while_listening name =

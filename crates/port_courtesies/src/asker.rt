@@ -1,7 +1,9 @@
 //! What is known of a connection.
 
-ghost use Rattle.std.specs.Prelude.{◌≡◌};
+ghost use Rattle.std.specs.Prelude.{◌≡◌, Some, false};
+ghost use Rattle.port_courtesies.specs.Courtesies.{is_some, lacks_password, is_stranger, is_password};
 
+use crate::passwords::is_same;
 use ballot_law::{Name, Text};
 use std::marker::Model;
 
@@ -16,6 +18,10 @@ pub struct Asker {
     pub listens: bool,
     /// The Sentinel's masters, in the roster's order.
     pub masters: Vec<Name>,
+    /// The password that is wanted of its client; none where every client is admitted.
+    pub password: Option<Text>,
+    /// Whether the client gave the password.
+    pub admitted: bool,
 }
 
 impl Model for Asker {
@@ -23,7 +29,7 @@ impl Model for Asker {
 
     ghost Value = { AskerModel };
 
-    ghost view = { λ asker. record { id = asker.id; name = asker.name; listens = asker.listens; masters = asker.masters.items } };
+    ghost view = { λ asker. record { id = asker.id; name = asker.name; listens = asker.listens; masters = asker.masters.items; password = asker.password; admitted = asker.admitted } };
 }
 
 impl Asker {
@@ -55,6 +61,44 @@ impl Asker {
         self.masters.as_slice()
     }
 
+    /// Whether a password is wanted.
+    pub(crate) fn wants_password(&self) -> bool
+        ensures { result ≡ is_some self.now.password }
+    {
+        self.password.is_some()
+    }
+
+    /// Whether a client that gave the password or didn't, as is told, is still to give it.
+    pub(crate) fn lacks_password(&self, admitted: bool) -> bool
+        ensures { result ≡ lacks_password self.now.password admitted }
+    {
+        self.password.is_some() && !admitted
+    }
+
+    /// Whether its client is still to give the password.
+    pub(crate) fn is_stranger(&self) -> bool
+        ensures { result ≡ is_stranger self.now }
+    {
+        self.lacks_password(self.admitted)
+    }
+
+    /// Whether the word is the password that is wanted, or none is.
+    pub(crate) fn is_password(&self, word: &[u8]) -> bool
+        ensures { result ≡ is_password self.now.password word.now }
+    {
+        match &self.password {
+            Some(password) => is_same(word, password.as_slice()),
+            None => true,
+        }
+    }
+
+    /// Whether its client gave the password.
+    pub(crate) fn admitted(&self) -> bool
+        ensures { result ≡ self.now.admitted }
+    {
+        self.admitted
+    }
+
     /// Gives it another name.
     pub(crate) fn rename(&mut self, name: Text)
         ensures { self.new ≡ record self.old { name = name } }
@@ -74,5 +118,20 @@ impl Asker {
         ensures { self.new ≡ record self.old { masters = masters.items } }
     {
         self.masters = masters;
+    }
+
+    /// Has it want this password, which its client didn't give.
+    pub(crate) fn want_password(&mut self, password: Text)
+        ensures { self.new ≡ record self.old { password = Some password; admitted = false } }
+    {
+        self.password = Some(password);
+        self.admitted = false;
+    }
+
+    /// Has it know whether its client gave the password.
+    pub(crate) fn admit(&mut self, admitted: bool)
+        ensures { self.new ≡ record self.old { admitted = admitted } }
+    {
+        self.admitted = admitted;
     }
 }

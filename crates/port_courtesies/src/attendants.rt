@@ -1,16 +1,18 @@
 //! A client's stream with courtesies.
 
-ghost use Rattle.std.specs.Prelude.{◌≡◌, ◌<◌, [], IfOk, IfSome, OnOk};
+ghost use Rattle.std.specs.Prelude.{◌≡◌, ◌<◌, [], Some, false, IfOk, IfSome, OnOk};
 ghost use Rattle.resp2_frames.specs.Frame.{Frame, view, spelling, HasLines, IsFrame};
 ghost use Rattle.resp2_frames.specs.Stream.{reading, held_size, Feeds, Answers};
 ghost use Rattle.port_courtesies.specs.Attendants.{turn_text, text_at, Attends};
 ghost use Rattle.port_courtesies.specs.Courtesies.{courtesy, asker_after, kind_of};
 ghost use Rattle.port_courtesies.specs.Infos.{info};
+ghost use Rattle.port_courtesies.specs.Widening.{wide};
 
 use crate::asker::Asker;
 use crate::courtesies::{Courtesy, courtesy_of};
 use crate::infos::info;
-use ballot_law::{Name, NoMemory};
+use crate::widening::wide;
+use ballot_law::{Name, NoMemory, Text};
 use resp2_frames::{FrameFault, Frames, OutText, Value, write_value};
 use std::alloc::Global;
 use std::marker::Model;
@@ -67,6 +69,7 @@ fn write_turn(kind: Courtesy, value: &Value, text: &mut OutText) -> Result<(), N
     match kind {
         Courtesy::Said => Ok(()),
         Courtesy::Left => write_alone(value, text),
+        Courtesy::Widens => write_alone(value, text),
         Courtesy::AsksMasters => write_alone(value, text),
     }
 }
@@ -114,6 +117,13 @@ impl Attendant {
         self.asker.watch(masters);
     }
 
+    /// Has it want this password of the client, which didn't give it yet.
+    pub fn want_password(&mut self, password: Text)
+        ensures { self.new ≡ record self.old { asker = record self.old.asker { password = Some password; admitted = false } } }
+    {
+        self.asker.want_password(password);
+    }
+
     /// Adds the next piece of the stream, of any length. `NoMemory` leaves it unchanged. Any other fault is one that `attend` has answered before, and
     /// the piece is dropped.
     pub fn feed(&mut self, piece: &[u8]) -> Result<(), FrameFault>
@@ -131,7 +141,8 @@ impl Attendant {
     }
 
     /// Attends to the first whole value of the bytes that came; `None` where more bytes are needed. `Left`: the text is the value, which the session
-    /// is to have. `Said`: the text is its answer. `AsksMasters`: the text is the value, INFO, whose answer `info` makes.
+    /// is to have. `Widens`: the same, and `widen` makes the answer out of the one that the session gives. `Said`: the text is its answer. `AsksMasters`: the text is
+    /// the value, INFO, whose answer `inform` makes.
     ///
     /// `NoMemory`: memory was refused, and one value may be lost; the connection is to be closed. Any other fault is one of the bytes: the values before it
     /// were attended to, and every later call answers it again.
@@ -159,6 +170,17 @@ impl Attendant {
     {
         let value = value_of(self.alloc, self.text.as_slice())?;
         info(self.alloc, &value, masters, &mut self.text)
+    }
+
+    /// Has the text of the last turn, a value that `Widens`, be its answer, where the Sentinel answers it with `answer`. `NoMemory`: memory was refused, or the
+    /// text is no such value; the connection is to be closed.
+    pub fn widen(&mut self, answer: &Value) -> Result<(), NoMemory>
+        ensures text { (value : Frame) → IsFrame value → self.old.text ≡ spelling value → OnOk result (self.new.text ≡ spelling (wide value (view answer.now))) }
+        ensures asker { self.new.asker ≡ self.old.asker }
+        ensures held { self.new.held ≡ self.old.held }
+    {
+        let value = value_of(self.alloc, self.text.as_slice())?;
+        wide(self.alloc, &value, answer, &mut self.text)
     }
 
     /// Attends to a value.

@@ -1,9 +1,9 @@
 //! What becomes of a value.
 
-ghost use Rattle.std.specs.Prelude.{◌≡◌, ℕ, List, [], IfOk, OnOk};
+ghost use Rattle.std.specs.Prelude.{◌≡◌, ℕ, List, [], None, IfOk, OnOk};
 ghost use Rattle.resp2.specs.Commands as commands;
 ghost use Rattle.resp2_frames.specs.Frame.{view, frames_view, spelling};
-ghost use Rattle.port_courtesies.specs.Courtesies.{Asker, known, executed, while_listening, name_after, words_of, is_miscounted, is_refused, names_channels, answered, named, looked_up_in, or_left, or_same, courtesy, asker_after, kind_of, text_of};
+ghost use Rattle.port_courtesies.specs.Courtesies.{Asker, known, executed, while_listening, name_after, admitted_after, is_barred, admitted_by, or_admitted, words_of, is_miscounted, is_refused, names_channels, answered, named, looked_up_in, own_answer, unless_stranger, or_left, or_same, courtesy, asker_after, kind_of, text_of};
 
 use crate::asker::Asker;
 use crate::clients::{
@@ -12,17 +12,22 @@ use crate::clients::{
 use crate::hellos::{auth, first, hello, is_client_name, set_name};
 use crate::lookup::looked_up;
 use crate::refusals::{is_called, refuse_listener, say};
+use crate::tables::{Table, table_of};
 use crate::verbs::Verb;
 use ballot_law::{Command, NoMemory, Text};
 use resp2::{CommandFault, command_of};
 use resp2_frames::{OutText, Value};
 use std::alloc::Global;
 
+const NO_AUTH: &[u8] = b"-NOAUTH Authentication required.\r\n";
+
 /// What becomes of a value.
 #[derive(Clone, Copy, Debug, PartialEq, Eq)]
 pub enum Courtesy {
     /// The Sentinel's rules answer it.
     Left,
+    /// The Sentinel's rules answer it, and the answer is then told with redis-sentinel's fields.
+    Widens,
     /// Its answer is told.
     Said,
     /// It is INFO, whose answer is made of that to SENTINEL MASTERS.
@@ -61,7 +66,7 @@ fn word_of(value: &Value) -> &[u8]
 }
 
 /// The words that the items of an array are.
-fn words_of_items(alloc: Global, items: &[Value]) -> Result<Vec<Text>, NoMemory>
+pub(crate) fn words_of_items(alloc: Global, items: &[Value]) -> Result<Vec<Text>, NoMemory>
     ensures { IfOk result (λ words. words.items ≡ commands.words (frames_view items.now)) }
 {
     let mut words = Vec::new(alloc);
@@ -111,10 +116,24 @@ fn greet(
     out: &mut OutText,
 ) -> Result<(), NoMemory>
     ensures text { OnOk result (out.new ≡ text_of (executed asker.old Verb.Hello words.now)) }
-    ensures asker { OnOk result (asker.new ≡ record asker.old { name = name_after asker.old Verb.Hello words.now }) }
+    ensures asker { OnOk result (asker.new ≡ record asker.old { name = name_after asker.old Verb.Hello words.now; admitted = admitted_after asker.old Verb.Hello words.now }) }
 {
-    let name = Text::from_slice(alloc, hello(asker.id(), asker.name(), words, out)?)?;
+    let left = hello(asker, words, out)?;
+    let admitted = left.admitted;
+    let name = Text::from_slice(alloc, left.name)?;
     asker.rename(name);
+    asker.admit(admitted);
+    Ok(())
+}
+
+/// AUTH with these words.
+fn log_in(asker: &mut Asker, words: &[Text], out: &mut OutText) -> Result<(), NoMemory>
+    ensures text { OnOk result (out.new ≡ text_of (executed asker.old Verb.Auth words.now)) }
+    ensures asker { OnOk result (asker.new ≡ record asker.old { admitted = admitted_after asker.old Verb.Auth words.now }) }
+{
+    if auth(asker, words, out)? {
+        asker.admit(true);
+    }
     Ok(())
 }
 
@@ -135,7 +154,8 @@ fn rename(
     Ok(())
 }
 
-/// Has the connection carry out a command with these words: the answer, where it is known, and the name that the command gives the connection.
+/// Has the connection carry out a command with these words: the answer, where it is known, the name that the command gives the connection, and whether its
+/// client gave the password then.
 fn execute(
     alloc: Global,
     asker: &mut Asker,
@@ -144,12 +164,12 @@ fn execute(
     out: &mut OutText,
 ) -> Result<(), NoMemory>
     ensures text { OnOk result (out.new ≡ text_of (executed asker.old verb words.now)) }
-    ensures asker { OnOk result (asker.new ≡ record asker.old { name = name_after asker.old verb words.now }) }
+    ensures asker { OnOk result (asker.new ≡ record asker.old { name = name_after asker.old verb words.now; admitted = admitted_after asker.old verb words.now }) }
 {
     match verb {
         Verb::Ping => say_bulk(out, first(words)),
         Verb::Hello => greet(alloc, asker, words, out),
-        Verb::Auth => auth(words, out),
+        Verb::Auth => log_in(asker, words, out),
         Verb::SetName => rename(alloc, asker, words, out),
         Verb::SetInfo => say(out, b"+OK\r\n"),
         Verb::GetName => get_name(asker.name(), out),
@@ -175,6 +195,13 @@ fn kind_of(verb: Verb) -> Courtesy
     }
 }
 
+/// Whether its client didn't give the password that is wanted, and may not carry out the command without.
+fn is_barred(asker: &Asker, verb: Verb) -> bool
+    ensures { result ≡ is_barred asker.now verb }
+{
+    asker.is_stranger() && !verb.is_for_strangers()
+}
+
 /// What becomes of a command with these words.
 fn answer_known(
     alloc: Global,
@@ -185,14 +212,35 @@ fn answer_known(
 ) -> Result<Courtesy, NoMemory>
     ensures kind { IfOk result (λ kind. kind ≡ kind_of (answered asker.old (known verb words.now))) }
     ensures text { OnOk result (out.new ≡ text_of (answered asker.old (known verb words.now))) }
-    ensures asker { OnOk result (asker.new ≡ record asker.old { name = named asker.old (known verb words.now) }) }
+    ensures asker { OnOk result (asker.new ≡ record asker.old { name = named asker.old (known verb words.now); admitted = admitted_by asker.old (known verb words.now) }) }
 {
+    if is_barred(asker, verb) {
+        say(out, NO_AUTH)?;
+        return Ok(Courtesy::Said);
+    }
     if asker.listens() {
         answer_listener(verb, words, out)?;
         return Ok(Courtesy::Said);
     }
     execute(alloc, asker, verb, words, out)?;
     Ok(kind_of(verb))
+}
+
+/// What becomes of a value that the rules of the Sentinel answer, the answer being told with more fields where there is a table: it is left to them, once
+/// the client gave the password that is wanted.
+fn leave(asker: &Asker, table: Option<Table>, out: &mut OutText) -> Result<Courtesy, NoMemory>
+    requires { out.old ≡ [] }
+    ensures kind { IfOk result (λ kind. kind ≡ kind_of (unless_stranger asker.now (own_answer table))) }
+    ensures text { OnOk result (out.new ≡ text_of (unless_stranger asker.now (own_answer table))) }
+{
+    if asker.is_stranger() {
+        say(out, NO_AUTH)?;
+        return Ok(Courtesy::Said);
+    }
+    match table {
+        Some(_) => Ok(Courtesy::Widens),
+        None => Ok(Courtesy::Left),
+    }
 }
 
 /// What becomes of these words, which the Sentinel's rules call unknown or refuse for their number.
@@ -207,13 +255,13 @@ fn answer_words(
     requires { out.old ≡ [] }
     ensures kind { IfOk result (λ kind. kind ≡ kind_of (or_left asker.old (looked_up_in miscounted words.now))) }
     ensures text { OnOk result (out.new ≡ text_of (or_left asker.old (looked_up_in miscounted words.now))) }
-    ensures asker { OnOk result (asker.new ≡ record asker.old { name = or_same asker.old (looked_up_in miscounted words.now) }) }
+    ensures asker { OnOk result (asker.new ≡ record asker.old { name = or_same asker.old (looked_up_in miscounted words.now); admitted = or_admitted asker.old (looked_up_in miscounted words.now) }) }
 {
     let Some((name, more)) = words.split_first() else {
-        return Ok(Courtesy::Left);
+        return leave(asker, None, out);
     };
     if names_channels(words) {
-        return Ok(Courtesy::Left);
+        return leave(asker, None, out);
     }
     match looked_up(miscounted, name.as_slice(), more, out)? {
         Some((verb, args)) => answer_known(alloc, asker, verb, args, out),
@@ -222,10 +270,11 @@ fn answer_words(
 }
 
 /// What becomes of a value of a connection, by the table in docs/COURTESIES.md: `out` is the answer where one is told, and empty elsewhere. The
-/// connection has the name that the value gives it, and all else that is known of it stays. One value has at most one answer, and one that the Sentinel's
-/// rules answer, be it by a command or by the fault of a word, is left to them.
+/// connection has the name that the value gives it, and it is known whether its client gave the password; all else that is known of it stays. One value has at
+/// most one answer, and one that the Sentinel's rules answer, be it by a command or by the fault of a word, is left to them, once the client gave the
+/// password that is wanted.
 ///
-/// NoMemory: memory was refused; what `out` then holds and what name the connection has isn't told.
+/// NoMemory: memory was refused; what `out` then holds, what name the connection has and whether its client is admitted isn't told.
 pub fn courtesy_of(
     alloc: Global,
     asker: &mut Asker,
@@ -239,7 +288,7 @@ pub fn courtesy_of(
     out.clear();
     let asked = command_of(value);
     if !is_refused(&asked) {
-        return Ok(Courtesy::Left);
+        return leave(asker, table_of(&asked), out);
     }
     let words = words_of(alloc, value)?;
     answer_words(alloc, asker, is_miscounted(&asked), words.as_slice(), out)

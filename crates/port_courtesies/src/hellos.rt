@@ -1,9 +1,10 @@
 //! HELLO and AUTH.
 
-ghost use Rattle.std.specs.Prelude.{◌≡◌, ◌++◌, [], IfOk, OnOk, decimal};
+ghost use Rattle.std.specs.Prelude.{◌≡◌, ◌++◌, ℕ, List, [], Option, IfOk, OnOk, decimal};
 ghost use Rattle.resp2_frames.specs.Frame.{spelling, line_end};
-ghost use Rattle.port_courtesies.specs.Courtesies.{first, after_first, is_client_name, is_user, hello_map, is_negative, is_integer, asks_for_2, expected, greeted, refusal_text, hello, hello_name, auth, set_name};
+ghost use Rattle.port_courtesies.specs.Courtesies.{first, after_first, is_client_name, is_user, hello_map, is_negative, is_integer, asks_for_2, expected, greeted, is_some, refusal_text, greeted_by, greeting_of, welcome, hello, hello_name, hello_admitted, admits, unadmitted, auth, set_name};
 
+use crate::asker::Asker;
 use crate::clients::add_number;
 use crate::refusals::{is_called, refuse_option, say};
 use ballot_law::{NoMemory, Text};
@@ -13,6 +14,9 @@ use words::canonical_number_of;
 const OK: &[u8] = b"+OK\r\n";
 
 const WRONG_PASSWORD: &[u8] = b"-WRONGPASS invalid username-password pair or user is disabled.\r\n";
+
+const NO_AUTH_YET: &[u8] =
+    b"-NOAUTH HELLO must be called with the client already authenticated, otherwise the HELLO AUTH <user> <pass> option can be used to authenticate the client and select the RESP protocol version at the same time\r\n";
 
 const NO_NAME: &[u8] =
     b"-ERR Client names cannot contain spaces, newlines or special characters.\r\n";
@@ -44,7 +48,7 @@ pub(crate) fn is_client_name(word: &[u8]) -> bool
     word.iter().all(|byte| 33 <= *byte && *byte <= 126)
 }
 
-/// Whether there is a user of this name, of whom nobody asks a password.
+/// Whether there is a user of this name.
 fn is_user(word: &[u8]) -> bool
     ensures { result ≡ is_user word.now }
 {
@@ -85,7 +89,7 @@ pub(crate) enum Expects {
     Start,
     /// The user of AUTH.
     User,
-    /// The password of AUTH, whose user is known or isn't.
+    /// The password of AUTH, whose user is there or isn't.
     Password(bool),
     /// The name of SETNAME.
     NewName,
@@ -104,15 +108,35 @@ fn expected_after(word: &[u8]) -> Option<Expects>
     None
 }
 
-/// The name that the options of HELLO leave a connection with this name. The answer is the refusal of the first option that has one, and
-/// is left as it is where none has.
-fn greeted<'a>(name: &'a [u8], options: &'a [Text], out: &mut OutText) -> Result<&'a [u8], NoMemory>
-    ensures name { IfOk result (λ left. left.now ≡ (greeted Expects.Start [] name.now options.now).name) }
-    ensures text { OnOk result (out.new ≡ refusal_text out.old (greeted Expects.Start [] name.now options.now).refusal) }
+/// What the options of HELLO leave a connection.
+#[derive(Clone, Copy)]
+pub(crate) struct Greeting<'a> {
+    /// Its name.
+    pub(crate) name: &'a [u8],
+    /// Whether its client gave the password.
+    pub(crate) admitted: bool,
+    /// Whether an option was refused.
+    pub(crate) refused: bool,
+}
+
+/// What the options of HELLO leave a connection. The answer is the refusal of the first option that has one, and is left as it is where none has.
+fn greeted<'a>(
+    asker: &'a Asker,
+    options: &'a [Text],
+    out: &mut OutText,
+) -> Result<Greeting<'a>, NoMemory>
+    ensures name { IfOk result (λ left. left.name.now ≡ (greeted asker.now.password Expects.Start [] asker.now.name asker.now.admitted options.now).name) }
+    ensures admitted { IfOk result (λ left. left.admitted ≡ (greeted asker.now.password Expects.Start [] asker.now.name asker.now.admitted options.now).admitted) }
+    ensures refused { IfOk result (λ left. left.refused ≡ is_some (greeted asker.now.password Expects.Start [] asker.now.name asker.now.admitted options.now).refusal) }
+    ensures text { OnOk result (out.new ≡ refusal_text out.old (greeted asker.now.password Expects.Start [] asker.now.name asker.now.admitted options.now).refusal) }
 {
     let mut expects = Expects::Start;
     let mut option: &[u8] = &[];
-    let mut name = name;
+    let mut left = Greeting {
+        name: asker.name(),
+        admitted: asker.admitted(),
+        refused: true,
+    };
     let mut rest = options;
     while let [word, more @ ..] = rest {
         let word = word.as_slice();
@@ -120,33 +144,37 @@ fn greeted<'a>(name: &'a [u8], options: &'a [Text], out: &mut OutText) -> Result
             Expects::Start => {
                 let Some(next) = expected_after(word) else {
                     refuse_option(out, word)?;
-                    return Ok(name);
+                    return Ok(left);
                 };
                 expects = next;
                 option = word;
             }
             Expects::User => expects = Expects::Password(is_user(word)),
-            Expects::Password(true) => expects = Expects::Start,
-            Expects::Password(false) => {
-                say(out, WRONG_PASSWORD)?;
-                return Ok(name);
+            Expects::Password(familiar) => {
+                if !(familiar && asker.is_password(word)) {
+                    say(out, WRONG_PASSWORD)?;
+                    return Ok(left);
+                }
+                left.admitted = true;
+                expects = Expects::Start;
             }
             Expects::NewName => {
                 if !is_client_name(word) {
                     say(out, NO_NAME)?;
-                    return Ok(name);
+                    return Ok(left);
                 }
-                name = word;
+                left.name = word;
                 expects = Expects::Start;
             }
         }
         rest = more;
     }
     if let Expects::Start = expects {
-        return Ok(name);
+        left.refused = false;
+        return Ok(left);
     }
     refuse_option(out, option)?;
-    Ok(name)
+    Ok(left)
 }
 
 /// The answer is a number and the end of its line between two texts.
@@ -170,20 +198,46 @@ fn say_hello(out: &mut OutText, id: u64) -> Result<(), NoMemory>
     )
 }
 
-/// The answer to HELLO with these words, on a connection with this number and this name. What is given back is the name that it has then.
-#[tactic(auto, using(crate::proofs::Bytes::refused_or_else))]
-pub(crate) fn hello<'a>(
-    id: u64,
-    name: &'a [u8],
+/// The answer to HELLO of which no option is refused, where its client gave the password or didn't, as is told.
+fn say_welcome(asker: &Asker, admitted: bool, out: &mut OutText) -> Result<(), NoMemory>
+    ensures { OnOk result (out.new ≡ spelling (greeting_of asker.now admitted)) }
+{
+    if asker.lacks_password(admitted) {
+        return say(out, NO_AUTH_YET);
+    }
+    say_hello(out, asker.id())
+}
+
+/// What the options of HELLO for protocol 2 leave a connection, and the answer.
+#[tactic(auto, using(crate::proofs::Bytes::refused_welcome, crate::proofs::Bytes::plain_welcome))]
+fn welcome<'a>(
+    asker: &'a Asker,
     words: &'a [Text],
     out: &mut OutText,
-) -> Result<&'a [u8], NoMemory>
-    ensures name { IfOk result (λ left. left.now ≡ hello_name name.now words.now) }
-    ensures text { OnOk result (out.new ≡ spelling (hello id name.now words.now)) }
+) -> Result<Greeting<'a>, NoMemory>
+    ensures name { IfOk result (λ left. left.name.now ≡ (greeted_by asker.now words.now).name) }
+    ensures admitted { IfOk result (λ left. left.admitted ≡ (greeted_by asker.now words.now).admitted) }
+    ensures text { OnOk result (out.new ≡ spelling (welcome asker.now (greeted_by asker.now words.now))) }
+{
+    let left = greeted(asker, after_first(words), out)?;
+    if !left.refused {
+        say_welcome(asker, left.admitted, out)?;
+    }
+    Ok(left)
+}
+
+/// The answer to HELLO with these words. What is given back is what they leave the connection.
+pub(crate) fn hello<'a>(
+    asker: &'a Asker,
+    words: &'a [Text],
+    out: &mut OutText,
+) -> Result<Greeting<'a>, NoMemory>
+    ensures name { IfOk result (λ left. left.name.now ≡ hello_name asker.now words.now) }
+    ensures admitted { IfOk result (λ left. left.admitted ≡ hello_admitted asker.now words.now) }
+    ensures text { OnOk result (out.new ≡ spelling (hello asker.now words.now)) }
 {
     if asks_for_2(words) {
-        say_hello(out, id)?;
-        return greeted(name, after_first(words), out);
+        return welcome(asker, words, out);
     }
     if is_integer(first(words)) {
         say(out, b"-NOPROTO unsupported protocol version\r\n")?;
@@ -193,26 +247,51 @@ pub(crate) fn hello<'a>(
             b"-ERR Protocol version is not an integer or out of range\r\n",
         )?;
     }
-    Ok(name)
+    Ok(Greeting {
+        name: asker.name(),
+        admitted: asker.admitted(),
+        refused: true,
+    })
 }
 
-/// The answer to AUTH with these words.
-pub(crate) fn auth(words: &[Text], out: &mut OutText) -> Result<(), NoMemory>
-    ensures { OnOk result (out.new ≡ spelling (auth words.now)) }
+/// Whether AUTH with these words is answered OK.
+fn admits(asker: &Asker, words: &[Text]) -> bool
+    ensures { result ≡ admits asker.now.password words.now }
 {
-    if words.len() == 1 {
+    match words {
+        [word] => asker.wants_password() && asker.is_password(word.as_slice()),
+        [user, word] => is_user(user.as_slice()) && asker.is_password(word.as_slice()),
+        _ => false,
+    }
+}
+
+/// The answer to AUTH with so many words, which isn't answered OK.
+fn refuse_auth(out: &mut OutText, wants_password: bool, count: usize) -> Result<(), NoMemory>
+    ensures { (wanted : Option (List ℕ)) → is_some wanted ≡ wants_password → OnOk result (out.new ≡ spelling (unadmitted wanted count)) }
+{
+    if count == 1 && !wants_password {
         return say(
             out,
             b"-ERR AUTH <password> called without any password configured for the default user. Are you sure your configuration is correct?\r\n",
         );
     }
-    if words.len() != 2 {
+    if count != 1 && count != 2 {
         return say(out, b"-ERR syntax error\r\n");
     }
-    if is_user(first(words)) {
-        return say(out, OK);
-    }
     say(out, WRONG_PASSWORD)
+}
+
+/// The answer to AUTH with these words: whether it is OK.
+pub(crate) fn auth(asker: &Asker, words: &[Text], out: &mut OutText) -> Result<bool, NoMemory>
+    ensures admits { IfOk result (λ is. is ≡ admits asker.now.password words.now) }
+    ensures text { OnOk result (out.new ≡ spelling (auth asker.now.password words.now)) }
+{
+    if admits(asker, words) {
+        say(out, OK)?;
+        return Ok(true);
+    }
+    refuse_auth(out, asker.wants_password(), words.len())?;
+    Ok(false)
 }
 
 /// The answer to CLIENT SETNAME with these words.

@@ -3,7 +3,7 @@
 //!
 //! `courtesy_of` says what becomes of a value. One that the Sentinel's rules answer is left to them; each that they call unknown, or refuse for its
 //! number of words, has exactly one answer, by the table in docs/COURTESIES.md. No Sentinel is known here, so nothing of one is changed; what INFO says
-//! comes from the Sentinel's own answer to SENTINEL MASTERS.
+//! comes from the Sentinel's own answer to SENTINEL MASTERS. The answers about masters, replicas and Sentinels are told with redis-sentinel's fields.
 #![tactic(auto)]
 
 mod asker;
@@ -14,11 +14,18 @@ mod hellos;
 mod infos;
 mod laws;
 mod lookup;
+mod passwords;
 mod refusals;
+mod tables;
 mod verbs;
+mod widening;
 
 pub use asker::Asker;
 pub use attendants::Attendant;
 pub use courtesies::{Courtesy, courtesy_of};
 pub use infos::info;
-pub use laws::{law_answers_are_values, law_own_values_are_left};
+pub use laws::{
+    law_answers_are_values, law_own_values_are_left, law_strangers_reach_nothing,
+    law_wide_answers_are_values, law_wide_rows_keep_fields,
+};
+pub use widening::wide;

@@ -1,12 +1,13 @@
-use Rattle.std.proofs.Common.{◌≡◌, [], length}
+use Rattle.std.proofs.Common.{◌≡◌, [], length, true}
 use Rattle.port_courtesies.specs.Courtesies.{greeted}
 use Rattle.port_courtesies.specs.declared.hellos.Expects.TheVariants.{Start}
 use Rattle.port_courtesies.proofs.hellos.greeted.Given as goal
 
 abbrev pub invariant-loop-rest : goal.invariant-loop-rest
 invariant-loop-rest l = record {
-  same : greeted Start [] l.fn.name l.options ≡ greeted l.expects l.option l.name l.rest;
+  same : greeted l.asker.password Start [] l.asker.name l.asker.admitted l.options ≡ greeted l.asker.password l.expects l.option l.left.name.now l.left.admitted l.rest;
   text : l.out ≡ l.fn.out;
+  refused : l.left.refused ≡ true;
 }
 
 abbrev pub decreases-loop-rest : goal.decreases-loop-rest

@@ -1,4 +1,4 @@
-use Rattle.std.proofs.Common.{◌++◌, ℕ, List, ap, decimal}
+use Rattle.std.proofs.Common.{◌++◌, ℕ, ap, decimal}
 use Rattle.resp2_frames.specs.Frame.{line_end}
 use Rattle.port_courtesies.proofs.Bytes.{set_to, count_views}
 use Rattle.port_courtesies.proofs.infos.add_count.Goals as goal
