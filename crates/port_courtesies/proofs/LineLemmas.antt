@@ -1,5 +1,5 @@
 -- Lines as values: the array of a line's words is a value that a stream may hold.
-use Rattle.std.proofs.Common.{◌≡◌, ◌∙◌, ℕ, zero, suc, ◌+◌, ◌*◌, ◌^◌, ◌≤◌, ◌<◌, ◌&&◌, Bool, true, false, eqb, List, [], ◌∷◌, ◌++◌, map, length, take, drop, Option, Some, None, Ok, Result, refl, sym, ap, arith, absurd, length-append, decimal, true≢false}
+use Rattle.std.proofs.Common.{◌≡◌, ◌∙◌, ℕ, zero, suc, ◌+◌, ◌*◌, ◌^◌, ◌≤◌, ◌<◌, ◌&&◌, Bool, true, false, eqb, List, [], ◌∷◌, ◌++◌, map, length, take, drop, Option, Some, None, Ok, Result, refl, sym, ap, arith, length-append, decimal, true≢false}
 use Rattle.std.specs.Prelude.{not, nat_le, nat_lt}
 use Rattle.std.proofs.lemmas.Bool.{and_parts}
 use Rattle.ballot_law.specs.Cuts.{IsEnd}

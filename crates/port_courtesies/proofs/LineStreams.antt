@@ -1,5 +1,5 @@
 -- Streams with lines: a stream is the same values however it comes in pieces.
-use Rattle.std.proofs.Common.{◌≡◌, ◌∙◌, ◌⊎◌, inl, inr, ℕ, zero, suc, ◌+◌, ◌≤◌, ◌<◌, ◌&&◌, Bool, true, false, eqb, List, [], ◌∷◌, ◌++◌, map, length, take, drop, Option, Some, None, Result, Ok, Err, refl, sym, ap, subst, arith, length-append, append_assoc, true≢false}
+use Rattle.std.proofs.Common.{◌≡◌, ◌∙◌, ◌⊎◌, inl, inr, ℕ, zero, suc, ◌+◌, ◌-◌, ◌≤◌, ◌<◌, ◌&&◌, Bool, true, false, eqb, List, [], ◌∷◌, ◌++◌, map, length, take, drop, Option, Some, None, Result, Ok, Err, refl, sym, ap, subst, arith, length-append, append_assoc, true≢false}
 use Rattle.std.specs.Prelude.{not, nat_le, nat_lt}
 use Rattle.std.proofs.lemmas.Bool.{and_parts, or_parts, cases_lt, lt-ltb, le-ltb, leb-true, eqb-true}
 use Rattle.std.proofs.lemmas.List.{take-append-le, drop-append-le}
@@ -28,10 +28,19 @@ pub as_frame : (bytes : List ℕ) → begins_line bytes ≡ false → value_at b
 as_frame bytes h = ap (λ (t : Bool). elim t as (λ _. Result (Frame × List ℕ) Unread) [ true ↦ line_at bytes | false ↦ frame_at bytes ]) h
 
 -- a byte of no kind is at fault in RESP2
-no_kind : (b : ℕ) (bs : List ℕ) → (eqb b 42 ≡ false) × (eqb b 36 ≡ false) × (eqb b 43 ≡ false) × (eqb b 45 ≡ false) × (eqb b 58 ≡ false)
-    → frame_at (b ∷ bs) ≡ Err (Faulty BadKind)
-unfolding frame_at read.value_at read.kind_at
-no_kind b bs h = rw (h.0, h.1, h.2, h.3, h.4) refl
+abbrev IsNoKind : ℕ → Type 0
+IsNoKind b = (eqb b 42 ≡ false) × (eqb b 36 ≡ false) × (eqb b 43 ≡ false) × (eqb b 45 ≡ false) × (eqb b 58 ≡ false)
+
+no_kind_at : (most more : ℕ) (inner : List ℕ → Result (Frame × List ℕ) Unread) (b : ℕ) (bytes : List ℕ) → IsNoKind b
+    → read.kind_at most more inner b bytes ≡ Err (Faulty BadKind)
+unfolding read.kind_at
+no_kind_at most more inner b bytes h = rw (h.2, h.3, h.4, h.1, h.0) refl
+
+no_kind : (b : ℕ) (bs : List ℕ) → IsNoKind b → frame_at (b ∷ bs) ≡ Err (Faulty BadKind)
+unfolding frame_at read.value_at
+no_kind b bs h =
+    let more = 65536 - length (b ∷ bs) in
+    ap (read.in_window (b ∷ bs)) (no_kind_at 1024 more (read.value_at 1024 more 7) b (take 65535 bs) h)
 
 not_true : (t : Bool) → not t ≡ true → t ≡ false
 not_true true h = absurd (true≢false (sym h))
@@ -94,7 +103,8 @@ cut_by : (b : ℕ) (bs : List ℕ) (t : Bool) → eqb b 10 ≡ t → (line_size 
 cut_by b bs true h others lt = rw (line_ends b bs h) (ap (λ (x : ℕ). x ∷ bs) (eqb-true b 10 h))
 cut_by b bs false h others lt =
     let one = line_goes_on b bs h in
-    rw one (ap (λ (t : List ℕ). b ∷ t) (others (omega (arith, one, lt))))
+    let next : suc (line_size bs) + 1 ≡ suc (line_size bs + 1) = omega arith in
+    rw (one, next) (ap (λ (t : List ℕ). b ∷ t) (others (omega (arith, one, lt))))
 
 line_cut : (bytes : List ℕ) → line_size bytes < length bytes → bytes ≡ take (line_size bytes) bytes ++ 10 ∷ drop (line_size bytes + 1) bytes
 line_cut [] lt = absurd (omega arith)
@@ -102,15 +112,28 @@ line_cut (b ∷ bs) lt = cut_by b bs (eqb b 10) refl (line_cut bs) lt
 
 -- ---- how a line is found
 
-pub too_long : (bytes : List ℕ) → 65536 < line_size bytes → line_at bytes ≡ Err (Faulty BadKind)
-too_long bytes lt = rw (lt-ltb 65536 (line_size bytes) lt) refl
+abbrev by_length : (long ended : Bool) → List ℕ → Result (Frame × List ℕ) Unread
+by_length long ended bytes =
+    elim long as (λ _. Result (Frame × List ℕ) Unread) [
+      | true ↦ Err (Faulty BadKind)
+      | false ↦ elim ended as (λ _. Result (Frame × List ℕ) Unread) [
+        | true ↦ read_as (command_of_line (take (line_size bytes) bytes)) (drop (line_size bytes + 1) bytes)
+        | false ↦ Err NeedsMore
+      ]
+    ]
 
-pub has_end : (bytes : List ℕ) → line_size bytes ≤ 65536 → line_size bytes < length bytes
+too_long : (bytes : List ℕ) → 65536 < line_size bytes → line_at bytes ≡ Err (Faulty BadKind)
+too_long bytes lt = ap (λ (t : Bool). by_length t (nat_lt (line_size bytes) (length bytes)) bytes) (lt-ltb 65536 (line_size bytes) lt)
+
+short_enough : (bytes : List ℕ) → line_size bytes ≤ 65536 → line_at bytes ≡ by_length false (nat_lt (line_size bytes) (length bytes)) bytes
+short_enough bytes le = ap (λ (t : Bool). by_length t (nat_lt (line_size bytes) (length bytes)) bytes) (le-ltb 65536 (line_size bytes) le)
+
+has_end : (bytes : List ℕ) → line_size bytes ≤ 65536 → line_size bytes < length bytes
     → line_at bytes ≡ read_as (command_of_line (take (line_size bytes) bytes)) (drop (line_size bytes + 1) bytes)
-has_end bytes le lt = rw (le-ltb 65536 (line_size bytes) le, lt-ltb (line_size bytes) (length bytes) lt) refl
+has_end bytes le lt = short_enough bytes le ∙ ap (λ (t : Bool). by_length false t bytes) (lt-ltb (line_size bytes) (length bytes) lt)
 
-pub has_no_end : (bytes : List ℕ) → line_size bytes ≤ 65536 → length bytes ≤ line_size bytes → line_at bytes ≡ Err NeedsMore
-has_no_end bytes le ge = rw (le-ltb 65536 (line_size bytes) le, le-ltb (line_size bytes) (length bytes) ge) refl
+has_no_end : (bytes : List ℕ) → line_size bytes ≤ 65536 → length bytes ≤ line_size bytes → line_at bytes ≡ Err NeedsMore
+has_no_end bytes le ge = short_enough bytes le ∙ ap (λ (t : Bool). by_length false t bytes) (le-ltb (line_size bytes) (length bytes) ge)
 
 -- the line with which these bytes begin, and its value
 line_found : (bytes : List ℕ) (value : Frame) (rest : List ℕ) → line_at bytes ≡ Ok (value, rest) → IsLineOf bytes value rest × IsFrame value

@@ -56,7 +56,7 @@ fn lf_place(bytes: &[u8]) -> usize
 }
 
 /// How many bytes come before the first LF.
-#[tactic(auto, using(crate::proofs::LineLemmas::place_is_size))]
+#[tactic(auto, using(crate::proofs::LineLemmas::line_within))]
 fn line_size(bytes: &[u8]) -> usize
     ensures size { result ≡ line_size bytes.now }
     ensures within { result ≤ length bytes.now }
