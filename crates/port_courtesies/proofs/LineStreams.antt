@@ -22,9 +22,11 @@ use Rattle.port_courtesies.proofs.LineLemmas.{line_ends, line_goes_on, line_with
 -- ---- lines and values of RESP2
 
 pub as_line : (bytes : List ℕ) → begins_line bytes ≡ true → value_at bytes ≡ line_at bytes
+unfolding value_at
 as_line bytes h = ap (λ (t : Bool). elim t as (λ _. Result (Frame × List ℕ) Unread) [ true ↦ line_at bytes | false ↦ frame_at bytes ]) h
 
 pub as_frame : (bytes : List ℕ) → begins_line bytes ≡ false → value_at bytes ≡ frame_at bytes
+unfolding value_at
 as_frame bytes h = ap (λ (t : Bool). elim t as (λ _. Result (Frame × List ℕ) Unread) [ true ↦ line_at bytes | false ↦ frame_at bytes ]) h
 
 -- a byte of no kind is at fault in RESP2
@@ -241,7 +243,7 @@ begins_same : (b : ℕ) (bs p : List ℕ) (test : Bool) → begins_line (b ∷ b
 begins_same b bs p test h = h
 
 pub value_stays : (p bytes : List ℕ) → Stays p (value_at bytes) (value_at (bytes ++ p))
-value_stays p [] = rw nothing_waits tt
+value_stays p [] = rw (as_frame [] refl, nothing_waits) tt
 value_stays p (b ∷ bs) =
     by_begin (b ∷ bs) (begins_line (b ∷ bs)) refl
     (λ line. rw (as_line (b ∷ bs) line, as_line ((b ∷ bs) ++ p) (begins_same b bs p true line)) (line_stays p (b ∷ bs)))

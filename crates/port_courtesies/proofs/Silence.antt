@@ -1,10 +1,12 @@
 -- An array without items.
-use Rattle.std.proofs.Common.{◌≡◌, Bool, true, false, Option, None, Some, Ok, Err, Result, refl, sym, ap, true≢false}
+use Rattle.std.proofs.Common.{◌≡◌, eqb, List, [], ◌∷◌, length, arith, Bool, true, false, Option, None, Some, Ok, Err, Result, refl, sym, ap, true≢false}
+use Rattle.std.proofs.lemmas.Bool.{ne_eqb}
 use Rattle.ballot_law.specs.declared.commands.Command.{Command}
 use Rattle.resp2.specs.declared.command.CommandFault.{CommandFault}
 use Rattle.resp2.specs.declared.command.CommandFault.TheVariants.{NotACommand}
 use Rattle.resp2.specs.Commands.{command_of}
-use Rattle.resp2_frames.specs.Frame.{Frame, FrameList, simple, fault, int, bulk, null_bulk, items, null_items, no_frames, frame}
+use Rattle.resp2_frames.specs.Frame.{Frame, FrameList, simple, fault, int, bulk, null_bulk, items, null_items, no_frames, frame, frames_view}
+use Rattle.resp2_frames.specs.declared.value.Value.{Value}
 use Rattle.port_courtesies.specs.Courtesies.{Asker, Answer, Looked, silent, asks_nothing, reply_to, courtesy, asker_after, left_over, or_same, or_admitted}
 
 -- it is no command
@@ -49,3 +51,8 @@ asked_is asker value h = ap (λ (t : Bool). elim t as (λ _. Answer) [ true ↦ 
 
 pub unasked_is : (asker : Asker) (value : Frame) → asks_nothing value ≡ true → courtesy asker value ≡ silent
 unasked_is asker value h = ap (λ (t : Bool). elim t as (λ _. Answer) [ true ↦ silent | false ↦ reply_to asker value ]) h
+
+-- how many items an array has tells whether it asks for something
+pub by_count : (values : List Value) → eqb (length values) 0 ≡ asks_nothing (items (frames_view values))
+by_count [] = refl
+by_count (value ∷ values) = ne_eqb (length (value ∷ values)) 0 (λ (e : length (value ∷ values) ≡ 0). omega (arith, e))

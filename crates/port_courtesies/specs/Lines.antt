@@ -68,7 +68,7 @@ line_at bytes =
     ]
 
 -- The first value and the bytes after it, or the first fault, or that more bytes are needed: as in RESP2, but that a line stands for the array of its words
-abbrev pub value_at : List ℕ → Result (Frame × List ℕ) Unread
+unfoldable pub value_at : List ℕ → Result (Frame × List ℕ) Unread
 value_at bytes = elim (begins_line bytes) as (λ _. Result (Frame × List ℕ) Unread) [ true ↦ line_at bytes | false ↦ frame_at bytes ]
 
 -- the bytes begin with a line that has the words of the value

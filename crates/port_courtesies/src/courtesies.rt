@@ -2,6 +2,7 @@
 
 ghost use Rattle.std.specs.Prelude.{◌≡◌, ℕ, List, [], None, IfOk, OnOk};
 ghost use Rattle.resp2.specs.Commands as commands;
+ghost use Rattle.resp2_frames.specs.Frame as frames;
 ghost use Rattle.resp2_frames.specs.Frame.{view, frames_view, spelling};
 ghost use Rattle.port_courtesies.specs.Courtesies.{Asker, known, executed, while_listening, name_after, admitted_after, is_barred, admitted_by, or_admitted, words_of, is_miscounted, is_refused, names_channels, answered, named, looked_up_in, own_answer, unless_stranger, or_left, or_same, asks_nothing, reply_to, courtesy, asker_after, kind_of, text_of};
 
@@ -269,12 +270,20 @@ fn answer_words(
     }
 }
 
+/// Whether there are no items.
+#[tactic(auto, using(crate::proofs::Silence::by_count))]
+fn are_none(items: &[Value]) -> bool
+    ensures { result ≡ asks_nothing (frames.items (frames_view items.now)) }
+{
+    items.is_empty()
+}
+
 /// Whether the value is an array without items.
 fn asks_nothing(value: &Value) -> bool
     ensures { result ≡ asks_nothing (view value.now) }
 {
     match value {
-        Value::Items(items) => items.is_empty(),
+        Value::Items(items) => are_none(items.as_slice()),
         Value::NullItems => true,
         _ => false,
     }
