@@ -29,6 +29,7 @@ PROGRAM = os.environ.get("SENTINEL_GROUP") or kit.kept("proved") or kit.kept("un
 PACKAGES = {
     "cc": "apt-get install gcc",
     "ip": "apt-get install iproute2",
+    "redis-benchmark": "apt-get install redis-tools",
     "redis-cli": "apt-get install redis-tools",
     "redis-sentinel": "apt-get install redis-sentinel",
     "redis-server": "apt-get install redis-server",

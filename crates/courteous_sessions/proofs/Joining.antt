@@ -1,8 +1,8 @@
 -- Two pieces in a row.
 use Rattle.std.proofs.Common.{◌≡◌, ℕ, List, [], ◌∷◌, ◌++◌, sym, ap, ◌∙◌, subst, append_assoc}
-use Rattle.port_sessions.proofs.Joining.{parts_join}
+use Rattle.port_courtesies.specs.Lines.{Reads}
+use Rattle.port_courtesies.proofs.LineStreams.{reads_join}
 use Rattle.resp2_frames.specs.Frame.{Frame}
-use Rattle.resp2_frames.specs.Stream.{Parts}
 use Rattle.sentinel_cell.specs.Histories.{World}
 use Rattle.courteous_sessions.specs.Visits.{Guest, ServesAll}
 use Rattle.courteous_sessions.specs.Laws.{PiecesJoin}
@@ -18,9 +18,9 @@ module _ (start : World) (now : ℕ) where
 
 pub pieces_join : PiecesJoin
 pieces_join start now stream piece held later bytes more g middle h a b =
-    let first : Parts stream a.values held = subst (λ (t : List ℕ). Parts stream a.values t) a.splits.2.0 a.splits.1 in
+    let first : Reads stream a.values held = subst (λ (t : List ℕ). Reads stream a.values t) a.splits.2.0 a.splits.1 in
     record {
       values = a.values ++ b.values;
-      splits = (b.splits.0, parts_join stream piece held a.values b.values b.splits.0 first b.splits.1, b.splits.2);
+      splits = (b.splits.0, reads_join stream piece held a.values b.values b.splits.0 first b.splits.1, b.splits.2);
       answers = serves-append start now g a.values b.values bytes more middle h a.answers b.answers;
     }

@@ -3,9 +3,11 @@ use Rattle.std.proofs.Common.{◌≡◌, ◌≢◌, ◌⊎◌, ℕ, Bool, true, 
 use Rattle.std.specs.Option.{is_some}
 use Rattle.std.specs.Prelude.{is_err}
 use Rattle.port_courtesies.specs.Attendants.{Attendance, IsAttended, Attends, turn_text}
-use Rattle.port_courtesies.specs.Courtesies.{Asker, Answer, left, widens, said, asks_masters, courtesy, asker_after, kind_of, text_of}
+use Rattle.port_courtesies.specs.Lines.{value_at}
+use Rattle.port_courtesies.specs.Courtesies.{Asker, Answer, left, widens, said, asks_masters, silent, courtesy, asker_after, kind_of, text_of}
 use Rattle.port_courtesies.specs.declared.courtesies.Courtesy.{Courtesy}
 use Rattle.port_courtesies.specs.declared.courtesies.Courtesy.TheVariants.{Left, Widens, Said, AsksMasters}
+use Rattle.port_courtesies.proofs.LineStreams.{reads_next}
 use Rattle.port_serving.specs.declared.fault.ServeFault.{ServeFault}
 use Rattle.port_serving.specs.declared.fault.ServeFault.TheVariants.{Halted, NoMemory as OutOfMemory}
 use Rattle.port_serving.specs.Serving.{last_line}
@@ -15,9 +17,7 @@ use Rattle.resp2_frames.specs.declared.fault.FrameFault.{FrameFault}
 use Rattle.resp2_frames.specs.declared.fault.FrameFault.TheVariants.{BadKind, BadLength, BadNumber, MissingEnd, TooLong, TooDeep, TooMany, NoMemory}
 use Rattle.resp2_frames.specs.declared.fault.Unread.TheVariants.{Faulty}
 use Rattle.resp2_frames.specs.Frame.{Frame, spelling}
-use Rattle.resp2_frames.specs.Reading.{frame_at}
 use Rattle.resp2_frames.specs.Stream.{Held, reading, ended, bytes_in, Feeds}
-use Rattle.resp2_frames.proofs.Streams.{parts_next}
 use Rattle.sentinel_cell.specs.declared.view.View.{View}
 use Rattle.sentinel_cell.specs.Histories.{World}
 use Rattle.courteous_sessions.specs.Visits.{Guest, guest, TellsInfo, TellsWide, Answers, Serves, ServesAll, IsAnswered, IsRefused, IsCut, Breaks, Receives}
@@ -34,18 +34,21 @@ pub left_text : (answer : Answer) (value : Frame) → Left ≡ kind_of answer �
 left_text left value is = refl
 left_text widens value is = refl
 left_text (said answer) value is = absurd (let no : ⊥ = cc in no)
+left_text silent value is = absurd (let no : ⊥ = cc in no)
 left_text asks_masters value is = refl
 
 pub asked_text : (answer : Answer) (value : Frame) → AsksMasters ≡ kind_of answer → turn_text (kind_of answer) (text_of answer) value ≡ spelling value
 asked_text left value is = absurd (let no : ⊥ = cc in no)
 asked_text widens value is = refl
 asked_text (said answer) value is = absurd (let no : ⊥ = cc in no)
+asked_text silent value is = absurd (let no : ⊥ = cc in no)
 asked_text asks_masters value is = refl
 
 pub wide_text : (answer : Answer) (value : Frame) → Widens ≡ kind_of answer → turn_text (kind_of answer) (text_of answer) value ≡ spelling value
 wide_text left value is = refl
 wide_text widens value is = refl
 wide_text (said answer) value is = absurd (let no : ⊥ = cc in no)
+wide_text silent value is = absurd (let no : ⊥ = cc in no)
 wide_text asks_masters value is = refl
 
 module _ (start : World) (now : ℕ) where
@@ -54,6 +57,7 @@ module _ (start : World) (now : ℕ) where
   left_answered left p value bytes q is h = h
   left_answered widens p value bytes q is h = absurd (let no : ⊥ = cc in no)
   left_answered (said answer) p value bytes q is h = absurd (let no : ⊥ = cc in no)
+  left_answered silent p value bytes q is h = absurd (let no : ⊥ = cc in no)
   left_answered asks_masters p value bytes q is h = absurd (let no : ⊥ = cc in no)
 
   pub said_answered : (answer : Answer) (p : Party) (value : Frame) (bytes : List ℕ) → Said ≡ kind_of answer → bytes ≡ turn_text (kind_of answer) (text_of answer) value
@@ -61,6 +65,7 @@ module _ (start : World) (now : ℕ) where
   said_answered left p value bytes is text = absurd (let no : ⊥ = cc in no)
   said_answered widens p value bytes is text = absurd (let no : ⊥ = cc in no)
   said_answered (said answer) p value bytes is text = (text, refl)
+  said_answered silent p value bytes is text = (text, refl)
   said_answered asks_masters p value bytes is text = absurd (let no : ⊥ = cc in no)
 
   pub wide_answered : (answer : Answer) (p : Party) (value : Frame) (bytes : List ℕ) (q : Party) → Widens ≡ kind_of answer → TellsWide start now p value bytes q
@@ -68,6 +73,7 @@ module _ (start : World) (now : ℕ) where
   wide_answered left p value bytes q is h = absurd (let no : ⊥ = cc in no)
   wide_answered widens p value bytes q is h = h
   wide_answered (said answer) p value bytes q is h = absurd (let no : ⊥ = cc in no)
+  wide_answered silent p value bytes q is h = absurd (let no : ⊥ = cc in no)
   wide_answered asks_masters p value bytes q is h = absurd (let no : ⊥ = cc in no)
 
   pub asked_answered : (answer : Answer) (p : Party) (value : Frame) (bytes : List ℕ) (q : Party) → AsksMasters ≡ kind_of answer → TellsInfo start now p value bytes q
@@ -75,6 +81,7 @@ module _ (start : World) (now : ℕ) where
   asked_answered left p value bytes q is h = absurd (let no : ⊥ = cc in no)
   asked_answered widens p value bytes q is h = absurd (let no : ⊥ = cc in no)
   asked_answered (said answer) p value bytes q is h = absurd (let no : ⊥ = cc in no)
+  asked_answered silent p value bytes q is h = absurd (let no : ⊥ = cc in no)
   asked_answered asks_masters p value bytes q is h = h
 
 asker_is : (attended : Attendance) (talk : Talk) (v : View) → attended.asker.listens ≡ is_some talk.listens → attended.asker ≡ (guest_of attended talk v).asker
@@ -107,7 +114,7 @@ module _ (start : World) (now : ℕ) where
 
   -- a value was answered
   pub value_served : (stream : List ℕ) (g : Guest) (held : Held) (bytes : List ℕ) (m : Guest) (value : Frame) (rest : List ℕ) (after : Held) (more : List ℕ) (h : Guest)
-      → IsOnTheWay start now stream g held bytes m → frame_at (bytes_in held) ≡ Ok (value, rest) → after ≡ reading rest
+      → IsOnTheWay start now stream g held bytes m → value_at (bytes_in held) ≡ Ok (value, rest) → after ≡ reading rest
       → Serves start now m value more h → IsOnTheWay start now stream g after (bytes ++ more) h
   value_served stream g held bytes m value rest after more h a found is r =
       let now_held : bytes_in held ≡ a.rest = ap bytes_in a.held_is in
@@ -115,7 +122,7 @@ module _ (start : World) (now : ℕ) where
         values = a.values ++ value ∷ [];
         rest = rest;
         held_is = is;
-        parts = parts_next stream a.values a.rest value rest a.parts (ap frame_at (sym now_held) ∙ found);
+        parts = reads_next stream a.values a.rest value rest a.parts (ap value_at (sym now_held) ∙ found);
         answers = serves-push g a.values bytes m value more h a.answers r;
       }
 
@@ -130,12 +137,12 @@ module _ (start : World) (now : ℕ) where
   cut_by stream g held bytes m fault a (inr is) = subst (λ (f : ServeFault). Breaks start now stream g f bytes) (sym is) (cut_here stream g held bytes m a)
 
   faulty : (stream : List ℕ) (g : Guest) (held : Held) (bytes : List ℕ) (m : Guest) (fault : FrameFault) (line : List ℕ) → IsOnTheWay start now stream g held bytes m
-      → frame_at (bytes_in held) ≡ Err (Faulty fault) → line ≡ last_line → IsRefused start now stream fault g (bytes ++ line)
+      → value_at (bytes_in held) ≡ Err (Faulty fault) → line ≡ last_line → IsRefused start now stream fault g (bytes ++ line)
   faulty stream g held bytes m fault line a shows is =
       let now_held : bytes_in held ≡ a.rest = ap bytes_in a.held_is in
       record {
         values = a.values;
-        splits = (a.rest, a.parts, ap frame_at (sym now_held) ∙ shows);
+        splits = (a.rest, a.parts, ap value_at (sym now_held) ∙ shows);
         text = bytes;
         bytes_are = ap (λ (t : List ℕ). bytes ++ t) is;
         last = m;
@@ -143,7 +150,7 @@ module _ (start : World) (now : ℕ) where
       }
 
   shows_fault : (held : Held) (asker : Asker) (fault : FrameFault) (after : Attendance) → held ≡ reading (bytes_in held) → fault ≢ NoMemory → Attends held asker (Err fault) after
-      → frame_at (bytes_in held) ≡ Err (Faulty fault)
+      → value_at (bytes_in held) ≡ Err (Faulty fault)
   shows_fault (reading bytes) asker NoMemory after is not h = absurd (not refl)
   shows_fault (reading bytes) asker BadKind after is not h = h.0
   shows_fault (reading bytes) asker BadLength after is not h = h.0
@@ -175,7 +182,7 @@ module _ (start : World) (now : ℕ) where
         given.1,
         record {
           values = a.values;
-          splits = (a.rest, a.parts, (sym now_held, ap frame_at (sym now_held) ∙ given.0));
+          splits = (a.rest, a.parts, (sym now_held, ap value_at (sym now_held) ∙ given.0));
           answers = a.answers;
         },
       )
@@ -197,13 +204,13 @@ module _ (start : World) (now : ℕ) where
   pub begun : {X : Type 0} (answer : Result X FrameFault) (held after : Held) (piece : List ℕ) (g : Guest) → held ≡ reading (bytes_in held) → is_err answer ≡ false
       → Feeds held piece answer after → IsOnTheWay start now (bytes_in held ++ piece) g after [] g
   begun (Ok x) (reading bytes) after piece g is ok fed =
-      record { values = []; rest = bytes ++ piece; held_is = fed; parts = (refl, tt); answers = (refl, refl) }
+      record { values = []; rest = bytes ++ piece; held_is = fed; parts = refl; answers = (refl, refl) }
   begun (Err f) (reading bytes) after piece g is ok fed = absurd (true≢false ok)
   begun answer (ended f) after piece g is ok fed = absurd (let no : ⊥ = cc in no)
 
   -- nothing was answered
   pub cut_at_first : (stream : List ℕ) (g : Guest) → Breaks start now stream g OutOfMemory []
-  cut_at_first stream g = record { values = []; rest = stream; parts = (refl, tt); last = g; answers = (refl, refl) }
+  cut_at_first stream g = record { values = []; rest = stream; parts = refl; last = g; answers = (refl, refl) }
 
   pub was_received : {X : Type 0} (answer : Result X ServeFault) (stream : List ℕ) (g : Guest) (held : Held) (bytes : List ℕ) (h : Guest)
       → Drains start now stream g answer held bytes h → Receives start now stream g answer (bytes_in held) bytes h

@@ -7,6 +7,7 @@ use Rattle.port_courtesies.specs.Courtesies.{Asker, courtesy, kind_of}
 use Rattle.port_courtesies.specs.declared.courtesies.Courtesy.{Courtesy}
 use Rattle.port_courtesies.specs.Infos.{info}
 use Rattle.port_courtesies.specs.Widening.{wide}
+use Rattle.port_courtesies.proofs.LineStreams.{value_is_frame}
 use Rattle.resp2.specs.Commands.{command_of}
 use Rattle.port_serving.specs.declared.fault.ServeFault.{ServeFault}
 use Rattle.port_serving.specs.declared.fault.ServeFault.TheVariants.{Halted, NoMemory as OutOfMemory}
@@ -15,7 +16,6 @@ use Rattle.ballot_law.specs.declared.commands.Command.TheVariants.{Masters}
 use Rattle.resp2_frames.specs.declared.fault.FrameFault.{FrameFault}
 use Rattle.resp2_frames.specs.Frame.{Frame, spelling, IsFrame}
 use Rattle.resp2_frames.specs.Stream.{Held, reading, ended, bytes_in, Feeds}
-use Rattle.resp2_frames.proofs.Streams.{read_is_spelled}
 use Rattle.sentinel_cell.specs.declared.view.View.{View}
 use Rattle.sentinel_cell.specs.Histories.{World}
 use Rattle.courteous_sessions.specs.Visits.{Guest, guest, master_names, introduced, TellsInfo, TellsWide, Answers, Breaks, Receives}
@@ -72,8 +72,8 @@ module _ (start : World) (now : ℕ) where
       → Attends before.held before.asker (Ok (Some kind)) between → AnswersIt kind between after unsent left talk told v w → IsReady after told
   step_ready kind before between after unsent left talk told v w ready given answers =
       let at = was_attended before.held before.asker kind between ready.reads given in
-      let spelled = read_is_spelled (bytes_in before.held) at.value at.rest at.found in
-      (answers before.asker at.value spelled.1 at.kind_is at.text_is).2
+      let frame = value_is_frame (bytes_in before.held) at.value at.rest at.found in
+      (answers before.asker at.value frame at.kind_is at.text_is).2
 
   -- a value was answered
   pub step_answered : (stream first bytes : List ℕ) (g : Guest) (kind : Courtesy) (before between after : Attendance) (unsent left : List ℕ) (talk told : Talk) (v w : View)
@@ -82,8 +82,8 @@ module _ (start : World) (now : ℕ) where
       → (more : List ℕ) × (left ≡ first ++ more) × IsOnTheWay start now stream g after.held more (guest_of after told w)
   step_answered stream first bytes g kind before between after unsent left talk told v w is a ready given same answers =
       let at = was_attended before.held before.asker kind between ready.reads given in
-      let spelled = read_is_spelled (bytes_in before.held) at.value at.rest at.found in
-      let got = answers before.asker at.value spelled.1 at.kind_is at.text_is in (
+      let frame = value_is_frame (bytes_in before.held) at.value at.rest at.found in
+      let got = answers before.asker at.value frame at.kind_is at.text_is in (
         bytes ++ got.0,
         got.1 ∙ ap (λ (t : List ℕ). t ++ got.0) is ∙ append_assoc first bytes got.0,
         value_served start now stream g before.held bytes (guest_of before talk v) at.value at.rest after.held got.0 (guest_of after told w) a at.found (same.held ∙ at.held_is)

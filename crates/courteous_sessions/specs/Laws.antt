@@ -1,7 +1,7 @@
 -- What a session with courtesies keeps of the one without.
-use Rattle.std.specs.Prelude.{◌≡◌, ◌++◌, ℕ, true, false, List, Ok}
+use Rattle.std.specs.Prelude.{◌≡◌, ◌++◌, ℕ, true, false, List, [], Ok}
 use Rattle.ballot_law.specs.declared.commands.Command.{Command}
-use Rattle.port_courtesies.specs.Courtesies.{Answer, widens, said, is_stranger, table_of, own_answer, courtesy}
+use Rattle.port_courtesies.specs.Courtesies.{Answer, widens, said, silent, is_stranger, table_of, own_answer, courtesy}
 use Rattle.port_courtesies.specs.Widening.{wide}
 use Rattle.port_sessions.specs.Talks.{Responds}
 use Rattle.resp2.specs.Commands.{command_of}
@@ -28,6 +28,12 @@ abbrev pub TakesNoTurn : Type 0
 TakesNoTurn =
     (start : World) (now : ℕ) (g h : Guest) (value answer : Frame) (bytes : List ℕ)
     → courtesy g.asker value ≡ said answer → Serves start now g value bytes h → (bytes ≡ spelling answer) × (h.party ≡ g.party)
+
+-- a value that has no answer puts out nothing, and its seat sees nothing
+abbrev pub IsPassedOver : Type 0
+IsPassedOver =
+    (start : World) (now : ℕ) (g h : Guest) (value : Frame) (bytes : List ℕ)
+    → courtesy g.asker value ≡ silent → Serves start now g value bytes h → (bytes ≡ []) × (h.party ≡ g.party)
 
 -- where a password is wanted that the client didn't give, no value takes a turn, and its seat sees nothing
 abbrev pub StrangersTakeNoTurn : Type 0

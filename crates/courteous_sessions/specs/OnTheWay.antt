@@ -4,6 +4,7 @@ use Rattle.std.specs.Option.{is_some}
 use Rattle.ballot_law.specs.declared.messages.Note.{Note}
 use Rattle.ballot_law.specs.Rosters.{Roster}
 use Rattle.port_courtesies.specs.Attendants.{Attendance}
+use Rattle.port_courtesies.specs.Lines.{Reads}
 use Rattle.port_serving.specs.declared.fault.ServeFault.{ServeFault}
 use Rattle.port_serving.specs.declared.fault.ServeFault.TheVariants.{Frame as FaultyFrame, NoMemory as OutOfMemory}
 use Rattle.port_serving.specs.Serving.{last_line}
@@ -14,7 +15,7 @@ use Rattle.resp2_frames.specs.declared.fault.FrameFault.{FrameFault}
 use Rattle.resp2_frames.specs.declared.fault.FrameFault.TheVariants.{NoMemory}
 use Rattle.resp2_frames.specs.Frame.{Frame, spelling}
 use Rattle.resp2_frames.specs.Reading.{frame_at}
-use Rattle.resp2_frames.specs.Stream.{Held, reading, bytes_in, Parts}
+use Rattle.resp2_frames.specs.Stream.{Held, reading, bytes_in}
 use Rattle.sentinel_cell.specs.declared.view.View.{View}
 use Rattle.sentinel_cell.specs.Histories.{World}
 use Rattle.courteous_sessions.specs.Visits.{Guest, guest, ServesAll, IsAnswered, Breaks}
@@ -64,7 +65,7 @@ module _ (start : World) (now : ℕ) where
     pub values : List Frame
     pub rest : List ℕ
     pub held_is : held ≡ reading rest
-    pub parts : Parts stream values rest
+    pub parts : Reads stream values rest
     pub answers : ServesAll start now g values bytes h
 
   -- all values of the stream were answered

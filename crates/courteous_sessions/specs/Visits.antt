@@ -3,8 +3,9 @@ use Rattle.std.specs.Prelude.{◌≡◌, ◌++◌, ◌∷◌, ℕ, Bool, true, f
 use Rattle.std.specs.Option.{is_some}
 use Rattle.ballot_law.specs.declared.commands.Command.TheVariants.{Masters}
 use Rattle.ballot_law.specs.Rosters.{MasterPlan}
-use Rattle.port_courtesies.specs.Courtesies.{Asker, Answer, left, widens, said, asks_masters, courtesy, asker_after}
+use Rattle.port_courtesies.specs.Courtesies.{Asker, Answer, left, widens, said, asks_masters, silent, courtesy, asker_after}
 use Rattle.port_courtesies.specs.Infos.{info}
+use Rattle.port_courtesies.specs.Lines.{Reads, Holds}
 use Rattle.port_courtesies.specs.Widening.{wide}
 use Rattle.port_serving.specs.declared.fault.ServeFault.{ServeFault}
 use Rattle.port_serving.specs.declared.fault.ServeFault.TheVariants.{Frame as FaultyFrame, Read, Write, Halted, NoMemory}
@@ -14,7 +15,7 @@ use Rattle.resp2.specs.Commands.{command_of}
 use Rattle.resp2_frames.specs.declared.fault.FrameFault.{FrameFault}
 use Rattle.resp2_frames.specs.Frame.{Frame, spelling}
 use Rattle.resp2_frames.specs.Reading.{frame_at}
-use Rattle.resp2_frames.specs.Stream.{reading, ended, Parts, Splits}
+use Rattle.resp2_frames.specs.Stream.{reading, ended}
 use Rattle.sentinel_cell.specs.Histories.{World}
 use Rattle.sentinel_rules.specs.Plans.{roster_of}
 
@@ -73,8 +74,9 @@ module _ (start : World) (now : ℕ) where
   Answers widens p value bytes q = TellsWide p value bytes q
   Answers (said answer) p value bytes q = (bytes ≡ spelling answer) × (q ≡ p)
   Answers asks_masters p value bytes q = TellsInfo p value bytes q
+  Answers silent p value bytes q = (bytes ≡ []) × (q ≡ p)
 
-  -- the one answer to a value, and what the next one rests on
+  -- the answer to a value, of no bytes where it has none, and what the next one rests on
   abbrev pub Serves : Guest → Frame → List ℕ → Guest → Type 0
   Serves g value bytes h = (q : Party) × Answers (courtesy g.asker value) g.party value bytes q × (h ≡ guest q (asker_after g.asker value))
 
@@ -89,13 +91,13 @@ module _ (start : World) (now : ℕ) where
   -- all values of the stream were answered, and the bytes after the last of them are held
   pub record IsAnswered (stream : List ℕ) (g : Guest) (held bytes : List ℕ) (h : Guest) : Type 0 where
     pub values : List Frame
-    pub splits : Splits stream values (reading held)
+    pub splits : Holds stream values (reading held)
     pub answers : ServesAll g values bytes h
 
   -- the values before a fault were answered, and then comes the line of the fault
   pub record IsRefused (stream : List ℕ) (fault : FrameFault) (g : Guest) (bytes : List ℕ) : Type 0 where
     pub values : List Frame
-    pub splits : Splits stream values (ended fault)
+    pub splits : Holds stream values (ended fault)
     pub text : List ℕ
     pub bytes_are : bytes ≡ text ++ last_line
     pub last : Guest
@@ -105,7 +107,7 @@ module _ (start : World) (now : ℕ) where
   pub record IsCut (stream : List ℕ) (g : Guest) (bytes : List ℕ) : Type 0 where
     pub values : List Frame
     pub rest : List ℕ
-    pub parts : Parts stream values rest
+    pub parts : Reads stream values rest
     pub last : Guest
     pub answers : ServesAll g values bytes last
 

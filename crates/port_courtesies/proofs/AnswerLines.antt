@@ -1,5 +1,5 @@
 -- No line of an answer holds a CR or LF, so each answer is one value on the wire.
-use Rattle.std.proofs.Common.{◌≡◌, ◌≢◌, ◌+◌, ◌-◌, ◌||◌, ◌&&◌, ◌==◌, not, ℕ, List, [], ◌∷◌, ◌++◌, map, take, length, Option, None, Some, Bool, true, false, codes, refl, ap, subst, arith}
+use Rattle.std.proofs.Common.{◌≡◌, ◌≢◌, ◌+◌, ◌-◌, ◌||◌, ◌&&◌, ◌==◌, not, ℕ, List, [], ◌∷◌, ◌++◌, map, take, length, Option, None, Some, Bool, true, false, codes, refl, sym, ◌∙◌, ap, subst, arith}
 use Rattle.std.specs.Prelude.{nat_lt, nat_le}
 use Rattle.std.specs.List.{list_all}
 use Rattle.std.proofs.lemmas.Bool.{and_parts}
@@ -13,7 +13,8 @@ use Rattle.port_courtesies.specs.Refusals.{is_called, printed_byte, printed, wro
 use Rattle.resp2.specs.Commands.{command_of}
 use Rattle.port_courtesies.specs.declared.tables.Table.{Table}
 use Rattle.port_courtesies.specs.Courtesies as table
-use Rattle.port_courtesies.specs.Courtesies.{Asker, Answer, left, widens, said, asks_masters, Looked, known, refused, verb_name, Greeted, greeted, expected, taken, is_user, is_password, is_some, admits, is_stranger, lacks_password, is_barred, greeted_by, is_client_name, asks_for_2, is_integer, after_first, first, or_else, hello_map, answered, courtesy, left_over, or_left}
+use Rattle.port_courtesies.specs.Courtesies.{Asker, Answer, left, widens, said, asks_masters, silent, Looked, known, refused, verb_name, Greeted, greeted, expected, taken, is_user, is_password, is_some, admits, is_stranger, lacks_password, is_barred, greeted_by, is_client_name, asks_for_2, is_integer, after_first, first, or_else, hello_map, answered, asks_nothing, reply_to, courtesy, left_over, or_left}
+use Rattle.port_courtesies.proofs.Silence.{asked_is, unasked_is}
 
 -- ---- lines
 
@@ -268,6 +269,7 @@ AreAnswerLines left = Unit {0}
 AreAnswerLines widens = Unit {0}
 AreAnswerLines (said answer) = HasLines answer
 AreAnswerLines asks_masters = Unit {0}
+AreAnswerLines silent = ⊥
 
 executed_lines : (asker : Asker) (verb : Verb) (words : List (List ℕ)) → AreAnswerLines (table.executed asker verb words)
 executed_lines asker Ping words = tt
@@ -332,12 +334,24 @@ or_left_lines : (asker : Asker) (looked : Option Looked) → AreLinesOrNone look
 or_left_lines asker None h = one_answer (is_stranger asker) _ _ no_auth_line tt
 or_left_lines asker (Some looked) h = answered_lines asker looked h
 
-courtesy_lines : (asker : Asker) (value : Frame) → AreAnswerLines (courtesy asker value)
-courtesy_lines asker value =
+reply_lines : (asker : Asker) (value : Frame) → AreAnswerLines (reply_to asker value)
+reply_lines asker value =
     one_answer (table.is_refused (command_of value)) _ _
     (or_left_lines asker (table.looked_up_in (table.is_miscounted (command_of value)) (table.words_of value))
     (in_lines (table.is_miscounted (command_of value)) (table.words_of value)))
     (one_answer (is_stranger asker) _ _ no_auth_line (own_lines (table.table_of (command_of value))))
 
+said_by : (asker : Asker) (value answer : Frame) (test : Bool) → asks_nothing value ≡ test → courtesy asker value ≡ said answer → HasLines answer
+said_by asker value answer true h is = absurd (let no = sym (unasked_is asker value h) ∙ is in cc)
+said_by asker value answer false h is = subst AreAnswerLines (sym (asked_is asker value h) ∙ is) (reply_lines asker value)
+
 pub said_has_lines : (asker : Asker) (value answer : Frame) → courtesy asker value ≡ said answer → HasLines answer
-said_has_lines asker value answer is = subst AreAnswerLines is (courtesy_lines asker value)
+said_has_lines asker value answer is = said_by asker value answer (asks_nothing value) refl is
+
+silent_by : (asker : Asker) (value : Frame) (test : Bool) → asks_nothing value ≡ test → courtesy asker value ≡ silent → asks_nothing value ≡ true
+silent_by asker value true h is = h
+silent_by asker value false h is = absurd (subst AreAnswerLines (sym (asked_is asker value h) ∙ is) (reply_lines asker value))
+
+-- each value but these has an answer
+pub silent_asks_nothing : (asker : Asker) (value : Frame) → courtesy asker value ≡ silent → asks_nothing value ≡ true
+silent_asks_nothing asker value is = silent_by asker value (asks_nothing value) refl is

@@ -7,6 +7,10 @@ use Rattle.resp2_frames.specs.declared.value.Value.{Value}
 use Rattle.resp2_frames.specs.Frame.{Frame, view, spelling}
 use Rattle.resp2_frames.specs.Stream.{Held, reading, ended, held_size, Answers, Feeds}
 use Rattle.resp2_frames.proofs.Streams.{read_is_spelled}
+use Rattle.port_courtesies.specs.declared.courtesies.Courtesy.{Courtesy}
+use Rattle.port_courtesies.specs.Courtesies.{Asker, courtesy, asker_after, kind_of}
+use Rattle.port_courtesies.specs.Lines as lines
+use Rattle.port_courtesies.specs.Attendants.{Attendance, Attends, text_at}
 use Rattle.resp2_frames.proofs.Passing.{spelled_some}
 
 pub fewer_held : (before after : Held) (answer : Result (Option Value) FrameFault) → Answers view before answer after
@@ -24,3 +28,11 @@ pub fed_whole : {X : Type 0} (fed : Result X FrameFault) (frames : Held) (bytes 
     → bytes ≡ spelling f → frames ≡ reading (spelling f ++ [])
 fed_whole (Ok x) frames bytes f ok h is = h ∙ ap reading (is ∙ sym (append-nil (spelling f)))
 fed_whole (Err e) frames bytes f ok h is = absurd (true≢false ok)
+
+-- a value that was read was attended to
+pub attended : (before between : Held) (asker : Asker) (value : Value) (kind : Courtesy) (after : Attendance) → lines.Answers view before (Ok (Some value)) between
+    → kind ≡ kind_of (courtesy asker (view value)) → after.held ≡ between → after.asker ≡ asker_after asker (view value) → after.text ≡ text_at asker (view value)
+    → Attends before asker (Ok (Some kind)) after
+attended (reading bytes) between asker value kind after h is held known text =
+    record { value = view value; rest = h.0; found = h.1; kind_is = is; held_is = held ∙ h.2; asker_is = known; text_is = text }
+attended (ended fault) between asker value kind after h is held known text = absurd (let no : ⊥ = cc in no)

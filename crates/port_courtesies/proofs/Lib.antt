@@ -1,7 +1,11 @@
 pub mod AnswerLines
 pub mod Bytes
 pub mod Held
+pub mod LineLemmas
+pub mod LineReader
+pub mod LineStreams
 pub mod Lookups
 pub mod OwnValues
+pub mod Silence
 pub mod Strangers
 pub mod WideRows

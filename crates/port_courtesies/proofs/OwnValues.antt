@@ -7,7 +7,8 @@ use Rattle.resp2.specs.Commands.{command_of}
 use Rattle.resp2_frames.specs.Frame.{Frame}
 use Rattle.port_courtesies.specs.declared.tables.Table.{Table}
 use Rattle.port_courtesies.specs.Refusals.{no_auth}
-use Rattle.port_courtesies.specs.Courtesies.{Asker, Answer, Looked, left, widens, said, courtesy, asker_after, table_of, own_answer, unless_stranger, or_left, or_same, or_admitted, is_stranger, is_refused, is_miscounted, looked_up_in, words_of}
+use Rattle.port_courtesies.proofs.Silence.{command_asks, asked_is}
+use Rattle.port_courtesies.specs.Courtesies.{Asker, Answer, Looked, left, widens, said, asks_nothing, reply_to, courtesy, asker_after, table_of, own_answer, unless_stranger, or_left, or_same, or_admitted, is_stranger, is_refused, is_miscounted, looked_up_in, words_of}
 
 -- what is left over of a value that was judged so
 abbrev over : Result Command CommandFault → Frame → Option Looked
@@ -28,7 +29,8 @@ admitted_is asker answer known = ap (λ (test : Bool). elim test as (λ _. Answe
 pub own_is_left : (asker : Asker) (value : Frame) (command : Command) → is_stranger asker ≡ false → command_of value ≡ Ok command
     → courtesy asker value ≡ own_answer (table_of (Ok command))
 own_is_left asker value command known is =
-    ap (λ (asked : Result Command CommandFault). answer_at asker asked value) is ∙ admitted_is asker (own_answer (table_of (Ok command))) known
+    asked_is asker value (command_asks value command is)
+    ∙ ap (λ (asked : Result Command CommandFault). answer_at asker asked value) is ∙ admitted_is asker (own_answer (table_of (Ok command))) known
 
 pub own_is_same : (asker : Asker) (value : Frame) (command : Command) → command_of value ≡ Ok command → asker_after asker value ≡ asker
 own_is_same asker value command is =
@@ -52,6 +54,13 @@ judged asker value (Err BadEpoch) known = inl (inl (admitted_is asker left known
 judged asker value (Err BadRunId) known = inl (inl (admitted_is asker left known))
 judged asker value (Err UnknownChannel) known = inl (inl (admitted_is asker left known))
 
+refused_by : (asker : Asker) (value : Frame) (test : Bool) → asks_nothing value ≡ test → is_stranger asker ≡ false
+    → (asks_nothing value ≡ true)
+    ⊎ (((courtesy asker value ≡ left) ⊎ (courtesy asker value ≡ widens)) ⊎ ((command_of value ≡ Err UnknownCommand) ⊎ (command_of value ≡ Err WrongArguments)))
+refused_by asker value true h known = inl h
+refused_by asker value false h known = inr (rw (asked_is asker value h) (judged asker value (command_of value) known))
+
 pub refused_or_left : (asker : Asker) (value : Frame) → is_stranger asker ≡ false
-    → ((courtesy asker value ≡ left) ⊎ (courtesy asker value ≡ widens)) ⊎ ((command_of value ≡ Err UnknownCommand) ⊎ (command_of value ≡ Err WrongArguments))
-refused_or_left asker value known = judged asker value (command_of value) known
+    → (asks_nothing value ≡ true)
+    ⊎ (((courtesy asker value ≡ left) ⊎ (courtesy asker value ≡ widens)) ⊎ ((command_of value ≡ Err UnknownCommand) ⊎ (command_of value ≡ Err WrongArguments)))
+refused_or_left asker value known = refused_by asker value (asks_nothing value) refl known

@@ -4,10 +4,10 @@ use Rattle.resp2_frames.specs.declared.fault.FrameFault.{FrameFault}
 use Rattle.resp2_frames.specs.declared.fault.FrameFault.TheVariants.{NoMemory}
 use Rattle.resp2_frames.specs.declared.fault.Unread.TheVariants.{NeedsMore, Faulty}
 use Rattle.resp2_frames.specs.Frame.{Frame, spelling}
-use Rattle.resp2_frames.specs.Reading.{frame_at}
 use Rattle.resp2_frames.specs.Stream.{Held, reading, ended}
 use Rattle.port_courtesies.specs.declared.courtesies.Courtesy.{Courtesy}
 use Rattle.port_courtesies.specs.declared.courtesies.Courtesy.TheVariants.{Left, Widens, Said, AsksMasters}
+use Rattle.port_courtesies.specs.Lines.{value_at}
 use Rattle.port_courtesies.specs.Courtesies.{Asker, courtesy, asker_after, kind_of, text_of}
 
 -- the bytes that came and aren't attended to yet, what is known of the connection, and the text of the last turn
@@ -16,7 +16,7 @@ pub record Attendance : Type 0 where
   pub asker : Asker
   pub text : List ℕ
 
--- a value that isn't answered is handed on as it came
+-- a value that isn't answered is handed on in its spelling in RESP2
 abbrev pub turn_text : Courtesy → (answer : List ℕ) → Frame → List ℕ
 turn_text Left answer value = spelling value
 turn_text Widens answer value = spelling value
@@ -31,7 +31,7 @@ text_at asker value = turn_text (kind_of (courtesy asker value)) (text_of (court
 pub record IsAttended (bytes : List ℕ) (asker : Asker) (kind : Courtesy) (after : Attendance) : Type 0 where
   pub value : Frame
   pub rest : List ℕ
-  pub found : frame_at bytes ≡ Ok (value, rest)
+  pub found : value_at bytes ≡ Ok (value, rest)
   pub kind_is : kind ≡ kind_of (courtesy asker value)
   pub held_is : after.held ≡ reading rest
   pub asker_is : after.asker ≡ asker_after asker value
@@ -41,7 +41,7 @@ pub record IsAttended (bytes : List ℕ) (asker : Asker) (kind : Courtesy) (afte
 -- lost
 abbrev pub Attends : Held → Asker → Result (Option Courtesy) FrameFault → Attendance → Type 0
 Attends (reading bytes) asker (Ok (Some kind)) after = IsAttended bytes asker kind after
-Attends (reading bytes) asker (Ok None) after = (frame_at bytes ≡ Err NeedsMore) × (after.held ≡ reading bytes) × (after.asker ≡ asker)
+Attends (reading bytes) asker (Ok None) after = (value_at bytes ≡ Err NeedsMore) × (after.held ≡ reading bytes) × (after.asker ≡ asker)
 Attends (reading bytes) asker (Err NoMemory) after = Unit {0}
-Attends (reading bytes) asker (Err fault) after = (frame_at bytes ≡ Err (Faulty fault)) × (after.held ≡ ended fault) × (after.asker ≡ asker)
+Attends (reading bytes) asker (Err fault) after = (value_at bytes ≡ Err (Faulty fault)) × (after.held ≡ ended fault) × (after.asker ≡ asker)
 Attends (ended fault) asker answer after = (answer ≡ Err fault) × (after.held ≡ ended fault) × (after.asker ≡ asker)

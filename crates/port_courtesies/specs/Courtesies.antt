@@ -7,7 +7,7 @@ use Rattle.ballot_law.specs.Words.{lower, canonical_within}
 use Rattle.resp2.specs.declared.command.CommandFault.{CommandFault}
 use Rattle.resp2.specs.declared.command.CommandFault.TheVariants.{UnknownCommand, WrongArguments}
 use Rattle.resp2.specs.Commands.{command_of, words}
-use Rattle.resp2_frames.specs.Frame.{Frame, simple, int, bulk, null_bulk, items, no_frames, frames_of, spelling}
+use Rattle.resp2_frames.specs.Frame.{Frame, simple, int, bulk, null_bulk, items, null_items, no_frames, frames_of, spelling}
 use Rattle.port_courtesies.specs.declared.verbs.Verb.{Verb}
 use Rattle.port_courtesies.specs.declared.verbs.Verb.TheVariants.{Ping, Hello, Auth, SetName, SetInfo, GetName, Id, NoEvict, Reply, Commands, Docs, Count, Role, Publish, Info}
 use Rattle.port_courtesies.specs.declared.hellos.Expects.{Expects}
@@ -29,12 +29,13 @@ pub record Asker : Type 0 where
   pub admitted : Bool
 
 -- what becomes of a value: the Sentinel's rules answer it, the answer that they give is told with more fields, it is answered by this value, or by what is told of the
--- Sentinel's masters
+-- Sentinel's masters, or it has no answer
 pub data Answer : Type 0 where
   left : Answer
   widens : Answer
   said : Frame → Answer
   asks_masters : Answer
+  silent : Answer
 
 -- ---- which command the words are
 
@@ -456,13 +457,23 @@ abbrev pub or_admitted : Asker → Option Looked → Bool
 or_admitted asker None = asker.admitted
 or_admitted asker (Some looked) = admitted_by asker looked
 
--- the answer to a value of a connection
-abbrev pub courtesy : Asker → Frame → Answer
-courtesy asker value =
+-- an array without items asks for nothing
+abbrev pub asks_nothing : Frame → Bool
+asks_nothing (items no_frames) = true
+asks_nothing null_items = true
+asks_nothing value = false
+
+-- the answer to a value that asks for something
+abbrev pub reply_to : Asker → Frame → Answer
+reply_to asker value =
     elim (is_refused (command_of value)) [
       | true ↦ or_left asker (looked_up_in (is_miscounted (command_of value)) (words_of value))
       | false ↦ unless_stranger asker (own_answer (table_of (command_of value)))
     ]
+
+-- the answer to a value of a connection
+abbrev pub courtesy : Asker → Frame → Answer
+courtesy asker value = elim (asks_nothing value) as (λ _. Answer) [ true ↦ silent | false ↦ reply_to asker value ]
 
 -- what is known of the connection after it
 abbrev pub asker_after : Asker → Frame → Asker
@@ -475,6 +486,7 @@ kind_of left = Left
 kind_of widens = Widens
 kind_of (said answer) = Said
 kind_of asks_masters = AsksMasters
+kind_of silent = Said
 
 -- its bytes on the wire, where it is known
 abbrev pub text_of : Answer → List ℕ
@@ -482,3 +494,4 @@ text_of left = []
 text_of widens = []
 text_of (said answer) = spelling answer
 text_of asks_masters = []
+text_of silent = []

@@ -2,4 +2,5 @@ pub mod Refusals
 pub mod Courtesies
 pub mod Infos
 pub mod Widening
+pub mod Lines
 pub mod Attendants

@@ -2,7 +2,7 @@
 
 ghost use Rattle.std.specs.Prelude.{◌≡◌, ◌<◌, [], Some, false, IfOk, IfSome, OnOk};
 ghost use Rattle.resp2_frames.specs.Frame.{Frame, view, spelling, HasLines, IsFrame};
-ghost use Rattle.resp2_frames.specs.Stream.{reading, held_size, Feeds, Answers};
+ghost use Rattle.resp2_frames.specs.Stream.{reading, held_size, Feeds};
 ghost use Rattle.port_courtesies.specs.Attendants.{turn_text, text_at, Attends};
 ghost use Rattle.port_courtesies.specs.Courtesies.{courtesy, asker_after, kind_of};
 ghost use Rattle.port_courtesies.specs.Infos.{info};
@@ -11,6 +11,7 @@ ghost use Rattle.port_courtesies.specs.Widening.{wide};
 use crate::asker::Asker;
 use crate::courtesies::{Courtesy, courtesy_of};
 use crate::infos::info;
+use crate::lines::next_value;
 use crate::widening::wide;
 use ballot_law::{Name, NoMemory, Text};
 use resp2_frames::{FrameFault, Frames, OutText, Value, write_value};
@@ -35,15 +36,6 @@ impl Model for Attendant {
     ghost Value = { Attendance };
 
     ghost view = { λ attendant. record { held = attendant.frames; asker = attendant.asker; text = attendant.text } };
-}
-
-/// The next value, whose lines are lines.
-fn next_value(frames: &mut Frames) -> Result<Option<Value>, FrameFault>
-    ensures exact { Answers view frames.old result frames.new }
-    ensures lines { IfOk result (λ given. IfSome given (λ value. HasLines (view value))) }
-    ensures fewer { IfOk result (λ given. IfSome given (λ value. held_size frames.new < held_size frames.old)) }
-{
-    frames.next()
 }
 
 /// The value that these bytes spell. `NoMemory`: memory was refused, or they spell none.
@@ -140,18 +132,20 @@ impl Attendant {
         self.frames = Frames::new(self.alloc);
     }
 
-    /// Attends to the first whole value of the bytes that came; `None` where more bytes are needed. `Left`: the text is the value, which the session
-    /// is to have. `Widens`: the same, and `widen` makes the answer out of the one that the session gives. `Said`: the text is its answer. `AsksMasters`: the text is
-    /// the value, INFO, whose answer `inform` makes.
+    /// Attends to the first whole value of the bytes that came; `None` where more bytes are needed. A line that begins with no byte of a kind of RESP2 is the array
+    /// of its words, as Redis splits it into words. `Left`: the text is the value in RESP2, which the session is to have. `Widens`: the same, and `widen` makes the
+    /// answer out of the one that the session gives. `Said`: the text is its answer, of no bytes after an empty line or an array without items. `AsksMasters`: the
+    /// text is the value, INFO, whose answer `inform` makes.
     ///
     /// `NoMemory`: memory was refused, and one value may be lost; the connection is to be closed. Any other fault is one of the bytes: the values before it
-    /// were attended to, and every later call answers it again.
+    /// were attended to, and every later call answers it again. `BadKind` is also that of a line of more than 65,536 bytes, of one whose quotes are wrong, of one
+    /// whose array a stream may not hold, with more than 1,024 words or more than 65,536 bytes in RESP2, and of one that begins with POST or Host: as a request of HTTP.
     pub fn attend(&mut self) -> Result<Option<Courtesy>, FrameFault>
         ensures exact { Attends self.old.held self.old.asker result self.new }
         // With each value fewer bytes are held.
         ensures fewer { IfOk result (λ given. IfSome given (λ kind. held_size self.new.held < held_size self.old.held)) }
     {
-        match next_value(&mut self.frames) {
+        match next_value(self.alloc, &mut self.frames) {
             Ok(Some(value)) => match self.attend_to(&value) {
                 Ok(kind) => Ok(Some(kind)),
                 Err(_) => Err(FrameFault::NoMemory),

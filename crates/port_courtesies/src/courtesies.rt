@@ -2,8 +2,9 @@
 
 ghost use Rattle.std.specs.Prelude.{◌≡◌, ℕ, List, [], None, IfOk, OnOk};
 ghost use Rattle.resp2.specs.Commands as commands;
+ghost use Rattle.resp2_frames.specs.Frame as frames;
 ghost use Rattle.resp2_frames.specs.Frame.{view, frames_view, spelling};
-ghost use Rattle.port_courtesies.specs.Courtesies.{Asker, known, executed, while_listening, name_after, admitted_after, is_barred, admitted_by, or_admitted, words_of, is_miscounted, is_refused, names_channels, answered, named, looked_up_in, own_answer, unless_stranger, or_left, or_same, courtesy, asker_after, kind_of, text_of};
+ghost use Rattle.port_courtesies.specs.Courtesies.{Asker, known, executed, while_listening, name_after, admitted_after, is_barred, admitted_by, or_admitted, words_of, is_miscounted, is_refused, names_channels, answered, named, looked_up_in, own_answer, unless_stranger, or_left, or_same, asks_nothing, reply_to, courtesy, asker_after, kind_of, text_of};
 
 use crate::asker::Asker;
 use crate::clients::{
@@ -28,7 +29,7 @@ pub enum Courtesy {
     Left,
     /// The Sentinel's rules answer it, and the answer is then told with redis-sentinel's fields.
     Widens,
-    /// Its answer is told.
+    /// Its answer is told, where it has one.
     Said,
     /// It is INFO, whose answer is made of that to SENTINEL MASTERS.
     AsksMasters,
@@ -269,12 +270,52 @@ fn answer_words(
     }
 }
 
+/// Whether there are no items.
+#[tactic(auto, using(crate::proofs::Silence::by_count))]
+fn are_none(items: &[Value]) -> bool
+    ensures { result ≡ asks_nothing (frames.items (frames_view items.now)) }
+{
+    items.is_empty()
+}
+
+/// Whether the value is an array without items.
+fn asks_nothing(value: &Value) -> bool
+    ensures { result ≡ asks_nothing (view value.now) }
+{
+    match value {
+        Value::Items(items) => are_none(items.as_slice()),
+        Value::NullItems => true,
+        _ => false,
+    }
+}
+
+/// What becomes of a value that asks for something.
+fn reply_to(
+    alloc: Global,
+    asker: &mut Asker,
+    value: &Value,
+    out: &mut OutText,
+) -> Result<Courtesy, NoMemory>
+    requires { out.old ≡ [] }
+    ensures kind { IfOk result (λ kind. kind ≡ kind_of (reply_to asker.old (view value.now))) }
+    ensures text { OnOk result (out.new ≡ text_of (reply_to asker.old (view value.now))) }
+    ensures asker { OnOk result (asker.new ≡ asker_after asker.old (view value.now)) }
+{
+    let asked = command_of(value);
+    if !is_refused(&asked) {
+        return leave(asker, table_of(&asked), out);
+    }
+    let words = words_of(alloc, value)?;
+    answer_words(alloc, asker, is_miscounted(&asked), words.as_slice(), out)
+}
+
 /// What becomes of a value of a connection, by the table in docs/COURTESIES.md: `out` is the answer where one is told, and empty elsewhere. The
 /// connection has the name that the value gives it, and it is known whether its client gave the password; all else that is known of it stays. One value has at
 /// most one answer, and one that the Sentinel's rules answer, be it by a command or by the fault of a word, is left to them, once the client gave the
-/// password that is wanted.
+/// password that is wanted. An array without items has no answer: it is `Said`, and `out` is empty.
 ///
 /// NoMemory: memory was refused; what `out` then holds, what name the connection has and whether its client is admitted isn't told.
+#[tactic(auto, using(crate::proofs::Silence::same_after_nothing))]
 pub fn courtesy_of(
     alloc: Global,
     asker: &mut Asker,
@@ -286,10 +327,8 @@ pub fn courtesy_of(
     ensures asker { OnOk result (asker.new ≡ asker_after asker.old (view value.now)) }
 {
     out.clear();
-    let asked = command_of(value);
-    if !is_refused(&asked) {
-        return leave(asker, table_of(&asked), out);
+    if asks_nothing(value) {
+        return Ok(Courtesy::Said);
     }
-    let words = words_of(alloc, value)?;
-    answer_words(alloc, asker, is_miscounted(&asked), words.as_slice(), out)
+    reply_to(alloc, asker, value, out)
 }

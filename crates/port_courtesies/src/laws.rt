@@ -1,25 +1,29 @@
 //! What is known of every courtesy.
 
-ghost use Rattle.std.specs.Prelude.{◌≡◌, ◌⊎◌, ℕ, List, [], Bool, true, false, Ok, Err};
+ghost use Rattle.std.specs.Prelude.{◌≡◌, ◌↔◌, ◌⊎◌, ◌≤◌, ◌++◌, ℕ, List, [], Bool, true, false, length, Ok, Err};
 ghost use Rattle.std.specs.List.{AllByRecursion, list_any};
 ghost use Rattle.ballot_law.specs.declared.commands.Command.{Command};
 ghost use Rattle.resp2.specs.declared.command.CommandFault.TheVariants.{UnknownCommand, WrongArguments};
 ghost use Rattle.resp2.specs.Commands.{command_of};
-ghost use Rattle.resp2_frames.specs.Frame.{Frame, HasLines};
+ghost use Rattle.resp2_frames.specs.declared.fault.Unread.TheVariants.{NeedsMore};
+ghost use Rattle.resp2_frames.specs.Frame.{Frame, spelling, HasLines, IsFrame};
+ghost use Rattle.resp2_frames.specs.Reading.{Stays};
 ghost use Rattle.port_courtesies.specs.declared.courtesies.Courtesy.TheVariants.{Said};
 ghost use Rattle.port_courtesies.specs.declared.tables.Table.{Table};
+ghost use Rattle.port_courtesies.specs.Lines.{value_at, IsLineOf};
 ghost use Rattle.port_courtesies.specs.Widening.{field_name, otherwise, fields_of, told, wide_words, wide};
-ghost use Rattle.port_courtesies.specs.Courtesies.{Asker, left, widens, table_of, own_answer, said, is_stranger, is_password, words_of, courtesy, asker_after, kind_of};
+ghost use Rattle.port_courtesies.specs.Courtesies.{Asker, left, widens, table_of, own_answer, said, silent, asks_nothing, is_stranger, is_password, words_of, courtesy, asker_after, kind_of};
 
 /// A command of the Sentinel's rules is left to them, where the client gave the password that is wanted: SENTINEL MASTER, MASTERS, REPLICAS and SENTINELS with
 /// their answers told with more fields, each other one with nothing added. So is each value that they refuse for another reason than that they don't know
-/// the command or its number of words. A command changes nothing of the connection.
+/// the command or its number of words, but for an array without items. A command changes nothing of the connection.
 pub fn law_own_values_are_left()
     ensures own { (asker : Asker) (value : Frame) (command : Command) → is_stranger asker ≡ false → command_of value ≡ Ok command
         → courtesy asker value ≡ own_answer (table_of (Ok command)) }
     ensures same { (asker : Asker) (value : Frame) (command : Command) → command_of value ≡ Ok command → asker_after asker value ≡ asker }
     ensures refused { (asker : Asker) (value : Frame) → is_stranger asker ≡ false
-        → ((courtesy asker value ≡ left) ⊎ (courtesy asker value ≡ widens)) ⊎ ((command_of value ≡ Err UnknownCommand) ⊎ (command_of value ≡ Err WrongArguments)) }
+        → (asks_nothing value ≡ true)
+        ⊎ (((courtesy asker value ≡ left) ⊎ (courtesy asker value ≡ widens)) ⊎ ((command_of value ≡ Err UnknownCommand) ⊎ (command_of value ≡ Err WrongArguments))) }
 {}
 
 /// Where a password is wanted that the client didn't give, each value is answered by a courtesy, so none reaches the Sentinel; and a value after which the
@@ -44,4 +48,23 @@ pub fn law_wide_answers_are_values()
 /// No line of an answer holds a CR or LF, so what is written of it is one value: one answer.
 pub fn law_answers_are_values()
     ensures { (asker : Asker) (value answer : Frame) → courtesy asker value ≡ said answer → HasLines answer }
+{}
+
+/// An array without items has no answer, and each other value has one.
+pub fn law_nothing_is_answered_to_nothing()
+    ensures { (asker : Asker) (value : Frame) → (courtesy asker value ≡ silent) ↔ (asks_nothing value ≡ true) }
+{}
+
+/// The first value of a stream is one that a session of RESP2 may be handed, and stands there in its spelling or as a line with its words. In its spelling it
+/// is always read, so a stream without lines has the values that it has in RESP2. More bytes are needed only while at most 65,536 are held.
+pub fn law_values_are_spelled_or_lines()
+    ensures read { (bytes rest : List ℕ) (value : Frame) → value_at bytes ≡ Ok (value, rest)
+        → ((bytes ≡ spelling value ++ rest) ⊎ IsLineOf bytes value rest) × IsFrame value }
+    ensures spelled { (value : Frame) (rest : List ℕ) → IsFrame value → value_at (spelling value ++ rest) ≡ Ok (value, rest) }
+    ensures waits { (bytes : List ℕ) → value_at bytes ≡ Err NeedsMore → length bytes ≤ 65536 }
+{}
+
+/// A value or a fault that was read stays when more bytes come, whether it is a line or not.
+pub fn law_lines_stay()
+    ensures { (piece bytes : List ℕ) → Stays piece (value_at bytes) (value_at (bytes ++ piece)) }
 {}

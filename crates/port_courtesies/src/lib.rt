@@ -3,7 +3,8 @@
 //!
 //! `courtesy_of` says what becomes of a value. One that the Sentinel's rules answer is left to them; each that they call unknown, or refuse for its
 //! number of words, has exactly one answer, by the table in docs/COURTESIES.md. No Sentinel is known here, so nothing of one is changed; what INFO says
-//! comes from the Sentinel's own answer to SENTINEL MASTERS. The answers about masters, replicas and Sentinels are told with redis-sentinel's fields.
+//! comes from the Sentinel's own answer to SENTINEL MASTERS. The answers about masters, replicas and Sentinels are told with redis-sentinel's fields. An
+//! `Attendant` reads the values of a client, in whose stream a command may come as a line in place of an array.
 #![tactic(auto)]
 
 mod asker;
@@ -13,6 +14,7 @@ mod courtesies;
 mod hellos;
 mod infos;
 mod laws;
+mod lines;
 mod lookup;
 mod passwords;
 mod refusals;
@@ -25,7 +27,8 @@ pub use attendants::Attendant;
 pub use courtesies::{Courtesy, courtesy_of};
 pub use infos::info;
 pub use laws::{
-    law_answers_are_values, law_own_values_are_left, law_strangers_reach_nothing,
+    law_answers_are_values, law_lines_stay, law_nothing_is_answered_to_nothing,
+    law_own_values_are_left, law_strangers_reach_nothing, law_values_are_spelled_or_lines,
     law_wide_answers_are_values, law_wide_rows_keep_fields,
 };
 pub use widening::wide;

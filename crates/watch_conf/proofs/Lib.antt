@@ -1,3 +1,2 @@
-pub mod QuoteLemmas
 pub mod LineLemmas
 pub mod WholeLines

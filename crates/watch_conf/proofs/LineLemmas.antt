@@ -1,8 +1,7 @@
 -- Settings that are read line by line.
-use Rattle.std.proofs.Common.{◌≡◌, List, [], ◌∷◌, ◌++◌, Option, Some, None, refl, ap, sym, append_assoc, Result, Ok, Err}
+use Rattle.std.proofs.Common.{◌≡◌, List, [], ◌∷◌, ◌++◌, refl, ap, sym, append_assoc, Result, Ok, Err}
 use Rattle.watch_conf.specs.declared.faults.WatchFault.{WatchFault}
 use Rattle.watch_conf.specs.declared.settings.Setting.{Setting}
-use Rattle.watch_conf.specs.Binds.{joined}
 use Rattle.watch_conf.specs.WatchConfs.{settings_first}
 
 -- one setting more
@@ -10,8 +9,3 @@ pub one_setting : (some : List Setting) (setting : Setting) (others : Result (Li
     → settings_first some (settings_first (setting ∷ []) others) ≡ settings_first (some ++ setting ∷ []) others
 one_setting some setting (Ok others) = ap Ok (sym (append_assoc some (setting ∷ []) others))
 one_setting some setting (Err fault) = refl
-
--- one element more
-pub one_joined : {X : Type 0} (some : List X) (x : X) (others : Option (List X)) → joined some (joined (x ∷ []) others) ≡ joined (some ++ x ∷ []) others
-one_joined some x None = refl
-one_joined some x (Some others) = ap Some (sym (append_assoc some (x ∷ []) others))

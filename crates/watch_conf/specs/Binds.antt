@@ -1,8 +1,9 @@
 -- The ips at which the port of a Sentinel listens.
-use Rattle.std.specs.Prelude.{ℕ, Bool, true, false, ◌==◌, nat_lt, List, [], ◌∷◌, ◌++◌, length, Option, Some, None}
+use Rattle.std.specs.Prelude.{ℕ, Bool, true, false, ◌==◌, nat_lt, List, [], ◌∷◌, length, Option, Some, None}
 use Rattle.std.specs.List.{list_any}
 use Rattle.ballot_law.specs.Orders.{same_bytes}
 use Rattle.ballot_law.specs.Words.{ip}
+use Rattle.quoted_words.specs.Quotes.{joined}
 use Rattle.watch_conf.specs.declared.binds.BindWord.{BindWord}
 use Rattle.watch_conf.specs.declared.binds.BindWord.TheVariants.{Ip, Absent, Bad}
 use Rattle.watch_conf.specs.declared.binds.TheConstants.{IPS_MAX}
@@ -30,11 +31,6 @@ ip_or_none dash word = elim (ip word) as (λ _. BindWord) [ Some i ↦ Ip i | No
 -- what a word of the line says: `*` is all of the machine
 abbrev pub bind_word : List ℕ → BindWord
 bind_word word = elim (same_bytes (after_dash word) (42 ∷ [])) as (λ _. BindWord) [ true ↦ Ip 0 | false ↦ ip_or_none (has_dash word) (after_dash word) ]
-
--- these after those
-abbrev pub joined : {X : Type 0} → List X → Option (List X) → Option (List X)
-joined some None = None
-joined some (Some others) = Some (some ++ others)
 
 -- the ips of these words; none where one is bad
 abbrev pub ips_of : List (List ℕ) → Option (List ℕ)

@@ -1,4 +1,3 @@
-pub mod Quotes
 pub mod Binds
 pub mod WatchLines
 pub mod WatchConfs

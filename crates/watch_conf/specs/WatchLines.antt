@@ -2,6 +2,7 @@
 use Rattle.std.specs.Prelude.{ℕ, Bool, true, false, List, [], ◌∷◌, Option, Some, None, min, bytes_eq, codes}
 use Rattle.ballot_law.specs.Orders.{same_bytes}
 use Rattle.ballot_law.specs.Words.{some_if, name, number_within, lower}
+use Rattle.quoted_words.specs.Quotes.{is_comment, redis_words}
 use Rattle.watch_conf.specs.declared.faults.WatchKind.{WatchKind}
 use Rattle.watch_conf.specs.declared.faults.WatchKind.TheVariants.{BadDirective, BadName, BadNumber, BadBind, BadYesNo, BadQuotes, NamesOfHosts}
 use Rattle.watch_conf.specs.declared.settings.Setting.{Setting}
@@ -9,7 +10,6 @@ use Rattle.watch_conf.specs.declared.settings.Setting.TheVariants.{Bind, NodePas
 use Rattle.watch_conf.specs.declared.settings.TheConstants.{CLIENTS_MAX}
 use Rattle.watch_conf.specs.declared.settings.WatchLine.{WatchLine}
 use Rattle.watch_conf.specs.declared.settings.WatchLine.TheVariants as line
-use Rattle.watch_conf.specs.Quotes.{is_comment, redis_words}
 use Rattle.watch_conf.specs.Binds.{bound}
 
 abbrev pub given_or : {X : Type 0} → WatchKind → Option X → (X → WatchLine) → WatchLine

@@ -108,7 +108,7 @@ fn bind_word(word: &[u8]) -> BindWord
 }
 
 /// The ips of these words; none where one is bad.
-#[tactic(auto, using(crate::proofs::LineLemmas::one_joined))]
+#[tactic(auto, using(quoted_words::proofs::QuoteLemmas::one_joined))]
 fn ips_of(alloc: Global, words: &[Text]) -> Result<Option<Vec<u32>>, NoMemory>
     ensures { IfOk result (λ found. MatchOption found (ips_of words.now ≡ None) (λ ips. ips_of words.now ≡ Some ips.items)) }
 {

@@ -6,9 +6,9 @@ ghost use Rattle.watch_conf.specs.WatchLines.{yes_or_no, bind_line, node_pass_li
 
 use crate::binds::bound;
 use crate::faults::WatchKind;
-use crate::quotes::{is_comment, redis_words};
 use crate::settings::{CLIENTS_MAX, Setting, WatchLine};
 use ballot_law::{Name, NoMemory, Text};
+use quoted_words::{is_comment, redis_words};
 use std::alloc::Global;
 use words::number_of;
 

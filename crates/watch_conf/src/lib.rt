@@ -1,18 +1,17 @@
 //! What a sentinel.conf says to `watch` alone, one Sentinel in a process of its own: where its port listens, with which words it logs in to
 //! other nodes and clients to it, and how many clients it serves. And the text of such a file that redis-sentinel reads.
 //!
-//! `read_watch` gives the settings of a file, or its first fault. Words are read as Redis reads them, with their quotes. Passwords are in
-//! no fault, and no type here that holds one can be printed.
+//! `read_watch` gives the settings of a file, or its first fault. Words are read as Redis reads them, with their quotes, by `quoted_words`. Passwords
+//! are in no fault, and no type here that holds one can be printed.
 //!
-//! The definitions stand in `specs/`: `Quotes` (the words of a line), `Binds` (the words of a line `bind`), `WatchLines` (what a line says),
-//! `WatchConfs` (what all lines of a file say, and its first fault), `RedisTexts` (the text for redis-sentinel).
+//! The definitions stand in `specs/`: `Binds` (the words of a line `bind`), `WatchLines` (what a line says), `WatchConfs` (what all lines of a file
+//! say, and its first fault), `RedisTexts` (the text for redis-sentinel).
 #![tactic(auto)]
 
 mod announcing;
 mod binds;
 mod directives;
 mod faults;
-mod quotes;
 mod redis_texts;
 mod settings;
 mod watch_confs;
@@ -21,7 +20,6 @@ pub use announcing::lacks_announce_ip;
 pub use binds::{BindWord, EVERYWHERE, IPS_MAX, Ips};
 pub use directives::line_of;
 pub use faults::{WatchFault, WatchKind};
-pub use quotes::{Quote, redis_words};
 pub use redis_texts::{law_lines_are_text, redis_text};
 pub use settings::{CLIENTS_MAX, Setting, WatchLine};
 pub use watch_confs::{WatchConf, read_watch};

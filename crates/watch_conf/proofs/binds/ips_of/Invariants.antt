@@ -1,5 +1,6 @@
 use Rattle.std.proofs.Common.{◌≡◌, length}
-use Rattle.watch_conf.specs.Binds.{joined, ips_of}
+use Rattle.quoted_words.specs.Quotes.{joined}
+use Rattle.watch_conf.specs.Binds.{ips_of}
 use Rattle.watch_conf.proofs.binds.ips_of.Given as goal
 
 abbrev pub invariant-loop-rest : goal.invariant-loop-rest

@@ -1,9 +1,9 @@
 use Rattle.std.proofs.Common.{◌≡◌, ◌<◌, false, length}
 use Rattle.std.specs.Prelude.{slice_index}
-use Rattle.watch_conf.specs.Quotes.{is_space, words_at}
-use Rattle.watch_conf.specs.Quotes.Mode.{Between}
-use Rattle.watch_conf.specs.Binds.{joined}
-use Rattle.watch_conf.proofs.quotes.redis_words.Given as goal
+use Rattle.quoted_words.specs.Quotes.{is_space, words_at}
+use Rattle.quoted_words.specs.Quotes.Mode.{Between}
+use Rattle.quoted_words.specs.Quotes.{joined}
+use Rattle.quoted_words.proofs.quotes.redis_words.Given as goal
 
 abbrev pub invariant-loop-rest : goal.invariant-loop-rest
 invariant-loop-rest l = record {

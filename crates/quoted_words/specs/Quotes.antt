@@ -1,12 +1,12 @@
 -- The words of a line, as Redis reads them.
-use Rattle.std.specs.Prelude.{ℕ, zero, suc, ◌+◌, ◌*◌, Bool, true, false, ◌||◌, ◌&&◌, ◌==◌, nat_le, ◌<◌, ⊤, List, [], ◌∷◌, length, Option, Some, None}
+use Rattle.std.specs.Prelude.{ℕ, zero, suc, ◌+◌, ◌*◌, Bool, true, false, ◌||◌, ◌&&◌, ◌==◌, nat_le, ◌<◌, ⊤, List, [], ◌∷◌, ◌++◌, length, Option, Some, None}
 use Rattle.std.specs.Char.{to_ascii_lowercase}
 use Rattle.ballot_law.specs.Cuts.{with_first}
 use Rattle.ballot_law.specs.Words.{some_if, is_hex, hex_value}
-use Rattle.watch_conf.specs.declared.quotes.Quote.{Quote}
-use Rattle.watch_conf.specs.declared.quotes.Quote.TheVariants.{Double, Single}
-use Rattle.watch_conf.specs.declared.quotes.Piece.{Piece}
-use Rattle.watch_conf.specs.declared.quotes.Piece.TheVariants.{Byte, Opens, Ends, Broken}
+use Rattle.quoted_words.specs.declared.quotes.Quote.{Quote}
+use Rattle.quoted_words.specs.declared.quotes.Quote.TheVariants.{Double, Single}
+use Rattle.quoted_words.specs.declared.quotes.Piece.{Piece}
+use Rattle.quoted_words.specs.declared.quotes.Piece.TheVariants.{Byte, Opens, Ends, Broken}
 
 -- what stands between words, and after a quote that closes: a space, or one of the bytes 9 to 13
 abbrev pub is_space : ℕ → Bool
@@ -117,6 +117,11 @@ words_at (b ∷ bs) Closed = elim (is_space b) as (λ _. Option (List (List ℕ)
 -- the words of a line; none where its quotes are wrong
 abbrev pub redis_words : List ℕ → Option (List (List ℕ))
 redis_words text = words_at text Between
+
+-- these after those
+abbrev pub joined : {X : Type 0} → List X → Option (List X) → Option (List X)
+joined some None = None
+joined some (Some others) = Some (some ++ others)
 
 -- a reader in a word, which is within this quote or in none
 abbrev pub mode_in : Option Quote → Mode

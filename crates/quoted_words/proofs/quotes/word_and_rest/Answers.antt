@@ -1,6 +1,6 @@
 use Rattle.std.proofs.Common.{◌≡◌, length, rules}
-use Rattle.watch_conf.proofs.QuoteLemmas.{one_byte, word_ends, word_breaks, text_ends, text_breaks, still_within, then_shorter}
-use Rattle.watch_conf.proofs.quotes.word_and_rest.Goals as goal
+use Rattle.quoted_words.proofs.QuoteLemmas.{one_byte, word_ends, word_breaks, text_ends, text_breaks, still_within, then_shorter}
+use Rattle.quoted_words.proofs.quotes.word_and_rest.Goals as goal
 
 pub loop-rest-preserved-in-Byte : goal.loop-rest-preserved-in-Byte
 loop-rest-preserved-in-Byte c = record {

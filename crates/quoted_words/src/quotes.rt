@@ -3,8 +3,8 @@
 ghost use Rattle.std.specs.Prelude.{◌≡◌, ◌<◌, ◌≤◌, ◌∷◌, ◌==◌, None, Some, false, length, drop, slice_index, IfOk, IfSome, MatchOption};
 ghost use Rattle.std.specs.Char.{to_ascii_lowercase};
 ghost use Rattle.ballot_law.specs.Words.{some_if};
-ghost use Rattle.watch_conf.specs.Quotes.{is_space, ends_word, is_comment, quote_of, quote_byte, is_hex_digit, digit_value, hex_byte, named_byte, escaped, single_escaped, escaped_in, meant, word_first, byte_first, bytes_first, mode_in, piece_words, IsShorter, words_at, redis_words};
-ghost use Rattle.watch_conf.specs.Quotes.Mode.{Between, Plain, Inside, Closed};
+ghost use Rattle.quoted_words.specs.Quotes.{is_space, ends_word, is_comment, quote_of, quote_byte, is_hex_digit, digit_value, hex_byte, named_byte, escaped, single_escaped, escaped_in, meant, word_first, byte_first, bytes_first, mode_in, piece_words, IsShorter, words_at, redis_words};
+ghost use Rattle.quoted_words.specs.Quotes.Mode.{Between, Plain, Inside, Closed};
 
 use ballot_law::{NoMemory, Text};
 use std::alloc::Global;
@@ -63,7 +63,7 @@ fn after_spaces(text: &[u8]) -> &[u8]
 }
 
 /// Whether the line is a comment.
-pub(crate) fn is_comment(text: &[u8]) -> bool
+pub fn is_comment(text: &[u8]) -> bool
     ensures { result ≡ is_comment text.now }
 {
     let mut rest = text;
@@ -284,7 +284,7 @@ fn word_and_rest(alloc: Global, text: &[u8]) -> Result<Option<(Vec<u8>, &[u8])>,
 
 /// The words of a line, without their quotes. None where a quote doesn't close, or where no space is after one that does. NoMemory: memory
 /// was refused.
-#[tactic(auto, using(crate::proofs::QuoteLemmas::begins_word, crate::proofs::LineLemmas::one_joined))]
+#[tactic(auto, using(crate::proofs::QuoteLemmas::begins_word, crate::proofs::QuoteLemmas::one_joined))]
 pub fn redis_words(alloc: Global, text: &[u8]) -> Result<Option<Vec<Text>>, NoMemory>
     ensures { IfOk result (λ found. MatchOption found (redis_words text.now ≡ None) (λ words. redis_words text.now ≡ Some words.items)) }
 {

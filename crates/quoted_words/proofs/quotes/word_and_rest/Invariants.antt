@@ -1,12 +1,11 @@
 use Rattle.std.proofs.Common.{◌≡◌, ◌≤◌, length}
-use Rattle.watch_conf.specs.Quotes.{is_comment, words_at}
-use Rattle.watch_conf.specs.Quotes.Mode.{Between}
-use Rattle.watch_conf.proofs.quotes.after_spaces.Given as goal
+use Rattle.quoted_words.specs.Quotes.{mode_in, bytes_first, words_at}
+use Rattle.quoted_words.specs.Quotes.Mode.{Plain}
+use Rattle.quoted_words.proofs.quotes.word_and_rest.Given as goal
 
 abbrev pub invariant-loop-rest : goal.invariant-loop-rest
 invariant-loop-rest l = record {
-  comment : is_comment l.rest ≡ is_comment l.text;
-  words : words_at l.text Between ≡ words_at l.rest Between;
+  words : words_at l.text Plain ≡ bytes_first l.word.items (words_at l.rest (mode_in l.within));
   within : length l.rest ≤ length l.text;
 }
 

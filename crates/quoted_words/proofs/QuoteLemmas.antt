@@ -1,9 +1,9 @@
 -- Words that are read byte by byte.
-use Rattle.std.proofs.Common.{◌≡◌, ℕ, zero, suc, false, true, eqb, ◌<◌, List, [], ◌∷◌, ◌++◌, length, drop, Option, Some, None, refl, ap, sym, ◌∙◌, arith, ◌≤◌}
+use Rattle.std.proofs.Common.{◌≡◌, ℕ, zero, suc, false, true, eqb, ◌<◌, List, [], ◌∷◌, ◌++◌, length, drop, Option, Some, None, refl, ap, sym, ◌∙◌, arith, ◌≤◌, append_assoc}
 use Rattle.std.specs.Prelude.{slice_index}
-use Rattle.watch_conf.specs.declared.quotes.Quote.{Quote}
-use Rattle.watch_conf.specs.Quotes.{is_space, quote_byte, meant, mode_in, word_first, byte_first, bytes_first, words_at}
-use Rattle.watch_conf.specs.Quotes.Mode.{Between, Plain, Inside, Closed}
+use Rattle.quoted_words.specs.declared.quotes.Quote.{Quote}
+use Rattle.quoted_words.specs.Quotes.{is_space, quote_byte, meant, mode_in, word_first, byte_first, bytes_first, words_at, joined}
+use Rattle.quoted_words.specs.Quotes.Mode.{Between, Plain, Inside, Closed}
 
 -- bytes that belong to the one before them are passed over
 pub passed_over : (quote : Quote) (count : ℕ) (text : List ℕ) → words_at text (Inside quote count) ≡ words_at (drop count text) (Inside quote 0)
@@ -81,3 +81,8 @@ still_within a b c less most = omega arith
 
 pub then_shorter : (a b c : ℕ) → a < b → b ≤ c → a < c
 then_shorter a b c less most = omega arith
+
+-- one element more
+pub one_joined : {X : Type 0} (some : List X) (x : X) (others : Option (List X)) → joined some (joined (x ∷ []) others) ≡ joined (some ++ x ∷ []) others
+one_joined some x None = refl
+one_joined some x (Some others) = ap Some (sym (append_assoc some (x ∷ []) others))

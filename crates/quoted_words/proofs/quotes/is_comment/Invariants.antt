@@ -1,6 +1,6 @@
 use Rattle.std.proofs.Common.{◌≡◌, length}
-use Rattle.watch_conf.specs.Quotes.{is_comment}
-use Rattle.watch_conf.proofs.quotes.is_comment.Given as goal
+use Rattle.quoted_words.specs.Quotes.{is_comment}
+use Rattle.quoted_words.proofs.quotes.is_comment.Given as goal
 
 abbrev pub invariant-loop-rest : goal.invariant-loop-rest
 invariant-loop-rest l = is_comment l.rest ≡ is_comment l.text
