@@ -23,7 +23,7 @@ use std::rt::Clock;
 use std::sync::Wait;
 use std::thread::Threads;
 use tcp_wires::Logins;
-use watch_conf::{CLIENTS_MAX, EVERYWHERE, WatchConf, WatchFault, WatchKind, read_watch};
+use watch_conf::{EVERYWHERE, WatchConf, WatchFault, WatchKind, read_watch};
 
 /// Why a Sentinel didn't run, or ended.
 #[derive(Drop)]
@@ -71,14 +71,13 @@ fn logins_of(alloc: Global, roster: &Roster, watch: &WatchConf) -> Result<Logins
 }
 
 /// Whom its port lets in: in the protected mode, where no line says at which ips it listens and no password is wanted, the clients of this machine alone.
-/// Where no line says less than the most connections that a port keeps, a further one is closed and told nothing.
+/// The client of a connection beyond the most that it keeps is told so.
 fn admission_of(alloc: Global, watch: &WatchConf) -> Result<Admission, AllocError> {
     let password = Vec::from_slice(alloc, watch.own_pass())?;
     let listens_everywhere = watch.ips() == [EVERYWHERE].as_slice();
-    let most = watch.max_clients();
     Ok(Admission {
         near_only: watch.protected_mode() && listens_everywhere && password.is_empty(),
-        limit: if most < CLIENTS_MAX { Some(most) } else { None },
+        limit: Some(watch.max_clients()),
         password: Text::from_vec(password),
     })
 }
