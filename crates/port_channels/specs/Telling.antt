@@ -1,5 +1,6 @@
 -- What a connection is told of an event: a text on a channel.
-use Rattle.std.specs.Prelude.{ℕ, true, false, List, [], ◌∷◌, codes}
+use Rattle.std.specs.Prelude.{ℕ, Bool, true, false, ◌||◌, List, [], ◌∷◌, codes}
+use Rattle.std.specs.List.{list_any}
 use Rattle.resp2_frames.specs.Frame.{Frame, FrameList, bulk, items, no_frames, frame, frames_of}
 use Rattle.port_channels.specs.declared.channel.Channel.{Channel}
 use Rattle.port_channels.specs.declared.channel.Channel.TheVariants.{SubjectivelyDown, SubjectivelyUp, ObjectivelyDown, ObjectivelyUp, NewEpoch, TryFailover, VoteForLeader, ElectedLeader, SelectReplica, SelectedReplica, SendReplicaOfNoOne, PromotedReplica, SwitchMaster, ReplicaReconfigured, FailoverEnd, AbortReplicaTimeout, AbortNotElected, AbortNoGoodReplica, ConfigUpdateFrom, ConvertToReplica, FixReplicaConfig, TiltEntered, TiltExited}
@@ -56,3 +57,7 @@ told l channel text =
       | true ↦ frame (message channel text) (told_for l.patterns channel text)
       | false ↦ told_for l.patterns channel text
     ]
+
+-- it is told anything on this channel
+abbrev pub hears : Listening → (channel : List ℕ) → Bool
+hears l channel = holds l.channels channel || list_any (λ pattern. matches pattern channel) l.patterns
