@@ -7,7 +7,7 @@ returns-clause-received g c =
     let before = c.args.self.now in
     let known = c.learn_masters.new.self in
     let after = c.answer_whole.new.self in
-    piece_received c.args.cell.now.start c.args.now c.feed.result c.answer_whole.result before.attendant known.attendant c.feed.new.self after.attendant before.knows_masters
+    piece_received c.args.cell.now.start c.args.now c.feed.result c.answer_whole.result before.attendant known.attendant c.feed.new.self after.attendant before.subscriptions known.subscriptions after.subscriptions before.knows_masters
     c.args.piece.now before.unsent.items known.unsent.items after.unsent.items before.session known.session after.session c.args.seat.now.view
     c.answer_whole.new.seat.view c.requires.ready.reads c.in_ok-learn_masters.ensures.attendant c.feed.ensures.asker (sym c.is_err.ensures.value ∙ c.if-is_err.false)
-    c.feed.ensures.held (ap (λ u. u.items) c.learn_masters.ensures.unsent) c.learn_masters.ensures.session c.answer_whole.ensures.answered
+    c.feed.ensures.held (ap (λ u. u.items) c.learn_masters.ensures.unsent) c.learn_masters.ensures.session.0 c.learn_masters.ensures.session.1 c.answer_whole.ensures.answered
