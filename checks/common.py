@@ -1,4 +1,4 @@
-"""What the checks share: the program, what a check needs, commands as RESP2, conf files, free ports, counts.
+"""What the checks share: the program, what a check needs, commands as RESP2, conf files, free ports, clients, counts.
 
 A check begins with comments that `checks/all` and `common.need()` read:
 
@@ -17,6 +17,7 @@ import re
 import shutil
 import socket
 import sys
+import time
 
 TOP = os.path.dirname(os.path.dirname(os.path.realpath(__file__)))
 sys.path.insert(0, os.path.join(TOP, "tools"))
@@ -138,6 +139,42 @@ def free_ports(count):
         if all(map(is_free, ports)):
             return ports
     raise RuntimeError(f"no {count} ports in a row are free")
+
+
+# --- clients ---
+
+
+class Client:
+    """A connection to a port, whose answers are read one by one."""
+
+    def __init__(self, port, ip="127.0.0.1"):
+        for _ in range(200):
+            try:
+                self.socket = socket.create_connection((ip, port), timeout=20)
+                break
+            except ConnectionRefusedError:
+                time.sleep(0.05)
+        self.reader = self.socket.makefile("rb")
+
+    def answer(self):
+        """The bytes of the next value; what came where the stream ended."""
+        line = self.reader.readline()
+        if line[:1] == b"*":
+            return line + b"".join(self.answer() for _ in range(int(line[1:])))
+        if line[:1] == b"$" and line != b"$-1\r\n":
+            return line + self.reader.read(int(line[1:]) + 2)
+        return line
+
+    def ask(self, *words):
+        self.socket.sendall(command(*words))
+        return self.answer()
+
+    def __enter__(self):
+        return self
+
+    def __exit__(self, *_):
+        self.reader.close()
+        self.socket.close()
 
 
 # --- counts ---

@@ -1,10 +1,13 @@
 //! The connections of a port.
 
-ghost use Rattle.std.specs.Prelude.{◌≡◌, ◌≢◌, ◌≤◌, ℕ};
+ghost use Rattle.std.specs.Prelude.{◌≡◌, ◌≢◌, ◌≤◌, ℕ, IfOk};
 ghost use Rattle.slab.specs.Slab.{get, slab_len};
+ghost use Rattle.courteous_sessions.specs.Clients.{begun};
+ghost use Rattle.group_ports.specs.Admitting.{admitting};
 
 use crate::connection::Connection;
 use crate::port_room::{CONNECTIONS_MAX, PortRoom};
+use ballot_law::{NoMemory, Text};
 use conf_store::ConfStore;
 use courteous_sessions::ClientSession;
 use group_sentinels::{News, RunState, RunningSentinel, ThreadSeat, Which};
@@ -26,7 +29,8 @@ const WAIT_MS: u64 = 100;
 /// The connections that a thread of a port has, no more than its part of the port's room.
 ///
 /// `busy` is whether there is something to do before the next wait, and `last_voter` the key of the connection that asked for a vote last. `next_id` is the
-/// number of the next connection: no other one of the port has it, since each of its threads has its own numbers.
+/// number of the next connection: no other one of the port has it, since each of its threads has its own numbers. `password` is the one that is wanted of
+/// each client, where it isn't empty.
 #[derive(Drop)]
 pub(crate) struct Clients {
     poll: Poll,
@@ -35,18 +39,21 @@ pub(crate) struct Clients {
     busy: bool,
     last_voter: usize,
     next_id: u64,
+    password: Text,
     alloc: Global,
     ghost few: { slab_len connections ≤ room.each },
 }
 
 impl Clients {
-    /// None yet, of the thread with this number with its part of this room.
+    /// None yet, of the thread with this number with its part of this room, of whose clients this password is wanted.
     pub(crate) fn open<N: Net>(
         net: &N,
         alloc: Global,
         room: PortRoom,
         thread: u16,
+        password: &Text,
     ) -> io::Result<Clients> {
+        let password = Text::from_vec(Vec::from_slice(alloc, password.as_slice())?);
         Ok(Clients {
             poll: Poll::new(net)?,
             connections: Slab::new(alloc),
@@ -54,6 +61,7 @@ impl Clients {
             busy: false,
             last_voter: 0,
             next_id: u64::from(thread) + 1,
+            password,
             alloc,
         })
     }
@@ -95,14 +103,27 @@ impl Clients {
         drop(self.try_keep(stream));
     }
 
-    /// Keeps a connection where there is room for it, and else drops it. What is sent on it doesn't wait until the client has acknowledged what was sent
+    /// A session of the next connection.
+    fn next_session(&self) -> Result<ClientSession, NoMemory>
+        ensures { IfOk result (λ session. session ≡ admitting self.now.password (begun self.now.room.courteous self.now.next_id)) }
+    {
+        let mut session = ClientSession::new(self.alloc, self.room.courteous(), self.next_id);
+        if !self.password.as_slice().is_empty() {
+            session.want_password(Text::from_slice(self.alloc, self.password.as_slice())?);
+        }
+        Ok(session)
+    }
+
+    /// Keeps a connection where there is room and memory for it, and else drops it. What is sent on it doesn't wait until the client has acknowledged what was sent
     /// before, as a note after another one would.
     fn try_keep(&mut self, mut stream: TcpStream) -> io::Result<()> {
         if self.connections.len() >= self.room.each() {
             return Ok(());
         }
         stream.set_nodelay(true)?;
-        let session = ClientSession::new(self.alloc, self.room.courteous(), self.next_id);
+        let Ok(session) = self.next_session() else {
+            return Ok(());
+        };
         self.next_id = self.next_id.saturating_add(u64::from(self.room.threads()));
         let key = self.connections.vacant_key();
         self.poll.registry().register(

@@ -4,6 +4,7 @@
 //! one store. What a client's bytes mean is its session's to say.
 #![tactic(auto)]
 
+mod admission;
 mod budget;
 mod clients;
 mod connection;
@@ -13,6 +14,7 @@ mod port;
 mod port_room;
 mod read_buffer;
 
+pub use admission::Admission;
 pub use budget::{connections_beside, connections_of_each};
 pub use port::Port;
 pub use port_room::{CONNECTIONS_MAX, PortRoom};

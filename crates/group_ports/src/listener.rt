@@ -1,5 +1,6 @@
 //! Where the connections of a port come from, and which of its threads has them.
 
+use crate::admission::{Admission, Arrival, arrival_of, refuse_foreign, refuse_further};
 use crate::clients::Clients;
 use crate::desk::Desk;
 use mio::net::{TcpListener, TcpStream};
@@ -27,22 +28,25 @@ enum Stopped {
 }
 
 /// The sockets that listen, with the desks of the threads that they hand connections to. `accepts` is whether connections may wait there of which the
-/// system doesn't tell again.
+/// system doesn't tell again; `limit` and `near_only` are those of the port's `Admission`.
 #[derive(Drop)]
 pub(crate) struct Listener {
     sockets: Vec<TcpListener>,
     desks: Vec<Arc<Desk, Global>>,
+    limit: Option<u16>,
+    near_only: bool,
     accepts: bool,
 }
 
 impl Listener {
-    /// Listens at these addresses, for the thread that waits by this registry and those of these desks.
+    /// Listens at these addresses for whom the port lets in, for the thread that waits by this registry and those of these desks.
     pub(crate) fn open<N: Net>(
         net: &N,
         alloc: Global,
         registry: &Registry,
         addresses: &[SocketAddr],
         desks: Vec<Arc<Desk, Global>>,
+        admission: &Admission,
     ) -> io::Result<Listener> {
         let mut sockets = Vec::new(alloc);
         for address in addresses {
@@ -53,6 +57,8 @@ impl Listener {
         Ok(Listener {
             sockets,
             desks,
+            limit: admission.limit,
+            near_only: admission.near_only,
             accepts: false,
         })
     }
@@ -79,6 +85,25 @@ impl Listener {
         }
     }
 
+    /// How many connections the port has, where this thread has `own` of them.
+    fn count<R: Wait>(&self, rt: &R, own: usize) -> usize {
+        let mut count = own;
+        for desk in &self.desks {
+            count = count.saturating_add(desk.count(rt));
+        }
+        count
+    }
+
+    /// Keeps a connection from this machine or from another one, or tells its client why it is closed.
+    fn take_in<R: Wait>(&self, rt: &R, clients: &mut Clients, stream: TcpStream, is_near: bool) {
+        let count = self.count(rt, clients.count());
+        match arrival_of(self.limit, self.near_only, is_near, count) {
+            Arrival::Kept => self.give(rt, clients, stream),
+            Arrival::Denied => refuse_foreign(stream),
+            Arrival::TooMany => refuse_further(stream),
+        }
+    }
+
     /// The system told of connections, which are accepted when it is asked the next time.
     pub(crate) fn note_event(&mut self) {
         self.accepts = true;
@@ -88,7 +113,9 @@ impl Listener {
     fn accept_at<R: Wait>(&self, rt: &R, clients: &mut Clients, socket: &TcpListener) -> Stopped {
         for _ in 0..ACCEPTS_MAX {
             match socket.accept() {
-                Ok((stream, _)) => self.give(rt, clients, stream),
+                Ok((stream, address)) => {
+                    self.take_in(rt, clients, stream, address.ip().is_loopback());
+                }
                 Err(error) => match error.kind() {
                     ErrorKind::WouldBlock => return Stopped::NoneWait,
                     ErrorKind::Interrupted | ErrorKind::ConnectionAborted => {}

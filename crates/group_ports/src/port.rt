@@ -2,6 +2,7 @@
 
 ghost use Rattle.std.specs.Prelude.{◌≡◌, ◌+◌, IfOk, length};
 
+use crate::admission::Admission;
 use crate::clients::Clients;
 use crate::desk::Desk;
 use crate::listener::{Entrance, LISTENER, Listener};
@@ -39,7 +40,7 @@ impl Port {
         })
     }
 
-    /// Listens on 127.0.0.1 at this port, as `open_at` does.
+    /// Listens on 127.0.0.1 at this port for each client, as `open_at` does.
     pub fn open<N: Net>(
         net: &N,
         alloc: Global,
@@ -49,10 +50,10 @@ impl Port {
         ensures { IfOk result (λ parts. length parts.1.items + 1 ≡ room.threads) }
     {
         let address = SocketAddr::from((Ipv4Addr::LOCALHOST, port));
-        Port::open_at(net, alloc, &[address], room)
+        Port::open_at(net, alloc, &[address], room, &Admission::of_all(alloc))
     }
 
-    /// Listens at these addresses, with so much room for all of them: what the first thread serves, and what each further one does, in their order. The
+    /// Listens at these addresses for whom the port lets in, with so much room for all of them: what the first thread serves, and what each further one does, in their order. The
     /// first one accepts, and each connection goes to the thread that has the fewest; one for which none has room is closed. An error is the system's, as
     /// where a port is taken; `OutOfMemory` is a refused allocation.
     pub fn open_at<N: Net>(
@@ -60,20 +61,21 @@ impl Port {
         alloc: Global,
         addresses: &[SocketAddr],
         room: PortRoom,
+        admission: &Admission,
     ) -> io::Result<(Port, Vec<Port>)>
         ensures { IfOk result (λ parts. length parts.1.items + 1 ≡ room.threads) }
     {
         let mut desks = Vec::new(alloc);
         let mut others = Vec::new(alloc);
         for thread in 1..room.threads() {
-            let clients = Clients::open(net, alloc, room, thread)?;
+            let clients = Clients::open(net, alloc, room, thread, &admission.password)?;
             let desk = Arc::new(alloc, Desk::open(alloc, clients.registry(), room.each())?)?;
             let entrance = Entrance::IsHanded(Arc::try_clone(&desk)?);
             desks.push(desk)?;
             others.push(Port::of(alloc, clients, entrance, thread)?)?;
         }
-        let clients = Clients::open(net, alloc, room, 0)?;
-        let listener = Listener::open(net, alloc, clients.registry(), addresses, desks)?;
+        let clients = Clients::open(net, alloc, room, 0, &admission.password)?;
+        let listener = Listener::open(net, alloc, clients.registry(), addresses, desks, admission)?;
         let first = Port::of(alloc, clients, Entrance::Listens(listener), 0)?;
         Ok((first, others))
     }

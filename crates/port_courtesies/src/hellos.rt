@@ -208,8 +208,8 @@ fn say_welcome(asker: &Asker, admitted: bool, out: &mut OutText) -> Result<(), N
     say_hello(out, asker.id())
 }
 
-#[tactic(auto, using(crate::proofs::Bytes::refused_welcome, crate::proofs::Bytes::plain_welcome))]
 /// What the options of HELLO for protocol 2 leave a connection, and the answer.
+#[tactic(auto, using(crate::proofs::Bytes::refused_welcome, crate::proofs::Bytes::plain_welcome))]
 fn welcome<'a>(
     asker: &'a Asker,
     words: &'a [Text],

@@ -5,7 +5,7 @@ ghost use Rattle.sentinel_outbox.specs.declared.phase.Phase.TheVariants.{Ready};
 
 use crate::given::{number, number_16, says};
 use crate::told::{Told, Unplayed};
-use ballot_law::{Addr, Card, Note};
+use ballot_law::{Addr, Card, Note, Text};
 use conf_store::MemoryStore;
 use courteous_sessions::ClientSession;
 use port_serving::ServeFault;
@@ -154,6 +154,13 @@ impl Talk {
         self.first = ClientSession::new(self.alloc, self.courteous, 1);
     }
 
+    /// From now on the first client is to give this password.
+    fn want_password(&mut self, password: &[u8]) -> Result<(), Unplayed> {
+        self.first
+            .want_password(Text::from_slice(self.alloc, password)?);
+        Ok(())
+    }
+
     /// Tells what the first client wasn't sent; where a session lacked memory, that is to begin with what it had put out.
     fn tell_unsent(&self, told: &mut Told) -> Result<(), Unplayed> {
         if !self.first.unsent().starts_with(&self.part) {
@@ -220,6 +227,10 @@ impl Talk {
             ("hears", [epoch, port, entry]) => {
                 let note = moved(number(epoch)?, number_16(port)?);
                 told.yes(self.hear(&note, number(entry)?)?)
+            }
+            ("wants_password", [password]) => {
+                self.want_password(password)?;
+                told.ok()
             }
             ("begins_anew", []) => {
                 self.begin_anew();

@@ -3,7 +3,7 @@
 use crate::commands::{array, value_of};
 use crate::told::{Told, Unplayed};
 use ballot_law::{Name, Text};
-use port_courtesies::{Asker, Attendant, Courtesy, courtesy_of, info};
+use port_courtesies::{Asker, Attendant, Courtesy, courtesy_of, info, wide};
 use resp2_frames::{FrameFault, OutText};
 use std::alloc::Global;
 
@@ -19,19 +19,30 @@ fn asker(alloc: Global, name: &[u8], listens: bool) -> Result<Asker, Unplayed> {
         name: Text::from_slice(alloc, name)?,
         listens,
         masters,
+        password: None,
+        admitted: false,
     })
+}
+
+/// The connection with no name of whose client the password `secret` is wanted; whether the client gave it.
+fn locked(alloc: Global, admitted: bool) -> Result<Asker, Unplayed> {
+    let mut asker = asker(alloc, b"", false)?;
+    asker.password = Some(Text::from_slice(alloc, b"secret")?);
+    asker.admitted = admitted;
+    Ok(asker)
 }
 
 /// Tells what becomes of a value, and the text that goes with it.
 fn tell_kind(kind: Courtesy, text: &[u8], told: &mut Told) -> Result<(), Unplayed> {
     match kind {
         Courtesy::Left => told.word("left"),
+        Courtesy::Widens => told.word("widens"),
         Courtesy::Said => told.bytes(text),
         Courtesy::AsksMasters => told.word("asks_masters"),
     }
 }
 
-/// Tells what becomes of a command of a connection, and the name that it has then.
+/// Tells what becomes of a command of a connection, whether its client gave the password then that is wanted, and the name that it has.
 fn tell(
     alloc: Global,
     asker: &mut Asker,
@@ -41,6 +52,9 @@ fn tell(
     let mut out = OutText::new(alloc);
     let kind = courtesy_of(alloc, asker, &array(alloc, words)?, &mut out)?;
     tell_kind(kind, out.as_slice(), told)?;
+    if asker.password.is_some() && asker.admitted {
+        told.word("admitted")?;
+    }
     if asker.name.as_slice().is_empty() {
         return Ok(());
     }
@@ -65,8 +79,25 @@ fn tell_info(
     told.bytes(out.as_slice())
 }
 
-/// Tells what becomes of the values that are whole, a value that is left by its bytes; of INFO also its answer, where SENTINEL MASTERS is answered with
-/// no masters. Whether the stream goes on.
+/// Tells the answer to a command with these words with redis-sentinel's fields, where a Sentinel answers it with `answer`.
+fn tell_wide(
+    alloc: Global,
+    answer: &[u8],
+    words: &[Vec<u8>],
+    told: &mut Told,
+) -> Result<(), Unplayed> {
+    let mut out = OutText::new(alloc);
+    wide(
+        alloc,
+        &array(alloc, words)?,
+        &value_of(alloc, answer)?,
+        &mut out,
+    )?;
+    told.bytes(out.as_slice())
+}
+
+/// Tells what becomes of the values that are whole, a value that is left by its bytes; of INFO also its answer, and of a command whose answer is told with
+/// more fields its bytes and that answer, where the Sentinel answers with no masters. Whether the stream goes on.
 fn tell_whole(alloc: Global, attendant: &mut Attendant, told: &mut Told) -> Result<bool, Unplayed> {
     for _ in 0..u64::MAX {
         let kind = match attendant.attend() {
@@ -82,6 +113,11 @@ fn tell_whole(alloc: Global, attendant: &mut Attendant, told: &mut Told) -> Resu
         match kind {
             Courtesy::Said => {}
             Courtesy::Left => told.bytes(attendant.text())?,
+            Courtesy::Widens => {
+                told.bytes(attendant.text())?;
+                attendant.widen(&array(alloc, &[])?)?;
+                told.bytes(attendant.text())?;
+            }
             Courtesy::AsksMasters => {
                 attendant.inform(&array(alloc, &[])?)?;
                 told.bytes(attendant.text())?;
@@ -94,21 +130,38 @@ fn tell_whole(alloc: Global, attendant: &mut Attendant, told: &mut Told) -> Resu
 /// Tells what becomes of the values of a stream that comes in these pieces.
 fn tell_stream(
     alloc: Global,
-    listens: bool,
+    attendant: &mut Attendant,
     pieces: &[Vec<u8>],
     told: &mut Told,
 ) -> Result<(), Unplayed> {
-    let mut attendant = Attendant::new(alloc, asker(alloc, b"", false)?);
-    attendant.note_listening(listens);
     for piece in pieces {
         if let Err(FrameFault::NoMemory) = attendant.feed(piece) {
             return Err(Unplayed::NoMemory);
         }
-        if !tell_whole(alloc, &mut attendant, told)? {
+        if !tell_whole(alloc, attendant, told)? {
             return Ok(());
         }
     }
     Ok(())
+}
+
+/// One that attends to a stream of the connection with no name.
+fn attendant(alloc: Global) -> Result<Attendant, Unplayed> {
+    Ok(Attendant::new(alloc, asker(alloc, b"", false)?))
+}
+
+/// One that attends to a stream of the connection once it listens.
+fn listening(alloc: Global) -> Result<Attendant, Unplayed> {
+    let mut attendant = attendant(alloc)?;
+    attendant.note_listening(true);
+    Ok(attendant)
+}
+
+/// One that attends to a stream of the connection once a password is wanted of its client.
+fn demanding(alloc: Global) -> Result<Attendant, Unplayed> {
+    let mut attendant = attendant(alloc)?;
+    attendant.want_password(Text::from_slice(alloc, b"secret")?);
+    Ok(attendant)
 }
 
 /// Tells what comes of a call with these words.
@@ -121,10 +174,14 @@ pub(crate) fn play(
     match (call, words) {
         ("ask", words) => tell(alloc, &mut asker(alloc, b"", false)?, words, told),
         ("ask_listening", words) => tell(alloc, &mut asker(alloc, b"", true)?, words, told),
+        ("ask_locked", words) => tell(alloc, &mut locked(alloc, false)?, words, told),
+        ("ask_admitted", words) => tell(alloc, &mut locked(alloc, true)?, words, told),
         ("ask_as", [name, words @ ..]) => tell(alloc, &mut asker(alloc, name, false)?, words, told),
         ("info", [masters, words @ ..]) => tell_info(alloc, masters, words, told),
-        ("attend", pieces) => tell_stream(alloc, false, pieces, told),
-        ("attend_listening", pieces) => tell_stream(alloc, true, pieces, told),
+        ("widen", [answer, words @ ..]) => tell_wide(alloc, answer, words, told),
+        ("attend", pieces) => tell_stream(alloc, &mut attendant(alloc)?, pieces, told),
+        ("attend_listening", pieces) => tell_stream(alloc, &mut listening(alloc)?, pieces, told),
+        ("attend_locked", pieces) => tell_stream(alloc, &mut demanding(alloc)?, pieces, told),
         _ => Err(Unplayed::NoSuchCall),
     }
 }

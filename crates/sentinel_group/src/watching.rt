@@ -9,8 +9,9 @@ use crate::locks::{FileLock, lock_file, refuse_lock};
 use crate::noted_store::NotedStore;
 use crate::starting::note_sentinel;
 use crate::telling::tell_faults;
-use ballot_law::Roster;
+use ballot_law::{Roster, Text};
 use clap::ArgMatches;
+use group_ports::Admission;
 use log::{LevelFilter, Log};
 use port_serving::ServeFault;
 use sentinel_conf::{Conf, read};
@@ -22,7 +23,7 @@ use std::rt::Clock;
 use std::sync::Wait;
 use std::thread::Threads;
 use tcp_wires::Logins;
-use watch_conf::{WatchConf, WatchFault, WatchKind, read_watch};
+use watch_conf::{CLIENTS_MAX, EVERYWHERE, WatchConf, WatchFault, WatchKind, read_watch};
 
 /// Why a Sentinel didn't run, or ended.
 #[derive(Drop)]
@@ -69,6 +70,19 @@ fn logins_of(alloc: Global, roster: &Roster, watch: &WatchConf) -> Result<Logins
     Ok(logins)
 }
 
+/// Whom its port lets in: in the protected mode, where no line says at which ips it listens and no password is wanted, the clients of this machine alone.
+/// Where no line says less than the most connections that a port keeps, a further one is closed and told nothing.
+fn admission_of(alloc: Global, watch: &WatchConf) -> Result<Admission, AllocError> {
+    let password = Vec::from_slice(alloc, watch.own_pass())?;
+    let listens_everywhere = watch.ips() == [EVERYWHERE].as_slice();
+    let most = watch.max_clients();
+    Ok(Admission {
+        near_only: watch.protected_mode() && listens_everywhere && password.is_empty(),
+        limit: if most < CLIENTS_MAX { Some(most) } else { None },
+        password: Text::from_vec(password),
+    })
+}
+
 /// What the lines say that count for `watch` alone, as its Sentinel takes it.
 fn taken_settings(
     alloc: Global,
@@ -79,6 +93,7 @@ fn taken_settings(
     Ok(WatchSettings {
         ips: Vec::from_slice(alloc, watch.ips())?,
         port,
+        admission: admission_of(alloc, watch)?,
         logins: logins_of(alloc, roster, watch)?,
     })
 }

@@ -9,7 +9,7 @@ use crate::group_fault::GroupFault;
 use crate::opened::{Opened, PortSettings, fault_of};
 use crate::port_parts::{PortPart, ServesPort, end_for_want, note_lost, parts_of, serve_parts};
 use conf_store::ConfStore;
-use group_ports::{Port, PortRoom, connections_beside};
+use group_ports::{Admission, Port, PortRoom, connections_beside};
 use group_sentinels::{GroupClock, RunState, RunningSentinel, ThreadSeat, Which};
 use log::{Log, warn};
 use sentinel_conf::{Conf, ConfText, rewrite_into};
@@ -34,6 +34,8 @@ pub struct WatchSettings {
     pub ips: Vec<u32>,
     /// How the port is served.
     pub port: PortSettings,
+    /// Whom the port lets in.
+    pub admission: Admission,
     /// With which words it logs in to the nodes of each master.
     pub logins: Logins,
 }
@@ -116,18 +118,19 @@ fn addresses_of(alloc: Global, ips: &[u32], number: u16) -> Result<Vec<SocketAdd
     Ok(addresses)
 }
 
-/// The port of this number at these ips, with so much room: what its first thread serves, and what each further one does.
+/// The port of this number at these ips, for whom it lets in, with so much room: what its first thread serves, and what each further one does.
 fn port_of<R: Net + Log>(
     rt: &R,
     alloc: Global,
     number: u16,
     ips: &[u32],
     room: PortRoom,
+    admission: &Admission,
 ) -> Result<(Port, Vec<Port>), GroupFault>
     ensures { IfOk result (λ parts. length parts.1.items + 1 ≡ room.threads) }
 {
     let addresses = addresses_of(alloc, ips, number)?;
-    match Port::open_at(rt, alloc, addresses.as_slice(), room) {
+    match Port::open_at(rt, alloc, addresses.as_slice(), room, admission) {
         Ok(parts) => Ok(parts),
         Err(error) => {
             if error.kind() != ErrorKind::OutOfMemory {
@@ -151,11 +154,16 @@ impl<S: ConfStore + Drop> Watch<S> {
     ) -> Result<Watch<S>, GroupFault>
         requires { S.failure_count store < 2 ^ 64 - 1 }
     {
-        let WatchSettings { ips, port, logins } = settings;
+        let WatchSettings {
+            ips,
+            port,
+            admission,
+            logins,
+        } = settings;
         prove_store(alloc, &conf, &mut store)?;
         let (wires, far) = wires_of(rt, alloc, &conf, logins)?;
         let room = room_of(rt, alloc, &conf, port)?;
-        let ports = port_of(rt, alloc, conf.port(), ips.as_slice(), room)?;
+        let ports = port_of(rt, alloc, conf.port(), ips.as_slice(), room, &admission)?;
         let opened = Opened::with_port(alloc, conf, store, ports, room.threads(), BESIDE)?;
         let state = WatchState {
             run: RunState::new(GroupClock::start(rt)),
