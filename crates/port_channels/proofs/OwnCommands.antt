@@ -1,5 +1,5 @@
 -- What Pub/Sub makes of the commands of a Sentinel's rules.
-use Rattle.std.proofs.Common.{◌≡◌, ◌≢◌, ◌⊎◌, inl, inr, ℕ, List, [], ◌∷◌, Bool, true, false, Option, None, Some, Result, Ok, Err, refl, sym, ap, ◌∙◌, subst, true≢false}
+use Rattle.std.proofs.Common.{◌≡◌, ◌≢◌, ◌⊎◌, inl, inr, ℕ, List, [], ◌∷◌, Bool, true, false, Option, None, Some, Result, Ok, Err, refl, ap, ◌∙◌}
 use Rattle.std.specs.Prelude.{bytes_eq, codes, if◌then◌else◌}
 use Rattle.std.proofs.lemmas.Slice.Eq.{bytes_eq-Decides}
 use Rattle.ballot_law.specs.declared.commands.Command.{Command}
@@ -18,7 +18,7 @@ use Rattle.port_channels.specs.declared.kind.Kind.TheVariants.{Channels, Pattern
 use Rattle.port_channels.specs.declared.verb.Verb.{Verb}
 use Rattle.port_channels.specs.declared.verb.Verb.TheVariants.{Adds, Removes, Pings}
 use Rattle.port_channels.specs.Listening.{Listening, refusal, is_listening}
-use Rattle.port_channels.specs.Answering.{Answer, other, said, verb_of, names_of, subscribed, adds, pings, where_listening, executed, is_own, own, known, answer_words, answer, IsSaid}
+use Rattle.port_channels.specs.Answering.{Answer, other, verb_of, names_of, subscribed, adds, pings, where_listening, is_own, own, known, answer_words, answer, IsSaid}
 
 -- ---- no subcommand of SENTINEL is SUBSCRIBE
 
