@@ -1,5 +1,5 @@
 -- What Pub/Sub makes of the commands of a Sentinel's rules.
-use Rattle.std.proofs.Common.{◌≡◌, ◌≢◌, ◌⊎◌, inl, inr, ℕ, List, [], ◌∷◌, Bool, true, false, Option, None, Some, Result, Ok, Err, refl, sym, ap, ◌∙◌, subst, true≢false}
+use Rattle.std.proofs.Common.{◌≡◌, ◌≢◌, ◌⊎◌, inl, inr, ℕ, List, [], ◌∷◌, Bool, true, false, Option, None, Some, Result, Ok, Err, refl, ap, ◌∙◌}
 use Rattle.std.specs.Prelude.{bytes_eq, codes, if◌then◌else◌}
 use Rattle.std.proofs.lemmas.Slice.Eq.{bytes_eq-Decides}
 use Rattle.ballot_law.specs.declared.commands.Command.{Command}
@@ -18,7 +18,7 @@ use Rattle.port_channels.specs.declared.kind.Kind.TheVariants.{Channels, Pattern
 use Rattle.port_channels.specs.declared.verb.Verb.{Verb}
 use Rattle.port_channels.specs.declared.verb.Verb.TheVariants.{Adds, Removes, Pings}
 use Rattle.port_channels.specs.Listening.{Listening, refusal, is_listening}
-use Rattle.port_channels.specs.Answering.{Answer, other, said, verb_of, names_of, subscribed, adds, pings, where_listening, executed, is_own, own, known, answer_words, answer, IsSaid}
+use Rattle.port_channels.specs.Answering.{Answer, other, verb_of, names_of, subscribed, adds, pings, where_listening, is_own, own, known, answer_words, answer, IsSaid}
 
 -- ---- no subcommand of SENTINEL is SUBSCRIBE
 
@@ -64,25 +64,38 @@ AllNever [] = Unit {0}
 AllNever (entry ∷ entries) = NeverSubscribes entry.1 × AllNever entries
 
 called_never : (entries : List Entry) → AllNever entries → (name : List ℕ) → NeverSubscribes (called_in entries name)
-called_never [] all name args command h is = absurd (let no : ⊥ = cc in no)
-called_never (entry ∷ entries) all name args command h = at (commands.is_called entry.0 name) h where
-  at : (b : Bool) → (if b then entry.1 args else called_in entries name args) ≡ Ok command → command ≢ Subscribe
-  at true e = all.0 args command e
-  at false e = called_never entries all.1 name args command e
+called_never [] all name args command h = absurd (let no : ⊥ = cc in no)
+called_never (entry ∷ entries) all name args command h = at (commands.is_called entry.0 name) (called_never entries all.1 name args command) h where
+  at : (b : Bool) → (called_in entries name args ≡ Ok command → command ≢ Subscribe) → (if b then entry.1 args else called_in entries name args) ≡ Ok command
+      → command ≢ Subscribe
+  at true later e = all.0 args command e
+  at false later e = later e
 
 all_never : AllNever subcommands
 all_never = (
   ask_never,
-  about_never GetMasterAddrByName (λ n e. let no : ⊥ = cc in no),
-  alone_never Masters (λ e. let no : ⊥ = cc in no),
-  about_never Master (λ n e. let no : ⊥ = cc in no),
-  about_never Replicas (λ n e. let no : ⊥ = cc in no),
-  about_never Replicas (λ n e. let no : ⊥ = cc in no),
-  about_never Sentinels (λ n e. let no : ⊥ = cc in no),
-  alone_never MyId (λ e. let no : ⊥ = cc in no),
-  about_never CkQuorum (λ n e. let no : ⊥ = cc in no),
-  alone_never FlushConfig (λ e. let no : ⊥ = cc in no),
-  tt,
+  (
+    about_never GetMasterAddrByName (λ n e. let no : ⊥ = cc in no),
+    (
+      alone_never Masters (λ e. let no : ⊥ = cc in no),
+      (
+        about_never Master (λ n e. let no : ⊥ = cc in no),
+        (
+          about_never Replicas (λ n e. let no : ⊥ = cc in no),
+          (
+            about_never Replicas (λ n e. let no : ⊥ = cc in no),
+            (
+              about_never Sentinels (λ n e. let no : ⊥ = cc in no),
+              (
+                alone_never MyId (λ e. let no : ⊥ = cc in no),
+                (about_never CkQuorum (λ n e. let no : ⊥ = cc in no), (alone_never FlushConfig (λ e. let no : ⊥ = cc in no), tt)),
+              ),
+            ),
+          ),
+        ),
+      ),
+    ),
+  ),
 )
 
 sentinel_never : NeverSubscribes sentinel_command
@@ -93,8 +106,12 @@ sentinel_never (name ∷ args) command h is = called_never subcommands all_never
 
 abbrev Case : List ℕ → Words → Command → Type 0
 Case name args command =
-    ((lower name ≡ codes "ping") × (args ≡ []))
+    ((lower name ≡ codes "ping") × (args ≡ []) × (command ≡ Ping))
     ⊎ (((lower name ≡ codes "sentinel") × (command ≢ Subscribe)) ⊎ ((lower name ≡ codes "subscribe") × (command ≡ Subscribe)))
+
+alone_same : (c : Command) (args : Words) (command : Command) → alone c args ≡ Ok command → command ≡ c
+alone_same c [] command h = cc
+alone_same c (a ∷ more) command h = absurd (let no : ⊥ = cc in no)
 
 alone_empty : (c : Command) (args : Words) (command : Command) → alone c args ≡ Ok command → args ≡ []
 alone_empty c [] command h = refl
@@ -113,7 +130,7 @@ case_at : (p s u : Bool) (name : List ℕ) (args : Words) (command : Command) �
     → (if p then alone Ping args else (if s then sentinel_command args else (if u then subscribe args else Err UnknownCommand))) ≡ Ok command
     → Case name args command
 case_at true s u name args command is_ping is_sentinel is_subscribe h =
-    inl ((bytes_eq-Decides (lower name) (codes "ping")).0 is_ping, alone_empty Ping args command h)
+    inl ((bytes_eq-Decides (lower name) (codes "ping")).0 is_ping, alone_empty Ping args command h, alone_same Ping args command h)
 case_at false true u name args command is_ping is_sentinel is_subscribe h =
     inr (inl ((bytes_eq-Decides (lower name) (codes "sentinel")).0 is_sentinel, sentinel_never args command h))
 case_at false false true name args command is_ping is_sentinel is_subscribe h =
@@ -125,7 +142,7 @@ case_of name args command h =
     case_at (bytes_eq (lower name) (codes "ping")) (bytes_eq (lower name) (codes "sentinel")) (bytes_eq (lower name) (codes "subscribe")) name args command refl refl refl h
 
 -- the command of Pub/Sub by its name in small letters
-verb_by : List ℕ → Option Verb
+abbrev verb_by : List ℕ → Option Verb
 verb_by name =
     elim (bytes_eq name (lower (codes "subscribe"))) as (λ _. Option Verb) [
       | true ↦ Some (Adds Channels)
@@ -221,7 +238,7 @@ other_at name args command l h not (inr (inl c)) =
 other_at name args command l h not (inr (inr c)) = absurd (not c.1)
 
 said_subscribe : (name : List ℕ) (args : Words) (l : Listening) → Case name args Subscribe → IsSaid (known (verb_of name) args (own true (name ∷ args) l) l)
-said_subscribe name args l (inl c) = absurd (let no : ⊥ = cc in no)
+said_subscribe name args l (inl c) = absurd (let is : Subscribe ≡ Ping = c.2 in let no : ⊥ = cc in no)
 said_subscribe name args l (inr (inl c)) = absurd (c.1 refl)
 said_subscribe name args l (inr (inr c)) = subscribe_at name args (own true (name ∷ args) l) l c.0
 
