@@ -1,5 +1,5 @@
 -- What a session with courtesies keeps of the one without.
-use Rattle.std.proofs.Common.{◌≡◌, ◌∙◌, ℕ, Bool, true, false, ◌||◌, List, Option, None, Some, refl, ap, sym, subst, Ok, Result, true≢false}
+use Rattle.std.proofs.Common.{◌≡◌, ◌∙◌, ◌⊎◌, inl, inr, ℕ, Bool, true, false, ◌||◌, List, refl, ap, sym, subst, Ok, Err, Result, true≢false}
 use Rattle.std.specs.Prelude.{bytes_eq}
 use Rattle.std.specs.List.{list_any}
 use Rattle.ballot_law.specs.Rosters.{master_at}
@@ -12,23 +12,35 @@ use Rattle.port_channels.proofs.Sounding.{untold}
 use Rattle.port_sessions.specs.Listening.{note_text}
 use Rattle.ballot_law.specs.declared.commands.Command.{Command}
 use Rattle.port_courtesies.specs.Courtesies.{is_stranger, Asker, Answer, left, widens, said, asks_masters, courtesy, own_answer, table_of, kind_of}
-use Rattle.port_courtesies.specs.declared.tables.Table.{Table}
 use Rattle.port_courtesies.specs.declared.courtesies.Courtesy.TheVariants.{Said}
 use Rattle.port_courtesies.proofs.Strangers.{strangers_are_answered}
-use Rattle.port_courtesies.proofs.OwnValues.{own_is_left, own_is_same}
+use Rattle.port_courtesies.proofs.OwnValues.{own_is_left, own_is_same, refused_or_left}
 use Rattle.port_sessions.specs.Talks.{Party, Responds}
 use Rattle.resp2.specs.declared.command.CommandFault.{CommandFault}
+use Rattle.resp2.specs.declared.command.CommandFault.TheVariants.{UnknownCommand, WrongArguments}
 use Rattle.resp2.specs.Commands.{command_of}
 use Rattle.resp2_frames.specs.Frame.{Frame, FrameList, no_frames}
 use Rattle.sentinel_cell.specs.Histories.{World}
 use Rattle.courteous_sessions.specs.Visits.{Guest, guest, switches, channel_turn, Answers, Serves, ServesBy}
 use Rattle.courteous_sessions.specs.Laws.{Tells, AnswersOwnAsBefore, AnswersListeners, TakesNoTurn, StrangersTakeNoTurn, NothingElseIsTold, NoOtherNoteIsTold}
 
+-- a command isn't refused
+is_own : (answer own : Answer) (value : Frame) (command : Command) → answer ≡ own → command_of value ≡ Ok command
+    → ((answer ≡ left) ⊎ (answer ≡ widens)) ⊎ ((command_of value ≡ Err UnknownCommand) ⊎ (command_of value ≡ Err WrongArguments)) → (own ≡ left) ⊎ (own ≡ widens)
+is_own answer own value command same is (inl (inl stays)) = inl (sym same ∙ stays)
+is_own answer own value command same is (inl (inr grows)) = inr (sym same ∙ grows)
+is_own answer own value command same is (inr (inl wrong)) = absurd (let none : ⊥ = cc in none)
+is_own answer own value command same is (inr (inr wrong)) = absurd (let none : ⊥ = cc in none)
+
 -- what the session answers, and how it is told
-own_told : (start : World) (now : ℕ) (table : Option Table) (p : Party) (value : Frame) (bytes : List ℕ) (q : Party) → Answers start now (own_answer table) p value bytes q
-    → (answer : List ℕ) × Responds start now p (command_of value) answer q × Tells table value answer bytes
-own_told start now None p value bytes q h = (bytes, h, refl)
-own_told start now (Some table) p value bytes q h = (h.answer, h.turned, (h.told, h.rest, h.first, h.bytes_are))
+own_told : (start : World) (now : ℕ) (becomes : Answer) (p : Party) (value : Frame) (bytes : List ℕ) (q : Party) → (becomes ≡ left) ⊎ (becomes ≡ widens)
+    → Answers start now becomes p value bytes q → (answer : List ℕ) × Responds start now p (command_of value) answer q × Tells becomes value answer bytes
+own_told start now left p value bytes q own h = (bytes, h, refl)
+own_told start now widens p value bytes q own h = (h.answer, h.turned, (h.told, h.rest, h.first, h.bytes_are))
+own_told start now (said answer) p value bytes q (inl wrong) h = absurd (let none : ⊥ = cc in none)
+own_told start now (said answer) p value bytes q (inr wrong) h = absurd (let none : ⊥ = cc in none)
+own_told start now asks_masters p value bytes q (inl wrong) h = absurd (let none : ⊥ = cc in none)
+own_told start now asks_masters p value bytes q (inr wrong) h = absurd (let none : ⊥ = cc in none)
 
 -- who gave the password, or of whom none is wanted, has Pub/Sub
 at_home : (asker : Asker) (l : Listening) (value : Frame) → is_stranger asker ≡ false → channel_turn asker l value ≡ channel_answer value l
@@ -45,8 +57,11 @@ own_as_before start now g h value command bytes known quiet differs is serves =
     let by = by_others start now g h value bytes none serves in
     let q = by.0 in
     let at = sym (ap (λ (x : Guest). x.party) by.2) in
-    let kept = subst (λ (a : Answer). Answers start now a g.party value bytes q) (own_is_left g.asker value command known is) by.1 in
-    let told = own_told start now (table_of (Ok command)) g.party value bytes q kept in
+    let own = own_answer (table_of (Ok command)) in
+    let becomes = own_is_left g.asker value command known is in
+    let kept = subst (λ (a : Answer). Answers start now a g.party value bytes q) becomes by.1 in
+    let one = is_own (courtesy g.asker value) own value command becomes is (refused_or_left g.asker value known) in
+    let told = own_told start now own g.party value bytes q one kept in
     let there = subst (λ (k : Result Command CommandFault). Responds start now g.party k told.0 q) is told.1 in
     let after : h ≡ guest q g.listening g.told g.asker = by.2 ∙ ap (λ (a : Asker). guest q g.listening g.told a) (own_is_same g.asker value command is) in (
       told.0,

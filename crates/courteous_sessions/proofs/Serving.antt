@@ -4,7 +4,8 @@ use Rattle.std.specs.Option.{is_some}
 use Rattle.std.specs.Prelude.{is_err}
 use Rattle.ballot_law.specs.declared.commands.Command.{Command}
 use Rattle.ballot_law.specs.declared.commands.Command.TheVariants.{Ping, IsMasterDownByAddr, GetMasterAddrByName, Masters, Master, Replicas, Sentinels, MyId, CkQuorum, FlushConfig, Subscribe}
-use Rattle.port_channels.specs.declared.answers.Turn.TheVariants.{Said as Turned}
+use Rattle.port_channels.specs.declared.answers.Turn.{Turn}
+use Rattle.port_channels.specs.declared.answers.Turn.TheVariants.{Other as Untouched, Said as Turned}
 use Rattle.port_channels.specs.Answering.{Answer as ChannelAnswer, other, said as confirmed, answer as channel_answer, turn_of, text_of as text_of_turn, listening_after}
 use Rattle.port_channels.specs.Listening.{Listening, is_listening}
 use Rattle.port_channels.proofs.OwnCommands.{subscribe_is_said}
@@ -171,6 +172,21 @@ module _ (start : World) (now : ℕ) where
         hears = ap (λ (since : Option ℕ). is_some since) (listens_alike before.asker l (party v talk.listens) value more (party w later.listens) none a) ∙ ready.hears;
       }
 
+  pub answered_by_others : (before after : Attendance) (l later_l : Listening) (talk later : Talk) (v w : View) (value : Frame) (unsent left : List ℕ) → IsReady before l talk
+      → channel_turn before.asker l value ≡ other → after.asker ≡ asker_after before.asker value → after.held ≡ before.held → later.told ≡ talk.told → later_l ≡ l
+      → (more : List ℕ) × (left ≡ unsent ++ more) × IsIdle later
+      × Answers start now (courtesy before.asker value) (party v talk.listens) value more (party w later.listens)
+      → (more : List ℕ) × (left ≡ unsent ++ more) × IsReady after later_l later
+      × Serves start now (guest_of before l talk v) value more (guest_of after later_l later w)
+  answered_by_others before after l later_l talk later v w value unsent left ready none is held told same got =
+      let is_ready = ready_by_others before after l talk later v w value got.0 ready none is held got.2 got.3 in
+      let serves = served_by_others before after l talk later v w value got.0 ready none is told got.3 in (
+        got.0,
+        got.1,
+        subst (λ (x : Listening). IsReady after x later) (sym same) is_ready,
+        subst (λ (x : Listening). Serves start now (guest_of before l talk v) value got.0 (guest_of after x later w)) (sym same) serves,
+      )
+
   -- Pub/Sub answered a value
   pub served_by_channels : (before after : Attendance) (l later_l : Listening) (talk later : Talk) (v w : View) (value : Frame) (more : List ℕ) (t : ChannelAnswer)
       → IsReady before l talk → channel_turn before.asker l value ≡ t → turn_of t ≡ Turned → later_l ≡ listening_after l t → more ≡ text_of_turn t
@@ -204,6 +220,54 @@ module _ (start : World) (now : ℕ) where
         listens = ap (λ (x : Asker). x.listens) asker;
         hears = tuned.listens;
       }
+
+  pub answered_by_channels : (before after : Attendance) (l now_l later_l : Listening) (talk later : Talk) (v w : View) (value : Frame) (unsent left text : List ℕ)
+      (turn : Turn) → IsReady before l talk → turn ≡ Turned → turn ≡ turn_of (channel_turn before.asker l value) → now_l ≡ listening_after l (channel_turn before.asker l value)
+      → text ≡ text_of_turn (channel_turn before.asker l value) → IsTuned start now (hears_switches now_l) talk v later w
+      → after ≡ record before { asker = record before.asker { listens = is_listening now_l } } → later_l ≡ now_l → left ≡ unsent ++ text
+      → (more : List ℕ) × (left ≡ unsent ++ more) × IsReady after later_l later
+      × Serves start now (guest_of before l talk v) value more (guest_of after later_l later w)
+  answered_by_channels before after l now_l later_l talk later v w value unsent left text turn ready is_said is now_is text_is tuned is_after same out =
+      let t = channel_turn before.asker l value in
+      let asker = ap (λ (a : Attendance). a.asker) is_after in
+      let is_ready = ready_by_channels before after l now_l talk later v w ready tuned asker (ap (λ (a : Attendance). a.held) is_after) in
+      let serves = served_by_channels before after l now_l talk later v w value text t ready refl (sym is ∙ is_said) now_is text_is tuned asker in (
+        text,
+        out,
+        subst (λ (x : Listening). IsReady after x later) (sym same) is_ready,
+        subst (λ (x : Listening). Serves start now (guest_of before l talk v) value text (guest_of after x later w)) (sym same) serves,
+      )
+
+-- ---- where Pub/Sub makes nothing of a value
+
+pub other_turn : (t : ChannelAnswer) → Untouched ≡ turn_of t → t ≡ other
+other_turn other is = refl
+other_turn (confirmed answers l) is = absurd (let no : ⊥ = cc in no)
+
+pub listens_on : (l m : Listening) (t : ChannelAnswer) → t ≡ other → m ≡ listening_after l t → m ≡ l
+listens_on l m t is after = after ∙ ap (λ (x : ChannelAnswer). listening_after l x) is
+
+pub ready_same : (before same : Attendance) (l m : Listening) (talk kept : Talk) → IsReady before l talk → same ≡ before → m ≡ l → kept ≡ talk → IsReady same m kept
+ready_same before same l m talk kept ready a b c =
+    subst (λ (x : Attendance). IsReady x m kept) (sym a) (subst (λ (x : Listening). IsReady before x kept) (sym b) (subst (λ (x : Talk). IsReady before l x) (sym c) ready))
+
+pub turn_same : (before same : Attendance) (l m : Listening) (value : Frame) → channel_turn before.asker l value ≡ other → same ≡ before → m ≡ l
+    → channel_turn same.asker m value ≡ other
+turn_same before same l m value is a b =
+    ap (λ (x : Attendance). channel_turn x.asker m value) a ∙ ap (λ (x : Listening). channel_turn before.asker x value) b ∙ is
+
+module _ (start : World) (now : ℕ) where
+  pub served_same : {X : Type 0} (before same : Attendance) (l m : Listening) (talk kept : Talk) (v : View) (value : Frame) (unsent held_back left : List ℕ) (h : Guest)
+      → same ≡ before → m ≡ l → kept ≡ talk → held_back ≡ unsent → (more : List ℕ) × (left ≡ held_back ++ more) × X × Serves start now (guest_of same m kept v) value more h
+      → (more : List ℕ) × (left ≡ unsent ++ more) × X × Serves start now (guest_of before l talk v) value more h
+  served_same before same l m talk kept v value unsent held_back left h a b c d got = (
+    got.0,
+    got.1 ∙ ap (λ (t : List ℕ). t ++ got.0) d,
+    got.2,
+    subst (λ (x : Attendance). Serves start now (guest_of x l talk v) value got.0 h) a
+        (subst (λ (x : Listening). Serves start now (guest_of same x talk v) value got.0 h) b
+        (subst (λ (x : Talk). Serves start now (guest_of same m x v) value got.0 h) c got.3)),
+  )
 
 -- ---- values of a stream
 

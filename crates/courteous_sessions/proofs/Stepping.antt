@@ -169,8 +169,7 @@ module _ (start : World) (now : ℕ) where
       → (more : List ℕ) × (out ≡ unsent ++ more) × IsIdle left × Responds start now (party v talk.listens) (command_of value) more (party w left.listens)
   handed_on value talk asked left v w unsent out turned goes_on is_left is_out =
       let p = party v talk.listens in
-      let since : asked.listens ≡ left.listens = sym (ap (λ (t : Talk). t.listens) is_left) in
-      (
+      let since : asked.listens ≡ left.listens = sym (ap (λ (t : Talk). t.listens) is_left) in (
         asked.unsent,
         is_out,
         idle_again asked left is_left turned.1 goes_on,
@@ -220,11 +219,11 @@ module _ (start : World) (now : ℕ) where
   tuned_out talk left v is =
       record {
         idle =
-          record {
-            none_held = ap (λ (t : Talk). t.held) is;
-            none_unsent = ap (λ (t : Talk). t.unsent) is;
-            goes_on = ap (λ (t : Talk). t.ended) is;
-          };
+            record {
+              none_held = ap (λ (t : Talk). t.held) is;
+              none_unsent = ap (λ (t : Talk). t.unsent) is;
+              goes_on = ap (λ (t : Talk). t.ended) is;
+            };
         listens = ap (λ (t : Talk). is_some t.listens) is;
         tunes = ap (λ (t : Talk). party v t.listens) is;
         told = ap (λ (t : Talk). t.told) is;

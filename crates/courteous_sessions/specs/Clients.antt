@@ -3,7 +3,6 @@ use Rattle.std.specs.Prelude.{◌≡◌, ℕ, Bool, true, false, Option, None, S
 use Rattle.ballot_law.specs.declared.messages.Note.{Note}
 use Rattle.ballot_law.specs.Rosters.{Roster}
 use Rattle.port_channels.specs.declared.channel.Event.{Event}
-use Rattle.port_channels.specs.Listening.{Listening}
 use Rattle.port_courtesies.specs.Courtesies.{Asker}
 use Rattle.port_serving.specs.declared.fault.ServeFault.{ServeFault}
 use Rattle.port_sessions.specs.Notes.{none_told, is_due, Notifies}
@@ -13,17 +12,13 @@ use Rattle.resp2_frames.specs.Frame.{spellings}
 use Rattle.sentinel_cell.specs.declared.view.View.{View}
 use Rattle.sentinel_cell.specs.Histories.{World}
 use Rattle.courteous_sessions.specs.Events.{told_of, event_told, is_any}
-use Rattle.courteous_sessions.specs.Visits.{Visit, Guest, introduced, guest, Receives}
+use Rattle.courteous_sessions.specs.Visits.{silent, Visit, Guest, introduced, guest, Receives}
 use Rattle.courteous_sessions.specs.declared.client_session.ClientSession.{ClientSession}
 use Rattle.courteous_sessions.specs.declared.client_session.ClientSession.TheVariants.{Plain, Courteous}
 
 -- what is known of a connection at its beginning
 abbrev pub newcomer : (id : ℕ) → Asker
 newcomer id = record { id = id; name = []; listens = false; masters = []; password = None; admitted = false }
-
--- it listens to nothing
-abbrev pub silent : Listening
-silent = record { channels = []; patterns = [] }
 
 -- a session with courtesies to which no bytes came
 abbrev pub arrived : (id : ℕ) → Visit

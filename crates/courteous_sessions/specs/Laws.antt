@@ -1,5 +1,5 @@
 -- What a session with courtesies keeps of the one without.
-use Rattle.std.specs.Prelude.{◌≡◌, ◌≢◌, ◌++◌, ℕ, true, false, Option, None, Some, List, Ok}
+use Rattle.std.specs.Prelude.{◌≡◌, ◌≢◌, ◌++◌, ℕ, true, false, List, Ok}
 use Rattle.ballot_law.specs.declared.commands.Command.{Command}
 use Rattle.ballot_law.specs.declared.commands.Command.TheVariants.{Subscribe}
 use Rattle.ballot_law.specs.declared.messages.Note.{Note}
@@ -8,8 +8,7 @@ use Rattle.port_channels.specs.declared.channel.Event.{Event}
 use Rattle.port_channels.specs.Answering.{other, said as confirmed, answer as channel_answer}
 use Rattle.port_channels.specs.Listening.{Listening, is_listening}
 use Rattle.port_channels.specs.Telling.{channel_name, hears}
-use Rattle.port_courtesies.specs.Courtesies.{said, is_stranger, table_of, courtesy}
-use Rattle.port_courtesies.specs.declared.tables.Table.{Table}
+use Rattle.port_courtesies.specs.Courtesies.{Answer, widens, said, is_stranger, table_of, own_answer, courtesy}
 use Rattle.port_courtesies.specs.Widening.{wide}
 use Rattle.port_sessions.specs.Talks.{Responds}
 use Rattle.resp2.specs.Commands.{command_of}
@@ -19,10 +18,10 @@ use Rattle.sentinel_cell.specs.Histories.{World}
 use Rattle.courteous_sessions.specs.Events.{told_of, event_told}
 use Rattle.courteous_sessions.specs.Visits.{Guest, guest, hears_switches, channel_turn, Serves, IsAnswered}
 
--- a Sentinel's own answer as it is told: where there is a table, the first value of it with more fields
-abbrev pub Tells : Option Table → (value : Frame) → (answer bytes : List ℕ) → Type 0
-Tells None value answer bytes = bytes ≡ answer
-Tells (Some table) value answer bytes = (told : Frame) × (rest : List ℕ) × (frame_at answer ≡ Ok (told, rest)) × (bytes ≡ spelling (wide value told))
+-- a Sentinel's own answer as it is told: the first value of it with more fields, where it is told so, and else as it is
+abbrev pub Tells : Answer → (value : Frame) → (answer bytes : List ℕ) → Type 0
+Tells widens value answer bytes = (told : Frame) × (rest : List ℕ) × (frame_at answer ≡ Ok (told, rest)) × (bytes ≡ spelling (wide value told))
+Tells becomes value answer bytes = bytes ≡ answer
 
 -- Where no password is wanted that the client didn't give, and the connection doesn't listen, a command of the Sentinel's rules but SUBSCRIBE is answered as without
 -- courtesies, in four of them with more fields, and nothing else is known of the connection than before
@@ -30,7 +29,7 @@ abbrev pub AnswersOwnAsBefore : Type 0
 AnswersOwnAsBefore =
     (start : World) (now : ℕ) (g h : Guest) (value : Frame) (command : Command) (bytes : List ℕ)
     → is_stranger g.asker ≡ false → is_listening g.listening ≡ false → command ≢ Subscribe → command_of value ≡ Ok command → Serves start now g value bytes h
-    → (answer : List ℕ) × Responds start now g.party (Ok command) answer h.party × Tells (table_of (Ok command)) value answer bytes
+    → (answer : List ℕ) × Responds start now g.party (Ok command) answer h.party × Tells (own_answer (table_of (Ok command))) value answer bytes
     × (h ≡ guest h.party g.listening g.told g.asker)
 
 -- while it listens, Pub/Sub alone answers the commands of the Sentinel's rules

@@ -19,7 +19,7 @@ use Rattle.resp2_frames.specs.Stream.{Held, reading, bytes_in, Parts}
 use Rattle.sentinel_cell.specs.declared.view.View.{View}
 use Rattle.sentinel_cell.specs.Histories.{World}
 use Rattle.courteous_sessions.specs.Events.{told_of, event_told, is_any}
-use Rattle.courteous_sessions.specs.Visits.{Guest, guest, hears_switches, told_after, Tunes, ServesAll, IsAnswered, Breaks}
+use Rattle.courteous_sessions.specs.Visits.{Guest, guest, silent, hears_switches, told_after, Tunes, ServesAll, IsAnswered, Breaks}
 
 -- a session that holds nothing and goes on
 pub record IsIdle (talk : Talk) : Type 0 where
@@ -34,6 +34,11 @@ pub record IsReady (attended : Attendance) (listening : Listening) (talk : Talk)
   pub idle : IsIdle talk
   pub listens : attended.asker.listens ≡ is_listening listening
   pub hears : is_some talk.listens ≡ hears_switches listening
+
+-- a session that ended listens to nothing
+abbrev pub IsSilenced : Option ServeFault → Listening → Type 0
+IsSilenced None l = Unit {0}
+IsSilenced (Some fault) l = l ≡ silent
 
 -- what the next answer rests on
 abbrev pub guest_of : Attendance → Listening → Talk → View → Guest

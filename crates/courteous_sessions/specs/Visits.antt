@@ -57,6 +57,10 @@ guest p l told asker = record { party = p; asker = record asker { listens = is_l
 
 -- ---- Pub/Sub
 
+-- who listens to nothing
+abbrev pub silent : Listening
+silent = record { channels = []; patterns = [] }
+
 -- the channel of new addresses
 abbrev pub switches : List ℕ
 switches = channel_name SwitchMaster

@@ -1,8 +1,8 @@
 //! A session with courtesies.
 
 ghost use Rattle.std.specs.Prelude.{◌≡◌, ◌≤◌, ◌<◌, ◌++◌, ℕ, List, [], None, Some, Err, true, OnOk, OnErr, IfErr, IfSome, length, drop};
-ghost use Rattle.courteous_sessions.specs.Clients.{arrived, guest_at, guest_of_visit, silent, wanting, NotifiesVisit, TellsVisit};
-ghost use Rattle.courteous_sessions.specs.Visits.{Receives};
+ghost use Rattle.courteous_sessions.specs.Clients.{arrived, guest_at, guest_of_visit, wanting, NotifiesVisit, TellsVisit};
+ghost use Rattle.courteous_sessions.specs.Visits.{silent, Receives};
 
 use crate::exchange::Exchange;
 use ballot_law::{NoMemory, Note, Roster, Text};
@@ -28,7 +28,7 @@ impl Model for CourteousSession {
     ghost use Rattle.resp2_frames.specs.Stream.{bytes_in};
     ghost use Rattle.courteous_sessions.specs.Visits.{Visit};
     ghost use Rattle.port_sessions.specs.Talks.{IsEmptied};
-    ghost use Rattle.courteous_sessions.specs.OnTheWay.{IsReady};
+    ghost use Rattle.courteous_sessions.specs.OnTheWay.{IsReady, IsSilenced};
 
     ghost Value = { Visit };
 
@@ -44,7 +44,8 @@ impl Model for CourteousSession {
     } };
 
     ghost invariant = { λ session. IsReady session.exchange.attendant session.exchange.subscriptions session.exchange.session
-        × IsEmptied session.fault (bytes_in session.exchange.attendant.held) session.exchange.session.listens };
+        × IsEmptied session.fault (bytes_in session.exchange.attendant.held) session.exchange.session.listens
+        × IsSilenced session.fault session.exchange.subscriptions };
 }
 
 impl CourteousSession {

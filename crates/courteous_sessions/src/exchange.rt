@@ -10,9 +10,9 @@ ghost use Rattle.port_courtesies.specs.Widening.{wide};
 ghost use Rattle.resp2.specs.Commands.{command_of};
 ghost use Rattle.resp2_frames.specs.Frame.{Frame, view, spelling, HasLines, IsFrame};
 ghost use Rattle.resp2_frames.specs.Stream.{reading, held_size, bytes_in};
-ghost use Rattle.courteous_sessions.specs.Clients.{newcomer, silent};
+ghost use Rattle.courteous_sessions.specs.Clients.{newcomer};
 ghost use Rattle.courteous_sessions.specs.OnTheWay.{IsIdle, IsReady, IsOnTheWay, IsSameAsker, Steps, Drains, Refuses, BeginsWith, guest_of};
-ghost use Rattle.courteous_sessions.specs.Visits.{Guest, guest, channel_turn, introduced, TellsInfo, TellsWide, Answers, Serves, Receives};
+ghost use Rattle.courteous_sessions.specs.Visits.{Guest, guest, silent, channel_turn, introduced, TellsInfo, TellsWide, Answers, Serves, Receives};
 ghost use Rattle.port_channels.specs.Answering.{other};
 
 use crate::questions::{ask, ask_masters, first_value, names_of};
@@ -481,7 +481,9 @@ impl Exchange {
             (guest (party seat.old.view self.old.session.listens) self.old.subscriptions self.old.session.told
             (introduced cell.now.start self.old.knows_masters self.old.attendant.asker)) result (bytes_in self.new.attendant.held) more (guest_of self.new.attendant self.new.subscriptions self.new.session seat.new.view) }
     {
-        self.learn_masters(cell)?;
+        if self.learn_masters(cell).is_err() {
+            return Err(ServeFault::NoMemory);
+        }
         if self.attendant.feed(piece).is_err() {
             return Err(ServeFault::NoMemory);
         }
