@@ -172,13 +172,13 @@ module _ (start : World) (now : ℕ) where
         hears = ap (λ (since : Option ℕ). is_some since) (listens_alike before.asker l (party v talk.listens) value more (party w later.listens) none a) ∙ ready.hears;
       }
 
-  pub answered_by_others : (before after : Attendance) (l later_l : Listening) (talk later : Talk) (v w : View) (value : Frame) (unsent left : List ℕ) → IsReady before l talk
+  pub answered_by_others : (before after : Attendance) (l later_l : Listening) (talk later : Talk) (v w : View) (value : Frame) (unsent given : List ℕ) → IsReady before l talk
       → channel_turn before.asker l value ≡ other → after.asker ≡ asker_after before.asker value → after.held ≡ before.held → later.told ≡ talk.told → later_l ≡ l
-      → (more : List ℕ) × (left ≡ unsent ++ more) × IsIdle later
+      → (more : List ℕ) × (given ≡ unsent ++ more) × IsIdle later
       × Answers start now (courtesy before.asker value) (party v talk.listens) value more (party w later.listens)
-      → (more : List ℕ) × (left ≡ unsent ++ more) × IsReady after later_l later
+      → (more : List ℕ) × (given ≡ unsent ++ more) × IsReady after later_l later
       × Serves start now (guest_of before l talk v) value more (guest_of after later_l later w)
-  answered_by_others before after l later_l talk later v w value unsent left ready none is held told same got =
+  answered_by_others before after l later_l talk later v w value unsent given ready none is held told same got =
       let is_ready = ready_by_others before after l talk later v w value got.0 ready none is held got.2 got.3 in
       let serves = served_by_others before after l talk later v w value got.0 ready none is told got.3 in (
         got.0,
@@ -221,13 +221,13 @@ module _ (start : World) (now : ℕ) where
         hears = tuned.listens;
       }
 
-  pub answered_by_channels : (before after : Attendance) (l now_l later_l : Listening) (talk later : Talk) (v w : View) (value : Frame) (unsent left text : List ℕ)
+  pub answered_by_channels : (before after : Attendance) (l now_l later_l : Listening) (talk later : Talk) (v w : View) (value : Frame) (unsent given text : List ℕ)
       (turn : Turn) → IsReady before l talk → turn ≡ Turned → turn ≡ turn_of (channel_turn before.asker l value) → now_l ≡ listening_after l (channel_turn before.asker l value)
       → text ≡ text_of_turn (channel_turn before.asker l value) → IsTuned start now (hears_switches now_l) talk v later w
-      → after ≡ record before { asker = record before.asker { listens = is_listening now_l } } → later_l ≡ now_l → left ≡ unsent ++ text
-      → (more : List ℕ) × (left ≡ unsent ++ more) × IsReady after later_l later
+      → after ≡ record before { asker = record before.asker { listens = is_listening now_l } } → later_l ≡ now_l → given ≡ unsent ++ text
+      → (more : List ℕ) × (given ≡ unsent ++ more) × IsReady after later_l later
       × Serves start now (guest_of before l talk v) value more (guest_of after later_l later w)
-  answered_by_channels before after l now_l later_l talk later v w value unsent left text turn ready is_said is now_is text_is tuned is_after same out =
+  answered_by_channels before after l now_l later_l talk later v w value unsent given text turn ready is_said is now_is text_is tuned is_after same out =
       let t = channel_turn before.asker l value in
       let asker = ap (λ (a : Attendance). a.asker) is_after in
       let is_ready = ready_by_channels before after l now_l talk later v w ready tuned asker (ap (λ (a : Attendance). a.held) is_after) in
@@ -257,10 +257,10 @@ turn_same before same l m value is a b =
     ap (λ (x : Attendance). channel_turn x.asker m value) a ∙ ap (λ (x : Listening). channel_turn before.asker x value) b ∙ is
 
 module _ (start : World) (now : ℕ) where
-  pub served_same : {X : Type 0} (before same : Attendance) (l m : Listening) (talk kept : Talk) (v : View) (value : Frame) (unsent held_back left : List ℕ) (h : Guest)
-      → same ≡ before → m ≡ l → kept ≡ talk → held_back ≡ unsent → (more : List ℕ) × (left ≡ held_back ++ more) × X × Serves start now (guest_of same m kept v) value more h
-      → (more : List ℕ) × (left ≡ unsent ++ more) × X × Serves start now (guest_of before l talk v) value more h
-  served_same before same l m talk kept v value unsent held_back left h a b c d got = (
+  pub served_same : {X : Type 0} (before same : Attendance) (l m : Listening) (talk kept : Talk) (v : View) (value : Frame) (unsent held_back given : List ℕ) (h : Guest)
+      → same ≡ before → m ≡ l → kept ≡ talk → held_back ≡ unsent → (more : List ℕ) × (given ≡ held_back ++ more) × X × Serves start now (guest_of same m kept v) value more h
+      → (more : List ℕ) × (given ≡ unsent ++ more) × X × Serves start now (guest_of before l talk v) value more h
+  served_same before same l m talk kept v value unsent held_back given h a b c d got = (
     got.0,
     got.1 ∙ ap (λ (t : List ℕ). t ++ got.0) d,
     got.2,
