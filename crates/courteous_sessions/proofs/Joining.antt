@@ -1,5 +1,5 @@
 -- Two pieces in a row.
-use Rattle.std.proofs.Common.{◌≡◌, ℕ, List, [], ◌∷◌, ◌++◌, sym, ap, ◌∙◌, subst, append_assoc}
+use Rattle.std.proofs.Common.{ℕ, List, [], ◌∷◌, ◌++◌, sym, ap, ◌∙◌, subst, append_assoc}
 use Rattle.port_sessions.proofs.Joining.{parts_join}
 use Rattle.resp2_frames.specs.Frame.{Frame}
 use Rattle.resp2_frames.specs.Stream.{Parts}

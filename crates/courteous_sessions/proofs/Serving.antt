@@ -12,7 +12,6 @@ use Rattle.port_channels.proofs.OwnCommands.{subscribe_is_said}
 use Rattle.port_courtesies.specs.Attendants.{Attendance, turn_text}
 use Rattle.port_courtesies.proofs.Strangers.{strangers_are_answered}
 use Rattle.port_courtesies.specs.Courtesies.{is_stranger, Asker, Answer, left, widens, said, asks_masters, courtesy, asker_after, kind_of, text_of}
-use Rattle.port_courtesies.specs.declared.courtesies.Courtesy.{Courtesy}
 use Rattle.port_courtesies.specs.declared.courtesies.Courtesy.TheVariants.{Left, Widens, Said, AsksMasters}
 use Rattle.port_serving.specs.declared.fault.ServeFault.{ServeFault}
 use Rattle.port_serving.specs.declared.fault.ServeFault.TheVariants.{Halted, NoMemory as OutOfMemory}

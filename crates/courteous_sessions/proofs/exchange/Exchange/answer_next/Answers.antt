@@ -1,4 +1,3 @@
-use Rattle.std.proofs.Common.{◌∙◌}
 use Rattle.resp2_frames.specs.Frame.{view}
 use Rattle.courteous_sessions.proofs.Stepping.{read_frame, step_answered}
 use Rattle.courteous_sessions.proofs.exchange.Exchange.answer_next.Goals as goal

@@ -1,7 +1,6 @@
 use Rattle.std.proofs.Common.{◌∙◌, ap, sym}
-use Rattle.port_channels.specs.Answering.{turn_of}
 use Rattle.resp2_frames.specs.Frame.{view}
-use Rattle.courteous_sessions.specs.OnTheWay.{IsReady, guest_of}
+use Rattle.courteous_sessions.specs.OnTheWay.{guest_of}
 use Rattle.courteous_sessions.specs.Visits.{channel_turn}
 use Rattle.courteous_sessions.proofs.Serving.{other_turn, listens_on, ready_same, turn_same, served_same}
 use Rattle.courteous_sessions.proofs.Stepping.{on_ok}
