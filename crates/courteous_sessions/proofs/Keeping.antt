@@ -1,7 +1,17 @@
 -- What a session with courtesies keeps of the one without.
-use Rattle.std.proofs.Common.{◌≡◌, ◌∙◌, ◌⊎◌, inl, inr, ℕ, List, true, refl, ap, sym, subst, Ok, Err, Result, true≢false}
+use Rattle.std.proofs.Common.{◌≡◌, ◌∙◌, ◌⊎◌, inl, inr, ℕ, Bool, true, false, ◌||◌, List, refl, ap, sym, subst, Ok, Err, Result, true≢false}
+use Rattle.std.specs.Prelude.{bytes_eq}
+use Rattle.std.specs.List.{list_any}
+use Rattle.ballot_law.specs.Rosters.{master_at}
+use Rattle.port_channels.specs.Answering.{Answer as ChannelAnswer, other, answer as channel_answer}
+use Rattle.port_channels.specs.Globs.{matches}
+use Rattle.port_channels.specs.Listening.{Listening, holds}
+use Rattle.port_channels.specs.Telling.{channel_name, hears, told}
+use Rattle.port_channels.proofs.OwnCommands.{own_is_other, own_is_said}
+use Rattle.port_channels.proofs.Sounding.{untold}
+use Rattle.port_sessions.specs.Listening.{note_text}
 use Rattle.ballot_law.specs.declared.commands.Command.{Command}
-use Rattle.port_courtesies.specs.Courtesies.{Asker, Answer, left, widens, said, asks_masters, silent, asks_nothing, courtesy, own_answer, table_of, kind_of}
+use Rattle.port_courtesies.specs.Courtesies.{is_stranger, Asker, Answer, left, widens, said, asks_masters, silent, asks_nothing, courtesy, own_answer, table_of, kind_of}
 use Rattle.port_courtesies.specs.declared.courtesies.Courtesy.TheVariants.{Said}
 use Rattle.port_courtesies.proofs.Strangers.{strangers_are_answered}
 use Rattle.port_courtesies.proofs.OwnValues.{own_is_left, own_is_same, refused_or_left}
@@ -10,10 +20,10 @@ use Rattle.port_sessions.specs.Talks.{Party, Responds}
 use Rattle.resp2.specs.declared.command.CommandFault.{CommandFault}
 use Rattle.resp2.specs.declared.command.CommandFault.TheVariants.{UnknownCommand, WrongArguments}
 use Rattle.resp2.specs.Commands.{command_of}
-use Rattle.resp2_frames.specs.Frame.{Frame}
+use Rattle.resp2_frames.specs.Frame.{Frame, FrameList, no_frames}
 use Rattle.sentinel_cell.specs.Histories.{World}
-use Rattle.courteous_sessions.specs.Visits.{Guest, guest, Answers}
-use Rattle.courteous_sessions.specs.Laws.{Tells, AnswersOwnAsBefore, TakesNoTurn, IsPassedOver, StrangersTakeNoTurn}
+use Rattle.courteous_sessions.specs.Visits.{Guest, guest, switches, channel_turn, Answers, Serves, ServesBy}
+use Rattle.courteous_sessions.specs.Laws.{Tells, AnswersOwnAsBefore, AnswersListeners, TakesNoTurn, IsPassedOver, StrangersTakeNoTurn, NothingElseIsTold, NoOtherNoteIsTold}
 
 -- a command isn't refused
 is_own : (answer own : Answer) (value : Frame) (command : Command) → answer ≡ own → command_of value ≡ Ok command
@@ -22,47 +32,67 @@ is_own : (answer own : Answer) (value : Frame) (command : Command) → answer �
 is_own answer own value command same is (inl nothing) = absurd (true≢false (sym nothing ∙ command_asks value command is))
 is_own answer own value command same is (inr (inl (inl stays))) = inl (sym same ∙ stays)
 is_own answer own value command same is (inr (inl (inr grows))) = inr (sym same ∙ grows)
-is_own answer own value command same is (inr (inr (inl other))) = absurd (let none : ⊥ = cc in none)
-is_own answer own value command same is (inr (inr (inr other))) = absurd (let none : ⊥ = cc in none)
+is_own answer own value command same is (inr (inr (inl wrong))) = absurd (let none : ⊥ = cc in none)
+is_own answer own value command same is (inr (inr (inr wrong))) = absurd (let none : ⊥ = cc in none)
 
 -- what the session answers, and how it is told
 own_told : (start : World) (now : ℕ) (becomes : Answer) (p : Party) (value : Frame) (bytes : List ℕ) (q : Party) → (becomes ≡ left) ⊎ (becomes ≡ widens)
     → Answers start now becomes p value bytes q → (answer : List ℕ) × Responds start now p (command_of value) answer q × Tells becomes value answer bytes
 own_told start now left p value bytes q own h = (bytes, h, refl)
 own_told start now widens p value bytes q own h = (h.answer, h.turned, (h.told, h.rest, h.first, h.bytes_are))
-own_told start now (said answer) p value bytes q (inl other) h = absurd (let none : ⊥ = cc in none)
-own_told start now (said answer) p value bytes q (inr other) h = absurd (let none : ⊥ = cc in none)
-own_told start now asks_masters p value bytes q (inl other) h = absurd (let none : ⊥ = cc in none)
-own_told start now asks_masters p value bytes q (inr other) h = absurd (let none : ⊥ = cc in none)
-own_told start now silent p value bytes q (inl other) h = absurd (let none : ⊥ = cc in none)
-own_told start now silent p value bytes q (inr other) h = absurd (let none : ⊥ = cc in none)
+own_told start now (said answer) p value bytes q (inl wrong) h = absurd (let none : ⊥ = cc in none)
+own_told start now (said answer) p value bytes q (inr wrong) h = absurd (let none : ⊥ = cc in none)
+own_told start now asks_masters p value bytes q (inl wrong) h = absurd (let none : ⊥ = cc in none)
+own_told start now asks_masters p value bytes q (inr wrong) h = absurd (let none : ⊥ = cc in none)
+own_told start now silent p value bytes q (inl wrong) h = absurd (let none : ⊥ = cc in none)
+own_told start now silent p value bytes q (inr wrong) h = absurd (let none : ⊥ = cc in none)
+
+-- who gave the password, or of whom none is wanted, has Pub/Sub
+at_home : (asker : Asker) (l : Listening) (value : Frame) → is_stranger asker ≡ false → channel_turn asker l value ≡ channel_answer value l
+at_home asker l value known = ap (λ (b : Bool). elim b as (λ _. ChannelAnswer) [ true ↦ other | false ↦ channel_answer value l ]) known
+
+-- what a value is answered that is none of Pub/Sub's
+by_others : (start : World) (now : ℕ) (g h : Guest) (value : Frame) (bytes : List ℕ) → channel_turn g.asker g.listening value ≡ other → Serves start now g value bytes h
+    → ServesBy start now other g value bytes h
+by_others start now g h value bytes is serves = subst (λ (t : ChannelAnswer). ServesBy start now t g value bytes h) is serves
 
 pub own_as_before : AnswersOwnAsBefore
-own_as_before start now g h value command bytes known is serves =
-    let q = serves.0 in
-    let at = sym (ap (λ (x : Guest). x.party) serves.2) in
+own_as_before start now g h value command bytes known quiet differs is serves =
+    let none = at_home g.asker g.listening value known ∙ own_is_other value command g.listening quiet differs is in
+    let by = by_others start now g h value bytes none serves in
+    let q = by.0 in
+    let at = sym (ap (λ (x : Guest). x.party) by.2) in
     let own = own_answer (table_of (Ok command)) in
     let becomes = own_is_left g.asker value command known is in
-    let kept = subst (λ (a : Answer). Answers start now a g.party value bytes q) becomes serves.1 in
+    let kept = subst (λ (a : Answer). Answers start now a g.party value bytes q) becomes by.1 in
     let one = is_own (courtesy g.asker value) own value command becomes is (refused_or_left g.asker value known) in
     let told = own_told start now own g.party value bytes q one kept in
     let there = subst (λ (k : Result Command CommandFault). Responds start now g.party k told.0 q) is told.1 in
-    let after : h ≡ guest q g.asker = serves.2 ∙ ap (λ (a : Asker). guest q a) (own_is_same g.asker value command is) in (
+    let after : h ≡ guest q g.listening g.told g.asker = by.2 ∙ ap (λ (a : Asker). guest q g.listening g.told a) (own_is_same g.asker value command is) in (
       told.0,
       subst (λ (x : Party). Responds start now g.party (Ok command) told.0 x) at there,
       told.2,
-      subst (λ (x : Party). h ≡ guest x g.asker) at after,
+      subst (λ (x : Party). h ≡ guest x g.listening g.told g.asker) at after,
     )
 
+pub listeners_answered : AnswersListeners
+listeners_answered start now g h value command bytes known listens is serves =
+    let given = own_is_said value command g.listening listens is in
+    let turn = at_home g.asker g.listening value known ∙ given.2 in
+    let by = subst (λ (t : ChannelAnswer). ServesBy start now t g value bytes h) turn serves in
+    (given.0, given.1, given.2, by.2, ap (λ (x : Guest). x.listening) by.3)
+
 pub no_turn : TakesNoTurn
-no_turn start now g h value answer bytes is serves =
-    let told = subst (λ (a : Answer). Answers start now a g.party value bytes serves.0) is serves.1 in
-    (told.0, ap (λ (x : Guest). x.party) serves.2 ∙ told.1)
+no_turn start now g h value answer bytes none is serves =
+    let by = by_others start now g h value bytes none serves in
+    let told = subst (λ (a : Answer). Answers start now a g.party value bytes by.0) is by.1 in
+    (told.0, ap (λ (x : Guest). x.party) by.2 ∙ told.1)
 
 pub passed_over : IsPassedOver
-passed_over start now g h value bytes is serves =
-    let told = subst (λ (a : Answer). Answers start now a g.party value bytes serves.0) is serves.1 in
-    (told.0, ap (λ (x : Guest). x.party) serves.2 ∙ told.1)
+passed_over start now g h value bytes none is serves =
+    let by = by_others start now g h value bytes none serves in
+    let told = subst (λ (a : Answer). Answers start now a g.party value bytes by.0) is by.1 in
+    (told.0, ap (λ (x : Guest). x.party) by.2 ∙ told.1)
 
 -- what is said takes no turn
 said_is_seen : (start : World) (now : ℕ) (answer : Answer) (p : Party) (value : Frame) (bytes : List ℕ) (q : Party) → kind_of answer ≡ Said
@@ -75,5 +105,35 @@ said_is_seen start now silent p value bytes q is h = h.1
 
 pub strangers_take_no_turn : StrangersTakeNoTurn
 strangers_take_no_turn start now g h value bytes stranger serves =
-    ap (λ (x : Guest). x.party) serves.2
-    ∙ said_is_seen start now (courtesy g.asker value) g.party value bytes serves.0 (strangers_are_answered g.asker value stranger) serves.1
+    let none = ap (λ (b : Bool). elim b as (λ _. ChannelAnswer) [ true ↦ other | false ↦ channel_answer value g.listening ]) stranger in
+    let by = by_others start now g h value bytes none serves in (
+      ap (λ (x : Guest). x.party) by.2
+          ∙ said_is_seen start now (courtesy g.asker value) g.party value bytes by.0 (strangers_are_answered g.asker value stranger) by.1,
+      ap (λ (x : Guest). x.listening) by.2,
+    )
+
+-- ---- what is told
+
+first_off : (a b : Bool) → (a || b) ≡ false → a ≡ false
+first_off true b h = h
+first_off false b h = refl
+
+second_off : (a b : Bool) → (a || b) ≡ false → b ≡ false
+second_off true b h = absurd (true≢false h)
+second_off false b h = h
+
+unheard : (l : Listening) (channel text : List ℕ) → hears l channel ≡ false → told l channel text ≡ no_frames
+unheard l channel text h =
+    untold l channel text (first_off (holds l.channels channel) (list_any (λ (pattern : List ℕ). matches pattern channel) l.patterns) h)
+    (second_off (holds l.channels channel) (list_any (λ (pattern : List ℕ). matches pattern channel) l.patterns) h)
+
+untold_on : (switch : Bool) (one : FrameList) → one ≡ no_frames → elim switch as (λ _. FrameList) [ true ↦ no_frames | false ↦ one ] ≡ no_frames
+untold_on true one is = refl
+untold_on false one is = is
+
+pub nothing_else_is_told : NothingElseIsTold
+nothing_else_is_told event l h =
+    untold_on (bytes_eq (channel_name event.channel) switches) (told l (channel_name event.channel) event.text) (unheard l (channel_name event.channel) event.text h)
+
+pub no_other_note_is_told : NoOtherNoteIsTold
+no_other_note_is_told roster note l h = unheard l switches (note_text (master_at roster note.master).name note) h

@@ -1,17 +1,25 @@
 -- One value more, and the ends of a piece.
-use Rattle.std.proofs.Common.{◌≡◌, ◌≢◌, ◌⊎◌, ℕ, Bool, true, false, List, [], ◌∷◌, ◌++◌, Some, None, Result, Ok, Err, refl, sym, ap, ◌∙◌, subst, inl, inr, append_assoc, append-nil, true≢false}
+use Rattle.std.proofs.Common.{◌≡◌, ◌≢◌, ◌⊎◌, ℕ, Bool, true, false, List, [], ◌∷◌, ◌++◌, Option, Some, None, Result, Ok, Err, refl, sym, ap, ◌∙◌, subst, inl, inr, append_assoc, append-nil, true≢false}
 use Rattle.std.specs.Option.{is_some}
 use Rattle.std.specs.Prelude.{is_err}
-use Rattle.port_courtesies.specs.Attendants.{Attendance, IsAttended, Attends, turn_text}
-use Rattle.port_courtesies.specs.Lines.{value_at}
-use Rattle.port_courtesies.specs.Courtesies.{Asker, Answer, left, widens, said, asks_masters, silent, courtesy, asker_after, kind_of, text_of}
-use Rattle.port_courtesies.specs.declared.courtesies.Courtesy.{Courtesy}
+use Rattle.ballot_law.specs.declared.commands.Command.{Command}
+use Rattle.ballot_law.specs.declared.commands.Command.TheVariants.{Ping, IsMasterDownByAddr, GetMasterAddrByName, Masters, Master, Replicas, Sentinels, MyId, CkQuorum, FlushConfig, Subscribe}
+use Rattle.port_channels.specs.declared.answers.Turn.{Turn}
+use Rattle.port_channels.specs.declared.answers.Turn.TheVariants.{Other as Untouched, Said as Turned}
+use Rattle.port_channels.specs.Answering.{Answer as ChannelAnswer, other, said as confirmed, answer as channel_answer, turn_of, text_of as text_of_turn, listening_after}
+use Rattle.port_channels.specs.Listening.{Listening, is_listening}
+use Rattle.port_channels.proofs.OwnCommands.{subscribe_is_said}
+use Rattle.port_courtesies.specs.Attendants.{Attendance, turn_text}
+use Rattle.port_courtesies.proofs.Strangers.{strangers_are_answered}
+use Rattle.port_courtesies.specs.Courtesies.{is_stranger, Asker, Answer, left, widens, said, asks_masters, silent, courtesy, asker_after, kind_of, text_of}
 use Rattle.port_courtesies.specs.declared.courtesies.Courtesy.TheVariants.{Left, Widens, Said, AsksMasters}
+use Rattle.port_courtesies.specs.Lines.{value_at, Answers as Reads}
 use Rattle.port_courtesies.proofs.LineStreams.{reads_next}
 use Rattle.port_serving.specs.declared.fault.ServeFault.{ServeFault}
 use Rattle.port_serving.specs.declared.fault.ServeFault.TheVariants.{Halted, NoMemory as OutOfMemory}
 use Rattle.port_serving.specs.Serving.{last_line}
-use Rattle.port_sessions.specs.Talks.{Talk, Party, party, Responds}
+use Rattle.port_sessions.specs.Talks.{Talk, Party, party, Responds, RespondsAt}
+use Rattle.resp2.specs.declared.command.CommandFault.{CommandFault}
 use Rattle.resp2.specs.Commands.{command_of}
 use Rattle.resp2_frames.specs.declared.fault.FrameFault.{FrameFault}
 use Rattle.resp2_frames.specs.declared.fault.FrameFault.TheVariants.{BadKind, BadLength, BadNumber, MissingEnd, TooLong, TooDeep, TooMany, NoMemory}
@@ -20,15 +28,15 @@ use Rattle.resp2_frames.specs.Frame.{Frame, spelling}
 use Rattle.resp2_frames.specs.Stream.{Held, reading, ended, bytes_in, Feeds}
 use Rattle.sentinel_cell.specs.declared.view.View.{View}
 use Rattle.sentinel_cell.specs.Histories.{World}
-use Rattle.courteous_sessions.specs.Visits.{Guest, guest, TellsInfo, TellsWide, Answers, Serves, ServesAll, IsAnswered, IsRefused, IsCut, Breaks, Receives}
-use Rattle.courteous_sessions.specs.OnTheWay.{IsReady, IsSameButListening, IsOnTheWay, IsDone, Steps, Drains, Refuses, guest_of}
+use Rattle.courteous_sessions.specs.Visits.{Guest, guest, hears_switches, channel_turn, told_after, TellsInfo, TellsWide, Answers, Serves, ServesBy, ServesAll, IsAnswered, IsRefused, IsCut, Breaks, Receives}
+use Rattle.courteous_sessions.specs.OnTheWay.{IsIdle, IsReady, IsTuned, IsOnTheWay, IsDone, Steps, Drains, Refuses, guest_of}
 
--- ---- what an attendant's turn says
+-- ---- what the reading of a value and an attendant's turn say
 
-pub was_attended : (held : Held) (asker : Asker) (kind : Courtesy) (after : Attendance) → held ≡ reading (bytes_in held) → Attends held asker (Ok (Some kind)) after
-    → IsAttended (bytes_in held) asker kind after
-was_attended (reading bytes) asker kind after is h = h
-was_attended (ended fault) asker kind after is h = absurd (let no : ⊥ = cc in no)
+pub was_read : {V : Type 0} (view : V → Frame) (held : Held) (value : V) (after : Held) → held ≡ reading (bytes_in held) → Reads view held (Ok (Some value)) after
+    → (rest : List ℕ) × (value_at (bytes_in held) ≡ Ok (view value, rest)) × (after ≡ reading rest)
+was_read view (reading bytes) value after is h = h
+was_read view (ended fault) value after is h = absurd (let no : ⊥ = cc in no)
 
 pub left_text : (answer : Answer) (value : Frame) → Left ≡ kind_of answer → turn_text (kind_of answer) (text_of answer) value ≡ spelling value
 left_text left value is = refl
@@ -84,22 +92,190 @@ module _ (start : World) (now : ℕ) where
   asked_answered silent p value bytes q is h = absurd (let no : ⊥ = cc in no)
   asked_answered asks_masters p value bytes q is h = h
 
-asker_is : (attended : Attendance) (talk : Talk) (v : View) → attended.asker.listens ≡ is_some talk.listens → attended.asker ≡ (guest_of attended talk v).asker
-asker_is attended talk v h = ap (λ (l : Bool). let a : Asker = record attended.asker { listens = l } in a) h
+asker_is : (attended : Attendance) (l : Listening) (talk : Talk) (v : View) → attended.asker.listens ≡ is_listening l → attended.asker ≡ (guest_of attended l talk v).asker
+asker_is attended l talk v h = ap (λ (b : Bool). let a : Asker = record attended.asker { listens = b } in a) h
 
--- a value was attended to, and then answered by what became of it
 module _ (start : World) (now : ℕ) where
-  pub served : (before between after : Attendance) (talk later : Talk) (v w : View) (value : Frame) (more : List ℕ) → IsReady before talk
-      → between.asker ≡ asker_after before.asker value → IsSameButListening between after
+  -- the session below answers any command but SUBSCRIBE, and then it listens to notes as before
+  responds_alike : (p : Party) (command : Result Command CommandFault) (bytes : List ℕ) (q : Party) → command ≢ Ok Subscribe → Responds start now p command bytes q
+      → q.listens ≡ p.listens
+  responds_alike p command bytes q not h = at p.listens command not h where
+    at : (since : Option ℕ) (c : Result Command CommandFault) → c ≢ Ok Subscribe → RespondsAt start now since p.view c bytes q → q.listens ≡ since
+    at (Some entry) c differs r = ap (λ (x : Party). x.listens) r.1
+    at None (Err fault) differs r = r.1
+    at None (Ok Subscribe) differs r = absurd (differs refl)
+    at None (Ok Ping) differs r = r.1
+    at None (Ok (IsMasterDownByAddr addr epoch candidate)) differs r = r.1
+    at None (Ok (GetMasterAddrByName name)) differs r = r.1
+    at None (Ok Masters) differs r = r.1
+    at None (Ok (Master name)) differs r = r.1
+    at None (Ok (Replicas name)) differs r = r.1
+    at None (Ok (Sentinels name)) differs r = r.1
+    at None (Ok MyId) differs r = r.1
+    at None (Ok (CkQuorum name)) differs r = r.1
+    at None (Ok FlushConfig) differs r = r.1
+
+  pub answers_alike : (answer : Answer) (p : Party) (value : Frame) (bytes : List ℕ) (q : Party) → command_of value ≢ Ok Subscribe → Answers start now answer p value bytes q
+      → q.listens ≡ p.listens
+  answers_alike left p value bytes q not h = responds_alike p (command_of value) bytes q not h
+  answers_alike widens p value bytes q not h = responds_alike p (command_of value) h.answer q not h.turned
+  answers_alike (said answer) p value bytes q not h = ap (λ (x : Party). x.listens) h.1
+  answers_alike silent p value bytes q not h = ap (λ (x : Party). x.listens) h.1
+  answers_alike asks_masters p value bytes q not h = responds_alike p (Ok Masters) h.answer q (λ e. let no : ⊥ = cc in no) h.turned
+
+-- a value that Pub/Sub doesn't answer isn't SUBSCRIBE, unless the client is still to give its password
+stranger_or_not : (test : Bool) (given : ChannelAnswer) → elim test as (λ _. ChannelAnswer) [ true ↦ other | false ↦ given ] ≡ other → (test ≡ true) ⊎ (given ≡ other)
+stranger_or_not true given h = inl refl
+stranger_or_not false given h = inr h
+
+not_subscribe : (value : Frame) (l : Listening) → channel_answer value l ≡ other → command_of value ≢ Ok Subscribe
+not_subscribe value l is asks =
+    let given = subscribe_is_said value l asks in
+    let clash : other ≡ confirmed given.0 given.1 = sym is ∙ given.2 in
+    let no : ⊥ = cc in no
+
+module _ (start : World) (now : ℕ) where
+  -- what a courtesy says takes no turn
+  said_alike : (answer : Answer) (p : Party) (value : Frame) (bytes : List ℕ) (q : Party) → kind_of answer ≡ Said → Answers start now answer p value bytes q → q.listens ≡ p.listens
+  said_alike left p value bytes q is h = absurd (let no : ⊥ = cc in no)
+  said_alike widens p value bytes q is h = absurd (let no : ⊥ = cc in no)
+  said_alike (said answer) p value bytes q is h = ap (λ (x : Party). x.listens) h.1
+  said_alike silent p value bytes q is h = ap (λ (x : Party). x.listens) h.1
+  said_alike asks_masters p value bytes q is h = absurd (let no : ⊥ = cc in no)
+
+  -- where Pub/Sub doesn't answer a value, the session below listens to notes after it as before
+  pub listens_alike : (asker : Asker) (l : Listening) (p : Party) (value : Frame) (bytes : List ℕ) (q : Party) → channel_turn asker l value ≡ other
+      → Answers start now (courtesy asker value) p value bytes q → q.listens ≡ p.listens
+  listens_alike asker l p value bytes q none h = at (stranger_or_not (is_stranger asker) (channel_answer value l) none) where
+    at : (is_stranger asker ≡ true) ⊎ (channel_answer value l ≡ other) → q.listens ≡ p.listens
+    at (inl stranger) = said_alike (courtesy asker value) p value bytes q (strangers_are_answered asker value stranger) h
+    at (inr is) = answers_alike start now (courtesy asker value) p value bytes q (not_subscribe value l is) h
+
+  -- a value was attended to, and then answered by what became of it
+  pub served_by_others : (before after : Attendance) (l : Listening) (talk later : Talk) (v w : View) (value : Frame) (more : List ℕ) → IsReady before l talk
+      → channel_turn before.asker l value ≡ other → after.asker ≡ asker_after before.asker value → later.told ≡ talk.told
       → Answers start now (courtesy before.asker value) (party v talk.listens) value more (party w later.listens)
-      → Serves start now (guest_of before talk v) value more (guest_of after later w)
-  served before between after talk later v w value more ready is same a =
+      → Serves start now (guest_of before l talk v) value more (guest_of after l later w)
+  served_by_others before after l talk later v w value more ready none is told a =
       let q = party w later.listens in
-      let known : guest q after.asker ≡ guest q (asker_after before.asker value) =
-      ap (λ (x : Asker). guest q x) same.asker ∙ ap (λ (x : Asker). guest q x) is
+      let at = λ (x : Asker). let g : Guest = record { party = party v talk.listens; asker = x; listening = l; told = talk.told } in g in
+      let known : guest q l later.told after.asker ≡ guest q l talk.told (asker_after before.asker value) =
+      ap (λ (t : List (Option ℕ)). guest q l t after.asker) told ∙ ap (λ (x : Asker). guest q l talk.told x) is
       in
-      subst (λ (x : Asker). (r : Party) × Answers start now (courtesy x value) (party v talk.listens) value more r × (guest_of after later w ≡ guest r (asker_after x value)))
-      (asker_is before talk v ready.listens) (q, a, known)
+      let by : ServesBy start now other (at before.asker) value more (guest_of after l later w) = (q, a, known) in
+      let here : ServesBy start now (channel_turn before.asker l value) (at before.asker) value more (guest_of after l later w) =
+      subst (λ (t : ChannelAnswer). ServesBy start now t (at before.asker) value more (guest_of after l later w)) (sym none) by
+      in
+      subst (λ (x : Asker). ServesBy start now (channel_turn x l value) (at x) value more (guest_of after l later w)) (asker_is before l talk v ready.listens) here
+
+  -- it is ready for the next one then
+  pub ready_by_others : (before after : Attendance) (l : Listening) (talk later : Talk) (v w : View) (value : Frame) (more : List ℕ) → IsReady before l talk
+      → channel_turn before.asker l value ≡ other → after.asker ≡ asker_after before.asker value → after.held ≡ before.held → IsIdle later
+      → Answers start now (courtesy before.asker value) (party v talk.listens) value more (party w later.listens) → IsReady after l later
+  ready_by_others before after l talk later v w value more ready none is held idle a =
+      record {
+        reads = held ∙ ready.reads ∙ ap (λ (h : Held). reading (bytes_in h)) (sym held);
+        idle = idle;
+        listens = ap (λ (x : Asker). x.listens) is ∙ ready.listens;
+        hears = ap (λ (since : Option ℕ). is_some since) (listens_alike before.asker l (party v talk.listens) value more (party w later.listens) none a) ∙ ready.hears;
+      }
+
+  pub answered_by_others : (before after : Attendance) (l later_l : Listening) (talk later : Talk) (v w : View) (value : Frame) (unsent given : List ℕ) → IsReady before l talk
+      → channel_turn before.asker l value ≡ other → after.asker ≡ asker_after before.asker value → after.held ≡ before.held → later.told ≡ talk.told → later_l ≡ l
+      → (more : List ℕ) × (given ≡ unsent ++ more) × IsIdle later
+      × Answers start now (courtesy before.asker value) (party v talk.listens) value more (party w later.listens)
+      → (more : List ℕ) × (given ≡ unsent ++ more) × IsReady after later_l later
+      × Serves start now (guest_of before l talk v) value more (guest_of after later_l later w)
+  answered_by_others before after l later_l talk later v w value unsent given ready none is held told same got =
+      let is_ready = ready_by_others before after l talk later v w value got.0 ready none is held got.2 got.3 in
+      let serves = served_by_others before after l talk later v w value got.0 ready none is told got.3 in (
+        got.0,
+        got.1,
+        subst (λ (x : Listening). IsReady after x later) (sym same) is_ready,
+        subst (λ (x : Listening). Serves start now (guest_of before l talk v) value got.0 (guest_of after x later w)) (sym same) serves,
+      )
+
+  -- Pub/Sub answered a value
+  pub served_by_channels : (before after : Attendance) (l later_l : Listening) (talk later : Talk) (v w : View) (value : Frame) (more : List ℕ) (t : ChannelAnswer)
+      → IsReady before l talk → channel_turn before.asker l value ≡ t → turn_of t ≡ Turned → later_l ≡ listening_after l t → more ≡ text_of_turn t
+      → IsTuned start now (hears_switches later_l) talk v later w → after.asker ≡ record before.asker { listens = is_listening later_l }
+      → Serves start now (guest_of before l talk v) value more (guest_of after later_l later w)
+  served_by_channels before after l later_l talk later v w value more other ready turn is now_l text tuned asker = absurd (let no : ⊥ = cc in no)
+  served_by_channels before after l later_l talk later v w value more (confirmed answers m) ready turn is now_l text tuned asker =
+      let q = party w later.listens in
+      let at = λ (x : Asker). let g : Guest = record { party = party v talk.listens; asker = x; listening = l; told = talk.told } in g in
+      let h = guest_of after later_l later w in
+      let known : h ≡ guest q later_l (told_after (hears_switches later_l) talk.told) before.asker =
+      ap (λ (t : List (Option ℕ)). guest q later_l t after.asker) tuned.told
+      ∙ ap (λ (x : Asker). guest q later_l (told_after (hears_switches later_l) talk.told) x) asker
+      in
+      let by : ServesBy start now (confirmed answers later_l) (at before.asker) value more h = (q, tuned.tunes, text, known) in
+      let there : ServesBy start now (confirmed answers m) (at before.asker) value more h =
+      subst (λ (x : Listening). ServesBy start now (confirmed answers x) (at before.asker) value more h) now_l by
+      in
+      let here : ServesBy start now (channel_turn before.asker l value) (at before.asker) value more h =
+      subst (λ (t : ChannelAnswer). ServesBy start now t (at before.asker) value more h) (sym turn) there
+      in
+      subst (λ (x : Asker). ServesBy start now (channel_turn x l value) (at x) value more h) (asker_is before l talk v ready.listens) here
+
+  pub ready_by_channels : (before after : Attendance) (l later_l : Listening) (talk later : Talk) (v w : View) → IsReady before l talk
+      → IsTuned start now (hears_switches later_l) talk v later w → after.asker ≡ record before.asker { listens = is_listening later_l } → after.held ≡ before.held
+      → IsReady after later_l later
+  ready_by_channels before after l later_l talk later v w ready tuned asker held =
+      record {
+        reads = held ∙ ready.reads ∙ ap (λ (h : Held). reading (bytes_in h)) (sym held);
+        idle = tuned.idle;
+        listens = ap (λ (x : Asker). x.listens) asker;
+        hears = tuned.listens;
+      }
+
+  pub answered_by_channels : (before after : Attendance) (l now_l later_l : Listening) (talk later : Talk) (v w : View) (value : Frame) (unsent given text : List ℕ)
+      (turn : Turn) → IsReady before l talk → turn ≡ Turned → turn ≡ turn_of (channel_turn before.asker l value) → now_l ≡ listening_after l (channel_turn before.asker l value)
+      → text ≡ text_of_turn (channel_turn before.asker l value) → IsTuned start now (hears_switches now_l) talk v later w
+      → after ≡ record before { asker = record before.asker { listens = is_listening now_l } } → later_l ≡ now_l → given ≡ unsent ++ text
+      → (more : List ℕ) × (given ≡ unsent ++ more) × IsReady after later_l later
+      × Serves start now (guest_of before l talk v) value more (guest_of after later_l later w)
+  answered_by_channels before after l now_l later_l talk later v w value unsent given text turn ready is_said is now_is text_is tuned is_after same out =
+      let t = channel_turn before.asker l value in
+      let asker = ap (λ (a : Attendance). a.asker) is_after in
+      let is_ready = ready_by_channels before after l now_l talk later v w ready tuned asker (ap (λ (a : Attendance). a.held) is_after) in
+      let serves = served_by_channels before after l now_l talk later v w value text t ready refl (sym is ∙ is_said) now_is text_is tuned asker in (
+        text,
+        out,
+        subst (λ (x : Listening). IsReady after x later) (sym same) is_ready,
+        subst (λ (x : Listening). Serves start now (guest_of before l talk v) value text (guest_of after x later w)) (sym same) serves,
+      )
+
+-- ---- where Pub/Sub makes nothing of a value
+
+pub other_turn : (t : ChannelAnswer) → Untouched ≡ turn_of t → t ≡ other
+other_turn other is = refl
+other_turn (confirmed answers l) is = absurd (let no : ⊥ = cc in no)
+
+pub listens_on : (l m : Listening) (t : ChannelAnswer) → t ≡ other → m ≡ listening_after l t → m ≡ l
+listens_on l m t is after = after ∙ ap (λ (x : ChannelAnswer). listening_after l x) is
+
+pub ready_same : (before same : Attendance) (l m : Listening) (talk kept : Talk) → IsReady before l talk → same ≡ before → m ≡ l → kept ≡ talk → IsReady same m kept
+ready_same before same l m talk kept ready a b c =
+    subst (λ (x : Attendance). IsReady x m kept) (sym a) (subst (λ (x : Listening). IsReady before x kept) (sym b) (subst (λ (x : Talk). IsReady before l x) (sym c) ready))
+
+pub turn_same : (before same : Attendance) (l m : Listening) (value : Frame) → channel_turn before.asker l value ≡ other → same ≡ before → m ≡ l
+    → channel_turn same.asker m value ≡ other
+turn_same before same l m value is a b =
+    ap (λ (x : Attendance). channel_turn x.asker m value) a ∙ ap (λ (x : Listening). channel_turn before.asker x value) b ∙ is
+
+module _ (start : World) (now : ℕ) where
+  pub served_same : {X : Type 0} (before same : Attendance) (l m : Listening) (talk kept : Talk) (v : View) (value : Frame) (unsent held_back given : List ℕ) (h : Guest)
+      → same ≡ before → m ≡ l → kept ≡ talk → held_back ≡ unsent → (more : List ℕ) × (given ≡ held_back ++ more) × X × Serves start now (guest_of same m kept v) value more h
+      → (more : List ℕ) × (given ≡ unsent ++ more) × X × Serves start now (guest_of before l talk v) value more h
+  served_same before same l m talk kept v value unsent held_back given h a b c d got = (
+    got.0,
+    got.1 ∙ ap (λ (t : List ℕ). t ++ got.0) d,
+    got.2,
+    subst (λ (x : Attendance). Serves start now (guest_of x l talk v) value got.0 h) a
+        (subst (λ (x : Listening). Serves start now (guest_of same x talk v) value got.0 h) b
+        (subst (λ (x : Talk). Serves start now (guest_of same m x v) value got.0 h) c got.3)),
+  )
 
 -- ---- values of a stream
 
@@ -149,34 +325,34 @@ module _ (start : World) (now : ℕ) where
         answers = a.answers;
       }
 
-  shows_fault : (held : Held) (asker : Asker) (fault : FrameFault) (after : Attendance) → held ≡ reading (bytes_in held) → fault ≢ NoMemory → Attends held asker (Err fault) after
-      → value_at (bytes_in held) ≡ Err (Faulty fault)
-  shows_fault (reading bytes) asker NoMemory after is not h = absurd (not refl)
-  shows_fault (reading bytes) asker BadKind after is not h = h.0
-  shows_fault (reading bytes) asker BadLength after is not h = h.0
-  shows_fault (reading bytes) asker BadNumber after is not h = h.0
-  shows_fault (reading bytes) asker MissingEnd after is not h = h.0
-  shows_fault (reading bytes) asker TooLong after is not h = h.0
-  shows_fault (reading bytes) asker TooDeep after is not h = h.0
-  shows_fault (reading bytes) asker TooMany after is not h = h.0
-  shows_fault (ended f) asker fault after is not h = absurd (let no : ⊥ = cc in no)
+  shows_fault : {V : Type 0} (view : V → Frame) (held : Held) (fault : FrameFault) (after : Held) → held ≡ reading (bytes_in held) → fault ≢ NoMemory
+      → Reads view held (Err fault) after → value_at (bytes_in held) ≡ Err (Faulty fault)
+  shows_fault view (reading bytes) NoMemory after is not h = absurd (not refl)
+  shows_fault view (reading bytes) BadKind after is not h = h.0
+  shows_fault view (reading bytes) BadLength after is not h = h.0
+  shows_fault view (reading bytes) BadNumber after is not h = h.0
+  shows_fault view (reading bytes) MissingEnd after is not h = h.0
+  shows_fault view (reading bytes) TooLong after is not h = h.0
+  shows_fault view (reading bytes) TooDeep after is not h = h.0
+  shows_fault view (reading bytes) TooMany after is not h = h.0
+  shows_fault view (ended f) fault after is not h = absurd (let no : ⊥ = cc in no)
 
   -- a fault shows after the values that were answered
-  pub refused : (stream : List ℕ) (g : Guest) (held : Held) (bytes : List ℕ) (m : Guest) (asker : Asker) (fault : FrameFault) (after : Attendance) (line : List ℕ)
-      (why : ServeFault) → IsOnTheWay start now stream g held bytes m → held ≡ reading (bytes_in held) → Attends held asker (Err fault) after
+  pub refused : {V : Type 0} (view : V → Frame) (stream : List ℕ) (g : Guest) (held : Held) (bytes : List ℕ) (m : Guest) (fault : FrameFault) (after : Held) (line : List ℕ)
+      (why : ServeFault) → IsOnTheWay start now stream g held bytes m → held ≡ reading (bytes_in held) → Reads view held (Err fault) after
       → Refuses fault line why → Breaks start now stream g why (bytes ++ line)
-  refused stream g held bytes m asker fault after line why a is given (inl memory) =
+  refused view stream g held bytes m fault after line why a is given (inl memory) =
       subst (λ (f : ServeFault). Breaks start now stream g f (bytes ++ line)) (sym memory.0)
       (subst (λ (t : List ℕ). IsCut start now stream g t) (sym (append-nil bytes) ∙ ap (λ (t : List ℕ). bytes ++ t) (sym memory.1))
       (cut_here stream g held bytes m a))
-  refused stream g held bytes m asker fault after line why a is given (inr shows) =
+  refused view stream g held bytes m fault after line why a is given (inr shows) =
       subst (λ (f : ServeFault). Breaks start now stream g f (bytes ++ line)) (sym shows.1)
-      (faulty stream g held bytes m fault line a (shows_fault held asker fault after is shows.0 given) shows.2)
+      (faulty stream g held bytes m fault line a (shows_fault view held fault after is shows.0 given) shows.2)
 
   -- no whole value is held
-  pub all_served : (stream : List ℕ) (g : Guest) (held : Held) (bytes : List ℕ) (m : Guest) (asker : Asker) (after : Attendance)
-      → IsOnTheWay start now stream g held bytes m → Attends held asker (Ok None) after → IsDone start now stream g after.held bytes m
-  all_served stream g (reading rest) bytes m asker after a given =
+  pub all_served : {V : Type 0} (view : V → Frame) (stream : List ℕ) (g : Guest) (held : Held) (bytes : List ℕ) (m : Guest) (after : Held)
+      → IsOnTheWay start now stream g held bytes m → Reads view held (Ok None) after → IsDone start now stream g after bytes m
+  all_served view stream g (reading rest) bytes m after a given =
       let now_held : rest ≡ a.rest = ap bytes_in a.held_is in (
         rest,
         given.1,
@@ -186,7 +362,7 @@ module _ (start : World) (now : ℕ) where
           answers = a.answers;
         },
       )
-  all_served stream g (ended fault) bytes m asker after a given = absurd (let no : ⊥ = let is = a.held_is in cc in no)
+  all_served view stream g (ended fault) bytes m after a given = absurd (let no : ⊥ = let is = a.held_is in cc in no)
 
   -- ---- a whole piece
 

@@ -2,25 +2,27 @@
 use Rattle.std.proofs.Common.{◌≡◌, ◌⊎◌, ℕ, Bool, true, false, List, [], ◌++◌, Option, Some, None, Result, Ok, Err, refl, sym, ap, ◌∙◌, subst, append_assoc, append-nil, true≢false}
 use Rattle.std.specs.Option.{is_some}
 use Rattle.std.specs.Prelude.{OnOk, is_err}
-use Rattle.port_courtesies.specs.Attendants.{Attendance, Attends, text_at}
-use Rattle.port_courtesies.specs.Courtesies.{Asker, courtesy, kind_of}
-use Rattle.port_courtesies.specs.declared.courtesies.Courtesy.{Courtesy}
+use Rattle.port_channels.specs.Listening.{Listening}
+use Rattle.port_courtesies.specs.Attendants.{Attendance}
+use Rattle.port_courtesies.specs.Courtesies.{Asker}
 use Rattle.port_courtesies.specs.Infos.{info}
 use Rattle.port_courtesies.specs.Widening.{wide}
-use Rattle.port_courtesies.proofs.LineStreams.{value_is_frame}
 use Rattle.resp2.specs.Commands.{command_of}
 use Rattle.port_serving.specs.declared.fault.ServeFault.{ServeFault}
 use Rattle.port_serving.specs.declared.fault.ServeFault.TheVariants.{Halted, NoMemory as OutOfMemory}
-use Rattle.port_sessions.specs.Talks.{Talk, Party, party, Responds}
-use Rattle.ballot_law.specs.declared.commands.Command.TheVariants.{Masters}
+use Rattle.port_sessions.specs.Notes.{none_told}
+use Rattle.port_sessions.specs.Talks.{Talk, Party, party, Responds, RespondsAt}
+use Rattle.ballot_law.specs.declared.commands.Command.TheVariants.{Masters, Subscribe}
 use Rattle.resp2_frames.specs.declared.fault.FrameFault.{FrameFault}
 use Rattle.resp2_frames.specs.Frame.{Frame, spelling, IsFrame}
 use Rattle.resp2_frames.specs.Stream.{Held, reading, ended, bytes_in, Feeds}
+use Rattle.port_courtesies.specs.Lines.{Answers as Reads}
+use Rattle.port_courtesies.proofs.LineStreams.{value_is_frame}
 use Rattle.sentinel_cell.specs.declared.view.View.{View}
 use Rattle.sentinel_cell.specs.Histories.{World}
-use Rattle.courteous_sessions.specs.Visits.{Guest, guest, master_names, introduced, TellsInfo, TellsWide, Answers, Breaks, Receives}
-use Rattle.courteous_sessions.specs.OnTheWay.{IsIdle, IsReady, IsSameButListening, BeginsWith, IsOnTheWay, IsDone, Drains, Refuses, guest_of}
-use Rattle.courteous_sessions.proofs.Serving.{was_attended, served, value_served, all_served, refused, cut_by, begun, was_received}
+use Rattle.courteous_sessions.specs.Visits.{Guest, guest, master_names, introduced, TellsInfo, TellsWide, BeginsNotes, Serves, Breaks, Receives}
+use Rattle.courteous_sessions.specs.OnTheWay.{IsIdle, IsReady, IsTuned, BeginsWith, IsOnTheWay, IsDone, Drains, Refuses, guest_of}
+use Rattle.courteous_sessions.proofs.Serving.{was_read, value_served, all_served, refused, cut_by, begun, was_received}
 
 pub on_ok : {X E A B : Type 0} (answer : Result X E) → (A → B) → OnOk answer A → OnOk answer B
 on_ok (Ok x) f h = f h
@@ -38,84 +40,97 @@ introduced_now start false before after names is same told =
     told ∙ ap (λ (ns : List (List ℕ)). let a : Attendance = record before { asker = record before.asker { masters = ns } } in a) same
 
 -- where no whole value is held, nothing changes
-reads_none : (held : Held) (asker : Asker) (after : Attendance) → held ≡ reading (bytes_in held) → Attends held asker (Ok None) after → (after.held ≡ held) × (after.asker ≡ asker)
-reads_none (reading bytes) asker after is h = (h.1, h.2)
-reads_none (ended fault) asker after is h = absurd (let no : ⊥ = cc in no)
+reads_none : {V : Type 0} (view : V → Frame) (held after : Held) → held ≡ reading (bytes_in held) → Reads view held (Ok None) after → after ≡ held
+reads_none view (reading bytes) after is h = h.1
+reads_none view (ended fault) after is h = absurd (let no : ⊥ = cc in no)
 
-pub still_ready : (before after : Attendance) (talk : Talk) → IsReady before talk → Attends before.held before.asker (Ok None) after → IsReady after talk
-still_ready before after talk ready given =
-    let same = reads_none before.held before.asker after ready.reads given in
+-- what is held stays a stream that is read
+still_reads : (before after : Held) → before ≡ reading (bytes_in before) → after ≡ before → after ≡ reading (bytes_in after)
+still_reads before after reads same = same ∙ reads ∙ ap (λ (h : Held). reading (bytes_in h)) (sym same)
+
+now_reads : (rest : List ℕ) (after : Held) → after ≡ reading rest → after ≡ reading (bytes_in after)
+now_reads rest after is = is ∙ ap (λ (h : Held). reading (bytes_in h)) (sym is)
+
+pub still_ready : {V : Type 0} (view : V → Frame) (before after : Attendance) (l : Listening) (talk : Talk) → IsReady before l talk → Reads view before.held (Ok None) after.held
+    → after.asker ≡ before.asker → IsReady after l talk
+still_ready view before after l talk ready given asker =
     record {
-      reads = same.0 ∙ ready.reads ∙ ap (λ (h : Held). reading (bytes_in h)) (sym same.0);
+      reads = still_reads before.held after.held ready.reads (reads_none view before.held after.held ready.reads given);
       idle = ready.idle;
-      listens = ap (λ (a : Asker). a.listens) same.1 ∙ ready.listens;
+      listens = ap (λ (a : Asker). a.listens) asker ∙ ready.listens;
+      hears = ready.hears;
     }
 
--- the session below was asked and what it put out was taken away
-pub ready_again : (before after : Attendance) (talk left : Talk) → IsReady before talk → after.held ≡ before.held → after.asker.listens ≡ is_some left.listens
-    → left.held ≡ [] → left.unsent ≡ [] → left.ended ≡ None → IsReady after left
-ready_again before after talk left ready held listens none_held none_unsent goes_on =
+-- a value was read
+pub ready_to_answer : {V : Type 0} (view : V → Frame) (value : V) (before after : Attendance) (l : Listening) (talk : Talk) → IsReady before l talk
+    → Reads view before.held (Ok (Some value)) after.held → after.asker ≡ before.asker → IsReady after l talk
+ready_to_answer view value before after l talk ready given asker =
+    let at = was_read view before.held value after.held ready.reads given in
     record {
-      reads = held ∙ ready.reads ∙ ap (λ (h : Held). reading (bytes_in h)) (sym held);
-      idle = record { none_held = none_held; none_unsent = none_unsent; goes_on = goes_on };
-      listens = listens;
+      reads = now_reads at.0 after.held at.2;
+      idle = ready.idle;
+      listens = ap (λ (a : Asker). a.listens) asker ∙ ready.listens;
+      hears = ready.hears;
+    }
+
+-- a value that was read is one that a stream may have
+pub read_frame : {V : Type 0} (view : V → Frame) (value : V) (held after : Held) → held ≡ reading (bytes_in held) → Reads view held (Ok (Some value)) after → IsFrame (view value)
+read_frame view value held after reads given =
+    let at = was_read view held value after reads given in
+    value_is_frame (bytes_in held) (view value) at.0 at.1
+
+-- the session below was asked, and what it put out was taken away
+idle_again : (asked left : Talk) → left ≡ record asked { unsent = [] } → asked.held ≡ [] → asked.ended ≡ None → IsIdle left
+idle_again asked left is none goes_on =
+    record {
+      none_held = ap (λ (t : Talk). t.held) is ∙ none;
+      none_unsent = ap (λ (t : Talk). t.unsent) is;
+      goes_on = ap (λ (t : Talk). t.ended) is ∙ goes_on;
     }
 
 module _ (start : World) (now : ℕ) where
-  -- what the answering of the value that was attended to promises
-  abbrev pub AnswersIt : Courtesy → (between after : Attendance) → (unsent left : List ℕ) → (talk told : Talk) → (v w : View) → Type 0
-  AnswersIt kind between after unsent left talk told v w =
-      (asker : Asker) (value : Frame) → IsFrame value → kind ≡ kind_of (courtesy asker value) → between.text ≡ text_at asker value
-      → (more : List ℕ) × (left ≡ unsent ++ more) × IsReady after told × Answers start now (courtesy asker value) (party v talk.listens) value more (party w told.listens)
-
-  pub step_ready : (kind : Courtesy) (before between after : Attendance) (unsent left : List ℕ) (talk told : Talk) (v w : View) → IsReady before talk
-      → Attends before.held before.asker (Ok (Some kind)) between → AnswersIt kind between after unsent left talk told v w → IsReady after told
-  step_ready kind before between after unsent left talk told v w ready given answers =
-      let at = was_attended before.held before.asker kind between ready.reads given in
-      let frame = value_is_frame (bytes_in before.held) at.value at.rest at.found in
-      (answers before.asker at.value frame at.kind_is at.text_is).2
-
   -- a value was answered
-  pub step_answered : (stream first bytes : List ℕ) (g : Guest) (kind : Courtesy) (before between after : Attendance) (unsent left : List ℕ) (talk told : Talk) (v w : View)
-      → unsent ≡ first ++ bytes → IsOnTheWay start now stream g before.held bytes (guest_of before talk v) → IsReady before talk
-      → Attends before.held before.asker (Ok (Some kind)) between → IsSameButListening between after → AnswersIt kind between after unsent left talk told v w
-      → (more : List ℕ) × (left ≡ first ++ more) × IsOnTheWay start now stream g after.held more (guest_of after told w)
-  step_answered stream first bytes g kind before between after unsent left talk told v w is a ready given same answers =
-      let at = was_attended before.held before.asker kind between ready.reads given in
-      let frame = value_is_frame (bytes_in before.held) at.value at.rest at.found in
-      let got = answers before.asker at.value frame at.kind_is at.text_is in (
+  pub step_answered : {V : Type 0} (view : V → Frame) (value : V) (stream first bytes : List ℕ) (g : Guest) (before between after : Attendance) (l later_l : Listening)
+      (unsent left : List ℕ) (talk later : Talk) (v w : View) → unsent ≡ first ++ bytes → IsOnTheWay start now stream g before.held bytes (guest_of before l talk v)
+      → IsReady before l talk → Reads view before.held (Ok (Some value)) between.held → between.asker ≡ before.asker → after.held ≡ between.held
+      → (more : List ℕ) × (left ≡ unsent ++ more) × IsReady after later_l later
+      × Serves start now (guest_of between l talk v) (view value) more (guest_of after later_l later w)
+      → (more : List ℕ) × (left ≡ first ++ more) × IsOnTheWay start now stream g after.held more (guest_of after later_l later w)
+  step_answered view value stream first bytes g before between after l later_l unsent left talk later v w is a ready given asker held got =
+      let at = was_read view before.held value between.held ready.reads given in
+      let same : guest_of between l talk v ≡ guest_of before l talk v = ap (λ (x : Asker). guest (party v talk.listens) l talk.told x) asker in
+      let serves = subst (λ (x : Guest). Serves start now x (view value) got.0 (guest_of after later_l later w)) same got.3 in (
         bytes ++ got.0,
         got.1 ∙ ap (λ (t : List ℕ). t ++ got.0) is ∙ append_assoc first bytes got.0,
-        value_served start now stream g before.held bytes (guest_of before talk v) at.value at.rest after.held got.0 (guest_of after told w) a at.found (same.held ∙ at.held_is)
-            (served start now before between after talk told v w at.value got.0 ready at.asker_is same got.3),
+        value_served start now stream g before.held bytes (guest_of before l talk v) (view value) at.0 after.held got.0 (guest_of after later_l later w) a at.1 (held ∙ at.2)
+            serves,
       )
 
   -- there is no whole value
-  pub step_ended : (stream first bytes : List ℕ) (g : Guest) (before after : Attendance) (unsent : List ℕ) (talk : Talk) (v : View) → unsent ≡ first ++ bytes
-      → IsOnTheWay start now stream g before.held bytes (guest_of before talk v) → IsReady before talk → Attends before.held before.asker (Ok None) after
-      → (more : List ℕ) × (unsent ≡ first ++ more) × IsDone start now stream g after.held more (guest_of after talk v)
-  step_ended stream first bytes g before after unsent talk v is a ready given =
-      let same = reads_none before.held before.asker after ready.reads given in
-      let done = all_served start now stream g before.held bytes (guest_of before talk v) before.asker after a given in
-      (bytes, is, subst (λ (x : Asker). IsDone start now stream g after.held bytes (guest (party v talk.listens) x)) (sym same.1) done)
+  pub step_ended : {V : Type 0} (view : V → Frame) (stream first bytes : List ℕ) (g : Guest) (before after : Attendance) (l : Listening) (unsent : List ℕ) (talk : Talk) (v : View)
+      → unsent ≡ first ++ bytes → IsOnTheWay start now stream g before.held bytes (guest_of before l talk v) → Reads view before.held (Ok None) after.held
+      → after.asker ≡ before.asker → (more : List ℕ) × (unsent ≡ first ++ more) × IsDone start now stream g after.held more (guest_of after l talk v)
+  step_ended view stream first bytes g before after l unsent talk v is a given asker =
+      let done = all_served start now view stream g before.held bytes (guest_of before l talk v) after.held a given in
+      (bytes, is, subst (λ (x : Asker). IsDone start now stream g after.held bytes (guest (party v talk.listens) l talk.told x)) (sym asker) done)
 
   -- the bytes are no value, or memory was refused
-  pub step_refused : (stream first bytes : List ℕ) (g : Guest) (before after : Attendance) (unsent left : List ℕ) (talk : Talk) (v : View) (fault : FrameFault)
-      (why : ServeFault) → unsent ≡ first ++ bytes → IsOnTheWay start now stream g before.held bytes (guest_of before talk v) → IsReady before talk
-      → Attends before.held before.asker (Err fault) after → (line : List ℕ) × (left ≡ unsent ++ line) × Refuses fault line why
+  pub step_refused : {V : Type 0} (view : V → Frame) (stream first bytes : List ℕ) (g : Guest) (before after : Attendance) (l : Listening) (unsent left : List ℕ) (talk : Talk)
+      (v : View) (fault : FrameFault) (why : ServeFault) → unsent ≡ first ++ bytes → IsOnTheWay start now stream g before.held bytes (guest_of before l talk v)
+      → IsReady before l talk → Reads view before.held (Err fault) after.held → (line : List ℕ) × (left ≡ unsent ++ line) × Refuses fault line why
       → (more : List ℕ) × (left ≡ first ++ more) × Breaks start now stream g why more
-  step_refused stream first bytes g before after unsent left talk v fault why is a ready given out = (
+  step_refused view stream first bytes g before after l unsent left talk v fault why is a ready given out = (
     bytes ++ out.0,
     out.1 ∙ ap (λ (t : List ℕ). t ++ out.0) is ∙ append_assoc first bytes out.0,
-    refused start now stream g before.held bytes (guest_of before talk v) before.asker fault after out.0 why a ready.reads given out.2,
+    refused start now view stream g before.held bytes (guest_of before l talk v) fault after.held out.0 why a ready.reads given out.2,
   )
 
   -- a value has no answer
-  pub step_cut : (stream first bytes : List ℕ) (g : Guest) (before : Attendance) (unsent left : List ℕ) (talk : Talk) (v : View) (why : ServeFault)
-      → unsent ≡ first ++ bytes → IsOnTheWay start now stream g before.held bytes (guest_of before talk v) → left ≡ unsent → (why ≡ Halted) ⊎ (why ≡ OutOfMemory)
+  pub step_cut : (stream first bytes : List ℕ) (g : Guest) (before : Attendance) (l : Listening) (unsent left : List ℕ) (talk : Talk) (v : View) (why : ServeFault)
+      → unsent ≡ first ++ bytes → IsOnTheWay start now stream g before.held bytes (guest_of before l talk v) → left ≡ unsent → (why ≡ Halted) ⊎ (why ≡ OutOfMemory)
       → (more : List ℕ) × (left ≡ first ++ more) × Breaks start now stream g why more
-  step_cut stream first bytes g before unsent left talk v why is a same fault =
-      (bytes, same ∙ is, cut_by start now stream g before.held bytes (guest_of before talk v) why a fault)
+  step_cut stream first bytes g before l unsent left talk v why is a same fault =
+      (bytes, same ∙ is, cut_by start now stream g before.held bytes (guest_of before l talk v) why a fault)
 
   -- INFO was asked, and SENTINEL MASTERS answered
   pub info_told : (value : Frame) (p q : Party) (answer text : List ℕ) → Responds start now p (Ok Masters) answer q
@@ -124,59 +139,117 @@ module _ (start : World) (now : ℕ) where
       record { answer = answer; turned = turned; told = told.0; rest = told.1.rest; first = told.1.found; bytes_are = told.2 }
 
   -- INFO was asked: the session below answered SENTINEL MASTERS, and what it put out was taken away
-  pub masters_told : (value : Frame) (before informed after : Attendance) (talk asked left : Talk) (v w : View) (unsent out : List ℕ) → IsReady before talk
+  pub masters_told : (value : Frame) (talk asked left : Talk) (v w : View) (unsent out text : List ℕ)
       → Responds start now (party v talk.listens) (Ok Masters) asked.unsent (party w asked.listens) × (asked.held ≡ []) → asked.ended ≡ None
-      → informed.held ≡ before.held → left ≡ record asked { unsent = [] } → after ≡ record informed { asker = record informed.asker { listens = is_some left.listens } }
-      → (masters : Frame) × BeginsWith asked.unsent masters × (informed.text ≡ spelling (info value masters)) → out ≡ unsent ++ after.text
-      → (more : List ℕ) × (out ≡ unsent ++ more) × IsReady after left × TellsInfo start now (party v talk.listens) value more (party w left.listens)
-  masters_told value before informed after talk asked left v w unsent out ready turned goes_on held is_left is_after told is_out =
+      → left ≡ record asked { unsent = [] } → (masters : Frame) × BeginsWith asked.unsent masters × (text ≡ spelling (info value masters)) → out ≡ unsent ++ text
+      → (more : List ℕ) × (out ≡ unsent ++ more) × IsIdle left × TellsInfo start now (party v talk.listens) value more (party w left.listens)
+  masters_told value talk asked left v w unsent out text turned goes_on is_left told is_out =
       let p = party v talk.listens in
       let since : asked.listens ≡ left.listens = sym (ap (λ (t : Talk). t.listens) is_left) in
-      let again =
-      ready_again before after talk left ready (ap (λ (a : Attendance). a.held) is_after ∙ held) (ap (λ (a : Attendance). a.asker.listens) is_after)
-      (ap (λ (t : Talk). t.held) is_left ∙ turned.1) (ap (λ (t : Talk). t.unsent) is_left) (ap (λ (t : Talk). t.ended) is_left ∙ goes_on)
-      in
       let answer = subst (λ (x : Option ℕ). Responds start now p (Ok Masters) asked.unsent (party w x)) since turned.0 in
-      let text = ap (λ (a : Attendance). a.text) is_after ∙ told.2 in
-      (after.text, is_out, again, info_told value p (party w left.listens) asked.unsent after.text answer (told.0, told.1, text))
+      (text, is_out, idle_again asked left is_left turned.1 goes_on, info_told value p (party w left.listens) asked.unsent text answer told)
 
   -- the session below answered a value, whose answer is told with more fields, and what it put out was taken away
-  pub wide_told : (value : Frame) (before informed after : Attendance) (talk asked left : Talk) (v w : View) (unsent out : List ℕ) → IsReady before talk
+  pub wide_told : (value : Frame) (talk asked left : Talk) (v w : View) (unsent out text : List ℕ)
       → Responds start now (party v talk.listens) (command_of value) asked.unsent (party w asked.listens) × (asked.held ≡ []) → asked.ended ≡ None
-      → informed.held ≡ before.held → left ≡ record asked { unsent = [] } → after ≡ record informed { asker = record informed.asker { listens = is_some left.listens } }
-      → (answer : Frame) × BeginsWith asked.unsent answer × (informed.text ≡ spelling (wide value answer)) → out ≡ unsent ++ after.text
-      → (more : List ℕ) × (out ≡ unsent ++ more) × IsReady after left × TellsWide start now (party v talk.listens) value more (party w left.listens)
-  wide_told value before informed after talk asked left v w unsent out ready turned goes_on held is_left is_after told is_out =
+      → left ≡ record asked { unsent = [] } → (answer : Frame) × BeginsWith asked.unsent answer × (text ≡ spelling (wide value answer)) → out ≡ unsent ++ text
+      → (more : List ℕ) × (out ≡ unsent ++ more) × IsIdle left × TellsWide start now (party v talk.listens) value more (party w left.listens)
+  wide_told value talk asked left v w unsent out text turned goes_on is_left told is_out =
       let p = party v talk.listens in
       let since : asked.listens ≡ left.listens = sym (ap (λ (t : Talk). t.listens) is_left) in
-      let again =
-      ready_again before after talk left ready (ap (λ (a : Attendance). a.held) is_after ∙ held) (ap (λ (a : Attendance). a.asker.listens) is_after)
-      (ap (λ (t : Talk). t.held) is_left ∙ turned.1) (ap (λ (t : Talk). t.unsent) is_left) (ap (λ (t : Talk). t.ended) is_left ∙ goes_on)
-      in
       let answer = subst (λ (x : Option ℕ). Responds start now p (command_of value) asked.unsent (party w x)) since turned.0 in
-      let text = ap (λ (a : Attendance). a.text) is_after ∙ told.2 in
-      let wide_answer : TellsWide start now p value after.text (party w left.listens) =
-      record { answer = asked.unsent; turned = answer; told = told.0; rest = told.1.rest; first = told.1.found; bytes_are = text }
+      let wide_answer : TellsWide start now p value text (party w left.listens) =
+      record { answer = asked.unsent; turned = answer; told = told.0; rest = told.1.rest; first = told.1.found; bytes_are = told.2 }
       in
-      (after.text, is_out, again, wide_answer)
+      (text, is_out, idle_again asked left is_left turned.1 goes_on, wide_answer)
+
+  -- it answered a value, and its answer was taken away as it is
+  pub handed_on : (value : Frame) (talk asked left : Talk) (v w : View) (unsent out : List ℕ)
+      → Responds start now (party v talk.listens) (command_of value) asked.unsent (party w asked.listens) × (asked.held ≡ []) → asked.ended ≡ None
+      → left ≡ record asked { unsent = [] } → out ≡ unsent ++ asked.unsent
+      → (more : List ℕ) × (out ≡ unsent ++ more) × IsIdle left × Responds start now (party v talk.listens) (command_of value) more (party w left.listens)
+  handed_on value talk asked left v w unsent out turned goes_on is_left is_out =
+      let p = party v talk.listens in
+      let since : asked.listens ≡ left.listens = sym (ap (λ (t : Talk). t.listens) is_left) in (
+        asked.unsent,
+        is_out,
+        idle_again asked left is_left turned.1 goes_on,
+        subst (λ (x : Option ℕ). Responds start now p (command_of value) asked.unsent (party w x)) since turned.0,
+      )
+
+  -- ---- to what the session below listens
+
+  begins_none : (p q : Party) → p.listens ≡ None → (confirmation : List ℕ) × Responds start now p (Ok Subscribe) confirmation q → BeginsNotes start now p.listens p q
+  begins_none p q none h = subst (λ (x : Option ℕ). BeginsNotes start now x p q) (sym none) h
+
+  listens_then : (p q : Party) (confirmation : List ℕ) → p.listens ≡ None → Responds start now p (Ok Subscribe) confirmation q → is_some q.listens ≡ true
+  listens_then p q confirmation none h =
+      let here = subst (λ (x : Option ℕ). RespondsAt start now x p.view (Ok Subscribe) confirmation q) none h in
+      ap (λ (x : Option ℕ). is_some x) here.1
+
+  none_of : (since : Option ℕ) → is_some since ≡ false → since ≡ None
+  none_of None h = refl
+  none_of (Some entry) h = absurd (true≢false h)
+
+  -- it was asked SUBSCRIBE
+  pub tuned_in : (talk asked left : Talk) (v w : View) → is_some talk.listens ≡ false
+      → Responds start now (party v talk.listens) (Ok Subscribe) asked.unsent (party w asked.listens) × (asked.held ≡ []) → asked.ended ≡ None → asked.told ≡ talk.told
+      → left ≡ record asked { unsent = [] } → IsTuned start now true talk v left w
+  tuned_in talk asked left v w quiet turned goes_on told is_left =
+      let p = party v talk.listens in
+      let none = none_of talk.listens quiet in
+      let since : asked.listens ≡ left.listens = sym (ap (λ (t : Talk). t.listens) is_left) in
+      let answer = subst (λ (x : Option ℕ). Responds start now p (Ok Subscribe) asked.unsent (party w x)) since turned.0 in
+      record {
+        idle = idle_again asked left is_left turned.1 goes_on;
+        listens = listens_then p (party w left.listens) asked.unsent none answer;
+        tunes = begins_none p (party w left.listens) none (asked.unsent, answer);
+        told = ap (λ (t : Talk). t.told) is_left ∙ told;
+      }
+
+  begins_some : (since : Option ℕ) (p : Party) → is_some since ≡ true → BeginsNotes start now since p p
+  begins_some None p h = absurd (true≢false (sym h))
+  begins_some (Some entry) p h = refl
+
+  -- it listened to notes before
+  pub tuned_before : (talk : Talk) (v : View) → IsIdle talk → is_some talk.listens ≡ true → IsTuned start now true talk v talk v
+  tuned_before talk v idle listens = record { idle = idle; listens = listens; tunes = begins_some talk.listens (party v talk.listens) listens; told = refl }
+
+  -- it is a new one
+  pub tuned_out : (talk left : Talk) (v : View) → left ≡ record { held = []; unsent = []; ended = None; listens = None; told = none_told } → IsTuned start now false talk v left v
+  tuned_out talk left v is =
+      record {
+        idle =
+            record {
+              none_held = ap (λ (t : Talk). t.held) is;
+              none_unsent = ap (λ (t : Talk). t.unsent) is;
+              goes_on = ap (λ (t : Talk). t.ended) is;
+            };
+        listens = ap (λ (t : Talk). is_some t.listens) is;
+        tunes = ap (λ (t : Talk). party v t.listens) is;
+        told = ap (λ (t : Talk). t.told) is;
+      }
 
   -- a piece was added, and all whole values were answered
-  pub piece_received : {X Y : Type 0} (fed : Result X FrameFault) (answer : Result Y ServeFault) (before known begins after : Attendance) (knows : Bool) (piece : List ℕ)
-      (unsent kept out : List ℕ) (talk same later : Talk) (v w : View) → before.held ≡ reading (bytes_in before.held)
+  pub piece_received : {X Y : Type 0} (fed : Result X FrameFault) (answer : Result Y ServeFault) (before known begins after : Attendance) (l same_l later_l : Listening)
+      (knows : Bool) (piece : List ℕ) (unsent kept out : List ℕ) (talk same later : Talk) (v w : View) → before.held ≡ reading (bytes_in before.held)
       → known ≡ record before { asker = introduced start knows before.asker } → begins.asker ≡ known.asker → is_err fed ≡ false
-      → Feeds known.held piece fed begins.held → kept ≡ unsent → same ≡ talk
-      → ((stream first bytes : List ℕ) (g : Guest) → kept ≡ first ++ bytes → IsOnTheWay start now stream g begins.held bytes (guest_of begins same v)
-      → (more : List ℕ) × (out ≡ first ++ more) × Drains start now stream g answer after.held more (guest_of after later w))
+      → Feeds known.held piece fed begins.held → kept ≡ unsent → same ≡ talk → same_l ≡ l
+      → ((stream first bytes : List ℕ) (g : Guest) → kept ≡ first ++ bytes → IsOnTheWay start now stream g begins.held bytes (guest_of begins same_l same v)
+      → (more : List ℕ) × (out ≡ first ++ more) × Drains start now stream g answer after.held more (guest_of after later_l later w))
       → (more : List ℕ) × (out ≡ unsent ++ more)
-      × Receives start now (bytes_in before.held ++ piece) (guest (party v talk.listens) (introduced start knows before.asker)) answer (bytes_in after.held) more
-      (guest_of after later w)
-  piece_received fed answer before known begins after knows piece unsent kept out talk same later v w reads is_known asker ok feeds is_kept is_same drains =
-      let g = guest (party v talk.listens) (introduced start knows before.asker) in
+      × Receives start now (bytes_in before.held ++ piece) (guest (party v talk.listens) l talk.told (introduced start knows before.asker)) answer (bytes_in after.held) more
+      (guest_of after later_l later w)
+  piece_received fed answer before known begins after l same_l later_l knows piece unsent kept out talk same later v w reads is_known asker ok feeds is_kept is_same is_l drains =
+      let g = guest (party v talk.listens) l talk.told (introduced start knows before.asker) in
       let stream = bytes_in before.held ++ piece in
       let fed_to = subst (λ (h : Held). Feeds h piece fed begins.held) (ap (λ (a : Attendance). a.held) is_known) feeds in
       let first = begun start now fed before.held begins.held piece g reads ok fed_to in
       let met : introduced start knows before.asker ≡ begins.asker = sym (asker ∙ ap (λ (a : Attendance). a.asker) is_known) in
-      let met_there = subst (λ (x : Asker). IsOnTheWay start now stream g begins.held [] (guest (party v talk.listens) x)) met first in
-      let there = subst (λ (t : Talk). IsOnTheWay start now stream g begins.held [] (guest (party v t.listens) begins.asker)) (sym is_same) met_there in
+      let at_l = subst (λ (x : Listening). IsOnTheWay start now stream g begins.held [] (guest (party v talk.listens) x talk.told (introduced start knows before.asker)))
+      (sym is_l) first
+      in
+      let met_there = subst (λ (x : Asker). IsOnTheWay start now stream g begins.held [] (guest (party v talk.listens) same_l talk.told x)) met at_l in
+      let there = subst (λ (t : Talk). IsOnTheWay start now stream g begins.held [] (guest (party v t.listens) same_l t.told begins.asker)) (sym is_same) met_there in
       let got = drains stream unsent [] g (is_kept ∙ sym (append-nil unsent)) there in
-      (got.0, got.1, was_received start now answer stream g after.held got.0 (guest_of after later w) got.2)
+      (got.0, got.1, was_received start now answer stream g after.held got.0 (guest_of after later_l later w) got.2)

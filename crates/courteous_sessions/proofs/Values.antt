@@ -1,7 +1,7 @@
 -- What the session answers that is handed one value.
 use Rattle.std.proofs.Common.{◌≡◌, ◌∙◌, ℕ, List, [], ◌∷◌, ◌++◌, length, drop, codes, decimal, refl, sym, ap, subst, arith, append-nil, None, Ok}
-use Rattle.std.proofs.lemmas.Fmt.{decimal_digit}
-use Rattle.ballot_law.specs.declared.commands.Command.TheVariants.{Masters}
+use Rattle.std.proofs.lemmas.Fmt.{decimal_digit, decimal_step}
+use Rattle.ballot_law.specs.declared.commands.Command.TheVariants.{Masters, Subscribe}
 use Rattle.port_sessions.specs.Talks.{Talk, Party, party, Responds, AnswersTo, Receives}
 use Rattle.resp2.specs.Commands.{command_of}
 use Rattle.resp2_frames.specs.Frame.{Frame, bulk, items, frames_of, spelling, IsFrame}
@@ -75,6 +75,38 @@ masters_frame =
 
 pub masters_command : command_of masters_value ≡ Ok Masters
 masters_command = refl
+
+-- ---- SUBSCRIBE
+
+abbrev pub subscribe_value : Frame
+subscribe_value = items (frames_of (bulk (codes "SUBSCRIBE") ∷ bulk (codes "+switch-master") ∷ []))
+
+nine : decimal 9 ≡ 57 ∷ []
+nine = decimal_digit 9 (omega arith)
+
+fourteen : decimal 14 ≡ 49 ∷ 52 ∷ []
+fourteen = decimal_step 14 (omega arith) (omega arith) ∙ ap (λ (t : List ℕ). t ++ 52 ∷ []) (decimal_digit 1 (omega arith))
+
+abbrev pub subscribe_text : List ℕ
+subscribe_text =
+    42 ∷ 50 ∷ 13 ∷ 10 ∷ 36 ∷ 57 ∷ 13 ∷ 10 ∷ 83 ∷ 85 ∷ 66 ∷ 83 ∷ 67 ∷ 82 ∷ 73 ∷ 66 ∷ 69 ∷ 13 ∷ 10 ∷ 36 ∷ 49 ∷ 52 ∷ 13 ∷ 10 ∷ 43 ∷ 115 ∷ 119 ∷ 105 ∷ 116 ∷ 99 ∷ 104 ∷ 45
+    ∷ 109 ∷ 97 ∷ 115 ∷ 116 ∷ 101 ∷ 114 ∷ 13 ∷ 10 ∷ []
+
+pub subscribe_bytes : spelling subscribe_value ≡ subscribe_text
+subscribe_bytes = rw (two, nine, fourteen) refl
+
+pub subscribe_frame : IsFrame subscribe_value
+subscribe_frame =
+    let size : length (spelling subscribe_value) ≡ length subscribe_text = ap length subscribe_bytes in
+    record {
+      plain = (omega arith, (omega arith, (omega arith, tt)));
+      depth = omega arith;
+      width = omega arith;
+      size = omega (arith, size);
+    }
+
+pub subscribe_command : command_of subscribe_value ≡ Ok Subscribe
+subscribe_command = refl
 
 pub none_left : (xs : List ℕ) → drop (length xs) xs ≡ []
 none_left [] = refl

@@ -1,17 +1,18 @@
 -- A client's session, with courtesies or without.
-use Rattle.std.specs.Prelude.{◌≡◌, ℕ, Bool, true, false, Option, None, Some, List, [], ◌++◌, Result, Ok, Err, OnOk, OnErr, IfErr, IfSome, map, slice_set}
+use Rattle.std.specs.Prelude.{◌≡◌, ℕ, Bool, true, false, None, Some, List, [], ◌++◌, Result, Ok, Err, OnOk, OnErr, IfErr, IfSome, slice_set}
 use Rattle.ballot_law.specs.declared.messages.Note.{Note}
 use Rattle.ballot_law.specs.Rosters.{Roster}
+use Rattle.port_channels.specs.declared.channel.Event.{Event}
 use Rattle.port_courtesies.specs.Courtesies.{Asker}
 use Rattle.port_serving.specs.declared.fault.ServeFault.{ServeFault}
-use Rattle.port_sessions.specs.Listening.{note_frame}
 use Rattle.port_sessions.specs.Notes.{none_told, is_due, Notifies}
 use Rattle.port_sessions.specs.Talks as talks
 use Rattle.port_sessions.specs.Talks.{Talk, party}
-use Rattle.resp2_frames.specs.Frame.{spelling}
+use Rattle.resp2_frames.specs.Frame.{spellings}
 use Rattle.sentinel_cell.specs.declared.view.View.{View}
 use Rattle.sentinel_cell.specs.Histories.{World}
-use Rattle.courteous_sessions.specs.Visits.{Visit, introduced, guest, Receives}
+use Rattle.courteous_sessions.specs.Events.{told_of, event_told, is_any}
+use Rattle.courteous_sessions.specs.Visits.{unsubscribed, Visit, Guest, introduced, guest, Receives}
 use Rattle.courteous_sessions.specs.declared.client_session.ClientSession.{ClientSession}
 use Rattle.courteous_sessions.specs.declared.client_session.ClientSession.TheVariants.{Plain, Courteous}
 
@@ -21,7 +22,8 @@ newcomer id = record { id = id; name = []; listens = false; masters = []; passwo
 
 -- a session with courtesies to which no bytes came
 abbrev pub arrived : (id : ℕ) → Visit
-arrived id = record { asker = newcomer id; knows_masters = false; held = []; unsent = []; ended = None; listens = None; told = none_told }
+arrived id =
+    record { asker = newcomer id; knows_masters = false; held = []; unsent = []; ended = None; listening = unsubscribed; listens = None; told = none_told }
 
 -- one to which no bytes came, of the connection with this number
 abbrev pub begun : (courteous : Bool) → (id : ℕ) → ClientSession
@@ -45,6 +47,14 @@ abbrev pub with_unsent : ClientSession → List ℕ → ClientSession
 with_unsent (Plain talk) bytes = Plain (record talk { unsent = bytes })
 with_unsent (Courteous visit) bytes = Courteous (record visit { unsent = bytes })
 
+-- what the next answer rests on
+abbrev pub guest_of_visit : Visit → View → Guest
+guest_of_visit visit v = guest (party v visit.listens) visit.listening visit.told visit.asker
+
+-- so it is once the connection was told the names of the masters
+abbrev pub guest_at : World → Visit → View → Guest
+guest_at start visit v = guest (party v visit.listens) visit.listening visit.told (introduced start visit.knows_masters visit.asker)
+
 module _ (start : World) (now : ℕ) (piece : List ℕ) (result : Result Unit ServeFault) (v w : View) where
   -- a session without courtesies takes a piece
   pub record TakesPlain (talk after : Talk) : Type 0 where
@@ -59,12 +69,11 @@ module _ (start : World) (now : ℕ) (piece : List ℕ) (result : Result Unit Se
   -- a session with courtesies takes a piece
   pub record TakesCourteous (visit after : Visit) : Type 0 where
     pub received : visit.ended ≡ None → (more : List ℕ) × (after.unsent ≡ visit.unsent ++ more)
-        × Receives start now (visit.held ++ piece) (guest (party v visit.listens) (introduced start visit.knows_masters visit.asker)) result after.held more
-        (guest (party w after.listens) after.asker)
+        × Receives start now (visit.held ++ piece) (guest_at start visit v) result after.held more (guest_of_visit after w)
     pub knows : OnOk result (after.knows_masters ≡ true)
-    pub goes_on : OnOk result ((after.ended ≡ None) × (after.told ≡ visit.told))
+    pub goes_on : OnOk result (after.ended ≡ None)
     pub closed : IfErr result (λ fault. after.ended ≡ Some fault)
-    pub emptied : OnErr result ((after.held ≡ []) × (after.listens ≡ None))
+    pub emptied : OnErr result ((after.held ≡ []) × (after.listening ≡ unsubscribed) × (after.listens ≡ None))
     pub over : IfSome visit.ended (λ fault. (result ≡ Err fault) × (after ≡ visit) × (w ≡ v))
 
   abbrev pub Takes : ClientSession → ClientSession → Type 0
@@ -81,9 +90,10 @@ talk_of visit = record { held = []; unsent = []; ended = None; listens = visit.l
 
 abbrev pub notified : Roster → Note → Visit → Visit
 notified roster note visit =
-    record visit { unsent = visit.unsent ++ spelling (note_frame roster note); told = slice_set visit.told note.master (Some note.card.epoch) }
+    record visit { unsent = visit.unsent ++ spellings (told_of roster note visit.listening); told = slice_set visit.told note.master (Some note.card.epoch) }
 
--- what became of a note: it joins what is unsent and is remembered as told, or it isn't due, or it is due and memory for it was refused
+-- What became of a note: what the connection is told of it, on its channel and for its patterns, joins what is unsent, and it is remembered as told; or it isn't due;
+-- or it is due and memory for it was refused
 abbrev pub NotifiesVisit : {E : Type 0} → Roster → Note → (entry : ℕ) → Visit → Result Bool E → Visit → Type 0
 NotifiesVisit roster note entry visit (Ok true) after = (is_due (talk_of visit) note entry ≡ true) × (after ≡ notified roster note visit)
 NotifiesVisit roster note entry visit (Ok false) after = (is_due (talk_of visit) note entry ≡ false) × (after ≡ visit)
@@ -94,3 +104,19 @@ NotifiesClient roster note entry (Plain talk) result (Plain after) = Notifies ro
 NotifiesClient roster note entry (Plain talk) result (Courteous after) = ⊥
 NotifiesClient roster note entry (Courteous visit) result (Plain after) = ⊥
 NotifiesClient roster note entry (Courteous visit) result (Courteous after) = NotifiesVisit roster note entry visit result after
+
+-- ---- events
+
+-- what became of an event: what the connection is told of it joins what is unsent, and whether that is anything; or memory for it was refused, and nothing changed
+abbrev pub TellsVisit : {E : Type 0} → Event → Visit → Result Bool E → Visit → Type 0
+TellsVisit event visit (Ok any) after =
+    (any ≡ is_any (spellings (event_told event visit.listening)))
+    × (after ≡ (let v : Visit = record visit { unsent = visit.unsent ++ spellings (event_told event visit.listening) } in v))
+TellsVisit event visit (Err refused) after = after ≡ visit
+
+-- a session without courtesies is told none
+abbrev pub TellsClient : {E : Type 0} → Event → ClientSession → Result Bool E → ClientSession → Type 0
+TellsClient event (Plain talk) result (Plain after) = (result ≡ Ok false) × (after ≡ talk)
+TellsClient event (Plain talk) result (Courteous after) = ⊥
+TellsClient event (Courteous visit) result (Plain after) = ⊥
+TellsClient event (Courteous visit) result (Courteous after) = TellsVisit event visit result after

@@ -1,45 +1,71 @@
 -- What a session with courtesies keeps of the one without.
-use Rattle.std.specs.Prelude.{◌≡◌, ◌++◌, ℕ, true, false, List, [], Ok}
+use Rattle.std.specs.Prelude.{◌≡◌, ◌≢◌, ◌++◌, ℕ, true, false, List, [], Ok}
 use Rattle.ballot_law.specs.declared.commands.Command.{Command}
+use Rattle.ballot_law.specs.declared.commands.Command.TheVariants.{Subscribe}
+use Rattle.ballot_law.specs.declared.messages.Note.{Note}
+use Rattle.ballot_law.specs.Rosters.{Roster}
+use Rattle.port_channels.specs.declared.channel.Event.{Event}
+use Rattle.port_channels.specs.Answering.{other, said as confirmed, answer as channel_answer}
+use Rattle.port_channels.specs.Listening.{Listening, is_listening}
+use Rattle.port_channels.specs.Telling.{channel_name, hears}
 use Rattle.port_courtesies.specs.Courtesies.{Answer, widens, said, silent, is_stranger, table_of, own_answer, courtesy}
 use Rattle.port_courtesies.specs.Widening.{wide}
 use Rattle.port_sessions.specs.Talks.{Responds}
 use Rattle.resp2.specs.Commands.{command_of}
-use Rattle.resp2_frames.specs.Frame.{Frame, spelling}
+use Rattle.resp2_frames.specs.Frame.{Frame, FrameList, no_frames, spelling, spellings}
 use Rattle.resp2_frames.specs.Reading.{frame_at}
 use Rattle.sentinel_cell.specs.Histories.{World}
-use Rattle.courteous_sessions.specs.Visits.{Guest, guest, Serves, IsAnswered}
+use Rattle.courteous_sessions.specs.Events.{told_of, event_told}
+use Rattle.courteous_sessions.specs.Visits.{Guest, guest, hears_switches, channel_turn, Serves, IsAnswered}
 
 -- a Sentinel's own answer as it is told: the first value of it with more fields, where it is told so, and else as it is
 abbrev pub Tells : Answer → (value : Frame) → (answer bytes : List ℕ) → Type 0
 Tells widens value answer bytes = (told : Frame) × (rest : List ℕ) × (frame_at answer ≡ Ok (told, rest)) × (bytes ≡ spelling (wide value told))
 Tells becomes value answer bytes = bytes ≡ answer
 
--- Where no password is wanted that the client didn't give, a command of the Sentinel's rules is answered as without courtesies, in four of them with more fields, and
--- nothing else is known of the connection than before, but whether it listens
+-- Where no password is wanted that the client didn't give, and the connection doesn't listen, a command of the Sentinel's rules but SUBSCRIBE is answered as without
+-- courtesies, in four of them with more fields, and nothing else is known of the connection than before
 abbrev pub AnswersOwnAsBefore : Type 0
 AnswersOwnAsBefore =
     (start : World) (now : ℕ) (g h : Guest) (value : Frame) (command : Command) (bytes : List ℕ)
-    → is_stranger g.asker ≡ false → command_of value ≡ Ok command → Serves start now g value bytes h
-    → (answer : List ℕ) × Responds start now g.party (Ok command) answer h.party × Tells (own_answer (table_of (Ok command))) value answer bytes × (h ≡ guest h.party g.asker)
+    → is_stranger g.asker ≡ false → is_listening g.listening ≡ false → command ≢ Subscribe → command_of value ≡ Ok command → Serves start now g value bytes h
+    → (answer : List ℕ) × Responds start now g.party (Ok command) answer h.party × Tells (own_answer (table_of (Ok command))) value answer bytes
+    × (h ≡ guest h.party g.listening g.told g.asker)
 
--- a value whose answer a courtesy tells is answered by that alone, and its seat sees nothing
+-- while it listens, Pub/Sub alone answers the commands of the Sentinel's rules
+abbrev pub AnswersListeners : Type 0
+AnswersListeners =
+    (start : World) (now : ℕ) (g h : Guest) (value : Frame) (command : Command) (bytes : List ℕ)
+    → is_stranger g.asker ≡ false → is_listening g.listening ≡ true → command_of value ≡ Ok command → Serves start now g value bytes h
+    → (answers : FrameList) × (after : Listening) × (channel_answer value g.listening ≡ confirmed answers after) × (bytes ≡ spellings answers) × (h.listening ≡ after)
+
+-- a value that Pub/Sub doesn't answer and whose answer a courtesy tells is answered by that alone, and its seat sees nothing
 abbrev pub TakesNoTurn : Type 0
 TakesNoTurn =
     (start : World) (now : ℕ) (g h : Guest) (value answer : Frame) (bytes : List ℕ)
-    → courtesy g.asker value ≡ said answer → Serves start now g value bytes h → (bytes ≡ spelling answer) × (h.party ≡ g.party)
+    → channel_turn g.asker g.listening value ≡ other → courtesy g.asker value ≡ said answer → Serves start now g value bytes h
+    → (bytes ≡ spelling answer) × (h.party ≡ g.party)
 
 -- a value that has no answer puts out nothing, and its seat sees nothing
 abbrev pub IsPassedOver : Type 0
 IsPassedOver =
     (start : World) (now : ℕ) (g h : Guest) (value : Frame) (bytes : List ℕ)
-    → courtesy g.asker value ≡ silent → Serves start now g value bytes h → (bytes ≡ []) × (h.party ≡ g.party)
+    → channel_turn g.asker g.listening value ≡ other → courtesy g.asker value ≡ silent → Serves start now g value bytes h
+    → (bytes ≡ []) × (h.party ≡ g.party)
 
--- where a password is wanted that the client didn't give, no value takes a turn, and its seat sees nothing
+-- where a password is wanted that the client didn't give, no value takes a turn, its seat sees nothing, and it listens to nothing that it didn't listen to before
 abbrev pub StrangersTakeNoTurn : Type 0
 StrangersTakeNoTurn =
     (start : World) (now : ℕ) (g h : Guest) (value : Frame) (bytes : List ℕ)
-    → is_stranger g.asker ≡ true → Serves start now g value bytes h → h.party ≡ g.party
+    → is_stranger g.asker ≡ true → Serves start now g value bytes h → (h.party ≡ g.party) × (h.listening ≡ g.listening)
+
+-- an event on a channel to which a connection doesn't listen, and that none of its patterns matches, isn't told to it
+abbrev pub NothingElseIsTold : Type 0
+NothingElseIsTold = (event : Event) (l : Listening) → hears l (channel_name event.channel) ≡ false → event_told event l ≡ no_frames
+
+-- nor is a note where neither is the channel of new addresses
+abbrev pub NoOtherNoteIsTold : Type 0
+NoOtherNoteIsTold = (roster : Roster) (note : Note) (l : Listening) → hears_switches l ≡ false → told_of roster note l ≡ no_frames
 
 -- two pieces in a row are answered as one piece of both
 abbrev pub PiecesJoin : Type 0

@@ -1,4 +1,5 @@
 pub mod Visits
+pub mod Events
 pub mod OnTheWay
 pub mod Clients
 pub mod Laws

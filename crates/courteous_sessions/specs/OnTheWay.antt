@@ -3,22 +3,24 @@ use Rattle.std.specs.Prelude.{◌≡◌, ◌≢◌, ◌⊎◌, ℕ, Bool, true, 
 use Rattle.std.specs.Option.{is_some}
 use Rattle.ballot_law.specs.declared.messages.Note.{Note}
 use Rattle.ballot_law.specs.Rosters.{Roster}
+use Rattle.port_channels.specs.declared.channel.Event.{Event}
+use Rattle.port_channels.specs.Listening.{Listening, is_listening}
 use Rattle.port_courtesies.specs.Attendants.{Attendance}
 use Rattle.port_courtesies.specs.Lines.{Reads}
 use Rattle.port_serving.specs.declared.fault.ServeFault.{ServeFault}
 use Rattle.port_serving.specs.declared.fault.ServeFault.TheVariants.{Frame as FaultyFrame, NoMemory as OutOfMemory}
 use Rattle.port_serving.specs.Serving.{last_line}
-use Rattle.port_sessions.specs.Listening.{note_frame}
 use Rattle.port_sessions.specs.Notes.{is_due}
 use Rattle.port_sessions.specs.Talks.{Talk, party}
 use Rattle.resp2_frames.specs.declared.fault.FrameFault.{FrameFault}
 use Rattle.resp2_frames.specs.declared.fault.FrameFault.TheVariants.{NoMemory}
-use Rattle.resp2_frames.specs.Frame.{Frame, spelling}
+use Rattle.resp2_frames.specs.Frame.{Frame, spellings}
 use Rattle.resp2_frames.specs.Reading.{frame_at}
 use Rattle.resp2_frames.specs.Stream.{Held, reading, bytes_in}
 use Rattle.sentinel_cell.specs.declared.view.View.{View}
 use Rattle.sentinel_cell.specs.Histories.{World}
-use Rattle.courteous_sessions.specs.Visits.{Guest, guest, ServesAll, IsAnswered, Breaks}
+use Rattle.courteous_sessions.specs.Events.{told_of, event_told, is_any}
+use Rattle.courteous_sessions.specs.Visits.{Guest, guest, unsubscribed, hears_switches, told_after, Tunes, ServesAll, IsAnswered, Breaks}
 
 -- a session that holds nothing and goes on
 pub record IsIdle (talk : Talk) : Type 0 where
@@ -26,40 +28,60 @@ pub record IsIdle (talk : Talk) : Type 0 where
   pub none_unsent : talk.unsent ≡ []
   pub goes_on : talk.ended ≡ None
 
--- between two values the session below holds nothing and goes on, and it is known whether it listens
-pub record IsReady (attended : Attendance) (talk : Talk) : Type 0 where
+-- between two values the session below holds nothing and goes on, it listens to notes where the connection hears of new addresses and nowhere else, and it is known
+-- whether the connection listens
+pub record IsReady (attended : Attendance) (listening : Listening) (talk : Talk) : Type 0 where
   pub reads : attended.held ≡ reading (bytes_in attended.held)
   pub idle : IsIdle talk
-  pub listens : attended.asker.listens ≡ is_some talk.listens
+  pub listens : attended.asker.listens ≡ is_listening listening
+  pub hears : is_some talk.listens ≡ hears_switches listening
+
+-- a session that ended listens to nothing
+abbrev pub IsSilenced : Option ServeFault → Listening → Type 0
+IsSilenced None l = Unit {0}
+IsSilenced (Some fault) l = l ≡ unsubscribed
 
 -- what the next answer rests on
-abbrev pub guest_of : Attendance → Talk → View → Guest
-guest_of attended talk v = guest (party v talk.listens) attended.asker
+abbrev pub guest_of : Attendance → Listening → Talk → View → Guest
+guest_of attended listening talk v = guest (party v talk.listens) listening talk.told attended.asker
 
--- of what is known of a connection only whether it listens is another, and the same bytes are held
-pub record IsSameButListening (before after : Attendance) : Type 0 where
+-- the same is known of a connection, and the same bytes are held
+pub record IsSameAsker (before after : Attendance) : Type 0 where
   pub held : after.held ≡ before.held
-  pub asker : after.asker ≡ record before.asker { listens = after.asker.listens }
+  pub asker : after.asker ≡ before.asker
 
 -- the first value of these bytes
 pub record BeginsWith (bytes : List ℕ) (value : Frame) : Type 0 where
   pub rest : List ℕ
   pub found : frame_at bytes ≡ Ok (value, rest)
 
--- what became of a note: it was told to the session below, and what that put out joined what isn't sent yet; or it isn't due; or memory for it was refused
-abbrev pub NotifiesBelow : {E : Type 0} → Roster → Note → (entry : ℕ) → Talk → (unsent : List ℕ) → Result Bool E → Talk → (unsent : List ℕ) → Type 0
-NotifiesBelow roster note entry talk unsent (Ok true) after more =
+-- What became of a note: the session below was told of it, its own text was dropped, and what the connection is told of it joined what isn't sent yet; or it isn't
+-- due; or memory for it was refused
+abbrev pub NotifiesBelow : {E : Type 0} → Roster → Note → (entry : ℕ) → Listening → Talk → (unsent : List ℕ) → Result Bool E → Talk → (unsent : List ℕ) → Type 0
+NotifiesBelow roster note entry l talk unsent (Ok true) after more =
     (is_due talk note entry ≡ true) × (after.listens ≡ talk.listens) × (after.told ≡ slice_set talk.told note.master (Some note.card.epoch))
-    × (more ≡ unsent ++ spelling (note_frame roster note))
-NotifiesBelow roster note entry talk unsent (Ok false) after more = (is_due talk note entry ≡ false) × (after ≡ talk) × (more ≡ unsent)
-NotifiesBelow roster note entry talk unsent (Err refused) after more =
+    × (more ≡ unsent ++ spellings (told_of roster note l))
+NotifiesBelow roster note entry l talk unsent (Ok false) after more = (is_due talk note entry ≡ false) × (after ≡ talk) × (more ≡ unsent)
+NotifiesBelow roster note entry l talk unsent (Err refused) after more =
     (is_due talk note entry ≡ true) × (after.listens ≡ talk.listens) × (more ≡ unsent)
+
+-- what became of an event: whether anything is told of it, which joined what isn't sent yet; or memory for it was refused
+abbrev pub TellsBelow : {E : Type 0} → Event → Listening → (unsent : List ℕ) → Result Bool E → (unsent : List ℕ) → Type 0
+TellsBelow event l unsent (Ok any) more = (any ≡ is_any (spellings (event_told event l))) × (more ≡ unsent ++ spellings (event_told event l))
+TellsBelow event l unsent (Err refused) more = more ≡ unsent
 
 -- the fault that ends a session at a frame's fault, and what is put out for it
 abbrev pub Refuses : FrameFault → (line : List ℕ) → ServeFault → Type 0
 Refuses fault line why = ((why ≡ OutOfMemory) × (line ≡ [])) ⊎ ((fault ≢ NoMemory) × (why ≡ FaultyFrame fault) × (line ≡ last_line))
 
 module _ (start : World) (now : ℕ) where
+  -- the session below listens to notes where the connection hears of new addresses, and nowhere else
+  pub record IsTuned (hears : Bool) (talk : Talk) (v : View) (after : Talk) (w : View) : Type 0 where
+    pub idle : IsIdle after
+    pub listens : is_some after.listens ≡ hears
+    pub tunes : Tunes start now hears (party v talk.listens) (party w after.listens)
+    pub told : after.told ≡ told_after hears talk.told
+
   -- these values of the stream were answered, and the bytes after them are held
   pub record IsOnTheWay (stream : List ℕ) (g : Guest) (held : Held) (bytes : List ℕ) (h : Guest) : Type 0 where
     pub values : List Frame

@@ -1,33 +1,38 @@
 -- What a client is answered whose session has courtesies, and how its session ends.
-use Rattle.std.specs.Prelude.{◌≡◌, ◌++◌, ◌∷◌, ℕ, Bool, true, false, Option, List, [], Result, Ok, Err, map}
-use Rattle.std.specs.Option.{is_some}
-use Rattle.ballot_law.specs.declared.commands.Command.TheVariants.{Masters}
+use Rattle.std.specs.Prelude.{◌≡◌, ◌++◌, ◌∷◌, ℕ, Bool, true, false, Option, None, Some, List, [], Result, Ok, Err, map}
+use Rattle.ballot_law.specs.declared.commands.Command.TheVariants.{Masters, Subscribe}
 use Rattle.ballot_law.specs.Rosters.{MasterPlan}
-use Rattle.port_courtesies.specs.Courtesies.{Asker, Answer, left, widens, said, asks_masters, silent, courtesy, asker_after}
+use Rattle.port_channels.specs.declared.channel.Channel.TheVariants.{SwitchMaster}
+use Rattle.port_channels.specs.Answering.{Answer as ChannelAnswer, other, said as confirmed, answer as channel_answer}
+use Rattle.port_channels.specs.Listening.{Listening, is_listening}
+use Rattle.port_channels.specs.Telling.{channel_name, hears}
+use Rattle.port_courtesies.specs.Courtesies.{Asker, Answer, left, widens, said, asks_masters, silent, courtesy, asker_after, is_stranger}
 use Rattle.port_courtesies.specs.Infos.{info}
 use Rattle.port_courtesies.specs.Lines.{Reads, Holds}
 use Rattle.port_courtesies.specs.Widening.{wide}
 use Rattle.port_serving.specs.declared.fault.ServeFault.{ServeFault}
 use Rattle.port_serving.specs.declared.fault.ServeFault.TheVariants.{Frame as FaultyFrame, Read, Write, Halted, NoMemory}
 use Rattle.port_serving.specs.Serving.{last_line}
-use Rattle.port_sessions.specs.Talks.{Party, Responds}
+use Rattle.port_sessions.specs.Notes.{none_told}
+use Rattle.port_sessions.specs.Talks.{Party, party, Responds}
 use Rattle.resp2.specs.Commands.{command_of}
 use Rattle.resp2_frames.specs.declared.fault.FrameFault.{FrameFault}
-use Rattle.resp2_frames.specs.Frame.{Frame, spelling}
+use Rattle.resp2_frames.specs.Frame.{Frame, spelling, spellings}
 use Rattle.resp2_frames.specs.Reading.{frame_at}
 use Rattle.resp2_frames.specs.Stream.{reading, ended}
 use Rattle.sentinel_cell.specs.Histories.{World}
 use Rattle.sentinel_rules.specs.Plans.{roster_of}
 
 -- What a session with courtesies has: what is known of its connection, and whether the names of the Sentinel's masters are among that; the bytes that came and are no
--- whole value yet, the answers and notes that aren't sent yet, and the fault that ended it. Where it listens to notes, it has the entry of its SUBSCRIBE, and of
--- each master the epoch of the configuration that it was told last
+-- whole value yet, the answers, notes and events that aren't sent yet, and the fault that ended it; to which channels and patterns it listens. Where it hears of new
+-- addresses, it has the entry since which it does, and of each master the epoch of the configuration that it was told last since then
 pub record Visit : Type 0 where
   pub asker : Asker
   pub knows_masters : Bool
   pub held : List ℕ
   pub unsent : List ℕ
   pub ended : Option ServeFault
+  pub listening : Listening
   pub listens : Option ℕ
   pub told : List (Option ℕ)
 
@@ -40,13 +45,39 @@ abbrev pub introduced : World → (knows_masters : Bool) → Asker → Asker
 introduced start true asker = asker
 introduced start false asker = record asker { masters = master_names start }
 
--- what an answer rests on: what the seat has seen and since which entry the session listens, and what is known of the connection
+-- what an answer rests on: what the seat has seen and since which entry the session below listens to notes, what is known of the connection, to what it listens, and
+-- of each master the epoch of the configuration that it was told last
 pub record Guest : Type 0 where
   pub party : Party
   pub asker : Asker
+  pub listening : Listening
+  pub told : List (Option ℕ)
 
-abbrev pub guest : Party → Asker → Guest
-guest p asker = record { party = p; asker = record asker { listens = is_some p.listens } }
+abbrev pub guest : Party → Listening → (told : List (Option ℕ)) → Asker → Guest
+guest p l told asker = record { party = p; asker = record asker { listens = is_listening l }; listening = l; told = told }
+
+-- ---- Pub/Sub
+
+-- who listens to nothing
+abbrev pub unsubscribed : Listening
+unsubscribed = record { channels = []; patterns = [] }
+
+-- the channel of new addresses
+abbrev pub switches : List ℕ
+switches = channel_name SwitchMaster
+
+-- a channel or a pattern has a connection hear of new addresses
+abbrev pub hears_switches : Listening → Bool
+hears_switches l = hears l switches
+
+-- what Pub/Sub makes of a value; it answers none of a client that is still to give its password
+abbrev pub channel_turn : Asker → Listening → Frame → ChannelAnswer
+channel_turn asker l value = elim (is_stranger asker) [ true ↦ other | false ↦ channel_answer value l ]
+
+-- who hears of new addresses no more is told from the beginning when it does again
+abbrev pub told_after : (hears : Bool) → (told : List (Option ℕ)) → List (Option ℕ)
+told_after true told = told
+told_after false told = none_told
 
 module _ (start : World) (now : ℕ) where
   -- INFO is answered by the first value that the Sentinel answers to SENTINEL MASTERS
@@ -76,9 +107,27 @@ module _ (start : World) (now : ℕ) where
   Answers asks_masters p value bytes q = TellsInfo p value bytes q
   Answers silent p value bytes q = (bytes ≡ []) × (q ≡ p)
 
+  -- the session below begins to listen to notes where it doesn't: it is asked SUBSCRIBE, whose answer isn't told
+  abbrev pub BeginsNotes : Option ℕ → Party → Party → Type 0
+  BeginsNotes None p q = (confirmation : List ℕ) × Responds start now p (Ok Subscribe) confirmation q
+  BeginsNotes (Some entry) p q = q ≡ p
+
+  -- it listens to notes where the connection hears of new addresses, and else to nothing
+  abbrev pub Tunes : (hears : Bool) → Party → Party → Type 0
+  Tunes true p q = BeginsNotes p.listens p q
+  Tunes false p q = q ≡ party p.view None
+
+  -- The answer to a value by what Pub/Sub makes of it. Where that is nothing, a courtesy or the session below answers it, and it changes nothing of what the
+  -- connection listens to
+  abbrev pub ServesBy : ChannelAnswer → Guest → Frame → List ℕ → Guest → Type 0
+  ServesBy other g value bytes h =
+      (q : Party) × Answers (courtesy g.asker value) g.party value bytes q × (h ≡ guest q g.listening g.told (asker_after g.asker value))
+  ServesBy (confirmed answers after) g value bytes h =
+      (q : Party) × Tunes (hears_switches after) g.party q × (bytes ≡ spellings answers) × (h ≡ guest q after (told_after (hears_switches after) g.told) g.asker)
+
   -- the answer to a value, of no bytes where it has none, and what the next one rests on
   abbrev pub Serves : Guest → Frame → List ℕ → Guest → Type 0
-  Serves g value bytes h = (q : Party) × Answers (courtesy g.asker value) g.party value bytes q × (h ≡ guest q (asker_after g.asker value))
+  Serves g value bytes h = ServesBy (channel_turn g.asker g.listening value) g value bytes h
 
   -- the answers to these values, in their order, one after the other
   abbrev pub ServesAll : Guest → List Frame → List ℕ → Guest → Type 0

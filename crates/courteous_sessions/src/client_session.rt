@@ -1,11 +1,12 @@
 //! A session with courtesies or without.
 
 ghost use Rattle.std.specs.Prelude.{◌≡◌, ◌≤◌, ◌<◌, length, drop};
-ghost use Rattle.courteous_sessions.specs.Clients.{begun, unsent_of, wanting_password, with_unsent, Takes, NotifiesClient};
+ghost use Rattle.courteous_sessions.specs.Clients.{begun, unsent_of, wanting_password, with_unsent, Takes, NotifiesClient, TellsClient};
 
 use crate::courteous_session::CourteousSession;
 use ballot_law::{NoMemory, Note, Roster, Text};
 use conf_store::ConfStore;
+use port_channels::Event;
 use port_serving::ServeFault;
 use port_sessions::Session;
 use sentinel_cell::{Seat, SharedSentinel};
@@ -93,6 +94,16 @@ impl ClientSession {
         match self {
             ClientSession::Plain(session) => session.notify(roster, note, entry),
             ClientSession::Courteous(session) => session.notify(roster, note, entry),
+        }
+    }
+
+    /// Tells the client of an event, as `CourteousSession::tell_event` does: whether anything is told. A session without courtesies is told none.
+    pub fn tell_event(&mut self, event: &Event) -> Result<bool, NoMemory>
+        ensures { TellsClient event.now self.old result self.new }
+    {
+        match self {
+            ClientSession::Plain(_) => Ok(false),
+            ClientSession::Courteous(session) => session.tell_event(event),
         }
     }
 }

@@ -1,13 +1,13 @@
 //! A session with courtesies.
 
 ghost use Rattle.std.specs.Prelude.{◌≡◌, ◌≤◌, ◌<◌, ◌++◌, ℕ, List, [], None, Some, Err, true, OnOk, OnErr, IfErr, IfSome, length, drop};
-ghost use Rattle.port_sessions.specs.Talks.{party};
-ghost use Rattle.courteous_sessions.specs.Clients.{arrived, wanting, NotifiesVisit};
-ghost use Rattle.courteous_sessions.specs.Visits.{guest, introduced, Receives};
+ghost use Rattle.courteous_sessions.specs.Clients.{arrived, guest_at, guest_of_visit, wanting, NotifiesVisit, TellsVisit};
+ghost use Rattle.courteous_sessions.specs.Visits.{unsubscribed, Receives};
 
 use crate::exchange::Exchange;
 use ballot_law::{NoMemory, Note, Roster, Text};
 use conf_store::ConfStore;
+use port_channels::Event;
 use port_serving::ServeFault;
 use sentinel_cell::{Seat, SharedSentinel};
 use std::alloc::Global;
@@ -15,8 +15,9 @@ use std::marker::Model;
 use std::sync::Wait;
 
 /// The conversation with one client of a port, with courtesies. Contracts see what is known of its connection, and whether the names of the Sentinel's
-/// masters are among that; the bytes held, which came and are no whole value yet, the answers and notes that aren't sent yet, and the fault that ended it;
-/// whether it listens to notes, with the entry of its SUBSCRIBE; and of each master the epoch of the configuration that it was told last.
+/// masters are among that; the bytes held, which came and are no whole value yet, the answers, notes and events that aren't sent yet, and the fault that ended it; to
+/// which channels and patterns it listens; whether it hears of new addresses, with the entry since which it does; and of each master the epoch of the configuration
+/// that it was told last since then.
 #[derive(Drop)]
 pub struct CourteousSession {
     exchange: Exchange,
@@ -27,7 +28,7 @@ impl Model for CourteousSession {
     ghost use Rattle.resp2_frames.specs.Stream.{bytes_in};
     ghost use Rattle.courteous_sessions.specs.Visits.{Visit};
     ghost use Rattle.port_sessions.specs.Talks.{IsEmptied};
-    ghost use Rattle.courteous_sessions.specs.OnTheWay.{IsReady};
+    ghost use Rattle.courteous_sessions.specs.OnTheWay.{IsReady, IsSilenced};
 
     ghost Value = { Visit };
 
@@ -37,12 +38,14 @@ impl Model for CourteousSession {
       held = bytes_in session.exchange.attendant.held;
       unsent = session.exchange.unsent.items;
       ended = session.fault;
+      listening = session.exchange.subscriptions;
       listens = session.exchange.session.listens;
       told = session.exchange.session.told;
     } };
 
-    ghost invariant = { λ session. IsReady session.exchange.attendant session.exchange.session
-        × IsEmptied session.fault (bytes_in session.exchange.attendant.held) session.exchange.session.listens };
+    ghost invariant = { λ session. IsReady session.exchange.attendant session.exchange.subscriptions session.exchange.session
+        × IsEmptied session.fault (bytes_in session.exchange.attendant.held) session.exchange.session.listens
+        × IsSilenced session.fault session.exchange.subscriptions };
 }
 
 impl CourteousSession {
@@ -65,8 +68,9 @@ impl CourteousSession {
     }
 
     /// Takes the next piece of what the client sends, of any length, at a reading of the clock in milliseconds, and puts out the answer to each value that is
-    /// whole with it, in their order: that of `Session::received`, or the courtesy of the value where it has one. INFO takes the turn of SENTINEL MASTERS, and no
-    /// other courtesy takes one.
+    /// whole with it, in their order: that of Pub/Sub, where it has one, else that of `Session::received`, or the courtesy of the value where it has one. INFO takes the
+    /// turn of SENTINEL MASTERS, and no other courtesy takes one. Where the connection begins to hear of new addresses, by a channel or a pattern, that takes the turn
+    /// of SUBSCRIBE, since whose entry notes are due to it; nothing else of Pub/Sub takes one.
     ///
     /// The first call learns the names of the Sentinel's masters, by which ROLE is answered from then on.
     ///
@@ -87,12 +91,11 @@ impl CourteousSession {
         // The answers to the values of the bytes held before and the piece join what is unsent, and the bytes after them are held.
         ensures received { self.old.ended ≡ None → (more : List ℕ) × (self.new.unsent ≡ self.old.unsent ++ more)
             × Receives cell.now.start now (self.old.held ++ piece.now)
-            (guest (party seat.old.view self.old.listens) (introduced cell.now.start self.old.knows_masters self.old.asker)) result self.new.held more
-            (guest (party seat.new.view self.new.listens) self.new.asker) }
+            (guest_at cell.now.start self.old seat.old.view) result self.new.held more (guest_of_visit self.new seat.new.view) }
         ensures knows { OnOk result (self.new.knows_masters ≡ true) }
-        ensures goes_on { OnOk result ((self.new.ended ≡ None) × (self.new.told ≡ self.old.told)) }
+        ensures goes_on { OnOk result (self.new.ended ≡ None) }
         ensures closed { IfErr result (λ fault. self.new.ended ≡ Some fault) }
-        ensures emptied { OnErr result ((self.new.held ≡ []) × (self.new.listens ≡ None)) }
+        ensures emptied { OnErr result ((self.new.held ≡ []) × (self.new.listening ≡ unsubscribed) × (self.new.listens ≡ None)) }
         // An ended session answers its fault, and nothing else happens.
         ensures ended { IfSome self.old.ended (λ fault. (result ≡ Err fault) × (self.new ≡ self.old) × (seat.new ≡ seat.old)) }
     {
@@ -125,12 +128,20 @@ impl CourteousSession {
         self.exchange.sent(n);
     }
 
-    /// Tells the client of a note, where it is due, as `Session::notify` does: whether it is. After `NoMemory` the client misses a note: the connection is to
-    /// be closed.
+    /// Tells the client of a note, where it is due, as `Session::notify` has it: whether it is. It is told on its channel, and for each pattern that matches that, in the
+    /// form of Pub/Sub. After `NoMemory` the client misses a note: the connection is to be closed.
     pub fn notify(&mut self, roster: &Roster, note: &Note, entry: u64) -> Result<bool, NoMemory>
         requires { note.now.master < length roster.now.masters }
         ensures { NotifiesVisit roster.now note.now entry self.old result self.new }
     {
         self.exchange.notify(roster, note, entry)
+    }
+
+    /// Tells the client of an event, where it listens to its channel or a pattern matches that: whether anything is told. Of an event on the channel of new addresses
+    /// nothing is: `notify` tells these. After `NoMemory` nothing changed, and the client misses an event: the connection is to be closed.
+    pub fn tell_event(&mut self, event: &Event) -> Result<bool, NoMemory>
+        ensures { TellsVisit event.now self.old result self.new }
+    {
+        self.exchange.tell_event(event)
     }
 }

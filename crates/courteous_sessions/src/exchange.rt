@@ -8,20 +8,22 @@ ghost use Rattle.port_sessions.specs.Talks.{party, Responds};
 ghost use Rattle.port_courtesies.specs.Infos.{info};
 ghost use Rattle.port_courtesies.specs.Widening.{wide};
 ghost use Rattle.resp2.specs.Commands.{command_of};
-ghost use Rattle.resp2_frames.specs.Frame.{Frame, spelling, IsFrame};
+ghost use Rattle.resp2_frames.specs.Frame.{Frame, view, spelling, HasLines, IsFrame};
 ghost use Rattle.resp2_frames.specs.Stream.{reading, held_size, bytes_in};
 ghost use Rattle.courteous_sessions.specs.Clients.{newcomer};
-ghost use Rattle.courteous_sessions.specs.OnTheWay.{IsReady, IsOnTheWay, IsSameButListening, Steps, Drains, Refuses, BeginsWith, NotifiesBelow, guest_of};
-ghost use Rattle.courteous_sessions.specs.Visits.{Guest, guest, introduced, TellsInfo, TellsWide, Answers, Receives};
+ghost use Rattle.courteous_sessions.specs.OnTheWay.{IsIdle, IsReady, IsOnTheWay, IsSameAsker, Steps, Drains, Refuses, BeginsWith, guest_of};
+ghost use Rattle.courteous_sessions.specs.Visits.{Guest, guest, unsubscribed, channel_turn, introduced, TellsInfo, TellsWide, Answers, Serves, Receives};
+ghost use Rattle.port_channels.specs.Answering.{other};
 
 use crate::questions::{ask, ask_masters, first_value, names_of};
-use ballot_law::{NoMemory, Note, Roster, Text};
+use ballot_law::{NoMemory, Text};
 use bytes::BytesMut;
 use conf_store::ConfStore;
+use port_channels::Subscriptions;
 use port_courtesies::{Asker, Attendant, Courtesy};
 use port_serving::ServeFault;
 use port_sessions::Session;
-use resp2_frames::FrameFault;
+use resp2_frames::{FrameFault, Value};
 use sentinel_cell::{Seat, SharedSentinel};
 use std::alloc::Global;
 use std::sync::Wait;
@@ -32,14 +34,15 @@ const PROTOCOL_ERROR: &[u8] = b"-ERR Protocol error\r\n";
 /// How many bytes of room a client keeps for its answers once all of them are sent.
 const ROOM_KEPT: usize = 16_384;
 
-/// What tells what becomes of each value, the session that answers those that are left to it, and the answers that aren't sent yet.
+/// What tells what becomes of each value, to what the connection listens, the session that answers what is left to it, and the answers that aren't sent yet.
 ///
-/// The session is handed each value by itself, so it holds no bytes between two calls. `knows_masters` is whether the attendant was told the names of the
+/// The session is handed each value by itself, so it holds no bytes between two calls. It listens to notes where the connection hears of new addresses. `knows_masters` is whether the attendant was told the names of the
 /// Sentinel's masters.
 #[derive(Drop)]
 pub(crate) struct Exchange {
-    alloc: Global,
+    pub(crate) alloc: Global,
     pub(crate) attendant: Attendant,
+    pub(crate) subscriptions: Subscriptions,
     pub(crate) session: Session,
     pub(crate) unsent: BytesMut,
     pub(crate) knows_masters: bool,
@@ -60,7 +63,7 @@ fn newcomer(alloc: Global, id: u64) -> Asker
 }
 
 /// Adds these bytes to what isn't sent yet.
-fn put_out(unsent: &mut BytesMut, bytes: &[u8]) -> Result<(), ServeFault>
+pub(crate) fn put_out(unsent: &mut BytesMut, bytes: &[u8]) -> Result<(), ServeFault>
     ensures ok { OnOk result (unsent.new.items ≡ unsent.old.items ++ bytes.now) }
     ensures err { OnErr result (unsent.new.items ≡ unsent.old.items) }
     ensures fault { IfErr result (λ fault. fault ≡ ServeFault.NoMemory) }
@@ -78,10 +81,12 @@ impl Exchange {
         ensures session { result.session ≡ record { held = []; unsent = []; ended = None; listens = None; told = none_told } }
         ensures unsent { result.unsent.items ≡ [] }
         ensures knows { result.knows_masters ≡ false }
+        ensures silent { result.subscriptions ≡ unsubscribed }
     {
         Exchange {
             alloc,
             attendant: Attendant::new(alloc, newcomer(alloc, id)),
+            subscriptions: Subscriptions::new(alloc),
             session: Session::new(alloc),
             unsent: BytesMut::new(alloc),
             knows_masters: false,
@@ -101,7 +106,7 @@ impl Exchange {
         ensures unsent { self.new.unsent.items ≡ drop n self.old.unsent.items }
         ensures attendant { self.new.attendant ≡ self.old.attendant }
         ensures session { self.new.session ≡ self.old.session }
-        ensures knows { self.new.knows_masters ≡ self.old.knows_masters }
+        ensures kept { (self.new.knows_masters ≡ self.old.knows_masters) × (self.new.subscriptions ≡ self.old.subscriptions) }
         ensures room { self.new.unsent.items ≡ [] → self.new.unsent.spare ≤ ROOM_KEPT }
     {
         self.unsent.advance(n);
@@ -116,7 +121,7 @@ impl Exchange {
         ensures unsent { self.new.unsent.items ≡ [] }
         ensures attendant { self.new.attendant ≡ self.old.attendant }
         ensures session { self.new.session ≡ self.old.session }
-        ensures knows { self.new.knows_masters ≡ self.old.knows_masters }
+        ensures kept { (self.new.knows_masters ≡ self.old.knows_masters) × (self.new.subscriptions ≡ self.old.subscriptions) }
         ensures room { self.new.unsent.spare ≤ ROOM_KEPT }
     {
         self.unsent.clear();
@@ -135,30 +140,31 @@ impl Exchange {
         } }
         ensures session { self.new.session ≡ self.old.session }
         ensures unsent { self.new.unsent ≡ self.old.unsent }
-        ensures knows { self.new.knows_masters ≡ self.old.knows_masters }
+        ensures kept { (self.new.knows_masters ≡ self.old.knows_masters) × (self.new.subscriptions ≡ self.old.subscriptions) }
     {
         self.attendant.want_password(password);
     }
 
-    /// The connection ends: what is held is dropped, and its client is told of no more notes.
+    /// The connection ends: what is held is dropped, and it listens to nothing more.
     pub(crate) fn close(&mut self)
-        ensures ready { IsReady self.new.attendant self.new.session }
+        ensures ready { IsReady self.new.attendant self.new.subscriptions self.new.session }
         ensures held { self.new.attendant.held ≡ reading [] }
-        ensures silent { self.new.session.listens ≡ None }
+        ensures silent { (self.new.session.listens ≡ None) × (self.new.subscriptions ≡ unsubscribed) }
         ensures unsent { self.new.unsent.items ≡ self.old.unsent.items }
     {
         self.attendant.drop_held();
         self.attendant.note_listening(false);
+        self.subscriptions = Subscriptions::new(self.alloc);
         self.session = Session::new(self.alloc);
     }
 
     /// Takes away what the session put out.
     #[tactic(auto, using(crate::proofs::Values::none_left))]
-    fn drop_answers(&mut self)
+    pub(crate) fn drop_answers(&mut self)
         ensures session { self.new.session ≡ record self.old.session { unsent = [] } }
         ensures attendant { self.new.attendant ≡ self.old.attendant }
         ensures unsent { self.new.unsent ≡ self.old.unsent }
-        ensures knows { self.new.knows_masters ≡ self.old.knows_masters }
+        ensures kept { (self.new.knows_masters ≡ self.old.knows_masters) × (self.new.subscriptions ≡ self.old.subscriptions) }
     {
         let count = self.session.unsent().len();
         self.session.sent(count);
@@ -170,35 +176,12 @@ impl Exchange {
         ensures err { OnErr result (self.new.unsent.items ≡ self.old.unsent.items) }
         ensures session { self.new.session ≡ record self.old.session { unsent = [] } }
         ensures attendant { self.new.attendant ≡ self.old.attendant }
-        ensures knows { self.new.knows_masters ≡ self.old.knows_masters }
+        ensures kept { (self.new.knows_masters ≡ self.old.knows_masters) × (self.new.subscriptions ≡ self.old.subscriptions) }
         ensures fault { IfErr result (λ fault. fault ≡ ServeFault.NoMemory) }
     {
         let put = put_out(&mut self.unsent, self.session.unsent());
         self.drop_answers();
         put
-    }
-
-    /// Tells the client of a note, where it is due: whether it is. After `NoMemory` the connection is to be closed.
-    pub(crate) fn notify(
-        &mut self,
-        roster: &Roster,
-        note: &Note,
-        entry: u64,
-    ) -> Result<bool, NoMemory>
-        requires master { note.now.master < length roster.now.masters }
-        requires ready { IsReady self.old.attendant self.old.session }
-        ensures ready { IsReady self.new.attendant self.new.session }
-        ensures told { NotifiesBelow roster.now note.now entry self.old.session self.old.unsent.items result self.new.session self.new.unsent.items }
-        ensures attendant { self.new.attendant ≡ self.old.attendant }
-        ensures knows { self.new.knows_masters ≡ self.old.knows_masters }
-    {
-        if !self.session.notify(roster, note, entry)? {
-            return Ok(false);
-        }
-        match self.take_answers() {
-            Ok(()) => Ok(true),
-            Err(_) => Err(NoMemory),
-        }
     }
 
     /// Has it know the masters of the Sentinel, where it doesn't yet.
@@ -207,7 +190,7 @@ impl Exchange {
           asker = introduced cell.now.start self.old.knows_masters self.old.attendant.asker;
         }) }
         ensures knows { OnOk result (self.new.knows_masters ≡ true) }
-        ensures session { self.new.session ≡ self.old.session }
+        ensures session { (self.new.session ≡ self.old.session) × (self.new.subscriptions ≡ self.old.subscriptions) }
         ensures unsent { self.new.unsent ≡ self.old.unsent }
         ensures fault { IfErr result (λ fault. fault ≡ ServeFault.NoMemory) }
     {
@@ -233,16 +216,16 @@ impl Exchange {
         now: u64,
     ) -> Result<(), ServeFault>
         requires own { seat.old.cell ≡ cell.now.id }
-        requires ready { IsReady self.old.attendant self.old.session }
+        requires idle { IsIdle self.old.session }
         ensures own { seat.new.cell ≡ seat.old.cell }
         ensures answered { OnOk result ((value : Frame) → IsFrame value → self.old.attendant.text ≡ spelling value
-            → (more : List ℕ) × (self.new.unsent.items ≡ self.old.unsent.items ++ more) × IsReady self.new.attendant self.new.session
+            → (more : List ℕ) × (self.new.unsent.items ≡ self.old.unsent.items ++ more) × IsIdle self.new.session
             × Responds cell.now.start now (party seat.old.view self.old.session.listens) (command_of value) more (party seat.new.view self.new.session.listens)) }
-        ensures same { IsSameButListening self.old.attendant self.new.attendant }
+        ensures same { IsSameAsker self.old.attendant self.new.attendant }
         ensures told { self.new.session.told ≡ self.old.session.told }
         ensures err { OnErr result (self.new.unsent.items ≡ self.old.unsent.items) }
         ensures fault { IfErr result (λ fault. (fault ≡ ServeFault.Halted) ⊎ (fault ≡ ServeFault.NoMemory)) }
-        ensures knows { self.new.knows_masters ≡ self.old.knows_masters }
+        ensures kept { (self.new.knows_masters ≡ self.old.knows_masters) × (self.new.subscriptions ≡ self.old.subscriptions) }
     {
         ask(
             rt,
@@ -252,9 +235,7 @@ impl Exchange {
             &mut self.session,
             self.attendant.text(),
         )?;
-        self.take_answers()?;
-        self.attendant.note_listening(self.session.listens());
-        Ok(())
+        self.take_answers()
     }
 
     /// Answers INFO, which is the attendant's text, by what the session answers to SENTINEL MASTERS.
@@ -266,23 +247,22 @@ impl Exchange {
         now: u64,
     ) -> Result<(), ServeFault>
         requires own { seat.old.cell ≡ cell.now.id }
-        requires ready { IsReady self.old.attendant self.old.session }
+        requires idle { IsIdle self.old.session }
         ensures own { seat.new.cell ≡ seat.old.cell }
         ensures answered { OnOk result ((value : Frame) → IsFrame value → self.old.attendant.text ≡ spelling value
-            → (more : List ℕ) × (self.new.unsent.items ≡ self.old.unsent.items ++ more) × IsReady self.new.attendant self.new.session
+            → (more : List ℕ) × (self.new.unsent.items ≡ self.old.unsent.items ++ more) × IsIdle self.new.session
             × TellsInfo cell.now.start now (party seat.old.view self.old.session.listens) value more (party seat.new.view self.new.session.listens)) }
-        ensures same { IsSameButListening self.old.attendant self.new.attendant }
+        ensures same { IsSameAsker self.old.attendant self.new.attendant }
         ensures told { self.new.session.told ≡ self.old.session.told }
         ensures err { OnErr result (self.new.unsent.items ≡ self.old.unsent.items) }
         ensures fault { IfErr result (λ fault. (fault ≡ ServeFault.Halted) ⊎ (fault ≡ ServeFault.NoMemory)) }
-        ensures knows { self.new.knows_masters ≡ self.old.knows_masters }
+        ensures kept { (self.new.knows_masters ≡ self.old.knows_masters) × (self.new.subscriptions ≡ self.old.subscriptions) }
     {
         ask_masters(rt, cell, seat, now, &mut self.session)?;
         if self.inform().is_err() {
             return Err(ServeFault::NoMemory);
         }
         self.drop_answers();
-        self.attendant.note_listening(self.session.listens());
         put_out(&mut self.unsent, self.attendant.text())
     }
 
@@ -294,7 +274,7 @@ impl Exchange {
         ensures held { self.new.attendant.held ≡ self.old.attendant.held }
         ensures session { self.new.session ≡ self.old.session }
         ensures unsent { self.new.unsent ≡ self.old.unsent }
-        ensures knows { self.new.knows_masters ≡ self.old.knows_masters }
+        ensures kept { (self.new.knows_masters ≡ self.old.knows_masters) × (self.new.subscriptions ≡ self.old.subscriptions) }
     {
         let masters = first_value(self.alloc, self.session.unsent())?;
         self.attendant.inform(&masters)
@@ -309,16 +289,16 @@ impl Exchange {
         now: u64,
     ) -> Result<(), ServeFault>
         requires own { seat.old.cell ≡ cell.now.id }
-        requires ready { IsReady self.old.attendant self.old.session }
+        requires idle { IsIdle self.old.session }
         ensures own { seat.new.cell ≡ seat.old.cell }
         ensures answered { OnOk result ((value : Frame) → IsFrame value → self.old.attendant.text ≡ spelling value
-            → (more : List ℕ) × (self.new.unsent.items ≡ self.old.unsent.items ++ more) × IsReady self.new.attendant self.new.session
+            → (more : List ℕ) × (self.new.unsent.items ≡ self.old.unsent.items ++ more) × IsIdle self.new.session
             × TellsWide cell.now.start now (party seat.old.view self.old.session.listens) value more (party seat.new.view self.new.session.listens)) }
-        ensures same { IsSameButListening self.old.attendant self.new.attendant }
+        ensures same { IsSameAsker self.old.attendant self.new.attendant }
         ensures told { self.new.session.told ≡ self.old.session.told }
         ensures err { OnErr result (self.new.unsent.items ≡ self.old.unsent.items) }
         ensures fault { IfErr result (λ fault. (fault ≡ ServeFault.Halted) ⊎ (fault ≡ ServeFault.NoMemory)) }
-        ensures knows { self.new.knows_masters ≡ self.old.knows_masters }
+        ensures kept { (self.new.knows_masters ≡ self.old.knows_masters) × (self.new.subscriptions ≡ self.old.subscriptions) }
     {
         ask(
             rt,
@@ -332,7 +312,6 @@ impl Exchange {
             return Err(ServeFault::NoMemory);
         }
         self.drop_answers();
-        self.attendant.note_listening(self.session.listens());
         put_out(&mut self.unsent, self.attendant.text())
     }
 
@@ -344,7 +323,7 @@ impl Exchange {
         ensures held { self.new.attendant.held ≡ self.old.attendant.held }
         ensures session { self.new.session ≡ self.old.session }
         ensures unsent { self.new.unsent ≡ self.old.unsent }
-        ensures knows { self.new.knows_masters ≡ self.old.knows_masters }
+        ensures kept { (self.new.knows_masters ≡ self.old.knows_masters) × (self.new.subscriptions ≡ self.old.subscriptions) }
     {
         let answer = first_value(self.alloc, self.session.unsent())?;
         self.attendant.widen(&answer)
@@ -354,7 +333,7 @@ impl Exchange {
     fn refuse(&mut self, fault: FrameFault) -> ServeFault
         ensures attendant { self.new.attendant ≡ self.old.attendant }
         ensures session { self.new.session ≡ self.old.session }
-        ensures knows { self.new.knows_masters ≡ self.old.knows_masters }
+        ensures kept { (self.new.knows_masters ≡ self.old.knows_masters) × (self.new.subscriptions ≡ self.old.subscriptions) }
         ensures refused { (line : List ℕ) × (self.new.unsent.items ≡ self.old.unsent.items ++ line) × Refuses fault line result }
     {
         if let FrameFault::NoMemory = fault {
@@ -376,23 +355,52 @@ impl Exchange {
         kind: Courtesy,
     ) -> Result<(), ServeFault>
         requires own { seat.old.cell ≡ cell.now.id }
-        requires ready { IsReady self.old.attendant self.old.session }
+        requires idle { IsIdle self.old.session }
         ensures own { seat.new.cell ≡ seat.old.cell }
         ensures answered { OnOk result ((asker : Asker) (value : Frame) → IsFrame value → kind ≡ kind_of (courtesy asker value)
             → self.old.attendant.text ≡ text_at asker value → (more : List ℕ) × (self.new.unsent.items ≡ self.old.unsent.items ++ more)
-            × IsReady self.new.attendant self.new.session × Answers cell.now.start now (courtesy asker value)
+            × IsIdle self.new.session × Answers cell.now.start now (courtesy asker value)
             (party seat.old.view self.old.session.listens) value more (party seat.new.view self.new.session.listens)) }
-        ensures same { IsSameButListening self.old.attendant self.new.attendant }
+        ensures same { IsSameAsker self.old.attendant self.new.attendant }
         ensures told { self.new.session.told ≡ self.old.session.told }
         ensures err { OnErr result (self.new.unsent.items ≡ self.old.unsent.items) }
         ensures fault { IfErr result (λ fault. (fault ≡ ServeFault.Halted) ⊎ (fault ≡ ServeFault.NoMemory)) }
-        ensures knows { self.new.knows_masters ≡ self.old.knows_masters }
+        ensures kept { (self.new.knows_masters ≡ self.old.knows_masters) × (self.new.subscriptions ≡ self.old.subscriptions) }
     {
         match kind {
             Courtesy::Left => self.hand_on(rt, cell, seat, now),
             Courtesy::Widens => self.tell_wide(rt, cell, seat, now),
             Courtesy::Said => put_out(&mut self.unsent, self.attendant.text()),
             Courtesy::AsksMasters => self.tell_info(rt, cell, seat, now),
+        }
+    }
+
+    /// Attends to a value that Pub/Sub doesn't answer, and has it answered.
+    pub(crate) fn attend_to<S: ConfStore, R: Wait>(
+        &mut self,
+        rt: &R,
+        cell: &SharedSentinel<S>,
+        seat: &mut Seat,
+        now: u64,
+        value: &Value,
+    ) -> Result<(), ServeFault>
+        requires own { seat.old.cell ≡ cell.now.id }
+        requires ready { IsReady self.old.attendant self.old.subscriptions self.old.session }
+        requires frame { IsFrame (view value.now) × HasLines (view value.now) }
+        requires other { channel_turn self.old.attendant.asker self.old.subscriptions (view value.now) ≡ other }
+        ensures own { seat.new.cell ≡ seat.old.cell }
+        ensures served { OnOk result ((more : List ℕ) × (self.new.unsent.items ≡ self.old.unsent.items ++ more)
+            × IsReady self.new.attendant self.new.subscriptions self.new.session
+            × Serves cell.now.start now (guest_of self.old.attendant self.old.subscriptions self.old.session seat.old.view) (view value.now) more
+            (guest_of self.new.attendant self.new.subscriptions self.new.session seat.new.view)) }
+        ensures held { OnOk result (self.new.attendant.held ≡ self.old.attendant.held) }
+        ensures fault { IfErr result (λ fault. ((fault ≡ ServeFault.Halted) ⊎ (fault ≡ ServeFault.NoMemory))
+            × (self.new.unsent.items ≡ self.old.unsent.items)) }
+        ensures knows { self.new.knows_masters ≡ self.old.knows_masters }
+    {
+        match self.attendant.attend_to(value) {
+            Ok(kind) => self.answer(rt, cell, seat, now, kind),
+            Err(_) => Err(ServeFault::NoMemory),
         }
     }
 
@@ -405,20 +413,19 @@ impl Exchange {
         now: u64,
     ) -> Result<bool, ServeFault>
         requires own { seat.old.cell ≡ cell.now.id }
-        requires ready { IsReady self.old.attendant self.old.session }
+        requires ready { IsReady self.old.attendant self.old.subscriptions self.old.session }
         ensures own { seat.new.cell ≡ seat.old.cell }
         ensures smaller { IfOk result (λ more. IsTrue more → held_size self.new.attendant.held < held_size self.old.attendant.held) }
-        ensures ready { OnOk result (IsReady self.new.attendant self.new.session) }
-        ensures told { self.new.session.told ≡ self.old.session.told }
+        ensures ready { OnOk result (IsReady self.new.attendant self.new.subscriptions self.new.session) }
         ensures knows { self.new.knows_masters ≡ self.old.knows_masters }
         ensures answered { (stream before bytes : List ℕ) (g : Guest) → self.old.unsent.items ≡ before ++ bytes
             → IsOnTheWay cell.now.start now stream g self.old.attendant.held bytes
-            (guest_of self.old.attendant self.old.session seat.old.view) → (more : List ℕ) × (self.new.unsent.items ≡ before ++ more)
+            (guest_of self.old.attendant self.old.subscriptions self.old.session seat.old.view) → (more : List ℕ) × (self.new.unsent.items ≡ before ++ more)
             × Steps cell.now.start now stream g result self.new.attendant.held more
-            (guest_of self.new.attendant self.new.session seat.new.view) }
+            (guest_of self.new.attendant self.new.subscriptions self.new.session seat.new.view) }
     {
-        match self.attendant.attend() {
-            Ok(Some(kind)) => match self.answer(rt, cell, seat, now, kind) {
+        match self.attendant.next() {
+            Ok(Some(value)) => match self.answer_value(rt, cell, seat, now, &value) {
                 Ok(()) => Ok(true),
                 Err(fault) => Err(fault),
             },
@@ -436,16 +443,15 @@ impl Exchange {
         now: u64,
     ) -> Result<(), ServeFault>
         requires own { seat.old.cell ≡ cell.now.id }
-        requires ready { IsReady self.old.attendant self.old.session }
+        requires ready { IsReady self.old.attendant self.old.subscriptions self.old.session }
         ensures own { seat.new.cell ≡ seat.old.cell }
-        ensures ready { OnOk result (IsReady self.new.attendant self.new.session) }
-        ensures told { self.new.session.told ≡ self.old.session.told }
+        ensures ready { OnOk result (IsReady self.new.attendant self.new.subscriptions self.new.session) }
         ensures knows { self.new.knows_masters ≡ self.old.knows_masters }
         ensures answered { (stream before bytes : List ℕ) (g : Guest) → self.old.unsent.items ≡ before ++ bytes
             → IsOnTheWay cell.now.start now stream g self.old.attendant.held bytes
-            (guest_of self.old.attendant self.old.session seat.old.view) → (more : List ℕ) × (self.new.unsent.items ≡ before ++ more)
+            (guest_of self.old.attendant self.old.subscriptions self.old.session seat.old.view) → (more : List ℕ) × (self.new.unsent.items ≡ before ++ more)
             × Drains cell.now.start now stream g result self.new.attendant.held more
-            (guest_of self.new.attendant self.new.session seat.new.view) }
+            (guest_of self.new.attendant self.new.subscriptions self.new.session seat.new.view) }
     {
         loop {
             match self.answer_next(rt, cell, seat, now) {
@@ -466,17 +472,18 @@ impl Exchange {
         piece: &[u8],
     ) -> Result<(), ServeFault>
         requires own { seat.old.cell ≡ cell.now.id }
-        requires ready { IsReady self.old.attendant self.old.session }
+        requires ready { IsReady self.old.attendant self.old.subscriptions self.old.session }
         ensures own { seat.new.cell ≡ seat.old.cell }
-        ensures ready { OnOk result (IsReady self.new.attendant self.new.session) }
-        ensures told { self.new.session.told ≡ self.old.session.told }
+        ensures ready { OnOk result (IsReady self.new.attendant self.new.subscriptions self.new.session) }
         ensures knows { OnOk result (self.new.knows_masters ≡ true) }
         ensures received { (more : List ℕ) × (self.new.unsent.items ≡ self.old.unsent.items ++ more)
             × Receives cell.now.start now (bytes_in self.old.attendant.held ++ piece.now)
-            (guest (party seat.old.view self.old.session.listens) (introduced cell.now.start self.old.knows_masters self.old.attendant.asker)) result
-            (bytes_in self.new.attendant.held) more (guest_of self.new.attendant self.new.session seat.new.view) }
+            (guest (party seat.old.view self.old.session.listens) self.old.subscriptions self.old.session.told
+            (introduced cell.now.start self.old.knows_masters self.old.attendant.asker)) result (bytes_in self.new.attendant.held) more (guest_of self.new.attendant self.new.subscriptions self.new.session seat.new.view) }
     {
-        self.learn_masters(cell)?;
+        if self.learn_masters(cell).is_err() {
+            return Err(ServeFault::NoMemory);
+        }
         if self.attendant.feed(piece).is_err() {
             return Err(ServeFault::NoMemory);
         }

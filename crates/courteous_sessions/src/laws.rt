@@ -1,15 +1,26 @@
 //! What a session with courtesies keeps of the one without.
 
-ghost use Rattle.courteous_sessions.specs.Laws.{AnswersOwnAsBefore, IsPassedOver, PiecesJoin, StrangersTakeNoTurn, TakesNoTurn};
+ghost use Rattle.courteous_sessions.specs.Laws.{AnswersListeners, AnswersOwnAsBefore, IsPassedOver, NoOtherNoteIsTold, NothingElseIsTold, PiecesJoin, StrangersTakeNoTurn, TakesNoTurn};
 
-/// Where no password is wanted that the client didn't give, a command of the Sentinel's rules is answered as by a session without courtesies, and changes nothing
-/// that is known of the connection.
+/// Where no password is wanted that the client didn't give, and the connection doesn't listen, a command of the Sentinel's rules but SUBSCRIBE is answered as by a
+/// session without courtesies, and changes nothing that is known of the connection.
 pub fn law_own_commands_are_answered_as_before()
     ensures { AnswersOwnAsBefore }
 {}
 
-/// A value whose answer a courtesy tells is answered by that alone: it takes no turn and changes nothing of what its seat has seen. So is one that has no answer,
-/// for which nothing is put out.
+/// While a connection listens, Pub/Sub alone answers the commands of the Sentinel's rules.
+pub fn law_listeners_are_answered_by_channels()
+    ensures { AnswersListeners }
+{}
+
+/// A text on a channel is told to no connection that neither listens to the channel nor has a pattern that matches it.
+pub fn law_channels_tell_nothing_else()
+    ensures events { NothingElseIsTold }
+    ensures notes { NoOtherNoteIsTold }
+{}
+
+/// A value that Pub/Sub doesn't answer and whose answer a courtesy tells is answered by that alone: it takes no turn and changes nothing of what its seat has seen. So
+/// is one that has no answer, for which nothing is put out.
 pub fn law_courtesies_take_no_turn()
     ensures said { TakesNoTurn }
     ensures silent { IsPassedOver }
@@ -20,7 +31,8 @@ pub fn law_pieces_join()
     ensures { PiecesJoin }
 {}
 
-/// Where a password is wanted that the client didn't give, no value takes a turn or changes anything of what its seat has seen.
+/// Where a password is wanted that the client didn't give, no value takes a turn, changes anything of what its seat has seen, or has the connection
+/// listen to anything.
 pub fn law_strangers_take_no_turn()
     ensures { StrangersTakeNoTurn }
 {}

@@ -1,19 +1,22 @@
-//! A session with courtesies: the conversation with one client of a port, whose values are answered as a Sentinel's session answers them, or by the table
-//! of `port_courtesies` where the Sentinel's rules know no answer.
+//! A session with courtesies: the conversation with one client of a port, whose values are answered as a Sentinel's session answers them, by Pub/Sub of
+//! `port_channels`, or by the table of `port_courtesies` where the Sentinel's rules know no answer.
 //!
 //! It stands over a `Session` of `port_sessions` by its public calls alone, so a session without courtesies is that session itself: `ClientSession` is
-//! one or the other. What a client is answered stands in `specs/Visits`; what each call of a `ClientSession` does in `specs/Clients`.
+//! one or the other. What a client is answered stands in `specs/Visits`; what it is told
+//! besides in `specs/Events`, and what each call of a `ClientSession` does in `specs/Clients`.
 #![tactic(auto)]
 
 mod client_session;
 mod courteous_session;
 mod exchange;
+mod hearing;
 mod laws;
 mod questions;
 
 pub use client_session::ClientSession;
 pub use courteous_session::CourteousSession;
 pub use laws::{
-    law_courtesies_take_no_turn, law_own_commands_are_answered_as_before, law_pieces_join,
-    law_strangers_take_no_turn,
+    law_channels_tell_nothing_else, law_courtesies_take_no_turn,
+    law_listeners_are_answered_by_channels, law_own_commands_are_answered_as_before,
+    law_pieces_join, law_strangers_take_no_turn,
 };

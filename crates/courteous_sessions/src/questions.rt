@@ -1,7 +1,7 @@
 //! What the session below is asked, one value at a time.
 
 ghost use Rattle.std.specs.Prelude.{◌≡◌, ◌⊎◌, [], None, OnOk, IfErr, IfOk, Ok, map};
-ghost use Rattle.ballot_law.specs.declared.commands.Command.TheVariants.{Masters};
+ghost use Rattle.ballot_law.specs.declared.commands.Command.TheVariants.{Masters, Subscribe};
 ghost use Rattle.ballot_law.specs.Rosters.{MasterPlan};
 ghost use Rattle.port_sessions.specs.Talks.{party, Responds};
 ghost use Rattle.resp2.specs.Commands.{command_of};
@@ -19,6 +19,9 @@ use std::sync::Wait;
 
 /// The command of whose answer INFO is made.
 const MASTERS: &[u8] = b"*2\r\n$8\r\nSENTINEL\r\n$7\r\nMASTERS\r\n";
+
+/// The command after whose answer the session listens to notes.
+const SUBSCRIBE: &[u8] = b"*2\r\n$9\r\nSUBSCRIBE\r\n$14\r\n+switch-master\r\n";
 
 /// The fault of a session that was handed one whole value: the Sentinel is halted, or memory was refused.
 fn ended_by(fault: ServeFault) -> ServeFault
@@ -73,6 +76,26 @@ pub(crate) fn ask_masters<S: ConfStore, R: Wait>(
     ensures fault { IfErr result (λ fault. (fault ≡ ServeFault.Halted) ⊎ (fault ≡ ServeFault.NoMemory)) }
 {
     ask(rt, cell, seat, now, session, MASTERS)
+}
+
+/// Has the session answer SUBSCRIBE of the channel of new addresses, after which it listens to notes.
+pub(crate) fn ask_subscribe<S: ConfStore, R: Wait>(
+    rt: &R,
+    cell: &SharedSentinel<S>,
+    seat: &mut Seat,
+    now: u64,
+    session: &mut Session,
+) -> Result<(), ServeFault>
+    requires own { seat.old.cell ≡ cell.now.id }
+    requires idle { IsIdle session.old }
+    ensures own { seat.new.cell ≡ seat.old.cell }
+    ensures answered { OnOk result (Responds cell.now.start now (party seat.old.view session.old.listens) (Ok Subscribe) session.new.unsent
+        (party seat.new.view session.new.listens) × (session.new.held ≡ [])) }
+    ensures goes_on { OnOk result (session.new.ended ≡ None) }
+    ensures told { session.new.told ≡ session.old.told }
+    ensures fault { IfErr result (λ fault. (fault ≡ ServeFault.Halted) ⊎ (fault ≡ ServeFault.NoMemory)) }
+{
+    ask(rt, cell, seat, now, session, SUBSCRIBE)
 }
 
 /// The value with which these bytes begin; `NoMemory` where they begin with none, or memory was refused.

@@ -10,7 +10,7 @@ use crate::port_room::{CONNECTIONS_MAX, PortRoom};
 use ballot_law::{NoMemory, Text};
 use conf_store::ConfStore;
 use courteous_sessions::ClientSession;
-use group_sentinels::{RunState, RunningSentinel, Switch, ThreadSeat, Which};
+use group_sentinels::{News, RunState, RunningSentinel, ThreadSeat, Which};
 use mio::event::Event;
 use mio::net::TcpStream;
 use mio::{Events, Interest, Poll, Registry, Token};
@@ -260,12 +260,12 @@ impl Clients {
         }
     }
 
-    /// Tells one connection of a master's new address, and closes it where it has no memory for that.
+    /// Tells one connection of a master's new address or of another event, and closes it where it has no memory for that.
     #[tactic(auto, using(crate::proofs::Keeping::kept_few, crate::proofs::Keeping::others_kept, crate::proofs::Keeping::others_left))]
     fn tell_one<J: Which, S: ConfStore>(
         &mut self,
         member: &RunningSentinel<J, S>,
-        switch: &Switch,
+        news: &News,
         key: usize,
     )
         ensures others { (other : ℕ) → other ≢ key → get self.new.connections other ≡ get self.old.connections other }
@@ -273,32 +273,33 @@ impl Clients {
         let Some(connection) = self.connections.get_mut(key) else {
             return;
         };
-        if !connection.tell(member, switch) {
+        if !connection.tell(member, news) {
             drop(self.connections.try_remove(key));
         }
     }
 
-    /// Tells the subscribers of a master's new address.
-    fn tell_all<J: Which, S: ConfStore>(
-        &mut self,
-        member: &RunningSentinel<J, S>,
-        switch: &Switch,
-    ) {
+    /// Tells the subscribers of a master's new address or of another event.
+    fn tell_all<J: Which, S: ConfStore>(&mut self, member: &RunningSentinel<J, S>, news: &News) {
         for key in 0..CONNECTIONS_MAX {
-            self.tell_one(member, switch, key);
+            self.tell_one(member, news, key);
         }
     }
 
-    /// Tells the subscribers of each new address that a thread of the Sentinel showed since the last turn of the port's thread with this number, which
-    /// has them.
-    pub(crate) fn tell_switches<J: Which, S: ConfStore, R: Wait>(
+    /// Tells the subscribers of each new address and, where connections have courtesies, of each other event that a thread of the Sentinel showed since the last turn of the
+    /// port's thread with this number, which has them, in the order in which they came.
+    pub(crate) fn tell_news<J: Which, S: ConfStore, R: Wait>(
         &mut self,
         rt: &R,
         member: &RunningSentinel<J, S>,
         thread: u16,
     ) {
-        for switch in &member.take_switches(rt, thread) {
-            self.tell_all(member, switch);
+        for news in &member.take_news(rt, thread) {
+            self.tell_all(member, news);
         }
+    }
+
+    /// Whether the connections have courtesies.
+    pub(crate) fn courteous(&self) -> bool {
+        self.room.courteous()
     }
 }

@@ -8,7 +8,7 @@ ghost use Rattle.group_ports.specs.Sending.{IsSent, IsHanded};
 use crate::read_buffer::{PIECE, ReadBuffer};
 use conf_store::ConfStore;
 use courteous_sessions::ClientSession;
-use group_sentinels::{RunFault, RunState, RunningSentinel, Switch, ThreadSeat, Which};
+use group_sentinels::{News, RunFault, RunState, RunningSentinel, ThreadSeat, Which};
 use port_serving::ServeFault;
 use std::io::{ErrorKind, Read, Write};
 use std::rt::Clock;
@@ -19,6 +19,9 @@ const STEPS_MAX: u32 = 16;
 
 /// How many bytes may wait to be sent before the connection is read no further, and no more of what was read is answered.
 pub(crate) const UNSENT_MAX: usize = 1_048_576;
+
+/// With how many bytes that wait to be sent a connection is closed at an event: its client doesn't read them.
+const TOLD_MAX: usize = 2 * UNSENT_MAX;
 
 /// A client's connection with its session.
 ///
@@ -112,13 +115,19 @@ impl<T: Read + Write + Drop> Connection<T> {
         true
     }
 
-    /// Tells its client of a master's new address where it has subscribed: whether the connection is whole, and had memory for it.
+    /// Tells its client of a master's new address or of another event, where it has subscribed to that: whether the connection is whole, had memory for it, and doesn't
+    /// leave so much unread that no event is told.
     pub(crate) fn tell<J: Which, S: ConfStore>(
         &mut self,
         member: &RunningSentinel<J, S>,
-        switch: &Switch,
+        news: &News,
     ) -> bool {
-        match member.notify(&mut self.session, switch) {
+        let told = match news {
+            News::Switch(switch) => member.notify(&mut self.session, switch),
+            News::Event(_) if self.session.unsent().len() >= TOLD_MAX => return false,
+            News::Event(event) => self.session.tell_event(event),
+        };
+        match told {
             Ok(false) => true,
             Ok(true) => self.send(),
             Err(_) => false,

@@ -90,6 +90,9 @@ impl Port {
         seat: &mut ThreadSeat<J>,
         ending: &AtomicU64,
     ) -> io::Result<()> {
+        if self.clients.courteous() {
+            member.tell_events();
+        }
         for _ in rt.forever() {
             if ending.load(Ordering::SeqCst) != 0 || member.is_closed(state) {
                 return Ok(());
@@ -102,7 +105,7 @@ impl Port {
             self.answer_events(rt, state, member, seat, ending);
             self.clients.send_events(&self.events);
             self.clients.serve_busy(rt, state, member, seat, ending);
-            self.clients.tell_switches(rt, member, self.thread);
+            self.clients.tell_news(rt, member, self.thread);
         }
         unreachable!()
     }

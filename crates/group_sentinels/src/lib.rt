@@ -9,6 +9,7 @@
 mod clock;
 mod lookout;
 mod named;
+mod news;
 mod notes;
 mod outlet;
 mod run_state;
@@ -18,8 +19,9 @@ mod switches;
 mod ticking;
 
 pub use clock::GroupClock;
+pub use news::{EVENTS_MAX, News, WAITING_MAX};
 pub use outlet::{Outlet, send_all};
 pub use run_state::{RunFault, RunState};
 pub use running_sentinel::{RunningSentinel, ThreadSeat, Which};
-pub use switches::{Switch, WAITING_MAX};
+pub use switches::Switch;
 pub use ticking::{TICK_MS, Ticker, hear};

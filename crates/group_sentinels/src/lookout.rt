@@ -1,13 +1,16 @@
 //! What the timer of a Sentinel notes: after each tick it looks at what its own Sentinel shows of the master, and tells what became different.
 
 use crate::named::{NamedId, NamedMaster, NamedNode, NamedSentinel};
+use crate::notes::Announcing;
 use crate::sight::{Flags, Look, Vote};
 use ballot_law::{
     Addr, Body, Card, Member, Message, NODES_MAX, NodeName, Output, Roster, SENTINELS_MAX,
 };
 use failover_states::FailoverState;
-use log::{Log, info, warn};
+use log::{Log, warn};
+use port_channels::Channel;
 use std::alloc::Global;
+use std::sync::Wait;
 
 /// What the outputs of a tick tell: the greatest epoch in a hello or a question, and the data node that is told to be a master.
 #[derive(Clone, Copy)]
@@ -126,80 +129,108 @@ impl Seen {
     }
 
     /// Notes whether the master is down.
-    fn note_down<R: Log>(&mut self, rt: &R, flags: Flags, master: NamedMaster<'_>) {
+    fn note_down<R: Log + Wait>(
+        &mut self,
+        to: &Announcing<'_, '_, R>,
+        flags: Flags,
+        master: NamedMaster<'_>,
+    ) {
         let before = self.flags;
         if flags.down && !before.down {
-            info!(rt; "+sdown master {master}");
+            to.tell_master(Channel::SubjectivelyDown, master);
         }
         if flags.agreed && !before.agreed {
-            info!(rt; "+odown master {master}");
+            to.tell_master(Channel::ObjectivelyDown, master);
         }
         if !flags.agreed && before.agreed {
-            info!(rt; "-odown master {master}");
+            to.tell_master(Channel::ObjectivelyUp, master);
         }
         if !flags.down && before.down {
-            info!(rt; "-sdown master {master}");
+            to.tell_master(Channel::SubjectivelyUp, master);
         }
         self.flags.down = flags.down;
         self.flags.agreed = flags.agreed;
     }
 
     /// Notes a vote that was given since the first look, which shows the one of the file.
-    fn note_vote<R: Log>(&mut self, rt: &R, vote: Vote) {
+    fn note_vote<R: Log + Wait>(&mut self, to: &Announcing<'_, '_, R>, vote: Vote) {
         let before = self.voted.unwrap_or(vote.epoch);
         if let Some(leader) = vote.leader {
             if vote.epoch > before {
-                info!(rt; "+vote-for-leader {} {}", NamedId(leader), vote.epoch);
+                to.tell(
+                    Channel::VoteForLeader,
+                    format_args!("{} {}", NamedId(leader), vote.epoch),
+                );
             }
         }
         self.voted = Some(before.max(vote.epoch));
     }
 
     /// Notes that a failover was begun.
-    fn note_start<R: Log>(&mut self, rt: &R, flags: Flags, master: NamedMaster<'_>) {
+    fn note_start<R: Log + Wait>(
+        &mut self,
+        to: &Announcing<'_, '_, R>,
+        flags: Flags,
+        master: NamedMaster<'_>,
+    ) {
         if flags.failing_over && !self.flags.failing_over {
-            info!(rt; "+try-failover master {master}");
+            to.tell_master(Channel::TryFailover, master);
             self.begun = self.epoch;
         }
     }
 
     /// Notes that an election was won.
-    fn note_win<R: Log>(&self, rt: &R, way: Way, master: NamedMaster<'_>) {
+    fn note_win<R: Log + Wait>(
+        &self,
+        to: &Announcing<'_, '_, R>,
+        way: Way,
+        master: NamedMaster<'_>,
+    ) {
         if way == Way::Choice && self.way != Way::Choice {
-            info!(rt; "+elected-leader master {master}");
-            info!(rt; "+failover-state-select-slave master {master}");
+            to.tell_master(Channel::ElectedLeader, master);
+            to.tell_master(Channel::SelectReplica, master);
         }
     }
 
     /// Notes who is promoted.
-    fn note_choice<R: Log>(&mut self, rt: &R, node: NamedNode, master: NamedMaster<'_>) {
-        info!(rt; "+selected-slave slave {node} @ {master}");
-        info!(rt; "+failover-state-send-slaveof-noone slave {node} @ {master}");
+    fn note_choice<R: Log + Wait>(
+        &mut self,
+        to: &Announcing<'_, '_, R>,
+        node: NamedNode,
+        master: NamedMaster<'_>,
+    ) {
+        to.tell_replica(Channel::SelectedReplica, node, master);
+        to.tell_replica(Channel::SendReplicaOfNoOne, node, master);
         self.promoting = true;
     }
 
     /// Notes why a failover that brought no configuration has ended, by how far it had come.
-    fn note_abort<R: Log>(&self, rt: &R, master: NamedMaster<'_>) {
+    fn note_abort<R: Log + Wait>(&self, to: &Announcing<'_, '_, R>, master: NamedMaster<'_>) {
         match self.way {
             Way::Idle => {}
-            Way::Votes => info!(rt; "-failover-abort-not-elected master {master}"),
-            Way::Choice => info!(rt; "-failover-abort-no-good-slave master {master}"),
-            Way::Chosen => info!(rt; "-failover-abort-slave-timeout master {master}"),
+            Way::Votes => to.tell_master(Channel::AbortNotElected, master),
+            Way::Choice => to.tell_master(Channel::AbortNoGoodReplica, master),
+            Way::Chosen => to.tell_master(Channel::AbortReplicaTimeout, master),
         }
     }
 
     /// Notes how a failover ended: its epoch has brought a configuration, or it was given up. Its epoch is that of the vote which it begins with. Who lost the election may
     /// take the winner's configuration of the same epoch: that is no end of its own, and it wasn't given up.
-    fn note_end<R: Log>(&mut self, rt: &R, flags: Flags, master: NamedMaster<'_>) {
+    fn note_end<R: Log + Wait>(
+        &mut self,
+        to: &Announcing<'_, '_, R>,
+        flags: Flags,
+        master: NamedMaster<'_>,
+    ) {
         let before = self.flags.failing_over;
         if flags.failing_over && !before {
             self.campaign = self.voted;
         }
         if before && !flags.failing_over {
             if self.promoting && Some(self.epoch) == self.campaign {
-                info!(rt; "+failover-end master {master}");
+                to.tell_master(Channel::FailoverEnd, master);
             } else if self.epoch == self.begun {
-                self.note_abort(rt, master);
+                self.note_abort(to, master);
             }
         }
         self.promoting &= flags.failing_over;
@@ -207,28 +238,28 @@ impl Seen {
     }
 
     /// Notes how far a failover of the master has come, and for whom the Sentinel voted.
-    fn note_failover<R: Log>(
+    fn note_failover<R: Log + Wait>(
         &mut self,
-        rt: &R,
+        to: &Announcing<'_, '_, R>,
         look: &Look,
         promoted: Option<NamedNode>,
         master: NamedMaster<'_>,
     ) {
-        self.note_start(rt, look.flags, master);
-        self.note_vote(rt, look.vote);
+        self.note_start(to, look.flags, master);
+        self.note_vote(to, look.vote);
         let way = Way::of(look.stage);
-        self.note_win(rt, way, master);
+        self.note_win(to, way, master);
         if let Some(node) = promoted {
-            self.note_choice(rt, node, master);
+            self.note_choice(to, node, master);
         }
-        self.note_end(rt, look.flags, master);
+        self.note_end(to, look.flags, master);
         self.way = way;
     }
 
     /// Notes which replicas of the master are down.
-    fn note_replicas<R: Log>(
+    fn note_replicas<R: Log + Wait>(
         &mut self,
-        rt: &R,
+        to: &Announcing<'_, '_, R>,
         look: &Look,
         nodes: &[Addr],
         master: NamedMaster<'_>,
@@ -236,16 +267,16 @@ impl Seen {
         for place in 0..nodes.len().min(NODES_MAX) {
             let down = look.replicas[place];
             if down != self.replicas[place] {
-                note_replica(rt, NamedNode::at(nodes[place]), down, master);
+                note_replica(to, NamedNode::at(nodes[place]), down, master);
                 self.replicas[place] = down;
             }
         }
     }
 
     /// Notes which other Sentinels are down.
-    fn note_sentinels<R: Log>(
+    fn note_sentinels<R: Log + Wait>(
         &mut self,
-        rt: &R,
+        to: &Announcing<'_, '_, R>,
         look: &Look,
         sentinels: &[Member],
         master: NamedMaster<'_>,
@@ -253,16 +284,21 @@ impl Seen {
         for place in 0..sentinels.len().min(SENTINELS_MAX) {
             let down = look.sentinels[place];
             if down != self.sentinels[place] {
-                note_sentinel(rt, NamedSentinel::of(sentinels[place]), down, master);
+                note_sentinel(to, NamedSentinel::of(sentinels[place]), down, master);
                 self.sentinels[place] = down;
             }
         }
     }
 
     /// Notes that all nodes of the master and all other Sentinels are down from here: what fails may be this Sentinel's own machine.
-    fn note_all_down<R: Log>(&mut self, rt: &R, all_down: bool, master: NamedMaster<'_>) {
+    fn note_all_down<R: Log + Wait>(
+        &mut self,
+        to: &Announcing<'_, '_, R>,
+        all_down: bool,
+        master: NamedMaster<'_>,
+    ) {
         if all_down && !self.all_down {
-            warn!(rt;
+            warn!(to.log();
                 "all nodes of master {master} and all other Sentinels are down from here: it may be this machine or its network that fails"
             );
         }
@@ -285,20 +321,36 @@ fn are_all_down(look: &Look, nodes: usize, sentinels: usize) -> bool {
 }
 
 /// Notes that a replica is down, or no longer.
-fn note_replica<R: Log>(rt: &R, node: NamedNode, down: bool, master: NamedMaster<'_>) {
+fn note_replica<R: Log + Wait>(
+    to: &Announcing<'_, '_, R>,
+    node: NamedNode,
+    down: bool,
+    master: NamedMaster<'_>,
+) {
     if down {
-        info!(rt; "+sdown slave {node} @ {master}");
+        to.tell_replica(Channel::SubjectivelyDown, node, master);
     } else {
-        info!(rt; "-sdown slave {node} @ {master}");
+        to.tell_replica(Channel::SubjectivelyUp, node, master);
     }
 }
 
 /// Notes that another Sentinel is down, or no longer.
-fn note_sentinel<R: Log>(rt: &R, sentinel: NamedSentinel, down: bool, master: NamedMaster<'_>) {
+fn note_sentinel<R: Log + Wait>(
+    to: &Announcing<'_, '_, R>,
+    sentinel: NamedSentinel,
+    down: bool,
+    master: NamedMaster<'_>,
+) {
     if down {
-        info!(rt; "+sdown sentinel {sentinel} @ {master}");
+        to.tell(
+            Channel::SubjectivelyDown,
+            format_args!("sentinel {sentinel} @ {master}"),
+        );
     } else {
-        info!(rt; "-sdown sentinel {sentinel} @ {master}");
+        to.tell(
+            Channel::SubjectivelyUp,
+            format_args!("sentinel {sentinel} @ {master}"),
+        );
     }
 }
 
@@ -329,21 +381,21 @@ impl Lookout {
     }
 
     /// Notes whether TILT holds.
-    fn note_tilt<R: Log>(&mut self, rt: &R, is_tilted: bool) {
+    fn note_tilt<R: Log + Wait>(&mut self, to: &Announcing<'_, '_, R>, is_tilted: bool) {
         if is_tilted && !self.is_tilted {
-            info!(rt; "+tilt #tilt mode entered");
+            to.tell(Channel::TiltEntered, "#tilt mode entered");
         }
         if self.is_tilted && !is_tilted {
-            info!(rt; "-tilt #tilt mode exited");
+            to.tell(Channel::TiltExited, "#tilt mode exited");
         }
         self.is_tilted = is_tilted;
     }
 
     /// Notes an epoch that wasn't known; the first one is that of the start.
-    fn note_epoch<R: Log>(&mut self, rt: &R, epoch: u64) {
+    fn note_epoch<R: Log + Wait>(&mut self, to: &Announcing<'_, '_, R>, epoch: u64) {
         if epoch > self.epoch {
             if self.began {
-                info!(rt; "+new-epoch {epoch}");
+                to.tell(Channel::NewEpoch, epoch);
             }
             self.epoch = epoch;
         }
@@ -351,15 +403,15 @@ impl Lookout {
     }
 
     /// Notes what became different of a master by its tick, which gave these outputs. In TILT that is noted alone.
-    pub(crate) fn note<R: Log>(
+    pub(crate) fn note<R: Log + Wait>(
         &mut self,
-        rt: &R,
+        to: &Announcing<'_, '_, R>,
         roster: &Roster,
         master: u16,
         look: &Look,
         outputs: &[Output],
     ) {
-        self.note_tilt(rt, look.is_tilted);
+        self.note_tilt(to, look.is_tilted);
         if look.is_tilted {
             return;
         }
@@ -367,24 +419,30 @@ impl Lookout {
             return;
         };
         let told = Told::by(outputs);
-        self.note_master(rt, master, look, named);
-        self.note_epoch(rt, told.epoch.max(look.vote.epoch));
+        self.note_master(to, master, look, named);
+        self.note_epoch(to, told.epoch.max(look.vote.epoch));
         let Some(seen) = self.masters.get_mut(master as usize) else {
             return;
         };
         let promoted = node_of(roster, told.promoted);
-        seen.note_failover(rt, look, promoted, named);
-        seen.note_replicas(rt, look, roster.nodes(master), named);
-        seen.note_sentinels(rt, look, roster.sentinels(), named);
+        seen.note_failover(to, look, promoted, named);
+        seen.note_replicas(to, look, roster.nodes(master), named);
+        seen.note_sentinels(to, look, roster.sentinels(), named);
         let (nodes, sentinels) = (roster.nodes(master).len(), roster.sentinels().len());
-        seen.note_all_down(rt, are_all_down(look, nodes, sentinels), named);
+        seen.note_all_down(to, are_all_down(look, nodes, sentinels), named);
     }
 
     /// Notes whether a master is down.
-    fn note_master<R: Log>(&mut self, rt: &R, master: u16, look: &Look, named: NamedMaster<'_>) {
+    fn note_master<R: Log + Wait>(
+        &mut self,
+        to: &Announcing<'_, '_, R>,
+        master: u16,
+        look: &Look,
+        named: NamedMaster<'_>,
+    ) {
         if let Some(seen) = self.masters.get_mut(master as usize) {
             seen.turn_to(look.card);
-            seen.note_down(rt, look.flags, named);
+            seen.note_down(to, look.flags, named);
         }
     }
 }

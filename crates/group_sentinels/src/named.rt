@@ -1,6 +1,7 @@
 //! How notes name masters, data nodes and Sentinels.
 
 use ballot_law::{Addr, Member, Roster, RunId};
+use port_channels::Channel;
 use std::fmt;
 use std::net::Ipv4Addr;
 use std::str::from_utf8;
@@ -97,5 +98,15 @@ impl NamedSentinel {
 impl fmt::Display for NamedSentinel {
     fn fmt<W: fmt::Write>(&self, f: &mut fmt::Formatter<W>) -> fmt::Result {
         write!(f, "{} {} {}", NamedId(self.id), self.ip, self.port)
+    }
+}
+
+/// The channel of an event, as `+sdown`.
+#[derive(Clone, Copy)]
+pub(crate) struct NamedChannel(pub(crate) Channel);
+
+impl fmt::Display for NamedChannel {
+    fn fmt<W: fmt::Write>(&self, f: &mut fmt::Formatter<W>) -> fmt::Result {
+        write!(f, "{}", from_utf8(self.0.name()).unwrap_or("?"))
     }
 }

@@ -5,24 +5,25 @@ ghost use Rattle.std.specs.List.{AllByRecursion};
 ghost use Rattle.ballot_law.specs.Messages.{sent};
 ghost use Rattle.boxed_nodes.specs.Sendable.{IsSendableOutput};
 ghost use Rattle.group_sentinels.specs.Running.{input_of, phase_of};
-ghost use Rattle.group_sentinels.specs.declared.switches.TheConstants.{WAITING_MAX};
+ghost use Rattle.group_sentinels.specs.declared.news.TheConstants.{EVENTS_MAX, WAITING_MAX};
 ghost use Rattle.courteous_sessions.specs.Clients.{Takes, NotifiesClient};
 ghost use Rattle.sentinel_cell.specs.declared.entry.Outcome.TheVariants.{Stored};
 ghost use Rattle.sentinel_cell.specs.Standing.{Adds, Faulted};
 ghost use Rattle.sentinel_rules.specs.Plans.{group_size, master_count, roster_of};
 ghost use Rattle.sentinel_rules.specs.Facts.{IsWithinEvent};
 
-use crate::notes::note_all;
+use crate::news::{News, NewsLists};
+use crate::notes::{Announcing, tell_all};
 use crate::outlet::{Outlet, send_all};
 use crate::run_state::RunState;
 use crate::sight::{Look, Sight};
-use crate::switches::{Switch, Switches};
+use crate::switches::Switch;
 use crate::ticking::TICK_MS;
 use ballot_law::{Event, Input, NoMemory, Output, Roster};
 use conf_store::ConfStore;
 use courteous_sessions::ClientSession;
 use log::kv::With;
-use log::{Level, Log, Span, log_enabled};
+use log::{Log, Span};
 use port_serving::ServeFault;
 use sentinel_cell::{ActFault, Seat, SharedSentinel};
 use sentinel_outbox::Outbox;
@@ -51,7 +52,7 @@ pub struct RunningSentinel<J: Which, S: ConfStore> {
     cell: SharedSentinel<S>,
     place: u16,
     port: u16,
-    switches: Switches,
+    news: NewsLists,
     halt_noted: AtomicU64,
     of: PhantomData<J>,
     ghost is: { cell.id ≡ J.cell },
@@ -133,13 +134,13 @@ impl<J: Which, S: ConfStore> RunningSentinel<J, S> {
         requires named { (cell.id ≡ J.cell) × (seat.cell ≡ J.cell) }
         ensures seat { IfOk result (λ r. r.1.seat ≡ seat) }
         ensures cell { IfOk result (λ r. (r.0.cell ≡ cell) × (r.0.place ≡ place)) }
-        ensures switches { IfOk result (λ r. length r.0.switches.lists.items ≡ port_threads) }
+        ensures news { IfOk result (λ r. length r.0.news.lists.items ≡ port_threads) }
     {
         let member = RunningSentinel {
             cell,
             place,
             port,
-            switches: Switches::new(alloc, port_threads)?,
+            news: NewsLists::new(alloc, port_threads)?,
             halt_noted: AtomicU64::new(0),
             of: PhantomData,
         };
@@ -227,10 +228,13 @@ impl<J: Which, S: ConfStore> RunningSentinel<J, S> {
         let entry = self.turn(rt, seat, &input)?;
         let outputs = seat.outbox.outputs();
         send_all(outlet, outputs);
-        self.switches.add_all(rt, outputs, entry);
-        if log_enabled!(rt; Level::Info) {
-            note_all(&self.noting(rt), self.roster(), &input.event, outputs);
-        }
+        tell_all(
+            &self.announcing(rt),
+            self.roster(),
+            &input.event,
+            outputs,
+            entry,
+        );
         Ok(())
     }
 
@@ -247,6 +251,20 @@ impl<J: Which, S: ConfStore> RunningSentinel<J, S> {
     /// Where its notes go: each names the Sentinel's port.
     pub fn noting<'a, R: Log>(&self, rt: &'a R) -> Span<'a, &'a R, With<'a, (), u16>> {
         rt.span("sentinel").with("port", self.port)
+    }
+
+    /// Where its events go.
+    pub(crate) fn announcing<'r, 'n, R>(&'n self, rt: &'r R) -> Announcing<'r, 'n, R> {
+        Announcing {
+            rt,
+            port: self.port,
+            news: &self.news,
+        }
+    }
+
+    /// From now on the threads of its port get other events too than new addresses, as `take_news` has it.
+    pub fn tell_events(&self) {
+        self.news.tell_events();
     }
 
     /// The Sentinels and the masters of the group.
@@ -266,13 +284,15 @@ impl<J: Which, S: ConfStore> RunningSentinel<J, S> {
         TICK_MS * u64::from(self.place) / sentinels.max(1)
     }
 
-    /// The notes for the subscribers of the port that its thread with this number didn't take yet, in the order in which they came. Each of
-    /// its threads gets all notes, but those that come while `WAITING_MAX` wait for it. None where the port has no such thread.
-    pub fn take_switches<R: Wait>(&self, rt: &R, port_thread: u16) -> Vec<Switch>
-        ensures few { length result.items ≤ WAITING_MAX }
-        ensures other { length self.now.switches.lists.items ≤ port_thread → result.items ≡ [] }
+    /// What there is to tell the subscribers of the port that its thread with this number didn't take yet, in the order in which it came. Each of its threads gets all
+    /// new addresses, but those that come while `WAITING_MAX` wait for it. Once `tell_events` was called it gets all other events that the Sentinel notes as well,
+    /// but the oldest where more than `EVENTS_MAX` wait for it, and those for which there is no memory; before that none is kept. Nothing where the port has no such
+    /// thread.
+    pub fn take_news<R: Wait>(&self, rt: &R, port_thread: u16) -> Vec<News>
+        ensures few { length result.items ≤ WAITING_MAX + EVENTS_MAX }
+        ensures other { length self.now.news.lists.items ≤ port_thread → result.items ≡ [] }
     {
-        self.switches.take(rt, port_thread)
+        self.news.take(rt, port_thread)
     }
 
     /// Tells a session of a note: whether it is told, which joins what it sends. `NoMemory` changes nothing.

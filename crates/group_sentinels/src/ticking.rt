@@ -17,7 +17,7 @@ use crate::run_state::{RunFault, RunState};
 use crate::running_sentinel::{RunningSentinel, ThreadSeat, Which};
 use ballot_law::Event;
 use conf_store::ConfStore;
-use log::{Level, Log, log_enabled, warn};
+use log::{Log, warn};
 use sentinel_cell::ActFault;
 use std::alloc::Global;
 use std::rt::Clock;
@@ -176,14 +176,14 @@ impl Ticker {
     {
         let elapsed = state.clock.elapsed(rt);
         let (now, random) = (millis_of(elapsed), u64::from(elapsed.subsec_nanos()));
-        want_noted(rt, seat, master, now);
+        want_noted(rt, member, seat, master, now);
         let acted = member.carry_out(rt, seat, outlet, now, Event::Tick { master, random });
         self.note_look(rt, member, seat, master);
         goes_on_noted(rt, state, member, acted)
     }
 
     /// Notes what the last turn took down of a master.
-    fn note_look<J: Which, S: ConfStore, R: Log>(
+    fn note_look<J: Which, S: ConfStore, R: Wait + Log>(
         &mut self,
         rt: &R,
         member: &RunningSentinel<J, S>,
@@ -197,7 +197,7 @@ impl Ticker {
             return;
         };
         self.lookout.note(
-            &member.noting(rt),
+            &member.announcing(rt),
             member.roster(),
             master,
             &look,
@@ -206,11 +206,17 @@ impl Ticker {
     }
 }
 
-/// Has the next turn take down what the Sentinel shows of a master, where that is noted, and see whether a campaign for it is near at the next ticks.
-fn want_noted<J: Which, R: Log>(rt: &R, seat: &mut ThreadSeat<J>, master: u16, now: u64)
+/// Has the next turn take down what the Sentinel shows of a master, where that is noted or told, and see whether a campaign for it is near at the next ticks.
+fn want_noted<J: Which, S: ConfStore, R: Wait + Log>(
+    rt: &R,
+    member: &RunningSentinel<J, S>,
+    seat: &mut ThreadSeat<J>,
+    master: u16,
+    now: u64,
+)
     ensures { (seat.new.seat ≡ seat.old.seat) × (seat.new.outbox ≡ seat.old.outbox) }
 {
-    if log_enabled!(rt; Level::Info) {
+    if member.announcing(rt).is_heard() {
         seat.want(master, now);
     }
     seat.look_ahead(master, now.saturating_add(TICK_MS));

@@ -1,5 +1,5 @@
 -- No line of an answer or a message holds a CR or LF, so what is written of them is as many values.
-use Rattle.std.proofs.Common.{◌≡◌, ◌≢◌, ◌==◌, ◌||◌, not, ℕ, List, [], ◌∷◌, ◌++◌, length, Bool, true, false, Option, None, Some, Result, Ok, Err, codes, refl, sym, ap, ◌∙◌, subst, true≢false}
+use Rattle.std.proofs.Common.{◌≡◌, ◌≢◌, ◌==◌, ◌||◌, not, ℕ, List, [], ◌∷◌, ◌++◌, length, Bool, true, false, Option, None, Some, Result, Err, codes, refl, sym, subst, true≢false}
 use Rattle.std.specs.Prelude.{if◌then◌else◌}
 use Rattle.std.specs.List.{list_all}
 use Rattle.std.proofs.lemmas.Bool.{and_parts}
@@ -10,7 +10,7 @@ use Rattle.resp2.specs.declared.command.CommandFault.{CommandFault}
 use Rattle.resp2.specs.declared.command.CommandFault.TheVariants.{NotACommand, UnknownCommand}
 use Rattle.resp2.specs.Commands as commands
 use Rattle.resp2.specs.Commands.{Entry, called_in, subcommands, sentinel_command, command_of_words, are_bulk, words}
-use Rattle.resp2_frames.specs.Frame.{Frame, FrameList, frame, no_frames, simple, fault, int, bulk, null_bulk, items, null_items, IsLine, HasLines, HaveLines}
+use Rattle.resp2_frames.specs.Frame.{Frame, FrameList, frame, simple, fault, int, bulk, null_bulk, items, null_items, IsLine, HasLines, HaveLines}
 use Rattle.port_channels.specs.declared.fault.ChannelFault.{ChannelFault}
 use Rattle.port_channels.specs.declared.fault.ChannelFault.TheVariants.{NameTooLong, TooManyChannels, TooManyPatterns, NoMemory}
 use Rattle.port_channels.specs.declared.kind.Kind.{Kind}

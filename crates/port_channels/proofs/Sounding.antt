@@ -1,5 +1,5 @@
 -- Subscriptions stay few, short and without repetition, and a connection is told nothing else.
-use Rattle.std.proofs.Common.{◌≡◌, ◌≤◌, ℕ, List, [], ◌∷◌, ◌++◌, length, Bool, true, false, cond, not, ◌||◌, Option, None, Some, refl, sym, ap, ◌∙◌, subst, true≢false, arith}
+use Rattle.std.proofs.Common.{◌≡◌, ◌≤◌, ℕ, List, [], ◌∷◌, ◌++◌, length, Bool, true, false, cond, not, ◌||◌, Option, None, Some, refl, sym, ap, ◌∙◌, true≢false, arith}
 use Rattle.std.specs.Prelude.{nat_lt, bytes_eq}
 use Rattle.std.specs.List.{list_any, filter}
 use Rattle.std.proofs.lemmas.Bool.{ltb-false}
@@ -18,7 +18,7 @@ use Rattle.port_channels.specs.Globs.{matches}
 use Rattle.port_channels.specs.Listening.{Listening, holds, with_name, with_names, without_name, without_names, refusal, too_many, is_listening}
 use Rattle.port_channels.specs.Confirming.{left}
 use Rattle.port_channels.specs.Telling.{pattern_message, message, told, told_for}
-use Rattle.port_channels.specs.Answering.{Answer, other, said, verb_of, names_of, with_these, subscribed, pings, where_listening, executed, is_own, own, known, answer_words, answer, listening_after}
+use Rattle.port_channels.specs.Answering.{Answer, other, verb_of, names_of, with_these, subscribed, pings, executed, is_own, own, known, answer_words, answer, listening_after}
 use Rattle.port_channels.specs.Sound.{AreOnce, AreShort, AreSound, IsSound}
 
 left_off : (a x : Bool) → (a || x) ≡ false → a ≡ false

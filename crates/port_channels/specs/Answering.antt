@@ -1,5 +1,5 @@
 -- Which values a connection's subscriptions answer, and how.
-use Rattle.std.specs.Prelude.{ℕ, Bool, true, false, List, [], ◌∷◌, ◌++◌, Option, Some, None, Result, Err, length, codes}
+use Rattle.std.specs.Prelude.{◌≡◌, ℕ, Bool, true, false, List, [], ◌∷◌, ◌++◌, Option, Some, None, Result, Err, length, codes}
 use Rattle.ballot_law.specs.declared.commands.Command.{Command}
 use Rattle.ballot_law.specs.Words.{lower}
 use Rattle.resp2.specs.declared.command.CommandFault.{CommandFault}
@@ -148,6 +148,10 @@ turn_of (said answers l) = Said
 abbrev pub text_of : Answer → List ℕ
 text_of other = []
 text_of (said answers l) = spellings answers
+
+-- it is answered
+abbrev pub IsSaid : Answer → Type 0
+IsSaid given = (answers : FrameList) × (after : Listening) × (given ≡ said answers after)
 
 -- to what the connection listens then
 abbrev pub listening_after : Listening → Answer → Listening

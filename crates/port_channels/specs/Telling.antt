@@ -1,8 +1,9 @@
 -- What a connection is told of an event: a text on a channel.
-use Rattle.std.specs.Prelude.{ℕ, true, false, List, [], ◌∷◌, codes}
+use Rattle.std.specs.Prelude.{ℕ, Bool, true, false, ◌||◌, List, [], ◌∷◌, codes}
+use Rattle.std.specs.List.{list_any}
 use Rattle.resp2_frames.specs.Frame.{Frame, FrameList, bulk, items, no_frames, frame, frames_of}
 use Rattle.port_channels.specs.declared.channel.Channel.{Channel}
-use Rattle.port_channels.specs.declared.channel.Channel.TheVariants.{SubjectivelyDown, SubjectivelyUp, ObjectivelyDown, ObjectivelyUp, NewEpoch, TryFailover, VoteForLeader, ElectedLeader, SelectedReplica, SendReplicaOfNoOne, PromotedReplica, SwitchMaster, ReplicaReconfigured, FailoverEnd, AbortReplicaTimeout, AbortNotElected, AbortNoGoodReplica, ConfigUpdateFrom, ConvertToReplica, FixReplicaConfig, TiltEntered, TiltExited}
+use Rattle.port_channels.specs.declared.channel.Channel.TheVariants.{SubjectivelyDown, SubjectivelyUp, ObjectivelyDown, ObjectivelyUp, NewEpoch, TryFailover, VoteForLeader, ElectedLeader, SelectReplica, SelectedReplica, SendReplicaOfNoOne, PromotedReplica, SwitchMaster, ReplicaReconfigured, FailoverEnd, AbortReplicaTimeout, AbortNotElected, AbortNoGoodReplica, ConfigUpdateFrom, ConvertToReplica, FixReplicaConfig, TiltEntered, TiltExited}
 use Rattle.port_channels.specs.Globs.{matches}
 use Rattle.port_channels.specs.Listening.{Listening, holds}
 
@@ -16,6 +17,7 @@ channel_name NewEpoch = codes "+new-epoch"
 channel_name TryFailover = codes "+try-failover"
 channel_name VoteForLeader = codes "+vote-for-leader"
 channel_name ElectedLeader = codes "+elected-leader"
+channel_name SelectReplica = codes "+failover-state-select-slave"
 channel_name SelectedReplica = codes "+selected-slave"
 channel_name SendReplicaOfNoOne = codes "+failover-state-send-slaveof-noone"
 channel_name PromotedReplica = codes "+promoted-slave"
@@ -55,3 +57,7 @@ told l channel text =
       | true ↦ frame (message channel text) (told_for l.patterns channel text)
       | false ↦ told_for l.patterns channel text
     ]
+
+-- it is told anything on this channel
+abbrev pub hears : Listening → (channel : List ℕ) → Bool
+hears l channel = holds l.channels channel || list_any (λ pattern. matches pattern channel) l.patterns

@@ -24,6 +24,8 @@ pub enum Channel {
     VoteForLeader,
     /// `+elected-leader`
     ElectedLeader,
+    /// `+failover-state-select-slave`
+    SelectReplica,
     /// `+selected-slave`
     SelectedReplica,
     /// `+failover-state-send-slaveof-noone`
@@ -68,6 +70,7 @@ impl Channel {
             Channel::TryFailover => b"+try-failover",
             Channel::VoteForLeader => b"+vote-for-leader",
             Channel::ElectedLeader => b"+elected-leader",
+            Channel::SelectReplica => b"+failover-state-select-slave",
             Channel::SelectedReplica => b"+selected-slave",
             Channel::SendReplicaOfNoOne => b"+failover-state-send-slaveof-noone",
             Channel::PromotedReplica => b"+promoted-slave",

@@ -24,6 +24,9 @@ pub use answers::Turn;
 pub use channel::{Channel, Event};
 pub use fault::ChannelFault;
 pub use globs::is_match;
-pub use laws::{law_answers_are_values, law_nothing_else_is_told, law_subscriptions_stay_sound};
+pub use laws::{
+    law_answers_are_values, law_nothing_else_is_told, law_own_commands,
+    law_subscriptions_stay_sound,
+};
 pub use names::{NAME_BYTES_MAX, NAMES_MAX};
 pub use subscriptions::Subscriptions;

@@ -7,14 +7,14 @@ ghost use Rattle.port_channels.specs.declared.names.TheConstants.{NAMES_MAX};
 ghost use Rattle.port_channels.specs.Listening.{with_names, Refuses, count, is_listening};
 ghost use Rattle.port_channels.specs.Confirming.{added, removed_or_all, left};
 ghost use Rattle.port_channels.specs.Answering.{names_of, others_of, with_these};
-ghost use Rattle.port_channels.specs.Telling.{channel_name, told};
+ghost use Rattle.port_channels.specs.Telling.{channel_name, hears, told};
 
 use crate::changes::{add_all, remove};
 use crate::channel::Event;
 use crate::fault::ChannelFault;
 use crate::kind::Kind;
 use crate::names::NameList;
-use crate::telling::{add_for_patterns, add_message};
+use crate::telling::{add_for_patterns, add_message, is_matched};
 use ballot_law::{NoMemory, Text};
 use resp2_frames::OutText;
 use std::alloc::Global;
@@ -82,6 +82,13 @@ impl Subscriptions {
         ensures { result ≡ is_listening self.now }
     {
         self.count() > 0
+    }
+
+    /// Whether it is told anything on this channel: it listens to that, or one of its patterns matches it.
+    pub fn hears(&self, channel: &[u8]) -> bool
+        ensures { result ≡ hears self.now channel.now }
+    {
+        self.channels.holds(channel) || is_matched(self.patterns.as_slice(), channel)
     }
 
     /// SUBSCRIBE of these channels: has `out` be the confirmations, one for each name, in order. A channel that the connection listens to already is confirmed

@@ -1,6 +1,8 @@
 //! What a connection is told of an event.
 
 ghost use Rattle.std.specs.Prelude.{◌≡◌, ◌++◌, OnOk};
+ghost use Rattle.std.specs.List.{list_any};
+ghost use Rattle.port_channels.specs.Globs.{matches};
 ghost use Rattle.resp2_frames.specs.Frame.{bulk, spelling, spellings};
 ghost use Rattle.port_channels.specs.Telling.{message, pattern_message, told_for};
 
@@ -67,4 +69,18 @@ pub(crate) fn add_for_patterns(
         rest = more;
     }
     Ok(())
+}
+
+/// Whether one of the patterns matches the channel.
+pub(crate) fn is_matched(patterns: &[Text], channel: &[u8]) -> bool
+    ensures { result ≡ list_any (λ pattern. matches pattern channel.now) patterns.now }
+{
+    let mut rest = patterns;
+    while let [pattern, more @ ..] = rest {
+        if is_match(pattern.as_slice(), channel) {
+            return true;
+        }
+        rest = more;
+    }
+    false
 }

@@ -4,8 +4,9 @@ ghost use Rattle.std.specs.Prelude.{◌≡◌, ◌<◌, [], Some, false, IfOk, I
 ghost use Rattle.resp2_frames.specs.Frame.{Frame, view, spelling, HasLines, IsFrame};
 ghost use Rattle.resp2_frames.specs.Stream.{reading, held_size, Feeds};
 ghost use Rattle.port_courtesies.specs.Attendants.{turn_text, text_at, Attends};
-ghost use Rattle.port_courtesies.specs.Courtesies.{courtesy, asker_after, kind_of};
+ghost use Rattle.port_courtesies.specs.Courtesies.{courtesy, asker_after, is_stranger, kind_of};
 ghost use Rattle.port_courtesies.specs.Infos.{info};
+ghost use Rattle.port_courtesies.specs.Lines.{Answers};
 ghost use Rattle.port_courtesies.specs.Widening.{wide};
 
 use crate::asker::Asker;
@@ -95,6 +96,13 @@ impl Attendant {
         self.text.as_slice()
     }
 
+    /// Whether a password is wanted of the client that it is still to give.
+    pub fn is_stranger(&self) -> bool
+        ensures { result ≡ is_stranger self.now.asker }
+    {
+        self.asker.is_stranger()
+    }
+
     /// Has it know that the connection listens to notes, or doesn't.
     pub fn note_listening(&mut self, listens: bool)
         ensures { self.new ≡ record self.old { asker = record self.old.asker { listens = listens } } }
@@ -177,8 +185,20 @@ impl Attendant {
         wide(self.alloc, &value, answer, &mut self.text)
     }
 
-    /// Attends to a value.
-    fn attend_to(&mut self, value: &Value) -> Result<Courtesy, NoMemory>
+    /// Takes the first whole value of the bytes that came, with lines as `attend` has them; `None` where more bytes are needed. `NoMemory`: memory was refused, and nothing
+    /// changed. Any other fault is one of the bytes, and every later call answers it again.
+    pub fn next(&mut self) -> Result<Option<Value>, FrameFault>
+        ensures exact { Answers view self.old.held result self.new.held }
+        // With each value fewer bytes are held.
+        ensures fewer { IfOk result (λ given. IfSome given (λ value. held_size self.new.held < held_size self.old.held)) }
+        ensures lines { IfOk result (λ given. IfSome given (λ value. HasLines (view value))) }
+        ensures asker { self.new.asker ≡ self.old.asker }
+    {
+        next_value(self.alloc, &mut self.frames)
+    }
+
+    /// Attends to a value, as `attend` does to the first of those that came: what becomes of it.
+    pub fn attend_to(&mut self, value: &Value) -> Result<Courtesy, NoMemory>
         requires { HasLines (view value.now) }
         ensures kind { IfOk result (λ kind. kind ≡ kind_of (courtesy self.old.asker (view value.now))) }
         ensures text { OnOk result (self.new.text ≡ text_at self.old.asker (view value.now)) }

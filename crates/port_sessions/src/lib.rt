@@ -26,4 +26,5 @@ mod responder;
 mod session;
 
 pub use laws::{law_answers_are_served, law_notes_rise, law_pieces_join};
+pub use notes::add_note;
 pub use session::Session;

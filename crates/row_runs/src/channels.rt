@@ -7,7 +7,7 @@ use resp2_frames::OutText;
 use std::alloc::Global;
 
 /// The channels of all events.
-const CHANNELS: [Channel; 22] = [
+const CHANNELS: [Channel; 23] = [
     Channel::SubjectivelyDown,
     Channel::SubjectivelyUp,
     Channel::ObjectivelyDown,
@@ -16,6 +16,7 @@ const CHANNELS: [Channel; 22] = [
     Channel::TryFailover,
     Channel::VoteForLeader,
     Channel::ElectedLeader,
+    Channel::SelectReplica,
     Channel::SelectedReplica,
     Channel::SendReplicaOfNoOne,
     Channel::PromotedReplica,

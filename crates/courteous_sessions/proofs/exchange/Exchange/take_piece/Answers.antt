@@ -1,5 +1,5 @@
 use Rattle.std.proofs.Common.{◌∙◌, ap, sym}
-use Rattle.courteous_sessions.proofs.Stepping.{piece_received}
+use Rattle.courteous_sessions.proofs.Stepping.{ok_of, piece_received}
 use Rattle.courteous_sessions.proofs.exchange.Exchange.take_piece.Goals as goal
 
 pub returns-clause-received : goal.returns-clause-received
@@ -7,7 +7,9 @@ returns-clause-received g c =
     let before = c.args.self.now in
     let known = c.learn_masters.new.self in
     let after = c.answer_whole.new.self in
-    piece_received c.args.cell.now.start c.args.now c.feed.result c.answer_whole.result before.attendant known.attendant c.feed.new.self after.attendant before.knows_masters
-    c.args.piece.now before.unsent.items known.unsent.items after.unsent.items before.session known.session after.session c.args.seat.now.view
-    c.answer_whole.new.seat.view c.requires.ready.reads c.in_ok-learn_masters.ensures.attendant c.feed.ensures.asker (sym c.is_err.ensures.value ∙ c.if-is_err.false)
-    c.feed.ensures.held (ap (λ u. u.items) c.learn_masters.ensures.unsent) c.learn_masters.ensures.session c.answer_whole.ensures.answered
+    piece_received c.args.cell.now.start c.args.now c.feed.result c.answer_whole.result before.attendant known.attendant c.feed.new.self after.attendant before.subscriptions
+    known.subscriptions after.subscriptions before.knows_masters c.args.piece.now before.unsent.items known.unsent.items after.unsent.items before.session known.session
+    after.session c.args.seat.now.view c.answer_whole.new.seat.view c.requires.ready.reads
+    (ok_of c.learn_masters.result (sym c.is_err.ensures.value ∙ c.if-is_err.false) c.learn_masters.ensures.attendant) c.feed.ensures.asker
+    (sym c.is_err-2.ensures.value ∙ c.if-is_err-2.false) c.feed.ensures.held (ap (λ u. u.items) c.learn_masters.ensures.unsent) c.learn_masters.ensures.session.0
+    c.learn_masters.ensures.session.1 c.answer_whole.ensures.answered

@@ -2,7 +2,6 @@ use Rattle.std.proofs.Common.{◌≡◌, ℕ, ◌<◌, ◌∙◌, arith, subst}
 use Rattle.group_sentinels.specs.Ticking.{Ticked}
 use Rattle.group_sentinels.proofs.Hearing.{ticks_more, ticks_stop}
 use Rattle.group_sentinels.proofs.ticking.Ticker.tick_all.Goals as goal
-use Rattle.sentinel_rules.specs.Plans.{master_count}
 
 pub loop-master-preserved : goal.loop-master-preserved
 loop-master-preserved g c =

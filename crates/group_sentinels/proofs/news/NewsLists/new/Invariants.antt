@@ -1,5 +1,5 @@
 use Rattle.std.proofs.Common.{◌-◌, ◌≤◌, length}
-use Rattle.group_sentinels.proofs.switches.Switches.new.Given as goal
+use Rattle.group_sentinels.proofs.news.NewsLists.new.Given as goal
 
 abbrev pub invariant-loop-lists : goal.invariant-loop-lists
 invariant-loop-lists l = length l.lists.items ≤ l.threads

@@ -1,0 +1,237 @@
+//! To what a connection listens, and what it is told that no value of its stream asked for.
+
+ghost use Rattle.std.specs.Prelude.{◌≡◌, ◌⊎◌, ◌<◌, ◌++◌, ℕ, List, [], None, true, OnOk, OnErr, IfOk, IfErr, length};
+ghost use Rattle.ballot_law.specs.Rosters.{master_at};
+ghost use Rattle.port_channels.specs.Answering.{turn_of, text_of, listening_after};
+ghost use Rattle.port_channels.specs.Listening.{is_listening};
+ghost use Rattle.port_sessions.specs.Listening.{note_text};
+ghost use Rattle.resp2_frames.specs.Frame.{view, spellings, HasLines, IsFrame};
+ghost use Rattle.courteous_sessions.specs.Events.{event_told};
+ghost use Rattle.courteous_sessions.specs.OnTheWay.{IsIdle, IsReady, IsTuned, NotifiesBelow, TellsBelow, guest_of};
+ghost use Rattle.courteous_sessions.specs.Visits.{channel_turn, hears_switches, switches, Serves};
+ghost use Rattle.port_channels.specs.Telling.{told};
+
+use crate::exchange::{Exchange, put_out};
+use crate::questions::ask_subscribe;
+use ballot_law::{NoMemory, Note, Roster};
+use conf_store::ConfStore;
+use port_channels::{Channel, Event, Subscriptions, Turn};
+use port_serving::ServeFault;
+use port_sessions::{Session, add_note};
+use resp2_frames::{OutText, Value};
+use sentinel_cell::{Seat, SharedSentinel};
+use std::sync::Wait;
+
+/// Adds what a note tells of its master.
+fn add_switch(text: &mut OutText, roster: &Roster, note: &Note) -> Result<(), NoMemory>
+    requires { note.now.master < length roster.now.masters }
+    ensures { OnOk result (text.new ≡ text.old ++ note_text (master_at roster.now note.now.master).name note.now) }
+{
+    let master = &roster.masters()[note.master as usize];
+    add_note(text, &master.name, note)
+}
+
+/// Has the text, which is empty, hold what a connection with these subscriptions is told of an event. On the channel of new addresses that is nothing: there notes
+/// alone are told.
+fn write_event(
+    subscriptions: &Subscriptions,
+    event: &Event,
+    text: &mut OutText,
+) -> Result<(), NoMemory>
+    requires { text.old ≡ [] }
+    ensures { OnOk result (text.new ≡ spellings (event_told event.now subscriptions.now)) }
+{
+    if event.channel.name() == Channel::SwitchMaster.name() {
+        return Ok(());
+    }
+    subscriptions.tell_event(event, text)
+}
+
+impl Exchange {
+    /// What Pub/Sub makes of a value, and its answer where it has one. A client that is still to give its password listens to nothing. After `NoMemory` the connection is to be
+    /// closed.
+    fn channel_turn(&mut self, value: &Value, answer: &mut OutText) -> Result<Turn, ServeFault>
+        requires { answer.old ≡ [] }
+        ensures turn { IfOk result (λ turn. turn ≡ turn_of (channel_turn self.old.attendant.asker self.old.subscriptions (view value.now))) }
+        ensures text { OnOk result (answer.new ≡ text_of (channel_turn self.old.attendant.asker self.old.subscriptions (view value.now))) }
+        ensures after { OnOk result (self.new.subscriptions
+            ≡ listening_after self.old.subscriptions (channel_turn self.old.attendant.asker self.old.subscriptions (view value.now))) }
+        ensures attendant { self.new.attendant ≡ self.old.attendant }
+        ensures session { self.new.session ≡ self.old.session }
+        ensures unsent { (self.new.unsent ≡ self.old.unsent) × (self.new.knows_masters ≡ self.old.knows_masters) }
+        ensures fault { IfErr result (λ fault. fault ≡ ServeFault.NoMemory) }
+    {
+        if self.attendant.is_stranger() {
+            return Ok(Turn::Other);
+        }
+        match self.subscriptions.answer(value, answer) {
+            Ok(turn) => Ok(turn),
+            Err(_) => Err(ServeFault::NoMemory),
+        }
+    }
+
+    /// Has the session below listen to notes, where it doesn't.
+    fn begin_notes<S: ConfStore, R: Wait>(
+        &mut self,
+        rt: &R,
+        cell: &SharedSentinel<S>,
+        seat: &mut Seat,
+        now: u64,
+    ) -> Result<(), ServeFault>
+        requires own { seat.old.cell ≡ cell.now.id }
+        requires idle { IsIdle self.old.session }
+        ensures own { seat.new.cell ≡ seat.old.cell }
+        ensures tuned { OnOk result (IsTuned cell.now.start now true self.old.session seat.old.view self.new.session seat.new.view) }
+        ensures attendant { self.new.attendant ≡ self.old.attendant }
+        ensures unsent { self.new.unsent ≡ self.old.unsent }
+        ensures kept { (self.new.knows_masters ≡ self.old.knows_masters) × (self.new.subscriptions ≡ self.old.subscriptions) }
+        ensures fault { IfErr result (λ fault. (fault ≡ ServeFault.Halted) ⊎ (fault ≡ ServeFault.NoMemory)) }
+    {
+        if self.session.listens() {
+            return Ok(());
+        }
+        ask_subscribe(rt, cell, seat, now, &mut self.session)?;
+        self.drop_answers();
+        Ok(())
+    }
+
+    /// Has the session below listen to notes where the connection hears of new addresses, and to nothing where it doesn't.
+    fn tune<S: ConfStore, R: Wait>(
+        &mut self,
+        rt: &R,
+        cell: &SharedSentinel<S>,
+        seat: &mut Seat,
+        now: u64,
+    ) -> Result<(), ServeFault>
+        requires own { seat.old.cell ≡ cell.now.id }
+        requires idle { IsIdle self.old.session }
+        ensures own { seat.new.cell ≡ seat.old.cell }
+        ensures tuned { OnOk result (IsTuned cell.now.start now (hears_switches self.old.subscriptions) self.old.session seat.old.view self.new.session
+            seat.new.view) }
+        ensures attendant { self.new.attendant ≡ self.old.attendant }
+        ensures unsent { self.new.unsent ≡ self.old.unsent }
+        ensures kept { (self.new.knows_masters ≡ self.old.knows_masters) × (self.new.subscriptions ≡ self.old.subscriptions) }
+        ensures fault { IfErr result (λ fault. (fault ≡ ServeFault.Halted) ⊎ (fault ≡ ServeFault.NoMemory)) }
+    {
+        if self.subscriptions.hears(Channel::SwitchMaster.name()) {
+            return self.begin_notes(rt, cell, seat, now);
+        }
+        self.session = Session::new(self.alloc);
+        Ok(())
+    }
+
+    /// Tells an answer of Pub/Sub, after which the connection listens to what it has subscriptions for now.
+    fn confirm<S: ConfStore, R: Wait>(
+        &mut self,
+        rt: &R,
+        cell: &SharedSentinel<S>,
+        seat: &mut Seat,
+        now: u64,
+        answer: &[u8],
+    ) -> Result<(), ServeFault>
+        requires own { seat.old.cell ≡ cell.now.id }
+        requires idle { IsIdle self.old.session }
+        ensures own { seat.new.cell ≡ seat.old.cell }
+        ensures tuned { OnOk result (IsTuned cell.now.start now (hears_switches self.old.subscriptions) self.old.session seat.old.view self.new.session
+            seat.new.view) }
+        ensures attendant { OnOk result (self.new.attendant ≡ record self.old.attendant {
+          asker = record self.old.attendant.asker { listens = is_listening self.old.subscriptions };
+        }) }
+        ensures unsent { OnOk result (self.new.unsent.items ≡ self.old.unsent.items ++ answer.now) }
+        ensures kept { (self.new.knows_masters ≡ self.old.knows_masters) × (self.new.subscriptions ≡ self.old.subscriptions) }
+        ensures fault { IfErr result (λ fault. ((fault ≡ ServeFault.Halted) ⊎ (fault ≡ ServeFault.NoMemory))
+            × (self.new.unsent.items ≡ self.old.unsent.items)) }
+    {
+        self.tune(rt, cell, seat, now)?;
+        self.attendant
+            .note_listening(self.subscriptions.is_listening());
+        put_out(&mut self.unsent, answer)
+    }
+
+    /// Has a value answered: by Pub/Sub, where that has an answer to it, and else by a courtesy or the session below.
+    pub(crate) fn answer_value<S: ConfStore, R: Wait>(
+        &mut self,
+        rt: &R,
+        cell: &SharedSentinel<S>,
+        seat: &mut Seat,
+        now: u64,
+        value: &Value,
+    ) -> Result<(), ServeFault>
+        requires own { seat.old.cell ≡ cell.now.id }
+        requires ready { IsReady self.old.attendant self.old.subscriptions self.old.session }
+        requires frame { IsFrame (view value.now) × HasLines (view value.now) }
+        ensures own { seat.new.cell ≡ seat.old.cell }
+        ensures served { OnOk result ((more : List ℕ) × (self.new.unsent.items ≡ self.old.unsent.items ++ more)
+            × IsReady self.new.attendant self.new.subscriptions self.new.session
+            × Serves cell.now.start now (guest_of self.old.attendant self.old.subscriptions self.old.session seat.old.view) (view value.now) more
+            (guest_of self.new.attendant self.new.subscriptions self.new.session seat.new.view)) }
+        ensures held { OnOk result (self.new.attendant.held ≡ self.old.attendant.held) }
+        ensures fault { IfErr result (λ fault. ((fault ≡ ServeFault.Halted) ⊎ (fault ≡ ServeFault.NoMemory))
+            × (self.new.unsent.items ≡ self.old.unsent.items)) }
+        ensures knows { self.new.knows_masters ≡ self.old.knows_masters }
+    {
+        let mut answer = OutText::new(self.alloc);
+        match self.channel_turn(value, &mut answer)? {
+            Turn::Said => self.confirm(rt, cell, seat, now, answer.as_slice()),
+            Turn::Other => self.attend_to(rt, cell, seat, now, value),
+        }
+    }
+
+    /// Has what the connection is told of this text, on the channel of new addresses, join what isn't sent yet.
+    fn tell_switch(&mut self, text: &[u8]) -> Result<(), NoMemory>
+        ensures ok { OnOk result (self.new.unsent.items ≡ self.old.unsent.items ++ spellings (told self.old.subscriptions switches text.now)) }
+        ensures err { OnErr result (self.new.unsent.items ≡ self.old.unsent.items) }
+        ensures session { self.new.session ≡ self.old.session }
+        ensures attendant { self.new.attendant ≡ self.old.attendant }
+        ensures kept { (self.new.knows_masters ≡ self.old.knows_masters) × (self.new.subscriptions ≡ self.old.subscriptions) }
+    {
+        let mut told = OutText::new(self.alloc);
+        let channel = Channel::SwitchMaster.name();
+        self.subscriptions.tell(channel, text, &mut told)?;
+        match put_out(&mut self.unsent, told.as_slice()) {
+            Ok(()) => Ok(()),
+            Err(_) => Err(NoMemory),
+        }
+    }
+
+    /// Tells the client of a note, where it is due to the session below: whether it is. After `NoMemory` the connection is to be closed.
+    pub(crate) fn notify(
+        &mut self,
+        roster: &Roster,
+        note: &Note,
+        entry: u64,
+    ) -> Result<bool, NoMemory>
+        requires master { note.now.master < length roster.now.masters }
+        requires ready { IsReady self.old.attendant self.old.subscriptions self.old.session }
+        ensures ready { IsReady self.new.attendant self.new.subscriptions self.new.session }
+        ensures told { NotifiesBelow roster.now note.now entry self.old.subscriptions self.old.session self.old.unsent.items result self.new.session
+            self.new.unsent.items }
+        ensures attendant { self.new.attendant ≡ self.old.attendant }
+        ensures kept { (self.new.knows_masters ≡ self.old.knows_masters) × (self.new.subscriptions ≡ self.old.subscriptions) }
+    {
+        if !self.session.notify(roster, note, entry)? {
+            return Ok(false);
+        }
+        self.drop_answers();
+        let mut text = OutText::new(self.alloc);
+        add_switch(&mut text, roster, note)?;
+        self.tell_switch(text.as_slice())?;
+        Ok(true)
+    }
+
+    /// Tells the client of an event, where a channel or a pattern of the connection matches its channel: whether anything is told. After `NoMemory` nothing changed, and the
+    /// client misses an event.
+    pub(crate) fn tell_event(&mut self, event: &Event) -> Result<bool, NoMemory>
+        ensures told { TellsBelow event.now self.old.subscriptions self.old.unsent.items result self.new.unsent.items }
+        ensures session { self.new.session ≡ self.old.session }
+        ensures attendant { self.new.attendant ≡ self.old.attendant }
+        ensures kept { (self.new.knows_masters ≡ self.old.knows_masters) × (self.new.subscriptions ≡ self.old.subscriptions) }
+    {
+        let mut told = OutText::new(self.alloc);
+        write_event(&self.subscriptions, event, &mut told)?;
+        match put_out(&mut self.unsent, told.as_slice()) {
+            Ok(()) => Ok(!told.as_slice().is_empty()),
+            Err(_) => Err(NoMemory),
+        }
+    }
+}
