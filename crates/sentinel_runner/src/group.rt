@@ -6,6 +6,7 @@ ghost use Rattle.sentinel_runner.specs.Faults.{fault_of_run};
 ghost use Rattle.sentinel_runner.specs.Groups.{AreOneGroup};
 
 use crate::group_fault::{GroupFault, OrderedFault};
+use crate::node_parts::{RunsNodes, WithoutPorts};
 use crate::opened::{PortSettings, room_of};
 use crate::orders::{Orders, ReadFailed};
 use crate::started::Started;
@@ -91,16 +92,18 @@ impl<S: ConfStore + Drop> Group<S> {
             threads: 1,
             courtesies: false,
         };
-        Self::open_with(rt, alloc, confs, stores, port)
+        Self::open_with(rt, alloc, confs, stores, port, 0)
     }
 
-    /// As `open`, with ports that are served so; each thread of a port has a seat of the Sentinel.
+    /// As `open`, with ports that are served so; each thread of a port has a seat of the Sentinel. So many descriptors stay free for connections that no
+    /// Sentinel has.
     pub fn open_with<R: Net + Clock + Log>(
         rt: &R,
         alloc: Global,
         confs: Vec<Conf>,
         stores: Vec<S>,
         port: PortSettings,
+        own: u64,
     ) -> Result<Group<S>, GroupFault>
         requires room { All (λ s. S.failure_count s < 2 ^ 64 - 1) stores.items }
         ensures group { AreOneGroup confs.items stores.items → IfErr result (λ fault. fault ≢ NotOneRoster) }
@@ -109,7 +112,7 @@ impl<S: ConfStore + Drop> Group<S> {
         if !are_one_group(confs.as_slice(), stores.as_slice()) {
             return Err(GroupFault::NotOneRoster);
         }
-        Self::open_all(rt, alloc, confs, stores, port)
+        Self::open_all(rt, alloc, confs, stores, port, own)
     }
 
     /// Opens what `open` opens, of confs that are those of one group.
@@ -119,6 +122,7 @@ impl<S: ConfStore + Drop> Group<S> {
         confs: Vec<Conf>,
         stores: Vec<S>,
         port: PortSettings,
+        own: u64,
     ) -> Result<Group<S>, GroupFault>
         requires room { All (λ s. S.failure_count s < 2 ^ 64 - 1) stores.items }
         requires group { AreOneGroup confs.items stores.items }
@@ -130,7 +134,7 @@ impl<S: ConfStore + Drop> Group<S> {
         let nodes = DataNodes::of(alloc, first)?;
         let (mut links, node_orders) = Links::open(alloc, confs.len())?;
         let clock = GroupClock::start(rt);
-        let room = room_of(rt, alloc, confs.len(), port)?;
+        let room = room_of(rt, alloc, confs.len(), port, own)?;
         let sentinels = start_all(rt, alloc, confs, stores, &mut links, room)?;
         Ok(Group {
             threads: Beginning {
@@ -167,12 +171,24 @@ impl<S: ConfStore + Drop + Send> Group<S> {
     ) -> Result<(), GroupFault>
         ensures roster { IfErr result (λ fault. fault ≢ NotOneRoster) }
     {
+        self.run_with(rt, WithoutPorts, ending)
+    }
+
+    /// As `run`, with what runs the data nodes.
+    pub fn run_with<P: RunsNodes + Drop + Send, R: Threads + Wait + Clock + Log + Sync>(
+        self,
+        rt: &R,
+        runner: P,
+        ending: &AtomicU64,
+    ) -> Result<(), GroupFault>
+        ensures roster { IfErr result (λ fault. fault ≢ NotOneRoster) }
+    {
         let Group {
             threads,
             links,
             state,
         } = self;
-        run_threads(rt, threads, &state, &links, ending);
+        run_threads(rt, threads, runner, &state, &links, ending);
         outcome(&state)
     }
 
@@ -185,13 +201,27 @@ impl<S: ConfStore + Drop + Send> Group<S> {
         input: &mut I,
         ending: &AtomicU64,
     ) -> Result<(), OrderedFault> {
+        self.run_by_orders_with(rt, WithoutPorts, input, ending)
+    }
+
+    /// As `run_by_orders`, with what runs the data nodes.
+    pub fn run_by_orders_with<P, I: Read, R: Threads + Wait + Clock + Log + Sync>(
+        self,
+        rt: &R,
+        runner: P,
+        input: &mut I,
+        ending: &AtomicU64,
+    ) -> Result<(), OrderedFault>
+    where
+        P: RunsNodes + Drop + Send,
+    {
         let orders = self.orders()?;
         let Group {
             threads,
             links,
             state,
         } = self;
-        let read = follow_beside(rt, threads, orders, input, &state, &links, ending);
+        let read = follow_beside(rt, threads, runner, orders, input, &state, &links, ending);
         outcome(&state)?;
         read.map_err(|_| OrderedFault::Read)
     }
@@ -199,9 +229,10 @@ impl<S: ConfStore + Drop + Send> Group<S> {
 
 /// Runs all threads, beside which this one follows the orders of the input to its end. Then they end too. Many parameters: the threads borrow
 /// the parts of a group one by one.
-fn follow_beside<'a, S, I: Read, R>(
+fn follow_beside<'a, S, P, I: Read, R>(
     rt: &'a R,
     threads: Beginning<S>,
+    runner: P,
     mut orders: Orders,
     input: &mut I,
     state: &'a RunState,
@@ -210,10 +241,11 @@ fn follow_beside<'a, S, I: Read, R>(
 ) -> Result<(), ReadFailed>
 where
     S: ConfStore + Drop + Send,
+    P: RunsNodes + Drop + Send,
     R: Threads + Wait + Clock + Log + Sync,
 {
     thread::scope(thread::scope_env(), rt, |scope| {
-        let begun = scope.spawn(move || run_threads(rt, threads, state, links, ending));
+        let begun = scope.spawn(move || run_threads(rt, threads, runner, state, links, ending));
         if begun.is_err() {
             state.note(RunFault::LackedThread);
             return Ok(());
@@ -246,22 +278,28 @@ pub(crate) fn outcome(state: &RunState) -> Result<(), GroupFault>
 }
 
 /// Runs the data nodes in a thread, and each Sentinel in one that starts its others. Where one can't be made, all end.
-fn run_threads<'a, S: ConfStore + Drop + Send, R: Threads + Wait + Clock + Log + Sync>(
+fn run_threads<'a, S, P, R>(
     rt: &'a R,
     threads: Beginning<S>,
+    runner: P,
     state: &'a RunState,
     links: &'a Links,
     ending: &'a AtomicU64,
-) {
+)
+where
+    S: ConfStore + Drop + Send,
+    P: RunsNodes + Drop + Send,
+    R: Threads + Wait + Clock + Log + Sync,
+{
     let Beginning {
         sentinels,
-        mut nodes,
+        nodes,
         node_orders,
         alloc,
     } = threads;
     thread::scope(thread::scope_env(), rt, |scope| {
         let mut refused = scope
-            .spawn(move || nodes.run(rt, state, links, &node_orders, ending))
+            .spawn(move || runner.run(rt, state, links, nodes, node_orders, ending))
             .is_err();
         for started in sentinels {
             refused |= scope
