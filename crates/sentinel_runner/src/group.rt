@@ -6,14 +6,15 @@ ghost use Rattle.sentinel_runner.specs.Faults.{fault_of_run};
 ghost use Rattle.sentinel_runner.specs.Groups.{AreOneGroup};
 
 use crate::group_fault::{GroupFault, OrderedFault};
-use crate::node_parts::{RunsNodes, WithoutPorts};
+use crate::node_parts::{ServesNodes, WithoutPorts};
 use crate::opened::{PortSettings, room_of};
 use crate::orders::{Orders, ReadFailed};
+use crate::port_parts::end_for_want;
 use crate::started::Started;
 use conf_store::ConfStore;
 use crossbeam_channel::Receiver;
 use group_checks::is_one_group;
-use group_links::{DataNodes, Links, NodeOrder};
+use group_links::{DataNodes, Links, NodeOrder, SharedNodes};
 use group_ports::PortRoom;
 use group_sentinels::{GroupClock, RunFault, RunState};
 use log::Log;
@@ -30,7 +31,6 @@ use std::thread::{self, Threads};
 #[derive(Drop)]
 struct Beginning<S: ConfStore> {
     sentinels: Vec<Started<S>>,
-    nodes: DataNodes,
     node_orders: Receiver<NodeOrder>,
     alloc: Global,
 }
@@ -39,6 +39,7 @@ struct Beginning<S: ConfStore> {
 #[derive(Drop)]
 pub struct Group<S: ConfStore> {
     threads: Beginning<S>,
+    nodes: DataNodes,
     links: Links,
     state: RunState,
 }
@@ -139,10 +140,10 @@ impl<S: ConfStore + Drop> Group<S> {
         Ok(Group {
             threads: Beginning {
                 sentinels,
-                nodes,
                 node_orders,
                 alloc,
             },
+            nodes,
             links,
             state: RunState::new(clock),
         })
@@ -158,7 +159,7 @@ impl<S: ConfStore + Drop> Group<S> {
         ensures roster { IfErr result (λ fault. fault ≢ NotOneRoster) }
     {
         let node_orders = self.links.node_orders()?;
-        Ok(Orders::new(node_orders, self.threads.nodes.count()))
+        Ok(Orders::new(node_orders, self.nodes.count()))
     }
 }
 
@@ -174,21 +175,23 @@ impl<S: ConfStore + Drop + Send> Group<S> {
         self.run_with(rt, WithoutPorts, ending)
     }
 
-    /// As `run`, with what runs the data nodes.
-    pub fn run_with<P: RunsNodes + Drop + Send, R: Threads + Wait + Clock + Log + Sync>(
+    /// As `run`, with what serves the data nodes to clients.
+    pub fn run_with<P: ServesNodes + Drop + Send, R: Threads + Wait + Clock + Log + Sync>(
         self,
         rt: &R,
-        runner: P,
+        ports: P,
         ending: &AtomicU64,
     ) -> Result<(), GroupFault>
         ensures roster { IfErr result (λ fault. fault ≢ NotOneRoster) }
     {
         let Group {
             threads,
+            nodes,
             links,
             state,
         } = self;
-        run_threads(rt, threads, runner, &state, &links, ending);
+        let nodes = SharedNodes::new(nodes);
+        run_beside_ports(rt, ports, threads, &nodes, &state, &links, ending);
         outcome(&state)
     }
 
@@ -204,48 +207,103 @@ impl<S: ConfStore + Drop + Send> Group<S> {
         self.run_by_orders_with(rt, WithoutPorts, input, ending)
     }
 
-    /// As `run_by_orders`, with what runs the data nodes.
+    /// As `run_by_orders`, with what serves the data nodes to clients.
     pub fn run_by_orders_with<P, I: Read, R: Threads + Wait + Clock + Log + Sync>(
         self,
         rt: &R,
-        runner: P,
+        ports: P,
         input: &mut I,
         ending: &AtomicU64,
     ) -> Result<(), OrderedFault>
     where
-        P: RunsNodes + Drop + Send,
+        P: ServesNodes + Drop + Send,
     {
         let orders = self.orders()?;
         let Group {
             threads,
+            nodes,
             links,
             state,
         } = self;
-        let read = follow_beside(rt, threads, runner, orders, input, &state, &links, ending);
+        let nodes = SharedNodes::new(nodes);
+        let read = follow_beside_ports(
+            rt, ports, threads, orders, input, &nodes, &state, &links, ending,
+        );
         outcome(&state)?;
         read.map_err(|_| OrderedFault::Read)
     }
 }
 
-/// Runs all threads, beside which this one follows the orders of the input to its end. Then they end too. Many parameters: the threads borrow
-/// the parts of a group one by one.
-fn follow_beside<'a, S, P, I: Read, R>(
+/// Starts the thread that serves the data nodes to clients, and runs all others. Many parameters: as those of `follow_beside`.
+fn run_beside_ports<'a, S, P, R>(
     rt: &'a R,
+    ports: P,
     threads: Beginning<S>,
-    runner: P,
-    mut orders: Orders,
+    nodes: &'a SharedNodes,
+    state: &'a RunState,
+    links: &'a Links,
+    ending: &'a AtomicU64,
+)
+where
+    S: ConfStore + Drop + Send,
+    P: ServesNodes + Drop + Send,
+    R: Threads + Wait + Clock + Log + Sync,
+{
+    thread::scope(thread::scope_env(), rt, |scope| {
+        let begun = scope.spawn(move || ports.serve(rt, state, nodes, ending));
+        if begun.is_err() {
+            return end_for_want(state, ending);
+        }
+        run_threads(rt, threads, nodes, state, links, ending);
+    })
+}
+
+/// Starts the thread that serves the data nodes to clients, and follows the orders of the input beside all others. Many parameters: as those of
+/// `follow_beside`.
+fn follow_beside_ports<'a, S, P, I: Read, R>(
+    rt: &'a R,
+    ports: P,
+    threads: Beginning<S>,
+    orders: Orders,
     input: &mut I,
+    nodes: &'a SharedNodes,
     state: &'a RunState,
     links: &'a Links,
     ending: &'a AtomicU64,
 ) -> Result<(), ReadFailed>
 where
     S: ConfStore + Drop + Send,
-    P: RunsNodes + Drop + Send,
+    P: ServesNodes + Drop + Send,
     R: Threads + Wait + Clock + Log + Sync,
 {
     thread::scope(thread::scope_env(), rt, |scope| {
-        let begun = scope.spawn(move || run_threads(rt, threads, runner, state, links, ending));
+        let begun = scope.spawn(move || ports.serve(rt, state, nodes, ending));
+        if begun.is_err() {
+            end_for_want(state, ending);
+            return Ok(());
+        }
+        follow_beside(rt, threads, orders, input, nodes, state, links, ending)
+    })
+}
+
+/// Runs all threads, beside which this one follows the orders of the input to its end. Then they end too. Many parameters: the threads borrow
+/// the parts of a group one by one.
+fn follow_beside<'a, S, I: Read, R>(
+    rt: &'a R,
+    threads: Beginning<S>,
+    mut orders: Orders,
+    input: &mut I,
+    nodes: &'a SharedNodes,
+    state: &'a RunState,
+    links: &'a Links,
+    ending: &'a AtomicU64,
+) -> Result<(), ReadFailed>
+where
+    S: ConfStore + Drop + Send,
+    R: Threads + Wait + Clock + Log + Sync,
+{
+    thread::scope(thread::scope_env(), rt, |scope| {
+        let begun = scope.spawn(move || run_threads(rt, threads, nodes, state, links, ending));
         if begun.is_err() {
             state.note(RunFault::LackedThread);
             return Ok(());
@@ -278,28 +336,26 @@ pub(crate) fn outcome(state: &RunState) -> Result<(), GroupFault>
 }
 
 /// Runs the data nodes in a thread, and each Sentinel in one that starts its others. Where one can't be made, all end.
-fn run_threads<'a, S, P, R>(
+fn run_threads<'a, S, R>(
     rt: &'a R,
     threads: Beginning<S>,
-    runner: P,
+    nodes: &'a SharedNodes,
     state: &'a RunState,
     links: &'a Links,
     ending: &'a AtomicU64,
 )
 where
     S: ConfStore + Drop + Send,
-    P: RunsNodes + Drop + Send,
     R: Threads + Wait + Clock + Log + Sync,
 {
     let Beginning {
         sentinels,
-        nodes,
         node_orders,
         alloc,
     } = threads;
     thread::scope(thread::scope_env(), rt, |scope| {
         let mut refused = scope
-            .spawn(move || runner.run(rt, state, links, nodes, node_orders, ending))
+            .spawn(move || nodes.run(rt, state, links, &node_orders, ending))
             .is_err();
         for started in sentinels {
             refused |= scope

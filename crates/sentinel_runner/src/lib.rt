@@ -14,6 +14,6 @@ mod watch;
 
 pub use group::{Group, run_group};
 pub use group_fault::{GroupFault, OrderedFault};
-pub use node_parts::{RunsNodes, WithPorts, WithoutPorts};
+pub use node_parts::{ServesNodes, WithPorts, WithoutPorts};
 pub use opened::{PORT_THREADS_MAX, PortSettings};
 pub use watch::{Watch, WatchSettings};
