@@ -1,1 +1,2 @@
 mod Numbering
+pub mod Shown

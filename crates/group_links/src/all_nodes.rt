@@ -1,16 +1,19 @@
 //! All data nodes of a group.
 
-ghost use Rattle.std.specs.Prelude.{◌≡◌, ◌⊎◌, ◌≤◌, [], IfOk, length};
+ghost use Rattle.std.specs.Prelude.{◌≡◌, ◌⊎◌, ◌≤◌, [], IfOk, IfSome, length};
 ghost use Rattle.std.specs.List.{AllByRecursion};
 ghost use Rattle.boxed_nodes.specs.Sendable.{IsSendableOutput, IsTakeable};
-ghost use Rattle.data_nodes.specs.Servers.{changed_by};
-ghost use Rattle.group_links.specs.DataNodes.{AreNodesOf, ObeysAt};
+ghost use Rattle.ballot_law.specs.declared.events.Event.TheVariants.{Handed};
+ghost use Rattle.ballot_law.specs.declared.messages.NodeName.TheVariants.{StoreAt};
+ghost use Rattle.data_nodes.specs.Servers.{changed_by, info_of, said};
+ghost use Rattle.node_texts.specs.Infos.{IsInfo};
+ghost use Rattle.group_links.specs.DataNodes.{AreNodesOf, ObeysAt, ShownBy, client_order, client_question, first_info};
 ghost use Rattle.group_links.specs.declared.all_nodes.TheConstants.{NODE_COUNT_MAX};
 ghost use Rattle.group_links.specs.declared.node_orders.Action.TheVariants.{Take, Stop, Start};
 
 use crate::links::Links;
 use crate::node_orders::{Action, NodeOrder};
-use ballot_law::{Event, Input, KeptText};
+use ballot_law::{Addr, Body, Event, Info, Input, KeptText, Message, NodeName, Output};
 use boxed_nodes::{HowStored, Node};
 use crossbeam_channel::{Receiver, RecvTimeoutError};
 use data_nodes::DataNode;
@@ -24,7 +27,7 @@ use std::sync::atomic::{AtomicU64, Ordering};
 use std::time::Duration;
 
 /// How long the nodes wait for an order before they look whether the group ends, in milliseconds.
-const ORDER_MS: u64 = 50;
+pub(crate) const ORDER_MS: u64 = 50;
 
 /// How many data nodes a group has at most.
 pub const NODE_COUNT_MAX: usize = 4_096;
@@ -39,6 +42,7 @@ pub struct DataNodes {
 }
 
 /// Has a node take an input. The outbox shows what it says, which is nothing where it is stopped or where there is no memory.
+#[tactic(auto, using(crate::proofs::Shown::said_or_not))]
 fn carry_out(node: &mut DataNode, input: &Input, outbox: &mut Outbox)
     requires takeable { IsTakeable input.now.event }
     requires held { outbox.old.held ≡ [] }
@@ -46,6 +50,8 @@ fn carry_out(node: &mut DataNode, input: &Input, outbox: &mut Outbox)
     ensures sendable { AllByRecursion IsSendableOutput outbox.new.shown }
     ensures taken { (node.new ≡ node.old)
         ⊎ ((node.new.number ≡ node.old.number) × (node.new.server ≡ changed_by input.entry.now.event node.old.server)) }
+    ensures said { (outbox.new.shown ≡ [])
+        ⊎ (outbox.new.shown ≡ said (StoreAt node.old.number) node.old.sentinels node.new.server input.entry.now.event) }
 {
     outbox.clear();
     let room = node.room();
@@ -57,6 +63,41 @@ fn carry_out(node: &mut DataNode, input: &Input, outbox: &mut Outbox)
         let _released = node.release(outbox);
     }
     outbox.drop_held();
+}
+
+/// What the first of these outputs says of a node, where it is an INFO.
+fn first_info(outputs: &[Output]) -> Option<Info>
+    requires { AllByRecursion IsSendableOutput outputs.now }
+    ensures info { result ≡ first_info outputs.now }
+    ensures within { IfSome result IsInfo }
+{
+    match outputs.first()? {
+        Output::Send(message) => match message.body {
+            Body::InfoText(info) => Some(info),
+            _ => None,
+        },
+        Output::Tell(_) => None,
+    }
+}
+
+/// What a node tells a client that asks it for INFO.
+#[tactic(auto, using(crate::proofs::Shown::told_info))]
+fn ask_info(node: &mut DataNode, number: u16, now: u64, outbox: &mut Outbox) -> Option<Info>
+    requires held { outbox.old.held ≡ [] }
+    ensures held { outbox.new.held ≡ [] }
+    ensures taken { (node.new ≡ node.old)
+        ⊎ ((node.new.number ≡ node.old.number) × (node.new.server ≡ changed_by (Handed (client_question number)) node.old.server)) }
+    ensures info { IfSome result (λ info. info ≡ info_of node.old.server) }
+    ensures within { IfSome result IsInfo }
+{
+    let event = Event::Handed(Message {
+        sender: NodeName::PortAt(0),
+        target: NodeName::StoreAt(number),
+        body: Body::InfoAsk,
+    });
+    let input = Input { now, event };
+    carry_out(node, &input, outbox);
+    first_info(outbox.outputs())
 }
 
 impl DataNodes {
@@ -94,6 +135,33 @@ impl DataNodes {
             carry_out(node, &input, &mut self.outbox);
             send_all(&mut links.outlet(rt), self.outbox.outputs());
         }
+    }
+
+    /// What the node with this number tells a client that asks it for INFO: what it keeps. None where it is stopped, where there is no such node, and
+    /// where there is no memory.
+    pub fn shown(&mut self, number: u16, now: u64) -> Option<Info>
+        ensures obeys { ObeysAt number (Take (Handed (client_question number))) self.old.nodes.items self.new.nodes.items }
+        ensures info { IfSome result (ShownBy self.old.nodes.items number) }
+        ensures within { IfSome result IsInfo }
+    {
+        let node = self.nodes.get_mut(number as usize)?;
+        ask_info(node, number, now, &mut self.outbox)
+    }
+
+    /// Has the node with this number follow the master at the address, or nobody, as a client that sends it REPLICAOF does. Its `+OK` goes to nobody.
+    pub fn follow(&mut self, number: u16, now: u64, follows: Option<Addr>)
+        ensures { ObeysAt number (Take (Handed (client_order number follows))) self.old.nodes.items self.new.nodes.items }
+    {
+        let Some(node) = self.nodes.get_mut(number as usize) else {
+            return;
+        };
+        let event = Event::Handed(Message {
+            sender: NodeName::PortAt(0),
+            target: NodeName::StoreAt(number),
+            body: Body::ReplicaOf(follows),
+        });
+        let input = Input { now, event };
+        carry_out(node, &input, &mut self.outbox);
     }
 
     /// Stops the node with this number.

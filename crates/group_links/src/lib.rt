@@ -2,7 +2,7 @@
 //!
 //! Each Sentinel has a channel, and the data nodes have one together. A message becomes the event that it is at its target before it is
 //! sent, so what comes out of a channel may be taken. Channels have no bound, and a message that can't be sent is lost. All data nodes,
-//! masters and replicas, run in one thread.
+//! masters and replicas, run in one thread. `SharedNodes` are they where another thread asks them what they show, and gives them a client's orders.
 #![tactic(auto)]
 
 mod all_nodes;
@@ -10,6 +10,7 @@ mod delivery;
 mod dispatch;
 mod links;
 mod node_orders;
+mod shared_nodes;
 mod workers;
 
 pub use all_nodes::DataNodes;
@@ -17,4 +18,5 @@ pub use delivery::Delivery;
 pub use dispatch::{Dispatch, dispatch_of};
 pub use links::{ChannelOutlet, Links};
 pub use node_orders::{Action, GREATEST, NodeOrder, Takeable};
+pub use shared_nodes::SharedNodes;
 pub use workers::{run_link, run_timer};

@@ -88,6 +88,12 @@ fn serve<'a>(alloc: Global) -> Result<Command<'a>, AllocError> {
         .help(
             "Reads no standard input, and runs until a signal ends it: for supervisors, containers and nohup",
         );
+    let real_nodes = Arg::new(alloc, "real-nodes")
+        .long("real-nodes")
+        .action(ArgAction::SetTrue)
+        .help(
+            "Has the data nodes listen at their addresses on the loopback, and answer PING, INFO, ROLE and REPLICAOF there",
+        );
     Command::new(alloc, "serve")
         .about("Runs a group of Sentinels with their ports at 127.0.0.1, until standard input ends")
         .arg(notes)?
@@ -95,6 +101,7 @@ fn serve<'a>(alloc: Global) -> Result<Command<'a>, AllocError> {
         .arg(close_halted)?
         .arg(compatible)?
         .arg(until_killed)?
+        .arg(real_nodes)?
         .arg(conf_files(alloc))
 }
 

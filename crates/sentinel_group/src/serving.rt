@@ -8,9 +8,11 @@ use crate::group_files::{GroupFiles, files_of};
 use crate::locks::{FileLock, lock_files, refuse_lock};
 use crate::starting::note_start;
 use clap::ArgMatches;
+use conf_store::ConfStore;
 use group_checks::is_one_group;
 use log::Log;
-use sentinel_runner::{Group, OrderedFault, PortSettings};
+use node_ports::descriptors_of;
+use sentinel_runner::{Group, OrderedFault, PortSettings, ServesNodes, WithPorts, WithoutPorts};
 use std::io::{Input, IsTerminal};
 use std::net::Net;
 use std::process::ExitCode;
@@ -37,8 +39,31 @@ fn tell_orders(rt: HostRuntime) {
     }
 }
 
-/// Runs the group of these files, and obeys the lines of standard input, until that ends. With `--until-killed` nothing is read, and the group
-/// runs on.
+/// Runs an open group, and obeys the lines of standard input, until that ends. With `--until-killed` nothing is read, and the group runs on.
+fn run_group<R, S, P>(
+    rt: HostRuntime,
+    noting: &R,
+    group: Group<S>,
+    ports: P,
+    words: &ArgMatches,
+) -> Result<(), OrderedFault>
+where
+    R: Threads + Wait + Clock + Log + Input + Sync,
+    S: ConfStore + Drop + Send,
+    P: ServesNodes + Drop + Send,
+{
+    let ending = AtomicU64::new(0);
+    if words.get_flag("close-halted") {
+        group.close_halted();
+    }
+    if words.get_flag("until-killed") {
+        return Ok(group.run_with(noting, ports, &ending)?);
+    }
+    tell_orders(rt);
+    group.run_by_orders_with(noting, ports, &mut noting.reader(), &ending)
+}
+
+/// Runs the group of these files; with `--real-nodes` its data nodes listen at their addresses.
 fn run<R>(
     rt: HostRuntime,
     noting: &R,
@@ -49,20 +74,20 @@ where
     R: Threads + Wait + Net + Clock + Log + Input + Sync,
     requires { All (λ store. store < 2 ^ 64 - 1) files.stores.items }
 {
-    let ending = AtomicU64::new(0);
+    let alloc = rt.alloc();
     let port = PortSettings {
         threads: port_threads_of(words),
         courtesies: words.get_flag("compatible"),
     };
-    let group = Group::open_with(noting, rt.alloc(), files.confs, files.stores, port)?;
-    if words.get_flag("close-halted") {
-        group.close_halted();
+    let GroupFiles { confs, stores } = files;
+    if let (true, Some(conf)) = (words.get_flag("real-nodes"), confs.first()) {
+        let own = descriptors_of(conf.roster());
+        let ports = WithPorts::open(noting, alloc, conf.roster())?;
+        let group = Group::open_with(noting, alloc, confs, stores, port, own)?;
+        return run_group(rt, noting, group, ports, words);
     }
-    if words.get_flag("until-killed") {
-        return Ok(group.run(noting, &ending)?);
-    }
-    tell_orders(rt);
-    group.run_by_orders(noting, &mut noting.reader(), &ending)
+    let group = Group::open_with(noting, alloc, confs, stores, port, 0)?;
+    run_group(rt, noting, group, WithoutPorts, words)
 }
 
 /// The files that the words name, and their locks. Files that make no group are told as such, also where another program runs on one of them.

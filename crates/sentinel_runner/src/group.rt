@@ -6,13 +6,15 @@ ghost use Rattle.sentinel_runner.specs.Faults.{fault_of_run};
 ghost use Rattle.sentinel_runner.specs.Groups.{AreOneGroup};
 
 use crate::group_fault::{GroupFault, OrderedFault};
+use crate::node_parts::{ServesNodes, WithoutPorts};
 use crate::opened::{PortSettings, room_of};
 use crate::orders::{Orders, ReadFailed};
+use crate::port_parts::end_for_want;
 use crate::started::Started;
 use conf_store::ConfStore;
 use crossbeam_channel::Receiver;
 use group_checks::is_one_group;
-use group_links::{DataNodes, Links, NodeOrder};
+use group_links::{DataNodes, Links, NodeOrder, SharedNodes};
 use group_ports::PortRoom;
 use group_sentinels::{GroupClock, RunFault, RunState};
 use log::Log;
@@ -29,7 +31,6 @@ use std::thread::{self, Threads};
 #[derive(Drop)]
 struct Beginning<S: ConfStore> {
     sentinels: Vec<Started<S>>,
-    nodes: DataNodes,
     node_orders: Receiver<NodeOrder>,
     alloc: Global,
 }
@@ -38,6 +39,7 @@ struct Beginning<S: ConfStore> {
 #[derive(Drop)]
 pub struct Group<S: ConfStore> {
     threads: Beginning<S>,
+    nodes: DataNodes,
     links: Links,
     state: RunState,
 }
@@ -91,16 +93,18 @@ impl<S: ConfStore + Drop> Group<S> {
             threads: 1,
             courtesies: false,
         };
-        Self::open_with(rt, alloc, confs, stores, port)
+        Self::open_with(rt, alloc, confs, stores, port, 0)
     }
 
-    /// As `open`, with ports that are served so; each thread of a port has a seat of the Sentinel.
+    /// As `open`, with ports that are served so; each thread of a port has a seat of the Sentinel. So many descriptors stay free for connections that no
+    /// Sentinel has.
     pub fn open_with<R: Net + Clock + Log>(
         rt: &R,
         alloc: Global,
         confs: Vec<Conf>,
         stores: Vec<S>,
         port: PortSettings,
+        own: u64,
     ) -> Result<Group<S>, GroupFault>
         requires room { All (λ s. S.failure_count s < 2 ^ 64 - 1) stores.items }
         ensures group { AreOneGroup confs.items stores.items → IfErr result (λ fault. fault ≢ NotOneRoster) }
@@ -109,7 +113,7 @@ impl<S: ConfStore + Drop> Group<S> {
         if !are_one_group(confs.as_slice(), stores.as_slice()) {
             return Err(GroupFault::NotOneRoster);
         }
-        Self::open_all(rt, alloc, confs, stores, port)
+        Self::open_all(rt, alloc, confs, stores, port, own)
     }
 
     /// Opens what `open` opens, of confs that are those of one group.
@@ -119,6 +123,7 @@ impl<S: ConfStore + Drop> Group<S> {
         confs: Vec<Conf>,
         stores: Vec<S>,
         port: PortSettings,
+        own: u64,
     ) -> Result<Group<S>, GroupFault>
         requires room { All (λ s. S.failure_count s < 2 ^ 64 - 1) stores.items }
         requires group { AreOneGroup confs.items stores.items }
@@ -130,15 +135,15 @@ impl<S: ConfStore + Drop> Group<S> {
         let nodes = DataNodes::of(alloc, first)?;
         let (mut links, node_orders) = Links::open(alloc, confs.len())?;
         let clock = GroupClock::start(rt);
-        let room = room_of(rt, alloc, confs.len(), port)?;
+        let room = room_of(rt, alloc, confs.len(), port, own)?;
         let sentinels = start_all(rt, alloc, confs, stores, &mut links, room)?;
         Ok(Group {
             threads: Beginning {
                 sentinels,
-                nodes,
                 node_orders,
                 alloc,
             },
+            nodes,
             links,
             state: RunState::new(clock),
         })
@@ -154,7 +159,7 @@ impl<S: ConfStore + Drop> Group<S> {
         ensures roster { IfErr result (λ fault. fault ≢ NotOneRoster) }
     {
         let node_orders = self.links.node_orders()?;
-        Ok(Orders::new(node_orders, self.threads.nodes.count()))
+        Ok(Orders::new(node_orders, self.nodes.count()))
     }
 }
 
@@ -167,12 +172,26 @@ impl<S: ConfStore + Drop + Send> Group<S> {
     ) -> Result<(), GroupFault>
         ensures roster { IfErr result (λ fault. fault ≢ NotOneRoster) }
     {
+        self.run_with(rt, WithoutPorts, ending)
+    }
+
+    /// As `run`, with what serves the data nodes to clients.
+    pub fn run_with<P: ServesNodes + Drop + Send, R: Threads + Wait + Clock + Log + Sync>(
+        self,
+        rt: &R,
+        ports: P,
+        ending: &AtomicU64,
+    ) -> Result<(), GroupFault>
+        ensures roster { IfErr result (λ fault. fault ≢ NotOneRoster) }
+    {
         let Group {
             threads,
+            nodes,
             links,
             state,
         } = self;
-        run_threads(rt, threads, &state, &links, ending);
+        let nodes = SharedNodes::new(nodes);
+        run_beside_ports(rt, ports, threads, &nodes, &state, &links, ending);
         outcome(&state)
     }
 
@@ -185,16 +204,86 @@ impl<S: ConfStore + Drop + Send> Group<S> {
         input: &mut I,
         ending: &AtomicU64,
     ) -> Result<(), OrderedFault> {
+        self.run_by_orders_with(rt, WithoutPorts, input, ending)
+    }
+
+    /// As `run_by_orders`, with what serves the data nodes to clients.
+    pub fn run_by_orders_with<P, I: Read, R: Threads + Wait + Clock + Log + Sync>(
+        self,
+        rt: &R,
+        ports: P,
+        input: &mut I,
+        ending: &AtomicU64,
+    ) -> Result<(), OrderedFault>
+    where
+        P: ServesNodes + Drop + Send,
+    {
         let orders = self.orders()?;
         let Group {
             threads,
+            nodes,
             links,
             state,
         } = self;
-        let read = follow_beside(rt, threads, orders, input, &state, &links, ending);
+        let nodes = SharedNodes::new(nodes);
+        let read = follow_beside_ports(
+            rt, ports, threads, orders, input, &nodes, &state, &links, ending,
+        );
         outcome(&state)?;
         read.map_err(|_| OrderedFault::Read)
     }
+}
+
+/// Starts the thread that serves the data nodes to clients, and runs all others. Many parameters: as those of `follow_beside`.
+fn run_beside_ports<'a, S, P, R>(
+    rt: &'a R,
+    ports: P,
+    threads: Beginning<S>,
+    nodes: &'a SharedNodes,
+    state: &'a RunState,
+    links: &'a Links,
+    ending: &'a AtomicU64,
+)
+where
+    S: ConfStore + Drop + Send,
+    P: ServesNodes + Drop + Send,
+    R: Threads + Wait + Clock + Log + Sync,
+{
+    thread::scope(thread::scope_env(), rt, |scope| {
+        let begun = scope.spawn(move || ports.serve(rt, state, nodes, ending));
+        if begun.is_err() {
+            return end_for_want(state, ending);
+        }
+        run_threads(rt, threads, nodes, state, links, ending);
+    })
+}
+
+/// Starts the thread that serves the data nodes to clients, and follows the orders of the input beside all others. Many parameters: as those of
+/// `follow_beside`.
+fn follow_beside_ports<'a, S, P, I: Read, R>(
+    rt: &'a R,
+    ports: P,
+    threads: Beginning<S>,
+    orders: Orders,
+    input: &mut I,
+    nodes: &'a SharedNodes,
+    state: &'a RunState,
+    links: &'a Links,
+    ending: &'a AtomicU64,
+) -> Result<(), ReadFailed>
+where
+    S: ConfStore + Drop + Send,
+    P: ServesNodes + Drop + Send,
+    R: Threads + Wait + Clock + Log + Sync,
+{
+    thread::scope(thread::scope_env(), rt, |scope| {
+        let begun = scope.spawn(move || ports.serve(rt, state, nodes, ending));
+        if begun.is_err() {
+            end_for_want(state, ending);
+            return Ok(());
+        }
+        follow_beside(rt, threads, orders, input, nodes, state, links, ending)
+    })
 }
 
 /// Runs all threads, beside which this one follows the orders of the input to its end. Then they end too. Many parameters: the threads borrow
@@ -204,6 +293,7 @@ fn follow_beside<'a, S, I: Read, R>(
     threads: Beginning<S>,
     mut orders: Orders,
     input: &mut I,
+    nodes: &'a SharedNodes,
     state: &'a RunState,
     links: &'a Links,
     ending: &'a AtomicU64,
@@ -213,7 +303,7 @@ where
     R: Threads + Wait + Clock + Log + Sync,
 {
     thread::scope(thread::scope_env(), rt, |scope| {
-        let begun = scope.spawn(move || run_threads(rt, threads, state, links, ending));
+        let begun = scope.spawn(move || run_threads(rt, threads, nodes, state, links, ending));
         if begun.is_err() {
             state.note(RunFault::LackedThread);
             return Ok(());
@@ -246,16 +336,20 @@ pub(crate) fn outcome(state: &RunState) -> Result<(), GroupFault>
 }
 
 /// Runs the data nodes in a thread, and each Sentinel in one that starts its others. Where one can't be made, all end.
-fn run_threads<'a, S: ConfStore + Drop + Send, R: Threads + Wait + Clock + Log + Sync>(
+fn run_threads<'a, S, R>(
     rt: &'a R,
     threads: Beginning<S>,
+    nodes: &'a SharedNodes,
     state: &'a RunState,
     links: &'a Links,
     ending: &'a AtomicU64,
-) {
+)
+where
+    S: ConfStore + Drop + Send,
+    R: Threads + Wait + Clock + Log + Sync,
+{
     let Beginning {
         sentinels,
-        mut nodes,
         node_orders,
         alloc,
     } = threads;

@@ -5,6 +5,7 @@
 mod group;
 mod group_fault;
 mod line_reader;
+mod node_parts;
 mod opened;
 mod orders;
 mod port_parts;
@@ -13,5 +14,6 @@ mod watch;
 
 pub use group::{Group, run_group};
 pub use group_fault::{GroupFault, OrderedFault};
+pub use node_parts::{ServesNodes, WithPorts, WithoutPorts};
 pub use opened::{PORT_THREADS_MAX, PortSettings};
 pub use watch::{Watch, WatchSettings};

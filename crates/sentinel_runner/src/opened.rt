@@ -7,7 +7,7 @@ ghost use Rattle.sentinel_runner.specs.declared.group_fault.GroupFault.TheVarian
 
 use crate::group_fault::GroupFault;
 use conf_store::ConfStore;
-use group_ports::{Port, PortRoom, connections_of_each};
+use group_ports::{Port, PortRoom, connections_beside};
 use log::{Log, warn};
 use sentinel_cell::{Seat, SharedSentinel};
 use sentinel_conf::Conf;
@@ -68,18 +68,19 @@ pub(crate) fn fault_of(error: &io::Error) -> GroupFault
     GroupFault::PortRefused
 }
 
-/// How many connections each of so many ports keeps that are served so, and each of the threads of a port. `PortRefused` where the process may have too few
-/// descriptors for any.
+/// How many connections each of so many ports keeps that are served so, and each of the threads of a port, where `own` descriptors are to stay free for
+/// other connections. `PortRefused` where the process may have too few descriptors for any.
 pub(crate) fn room_of<R: Net>(
     rt: &R,
     alloc: Global,
     ports: usize,
     port: PortSettings,
+    own: u64,
 ) -> Result<PortRoom, GroupFault>
     ensures courtesies { IfOk result (λ room. room.courteous ≡ port.courtesies) }
     ensures roster { IfErr result (λ fault. fault ≢ NotOneRoster) }
 {
-    let room = match connections_of_each(rt, alloc, ports, port.threads_of_each()) {
+    let room = match connections_beside(rt, alloc, ports, port.threads_of_each(), own) {
         Ok(room) => room,
         Err(error) => return Err(fault_of(&error)),
     };

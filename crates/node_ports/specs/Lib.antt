@@ -1,0 +1,5 @@
+pub mod Asks
+pub mod Answers
+pub mod Readings
+pub mod Findings
+pub mod Talks
