@@ -36,8 +36,8 @@ const ROOM_KEPT: usize = 16_384;
 
 /// What tells what becomes of each value, to what the connection listens, the session that answers what is left to it, and the answers that aren't sent yet.
 ///
-/// The session is handed each value by itself, so it holds no bytes between two calls. It listens to notes where the connection hears of new addresses. `knows_masters` is whether the attendant was told the names of the
-/// Sentinel's masters.
+/// The session is handed each value by itself, so it holds no bytes between two calls. It listens to notes where the connection hears of new addresses.
+/// `knows_masters` is whether the attendant was told the names of the Sentinel's masters.
 #[derive(Drop)]
 pub(crate) struct Exchange {
     pub(crate) alloc: Global,
@@ -479,7 +479,8 @@ impl Exchange {
         ensures received { (more : List ℕ) × (self.new.unsent.items ≡ self.old.unsent.items ++ more)
             × Receives cell.now.start now (bytes_in self.old.attendant.held ++ piece.now)
             (guest (party seat.old.view self.old.session.listens) self.old.subscriptions self.old.session.told
-            (introduced cell.now.start self.old.knows_masters self.old.attendant.asker)) result (bytes_in self.new.attendant.held) more (guest_of self.new.attendant self.new.subscriptions self.new.session seat.new.view) }
+            (introduced cell.now.start self.old.knows_masters self.old.attendant.asker)) result (bytes_in self.new.attendant.held) more
+            (guest_of self.new.attendant self.new.subscriptions self.new.session seat.new.view) }
     {
         if self.learn_masters(cell).is_err() {
             return Err(ServeFault::NoMemory);
