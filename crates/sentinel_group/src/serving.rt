@@ -82,7 +82,7 @@ where
     let GroupFiles { confs, stores } = files;
     if let (true, Some(conf)) = (words.get_flag("real-nodes"), confs.first()) {
         let own = descriptors_of(conf.roster());
-        let ports = WithPorts::open(noting, alloc, conf.roster())?;
+        let ports = WithPorts::open(&rt, alloc, conf.roster())?;
         let group = Group::open_with(noting, alloc, confs, stores, port, own)?;
         return run_group(rt, noting, group, ports, words);
     }
