@@ -8,13 +8,14 @@ ghost use Rattle.sentinel_runner.specs.Groups.{AreOneGroup};
 use crate::group_fault::{GroupFault, OrderedFault};
 use crate::node_parts::{RunsNodes, WithoutPorts};
 use crate::opened::{PortSettings, room_of};
-use crate::orders::{Orders, ReadFailed};
+use crate::orders::{FollowsOrders, NetOrders, Orders, ReadFailed};
+use crate::restarts::Restarts;
 use crate::started::Started;
+use crate::stop_words::StopWords;
 use conf_store::ConfStore;
 use crossbeam_channel::Receiver;
 use group_checks::is_one_group;
 use group_links::{DataNodes, Links, NodeOrder};
-use group_ports::PortRoom;
 use group_sentinels::{GroupClock, RunFault, RunState};
 use log::Log;
 use sentinel_conf::Conf;
@@ -39,7 +40,9 @@ struct Beginning<S: ConfStore> {
 #[derive(Drop)]
 pub struct Group<S: ConfStore> {
     threads: Beginning<S>,
+    restarts: Restarts<S>,
     links: Links,
+    stops: StopWords,
     state: RunState,
 }
 
@@ -50,14 +53,14 @@ fn start_all<S: ConfStore + Drop, R: Net + Log>(
     mut confs: Vec<Conf>,
     mut stores: Vec<S>,
     links: &mut Links,
-    room: PortRoom,
+    restarts: &mut Restarts<S>,
 ) -> Result<Vec<Started<S>>, GroupFault>
     requires room { All (λ s. S.failure_count s < 2 ^ 64 - 1) stores.items }
     ensures roster { IfErr result (λ fault. fault ≢ NotOneRoster) }
 {
     let mut sentinels = Vec::new(alloc);
     while let (Some(conf), Some(store)) = (confs.pop(), stores.pop()) {
-        sentinels.push(Started::open(rt, alloc, conf, store, links, room)?)?;
+        sentinels.push(Started::open(rt, alloc, conf, store, links, restarts)?)?;
     }
     Ok(sentinels)
 }
@@ -132,10 +135,15 @@ impl<S: ConfStore + Drop> Group<S> {
             unreachable!()
         };
         let nodes = DataNodes::of(alloc, first)?;
+        let Ok(roster) = first.roster().copy(alloc) else {
+            return Err(GroupFault::NoMemory);
+        };
         let (mut links, node_orders) = Links::open(alloc, confs.len())?;
+        let stops = StopWords::new(alloc, confs.len())?;
         let clock = GroupClock::start(rt);
         let room = room_of(rt, alloc, confs.len(), port, own)?;
-        let sentinels = start_all(rt, alloc, confs, stores, &mut links, room)?;
+        let mut restarts = Restarts::new(alloc, confs.len(), roster, room)?;
+        let sentinels = start_all(rt, alloc, confs, stores, &mut links, &mut restarts)?;
         Ok(Group {
             threads: Beginning {
                 sentinels,
@@ -143,7 +151,9 @@ impl<S: ConfStore + Drop> Group<S> {
                 node_orders,
                 alloc,
             },
+            restarts,
             links,
+            stops,
             state: RunState::new(clock),
         })
     }
@@ -151,14 +161,6 @@ impl<S: ConfStore + Drop> Group<S> {
     /// From now on a Sentinel of the group that is halted closes its port, with the connections that are there.
     pub fn close_halted(&self) {
         self.state.close_halted();
-    }
-
-    /// Takes lines that stop, start or set a data node while the group runs.
-    fn orders(&self) -> Result<Orders, GroupFault>
-        ensures roster { IfErr result (λ fault. fault ≢ NotOneRoster) }
-    {
-        let node_orders = self.links.node_orders()?;
-        Ok(Orders::new(node_orders, self.threads.nodes.count()))
     }
 }
 
@@ -185,17 +187,19 @@ impl<S: ConfStore + Drop + Send> Group<S> {
     {
         let Group {
             threads,
+            restarts: _,
             links,
+            stops,
             state,
         } = self;
-        run_threads(rt, threads, runner, &state, &links, ending);
+        run_threads(rt, threads, runner, &state, &links, &stops, ending);
         outcome(&state)
     }
 
     /// Runs each Sentinel and the data nodes, and obeys the lines of the input until its end, which ends the group. The stores are gone then.
     ///
     /// `Read` where the input couldn't be read to its end and nothing of the group was at fault.
-    pub fn run_by_orders<I: Read, R: Threads + Wait + Clock + Log + Sync>(
+    pub fn run_by_orders<I: Read, R: Threads + Wait + Net + Clock + Log + Sync>(
         self,
         rt: &R,
         input: &mut I,
@@ -205,7 +209,7 @@ impl<S: ConfStore + Drop + Send> Group<S> {
     }
 
     /// As `run_by_orders`, with what runs the data nodes.
-    pub fn run_by_orders_with<P, I: Read, R: Threads + Wait + Clock + Log + Sync>(
+    pub fn run_by_orders_with<P, I: Read, R: Threads + Wait + Net + Clock + Log + Sync>(
         self,
         rt: &R,
         runner: P,
@@ -215,13 +219,21 @@ impl<S: ConfStore + Drop + Send> Group<S> {
     where
         P: RunsNodes + Drop + Send,
     {
-        let orders = self.orders()?;
+        let node_orders = self.links.node_orders().map_err(GroupFault::from)?;
         let Group {
             threads,
+            restarts,
             links,
+            stops,
             state,
         } = self;
-        let read = follow_beside(rt, threads, runner, orders, input, &state, &links, ending);
+        let orders = NetOrders {
+            orders: Orders::new(node_orders, threads.nodes.count(), restarts),
+            net: rt,
+        };
+        let read = follow_beside(
+            rt, threads, runner, orders, input, &state, &links, &stops, ending,
+        );
         outcome(&state)?;
         read.map_err(|_| OrderedFault::Read)
     }
@@ -229,14 +241,15 @@ impl<S: ConfStore + Drop + Send> Group<S> {
 
 /// Runs all threads, beside which this one follows the orders of the input to its end. Then they end too. Many parameters: the threads borrow
 /// the parts of a group one by one.
-fn follow_beside<'a, S, P, I: Read, R>(
+fn follow_beside<'a, S, P, O: FollowsOrders + Drop, I: Read, R>(
     rt: &'a R,
     threads: Beginning<S>,
     runner: P,
-    mut orders: Orders,
+    mut orders: O,
     input: &mut I,
     state: &'a RunState,
     links: &'a Links,
+    stops: &'a StopWords,
     ending: &'a AtomicU64,
 ) -> Result<(), ReadFailed>
 where
@@ -245,12 +258,14 @@ where
     R: Threads + Wait + Clock + Log + Sync,
 {
     thread::scope(thread::scope_env(), rt, |scope| {
-        let begun = scope.spawn(move || run_threads(rt, threads, runner, state, links, ending));
+        let begun = scope.spawn(move || run_threads(
+            rt, threads, runner, state, links, stops, ending,
+        ));
         if begun.is_err() {
             state.note(RunFault::LackedThread);
             return Ok(());
         }
-        let read = orders.follow(rt, input);
+        let read = orders.follow(rt, input, state, stops, ending);
         ending.store(1, Ordering::SeqCst);
         read
     })
@@ -277,13 +292,15 @@ pub(crate) fn outcome(state: &RunState) -> Result<(), GroupFault>
     }
 }
 
-/// Runs the data nodes in a thread, and each Sentinel in one that starts its others. Where one can't be made, all end.
+/// Runs the data nodes in a thread, and each Sentinel in one that starts its others. Where one can't be made, all end. The Sentinels look at their own words
+/// alone, which say that all are to end once the data nodes have ended. Many parameters: as those of `follow_beside`.
 fn run_threads<'a, S, P, R>(
     rt: &'a R,
     threads: Beginning<S>,
     runner: P,
     state: &'a RunState,
     links: &'a Links,
+    stops: &'a StopWords,
     ending: &'a AtomicU64,
 )
 where
@@ -299,16 +316,20 @@ where
     } = threads;
     thread::scope(thread::scope_env(), rt, |scope| {
         let mut refused = scope
-            .spawn(move || runner.run(rt, state, links, nodes, node_orders, ending))
+            .spawn(move || {
+                runner.run(rt, state, links, nodes, node_orders, ending);
+                stops.stop_all();
+            })
             .is_err();
         for started in sentinels {
             refused |= scope
-                .spawn(move || started.run(rt, alloc, state, links, ending))
+                .spawn(move || started.run(rt, alloc, state, links, stops, ending))
                 .is_err();
         }
         if refused {
             state.note(RunFault::LackedThread);
             ending.store(1, Ordering::SeqCst);
+            stops.stop_all();
         }
     })
 }

@@ -9,7 +9,9 @@ mod node_parts;
 mod opened;
 mod orders;
 mod port_parts;
+mod restarts;
 mod started;
+mod stop_words;
 mod watch;
 
 pub use group::{Group, run_group};
