@@ -1,5 +1,5 @@
 -- What is found at the front of the bytes, within one call.
-use Rattle.std.specs.Prelude.{ℕ, suc, List, [], take, drop}
+use Rattle.std.specs.Prelude.{ℕ, ◌+◌, List, [], take, drop}
 use Rattle.resp2_frames.specs.Reading.{frame_at}
 use Rattle.node_ports.specs.declared.finding.Found.{Found}
 use Rattle.node_ports.specs.declared.finding.Found.TheVariants.{Words, Waits, Broken}
@@ -20,7 +20,7 @@ array_at bytes = turn_of_frame (frame_at bytes)
 
 -- what stands at the front, where a line begins there that goes on so
 abbrev pub line_turn : Line → List ℕ → Turn
-line_turn (ends.Ends n) bytes = asks (inline_words [] (take n bytes)) (drop (suc n) bytes)
+line_turn (ends.Ends n) bytes = asks (inline_words [] (take n bytes)) (drop (n + 1) bytes)
 line_turn ends.Waits bytes = waits
 line_turn ends.TooLong bytes = broken
 

@@ -1,5 +1,5 @@
 -- The command at the front of the bytes of a client: an array of bulk strings, or a line of words.
-use Rattle.std.specs.Prelude.{◌≡◌, ℕ, suc, ◌-◌, Bool, true, false, ◌||◌, ◌==◌, nat_lt, List, [], ◌∷◌, ◌++◌, length, take, drop, Option, Some, None, option_map, Result, Ok, Err, if◌then◌else◌}
+use Rattle.std.specs.Prelude.{◌≡◌, ℕ, suc, ◌+◌, ◌-◌, Bool, true, false, ◌&&◌, ◌||◌, ◌==◌, nat_lt, List, [], ◌∷◌, ◌++◌, length, take, drop, Option, Some, None, option_map, Result, Ok, Err, if◌then◌else◌}
 use Rattle.ballot_law.specs.Words.{some_if}
 use Rattle.resp2.specs.Commands as commands
 use Rattle.resp2_frames.specs.declared.fault.Unread.{Unread}
@@ -51,17 +51,23 @@ abbrev pub inline_words : (begun : List ℕ) → List ℕ → List (List ℕ)
 inline_words begun [] = with_word begun []
 inline_words begun (b ∷ bs) = elim (is_blank b) [ true ↦ with_word begun (inline_words [] bs) | false ↦ inline_words (begun ++ b ∷ []) bs ]
 
--- a line ends within its first 65,536 bytes
-abbrev pub inline_at : List ℕ → Turn
+-- how a line goes on whose LF is after so many bytes, where it has one among its first 65,536
+abbrev pub line_by : (has_end is_short : Bool) → (end : ℕ) → List ℕ → Turn
+line_by true is_short end bytes = asks (inline_words [] (take end bytes)) (drop (end + 1) bytes)
+line_by false true end bytes = waits
+line_by false false end bytes = broken
+
+unfoldable pub inline_at : List ℕ → Turn
 inline_at bytes =
-    elim (nat_lt (before_end (take COMMAND_MAX bytes)) (length (take COMMAND_MAX bytes))) [
-      | true ↦ asks (inline_words [] (take (before_end (take COMMAND_MAX bytes)) bytes)) (drop (suc (before_end (take COMMAND_MAX bytes))) bytes)
-      | false ↦ elim (nat_lt (length bytes) COMMAND_MAX) [ true ↦ waits | false ↦ broken ]
-    ]
+    line_by (nat_lt (before_end bytes) (length bytes) && nat_lt (before_end bytes) COMMAND_MAX) (nat_lt (length bytes) COMMAND_MAX) (before_end bytes) bytes
 
 -- ---- both
+
+abbrev pub turn_by : (is_array : Bool) → List ℕ → Turn
+turn_by true bytes = turn_of_frame (frame_at bytes)
+turn_by false bytes = inline_at bytes
 
 -- an array begins with `*`, and everything else is a line
 abbrev pub turn_at : List ℕ → Turn
 turn_at [] = waits
-turn_at (b ∷ bs) = elim (b == 42) [ true ↦ turn_of_frame (frame_at (b ∷ bs)) | false ↦ inline_at (b ∷ bs) ]
+turn_at (b ∷ bs) = turn_by (b == 42) (b ∷ bs)

@@ -70,16 +70,19 @@ fn add_fields(text: &mut OutText, info: &Info) -> Result<(), NoMemory>
     }
 }
 
+/// Adds a line of a label and a number.
+fn add_number_line(text: &mut OutText, label: &[u8], number: u64) -> Result<(), NoMemory>
+    ensures { OnOk result (text.new ≡ text.old ++ (label.now ++ (decimal number ++ line_end))) }
+{
+    let mut buffer = Buffer::new();
+    add_line(text, label, buffer.format(number).as_bytes())
+}
+
 /// Adds the line of the offset as masters name it.
 fn add_offset(text: &mut OutText, offset: u64) -> Result<(), NoMemory>
     ensures { OnOk result (text.new ≡ text.old ++ offset_line offset) }
 {
-    let mut buffer = Buffer::new();
-    add_line(
-        text,
-        b"master_repl_offset:",
-        buffer.format(offset).as_bytes(),
-    )
+    add_number_line(text, b"master_repl_offset:", offset)
 }
 
 /// Adds the section of the replication.

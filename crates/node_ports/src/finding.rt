@@ -1,6 +1,6 @@
 //! The next command of what a client sent.
 
-ghost use Rattle.std.specs.Prelude.{◌≡◌, ◌≢◌, ◌<◌, ℕ, [], IfOk, length, take};
+ghost use Rattle.std.specs.Prelude.{◌≡◌, ◌≢◌, ◌<◌, ℕ, [], IfOk, OnErr, length};
 ghost use Rattle.resp2_frames.specs.Stream.{reading, bytes_in};
 ghost use Rattle.node_ports.specs.declared.finding.Found.TheVariants.{Waits, Broken};
 ghost use Rattle.node_ports.specs.Readings.{turn_at, inline_at};
@@ -52,21 +52,14 @@ pub(crate) enum Line {
     TooLong,
 }
 
-/// The bytes within which a line has to end.
-fn window_of(bytes: &[u8]) -> &[u8]
-    ensures { result.now ≡ take COMMAND_MAX bytes.now }
-{
-    &bytes[..bytes.len().min(COMMAND_MAX)]
-}
-
 /// How a line at the front goes on.
+#[tactic(auto, unfolding(crate::specs::Readings::inline_at))]
 fn line_of(bytes: &[u8]) -> Line
     ensures line { line_turn result bytes.now ≡ inline_at bytes.now }
     ensures within { (end : ℕ) → result ≡ Ends end → end < length bytes.now }
 {
-    let window = window_of(bytes);
-    let end = before_end(window);
-    if end < window.len() {
+    let end = before_end(bytes);
+    if end < bytes.len() && end < COMMAND_MAX {
         return Line::Ends(end);
     }
     if bytes.len() < COMMAND_MAX {
@@ -106,6 +99,7 @@ pub(crate) enum Front {
 }
 
 /// What the first byte tells.
+#[tactic(auto, using(crate::proofs::Lines::array_front, crate::proofs::Lines::line_front))]
 fn front_of(bytes: &[u8]) -> Front
     ensures { front_turn result bytes.now ≡ turn_at bytes.now }
 {
@@ -141,6 +135,7 @@ pub(crate) fn find(alloc: Global, frames: &mut Frames) -> Result<Found, NoMemory
     ensures waits { IfOk result (λ found. found ≡ Waits → frames.new ≡ frames.old) }
     ensures broken { IfOk result (λ found. found ≡ Broken → frames.new ≡ reading []) }
     ensures open { frames.new ≡ reading (bytes_in frames.new) }
+    ensures lost { OnErr result (frames.new ≡ reading []) }
 {
     match find_first(alloc, frames) {
         Ok(Found::Words(words)) => Ok(Found::Words(words)),

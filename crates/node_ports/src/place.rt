@@ -1,6 +1,6 @@
 //! Where one data node listens, and its connections.
 
-ghost use Rattle.std.specs.Prelude.{◌≤◌, length};
+ghost use Rattle.std.specs.Prelude.{◌≤◌, ◌<◌, IfSome, length};
 ghost use Rattle.node_ports.specs.declared.place.TheConstants.{NODE_CONNECTIONS_MAX};
 
 use crate::connection::{Connection, ShownNodes};
@@ -33,6 +33,31 @@ pub(crate) struct Place {
     connections: Vec<Option<Connection<TcpStream>>>,
     alloc: Global,
     ghost few: { length connections.items ≤ NODE_CONNECTIONS_MAX },
+}
+
+/// The system told of bytes of the connection that is here, and whether its client has ended its stream or broken off.
+fn note_readable_at(place: &mut Option<Connection<TcpStream>>, half: bool) {
+    if let Some(connection) = place {
+        connection.note_readable(half);
+    }
+}
+
+/// Has the connection that is here read, answer and send as the node with this number, and closes it where it is broken or over: whether it has more to do
+/// at once.
+fn serve_at<V: ShownNodes, R: Wait + Clock>(
+    place: &mut Option<Connection<TcpStream>>,
+    rt: &R,
+    nodes: &V,
+    number: u16,
+) -> bool {
+    let Some(connection) = place else {
+        return false;
+    };
+    if connection.turn(rt, nodes, number) {
+        return connection.wants_turn();
+    }
+    *place = None;
+    false
 }
 
 impl Place {
@@ -83,13 +108,15 @@ impl Place {
 
     /// The system told of a connection's bytes, and whether its client has ended its stream or broken off.
     pub(crate) fn note_readable(&mut self, slot: usize, half: bool) {
-        if let Some(Some(connection)) = self.connections.get_mut(slot) {
-            connection.note_readable(half);
+        if let Some(place) = self.connections.get_mut(slot) {
+            note_readable_at(place, half);
         }
     }
 
     /// A place for one more connection, where there is one.
-    fn free_slot(&self) -> Option<usize> {
+    fn free_slot(&self) -> Option<usize>
+        ensures { IfSome result (λ slot. slot < NODE_CONNECTIONS_MAX) }
+    {
         for slot in 0..NODE_CONNECTIONS_MAX {
             match self.connections.get(slot) {
                 None | Some(None) => return Some(slot),
@@ -157,17 +184,10 @@ impl Place {
         slot: usize,
     ) -> bool {
         let number = self.number;
-        let Some(place) = self.connections.get_mut(slot) else {
-            return false;
-        };
-        let Some(connection) = place else {
-            return false;
-        };
-        if connection.turn(rt, nodes, number) {
-            return connection.wants_turn();
+        match self.connections.get_mut(slot) {
+            Some(place) => serve_at(place, rt, nodes, number),
+            None => false,
         }
-        *place = None;
-        false
     }
 
     /// Has each connection read, answer and send: whether one has more to do at once.

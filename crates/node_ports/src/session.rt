@@ -103,10 +103,13 @@ impl Session {
     /// by an error, and it ends.
     ///
     /// `NoMemory`: memory was refused, and commands are lost; the connection is to be closed.
-    #[tactic(auto, using(crate::proofs::Talking::asked_next, crate::proofs::Talking::waits_next, crate::proofs::Talking::broken_next))]
+    #[tactic(auto, using(crate::proofs::Talking::asked_next, crate::proofs::Talking::waits_next, crate::proofs::Talking::broken_next, crate::proofs::Talking::ended_next))]
     pub fn next(&mut self) -> Result<Option<Ask>, NoMemory>
         ensures { Nexts self.old result self.new }
     {
+        if self.ends {
+            return Ok(None);
+        }
         match find(self.alloc, &mut self.frames)? {
             Found::Words(words) => Ok(Some(ask_of(self.alloc, words.as_slice())?)),
             Found::Waits => Ok(None),

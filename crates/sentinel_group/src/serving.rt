@@ -12,7 +12,7 @@ use conf_store::ConfStore;
 use group_checks::is_one_group;
 use log::Log;
 use node_ports::descriptors_of;
-use sentinel_runner::{Group, OrderedFault, PortSettings, RunsNodes, WithPorts, WithoutPorts};
+use sentinel_runner::{Group, OrderedFault, PortSettings, ServesNodes, WithPorts, WithoutPorts};
 use std::io::{Input, IsTerminal};
 use std::net::Net;
 use std::process::ExitCode;
@@ -44,23 +44,23 @@ fn run_group<R, S, P>(
     rt: HostRuntime,
     noting: &R,
     group: Group<S>,
-    runner: P,
+    ports: P,
     words: &ArgMatches,
 ) -> Result<(), OrderedFault>
 where
     R: Threads + Wait + Net + Clock + Log + Input + Sync,
     S: ConfStore + Drop + Send,
-    P: RunsNodes + Drop + Send,
+    P: ServesNodes + Drop + Send,
 {
     let ending = AtomicU64::new(0);
     if words.get_flag("close-halted") {
         group.close_halted();
     }
     if words.get_flag("until-killed") {
-        return Ok(group.run_with(noting, runner, &ending)?);
+        return Ok(group.run_with(noting, ports, &ending)?);
     }
     tell_orders(rt);
-    group.run_by_orders_with(noting, runner, &mut noting.reader(), &ending)
+    group.run_by_orders_with(noting, ports, &mut noting.reader(), &ending)
 }
 
 /// Runs the group of these files; with `--real-nodes` its data nodes listen at their addresses.

@@ -6,16 +6,18 @@ ghost use Rattle.sentinel_runner.specs.Faults.{fault_of_run};
 ghost use Rattle.sentinel_runner.specs.Groups.{AreOneGroup};
 
 use crate::group_fault::{GroupFault, OrderedFault};
-use crate::node_parts::{RunsNodes, WithoutPorts};
+use crate::node_parts::{ServesNodes, WithoutPorts};
 use crate::opened::{PortSettings, room_of};
 use crate::orders::{FollowsOrders, NetOrders, Orders, ReadFailed};
+use crate::port_parts::end_for_want;
 use crate::restarts::Restarts;
+use crate::shared::Shared;
 use crate::started::Started;
 use crate::stop_words::StopWords;
 use conf_store::ConfStore;
 use crossbeam_channel::Receiver;
 use group_checks::is_one_group;
-use group_links::{DataNodes, Links, NodeOrder};
+use group_links::{DataNodes, Links, NodeOrder, SharedNodes};
 use group_sentinels::{GroupClock, RunFault, RunState};
 use log::Log;
 use sentinel_conf::Conf;
@@ -31,7 +33,6 @@ use std::thread::{self, Threads};
 #[derive(Drop)]
 struct Beginning<S: ConfStore> {
     sentinels: Vec<Started<S>>,
-    nodes: DataNodes,
     node_orders: Receiver<NodeOrder>,
     alloc: Global,
 }
@@ -41,6 +42,7 @@ struct Beginning<S: ConfStore> {
 pub struct Group<S: ConfStore> {
     threads: Beginning<S>,
     restarts: Restarts<S>,
+    nodes: DataNodes,
     links: Links,
     stops: StopWords,
     state: RunState,
@@ -147,11 +149,11 @@ impl<S: ConfStore + Drop> Group<S> {
         Ok(Group {
             threads: Beginning {
                 sentinels,
-                nodes,
                 node_orders,
                 alloc,
             },
             restarts,
+            nodes,
             links,
             stops,
             state: RunState::new(clock),
@@ -176,11 +178,11 @@ impl<S: ConfStore + Drop + Send> Group<S> {
         self.run_with(rt, WithoutPorts, ending)
     }
 
-    /// As `run`, with what runs the data nodes.
-    pub fn run_with<P: RunsNodes + Drop + Send, R: Threads + Wait + Clock + Log + Sync>(
+    /// As `run`, with what serves the data nodes to clients.
+    pub fn run_with<P: ServesNodes + Drop + Send, R: Threads + Wait + Clock + Log + Sync>(
         self,
         rt: &R,
-        runner: P,
+        ports: P,
         ending: &AtomicU64,
     ) -> Result<(), GroupFault>
         ensures roster { IfErr result (λ fault. fault ≢ NotOneRoster) }
@@ -188,12 +190,19 @@ impl<S: ConfStore + Drop + Send> Group<S> {
         let Group {
             threads,
             restarts: _,
+            nodes,
             links,
             stops,
             state,
         } = self;
-        run_threads(rt, threads, runner, &state, &links, &stops, ending);
-        outcome(&state)
+        let shared = Shared {
+            nodes: SharedNodes::new(nodes),
+            links,
+            stops,
+            state,
+        };
+        run_beside_ports(rt, ports, threads, &shared, ending);
+        outcome(&shared.state)
     }
 
     /// Runs each Sentinel and the data nodes, and obeys the lines of the input until its end, which ends the group. The stores are gone then.
@@ -208,64 +217,112 @@ impl<S: ConfStore + Drop + Send> Group<S> {
         self.run_by_orders_with(rt, WithoutPorts, input, ending)
     }
 
-    /// As `run_by_orders`, with what runs the data nodes.
+    /// As `run_by_orders`, with what serves the data nodes to clients.
     pub fn run_by_orders_with<P, I: Read, R: Threads + Wait + Net + Clock + Log + Sync>(
         self,
         rt: &R,
-        runner: P,
+        ports: P,
         input: &mut I,
         ending: &AtomicU64,
     ) -> Result<(), OrderedFault>
     where
-        P: RunsNodes + Drop + Send,
+        P: ServesNodes + Drop + Send,
     {
-        let node_orders = self.links.node_orders().map_err(GroupFault::from)?;
+        let Ok(node_orders) = self.links.node_orders() else {
+            return Err(OrderedFault::Group(GroupFault::NoMemory));
+        };
         let Group {
             threads,
             restarts,
+            nodes,
             links,
             stops,
             state,
         } = self;
         let orders = NetOrders {
-            orders: Orders::new(node_orders, threads.nodes.count(), restarts),
+            orders: Orders::new(node_orders, nodes.count(), restarts),
             net: rt,
         };
-        let read = follow_beside(
-            rt, threads, runner, orders, input, &state, &links, &stops, ending,
-        );
-        outcome(&state)?;
+        let shared = Shared {
+            nodes: SharedNodes::new(nodes),
+            links,
+            stops,
+            state,
+        };
+        let read = follow_beside_ports(rt, ports, threads, orders, input, &shared, ending);
+        outcome(&shared.state)?;
         read.map_err(|_| OrderedFault::Read)
     }
 }
 
-/// Runs all threads, beside which this one follows the orders of the input to its end. Then they end too. Many parameters: the threads borrow
-/// the parts of a group one by one.
-fn follow_beside<'a, S, P, O: FollowsOrders + Drop, I: Read, R>(
+/// Starts the thread that serves the data nodes to clients, and runs all others.
+fn run_beside_ports<'a, S, P, R>(
     rt: &'a R,
+    ports: P,
     threads: Beginning<S>,
-    runner: P,
-    mut orders: O,
+    shared: &'a Shared,
+    ending: &'a AtomicU64,
+)
+where
+    S: ConfStore + Drop + Send,
+    P: ServesNodes + Drop + Send,
+    R: Threads + Wait + Clock + Log + Sync,
+{
+    thread::scope(thread::scope_env(), rt, |scope| {
+        let begun = scope.spawn(move || ports.serve(rt, &shared.state, &shared.nodes, ending));
+        if begun.is_err() {
+            return end_for_want(&shared.state, ending);
+        }
+        run_threads(rt, threads, shared, ending);
+    })
+}
+
+/// Starts the thread that serves the data nodes to clients, and follows the orders of the input beside all others. Many parameters: the threads borrow
+/// what they share, and have the rest by value.
+fn follow_beside_ports<'a, S, P, O: FollowsOrders + Drop, I: Read, R>(
+    rt: &'a R,
+    ports: P,
+    threads: Beginning<S>,
+    orders: O,
     input: &mut I,
-    state: &'a RunState,
-    links: &'a Links,
-    stops: &'a StopWords,
+    shared: &'a Shared,
     ending: &'a AtomicU64,
 ) -> Result<(), ReadFailed>
 where
     S: ConfStore + Drop + Send,
-    P: RunsNodes + Drop + Send,
+    P: ServesNodes + Drop + Send,
     R: Threads + Wait + Clock + Log + Sync,
 {
     thread::scope(thread::scope_env(), rt, |scope| {
-        let begun = scope.spawn(move || run_threads(
-            rt, threads, runner, state, links, stops, ending,
-        ));
+        let begun = scope.spawn(move || ports.serve(rt, &shared.state, &shared.nodes, ending));
         if begun.is_err() {
-            state.note(RunFault::LackedThread);
+            end_for_want(&shared.state, ending);
             return Ok(());
         }
-        let read = orders.follow(rt, input, state, stops, ending);
+        follow_beside(rt, threads, orders, input, shared, ending)
+    })
+}
+
+/// Runs all threads, beside which this one follows the orders of the input to its end. Then they end too.
+fn follow_beside<'a, S, O: FollowsOrders + Drop, I: Read, R>(
+    rt: &'a R,
+    threads: Beginning<S>,
+    mut orders: O,
+    input: &mut I,
+    shared: &'a Shared,
+    ending: &'a AtomicU64,
+) -> Result<(), ReadFailed>
+where
+    S: ConfStore + Drop + Send,
+    R: Threads + Wait + Clock + Log + Sync,
+{
+    thread::scope(thread::scope_env(), rt, |scope| {
+        let begun = scope.spawn(move || run_threads(rt, threads, shared, ending));
+        if begun.is_err() {
+            shared.state.note(RunFault::LackedThread);
+            return Ok(());
+        }
+        let read = orders.follow(rt, input, shared, ending);
         ending.store(1, Ordering::SeqCst);
         read
     })
@@ -292,44 +349,35 @@ pub(crate) fn outcome(state: &RunState) -> Result<(), GroupFault>
     }
 }
 
-/// Runs the data nodes in a thread, and each Sentinel in one that starts its others. Where one can't be made, all end. The Sentinels look at their own words
-/// alone, which say that all are to end once the data nodes have ended. Many parameters: as those of `follow_beside`.
-fn run_threads<'a, S, P, R>(
+/// Runs the data nodes in a thread, and each Sentinel in one that starts its others. Where one can't be made, all end. The threads of a Sentinel look at its
+/// own word alone, and each word says that they are to end once the data nodes have ended.
+fn run_threads<'a, S, R>(
     rt: &'a R,
     threads: Beginning<S>,
-    runner: P,
-    state: &'a RunState,
-    links: &'a Links,
-    stops: &'a StopWords,
+    shared: &'a Shared,
     ending: &'a AtomicU64,
 )
 where
     S: ConfStore + Drop + Send,
-    P: RunsNodes + Drop + Send,
     R: Threads + Wait + Clock + Log + Sync,
 {
     let Beginning {
         sentinels,
-        nodes,
         node_orders,
         alloc,
     } = threads;
     thread::scope(thread::scope_env(), rt, |scope| {
         let mut refused = scope
-            .spawn(move || {
-                runner.run(rt, state, links, nodes, node_orders, ending);
-                stops.stop_all();
-            })
+            .spawn(move || shared.run_nodes(rt, &node_orders, ending))
             .is_err();
         for started in sentinels {
             refused |= scope
-                .spawn(move || started.run(rt, alloc, state, links, stops, ending))
+                .spawn(move || started.run(rt, alloc, shared, ending))
                 .is_err();
         }
         if refused {
-            state.note(RunFault::LackedThread);
-            ending.store(1, Ordering::SeqCst);
-            stops.stop_all();
+            end_for_want(&shared.state, ending);
+            shared.stops.stop_all();
         }
     })
 }

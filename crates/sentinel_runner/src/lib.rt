@@ -10,12 +10,13 @@ mod opened;
 mod orders;
 mod port_parts;
 mod restarts;
+mod shared;
 mod started;
 mod stop_words;
 mod watch;
 
 pub use group::{Group, run_group};
 pub use group_fault::{GroupFault, OrderedFault};
-pub use node_parts::{RunsNodes, WithPorts, WithoutPorts};
+pub use node_parts::{ServesNodes, WithPorts, WithoutPorts};
 pub use opened::{PORT_THREADS_MAX, PortSettings};
 pub use watch::{Watch, WatchSettings};

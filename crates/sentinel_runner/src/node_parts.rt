@@ -1,11 +1,10 @@
-//! What runs the data nodes of a group: in a thread of their own, and with ports of their own in one thread more.
+//! What serves the data nodes of a group to clients of their own: ports at their addresses, in one thread more, or nothing.
 
 use crate::group_fault::GroupFault;
 use crate::opened::fault_of;
-use crate::port_parts::{end_for_want, note_lost};
+use crate::port_parts::note_lost;
 use ballot_law::{Addr, Info, Roster};
-use crossbeam_channel::Receiver;
-use group_links::{DataNodes, Links, NodeOrder, SharedNodes};
+use group_links::SharedNodes;
 use group_sentinels::RunState;
 use log::Log;
 use node_ports::{NodePorts, ShownNodes};
@@ -14,18 +13,15 @@ use std::net::Net;
 use std::rt::Clock;
 use std::sync::Wait;
 use std::sync::atomic::{AtomicU64, Ordering};
-use std::thread::{self, Threads};
 
-/// What runs the data nodes of a group. By this trait the threads of a group know of it no more than that it may be sent.
-pub trait RunsNodes {
-    /// Runs them until `ending` isn't 0.
-    fn run<R: Threads + Wait + Clock + Log + Sync>(
+/// What serves the data nodes of a group to clients of their own. By this trait the threads of a group know of it no more than that it may be sent.
+pub trait ServesNodes {
+    /// Serves them until `ending` isn't 0.
+    fn serve<R: Wait + Clock>(
         self,
         rt: &R,
         state: &RunState,
-        links: &Links,
-        nodes: DataNodes,
-        orders: Receiver<NodeOrder>,
+        nodes: &SharedNodes,
         ending: &AtomicU64,
     );
 }
@@ -34,18 +30,14 @@ pub trait RunsNodes {
 #[derive(Clone, Copy)]
 pub struct WithoutPorts;
 
-impl RunsNodes for WithoutPorts {
-    fn run<R: Threads + Wait + Clock + Log + Sync>(
+impl ServesNodes for WithoutPorts {
+    fn serve<R: Wait + Clock>(
         self,
-        rt: &R,
-        state: &RunState,
-        links: &Links,
-        mut nodes: DataNodes,
-        orders: Receiver<NodeOrder>,
-        ending: &AtomicU64,
-    ) {
-        nodes.run(rt, state, links, &orders, ending);
-    }
+        _rt: &R,
+        _state: &RunState,
+        _nodes: &SharedNodes,
+        _ending: &AtomicU64,
+    ) {}
 }
 
 /// Data nodes that listen at their addresses.
@@ -87,64 +79,19 @@ impl ShownNodes for NodeView<'_> {
     }
 }
 
-/// What serves the ports of data nodes. By this trait `run_both` knows of it no more than that it may be sent.
-trait ServesNodes {
-    /// Serves them until `ending` isn't 0.
-    fn serve<R: Wait + Clock>(
-        &mut self,
-        rt: &R,
-        state: &RunState,
-        nodes: &SharedNodes,
-        ending: &AtomicU64,
-    );
-}
-
 impl<N: Net> ServesNodes for WithPorts<'_, N> {
     fn serve<R: Wait + Clock>(
-        &mut self,
-        rt: &R,
-        state: &RunState,
-        nodes: &SharedNodes,
-        ending: &AtomicU64,
-    ) {
-        let view = NodeView { nodes, state };
-        if let Err(error) = self.ports.serve(rt, self.net, &view, ending) {
-            note_lost(state, &error);
-            ending.store(1, Ordering::SeqCst);
-        }
-    }
-}
-
-/// Starts the thread of the ports, and runs the data nodes.
-fn run_both<'a, P: ServesNodes + Drop + Send, R: Threads + Wait + Clock + Log + Sync>(
-    rt: &'a R,
-    state: &'a RunState,
-    links: &'a Links,
-    nodes: &'a SharedNodes,
-    orders: &'a Receiver<NodeOrder>,
-    mut ports: P,
-    ending: &'a AtomicU64,
-) {
-    thread::scope(thread::scope_env(), rt, |scope| {
-        let begun = scope.spawn(move || ports.serve(rt, state, nodes, ending));
-        if begun.is_err() {
-            return end_for_want(state, ending);
-        }
-        nodes.run(rt, state, links, orders, ending);
-    })
-}
-
-impl<N: Net + Sync> RunsNodes for WithPorts<'_, N> {
-    fn run<R: Threads + Wait + Clock + Log + Sync>(
         self,
         rt: &R,
         state: &RunState,
-        links: &Links,
-        nodes: DataNodes,
-        orders: Receiver<NodeOrder>,
+        nodes: &SharedNodes,
         ending: &AtomicU64,
     ) {
-        let nodes = SharedNodes::new(nodes);
-        run_both(rt, state, links, &nodes, &orders, self, ending);
+        let WithPorts { net, mut ports } = self;
+        let view = NodeView { nodes, state };
+        if let Err(error) = ports.serve(rt, net, &view, ending) {
+            note_lost(state, &error);
+            ending.store(1, Ordering::SeqCst);
+        }
     }
 }

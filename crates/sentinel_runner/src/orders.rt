@@ -6,12 +6,11 @@ ghost use Rattle.sentinel_runner.specs.Orders.{number_below, target_of, node_of,
 
 use crate::line_reader::LineReader;
 use crate::restarts::Restarts;
-use crate::stop_words::StopWords;
+use crate::shared::Shared;
 use ballot_law::is_same_bytes;
 use conf_store::ConfStore;
 use crossbeam_channel::Sender;
 use group_links::{GREATEST, NodeOrder};
-use group_sentinels::RunState;
 use log::{Log, warn};
 use std::io::{ErrorKind, Read};
 use std::net::Net;
@@ -189,16 +188,15 @@ impl<S: ConfStore + Drop> Orders<S> {
         &mut self,
         rt: &R,
         net: &N,
-        state: &RunState,
-        stops: &StopWords,
+        shared: &Shared,
         ending: &AtomicU64,
     ) {
         match self.order() {
             Some(LineOrder::ToNode(order)) => drop(self.node_orders.send(rt, order)),
-            Some(LineOrder::StopSentinel(place)) => self.restarts.stop(rt, stops, place),
+            Some(LineOrder::StopSentinel(place)) => self.restarts.stop(rt, shared, place),
             Some(LineOrder::StartSentinel(place)) => self
                 .restarts
-                .start(rt, net, state, stops, ending, place),
+                .start(rt, net, shared, ending, place),
             None => warn!(rt;
                     "a line of standard input is no order: stop d0, start d0, set d0 100 0 0, stop s0, start s0"
                 ),
@@ -211,14 +209,13 @@ impl<S: ConfStore + Drop> Orders<S> {
         &mut self,
         rt: &R,
         net: &N,
-        state: &RunState,
-        stops: &StopWords,
+        shared: &Shared,
         ending: &AtomicU64,
         piece: &[u8],
     ) {
         for byte in piece {
             if *byte == b'\n' {
-                self.obey(rt, net, state, stops, ending);
+                self.obey(rt, net, shared, ending);
             } else {
                 self.reader.add(*byte);
             }
@@ -231,15 +228,14 @@ impl<S: ConfStore + Drop> Orders<S> {
         rt: &R,
         net: &N,
         input: &mut I,
-        state: &RunState,
-        stops: &StopWords,
+        shared: &Shared,
         ending: &AtomicU64,
     ) -> Result<(), ReadFailed> {
         let mut piece = [0u8; PIECE];
         for _ in 0..u64::MAX {
             match input.read(&mut piece) {
                 Ok(0) => return Ok(()),
-                Ok(count) => self.take(rt, net, state, stops, ending, &piece[..count]),
+                Ok(count) => self.take(rt, net, shared, ending, &piece[..count]),
                 Err(error) => {
                     if error.kind() != ErrorKind::Interrupted {
                         return Err(ReadFailed);
@@ -258,8 +254,7 @@ pub(crate) trait FollowsOrders {
         &mut self,
         rt: &R,
         input: &mut I,
-        state: &RunState,
-        stops: &StopWords,
+        shared: &Shared,
         ending: &AtomicU64,
     ) -> Result<(), ReadFailed>;
 }
@@ -276,15 +271,12 @@ impl<S: ConfStore + Drop, N: Net> FollowsOrders for NetOrders<'_, S, N> {
         &mut self,
         rt: &R,
         input: &mut I,
-        state: &RunState,
-        stops: &StopWords,
+        shared: &Shared,
         ending: &AtomicU64,
     ) -> Result<(), ReadFailed> {
-        let read = self
-            .orders
-            .read_all(rt, self.net, input, state, stops, ending);
+        let read = self.orders.read_all(rt, self.net, input, shared, ending);
         if !self.orders.reader.is_empty() {
-            self.orders.obey(rt, self.net, state, stops, ending);
+            self.orders.obey(rt, self.net, shared, ending);
         }
         read
     }

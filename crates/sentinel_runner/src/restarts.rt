@@ -8,14 +8,13 @@ ghost use Rattle.sentinel_runner.specs.declared.started.TheConstants.{BESIDE};
 
 use crate::opened::Opened;
 use crate::port_parts::end_for_want;
+use crate::shared::Shared;
 use crate::started::BESIDE;
-use crate::stop_words::StopWords;
 use ballot_law::Roster;
 use conf_lines::ConfFault;
 use conf_store::{ConfStore, LoadFault};
 use crossbeam_channel::{Receiver, RecvTimeoutError, Sender, unbounded};
 use group_ports::{Port, PortRoom};
-use group_sentinels::RunState;
 use log::{Log, info, warn};
 use sentinel_conf::{Conf, read};
 use std::alloc::{AllocError, Global};
@@ -181,13 +180,13 @@ impl<S: ConfStore + Drop> Restarts<S> {
     }
 
     /// Has the Sentinel at this place stop: its threads end, which closes its port. Nothing happens where it is stopped already.
-    pub(crate) fn stop<R: Log>(&mut self, rt: &R, stops: &StopWords, place: u16) {
+    pub(crate) fn stop<R: Log>(&mut self, rt: &R, shared: &Shared, place: u16) {
         if let Some(Some(member)) = self.members.get_mut(place as usize) {
             if member.is_stopped {
                 return;
             }
             member.is_stopped = true;
-            stops.stop(place);
+            shared.stops.stop(place);
             info!(rt; "s{place} is stopped");
         }
     }
@@ -295,10 +294,10 @@ impl<S: ConfStore + Drop> Restarts<S> {
     }
 
     /// Hands the Sentinel at this place to its threads.
-    fn hand<R: Wait + Log>(&mut self, rt: &R, stops: &StopWords, place: u16, restart: Restart<S>) {
+    fn hand<R: Wait + Log>(&mut self, rt: &R, shared: &Shared, place: u16, restart: Restart<S>) {
         if let Some(Some(member)) = self.members.get_mut(place as usize) {
             member.is_stopped = false;
-            stops.start(place);
+            shared.stops.start(place);
             drop(member.to.send(rt, restart));
             info!(rt; "s{place} is started");
         }
@@ -310,17 +309,16 @@ impl<S: ConfStore + Drop> Restarts<S> {
         &mut self,
         rt: &R,
         net: &N,
-        state: &RunState,
-        stops: &StopWords,
+        shared: &Shared,
         ending: &AtomicU64,
         place: u16,
     ) {
         if !self.is_stopped(place) || !self.await_store(rt, ending, place) {
             return;
         }
-        match self.reopened(net, state.clock.now(rt), place) {
-            Ok(Some(restart)) => self.hand(rt, stops, place, restart),
-            Ok(None) => end_for_want(state, ending),
+        match self.reopened(net, shared.state.clock.now(rt), place) {
+            Ok(Some(restart)) => self.hand(rt, shared, place, restart),
+            Ok(None) => end_for_want(&shared.state, ending),
             Err(why) => warn!(rt; "s{place} can't be started: {why}"),
         }
     }

@@ -8,7 +8,7 @@ use crate::group_fault::GroupFault;
 use crate::opened::{Opened, PORT_THREADS_MAX};
 use crate::port_parts::{Back, PortPart, ServesPort, end_for_want, end_of, parts_of, serve_parts};
 use crate::restarts::{LifeEnds, Restart, Restarts, Resting};
-use crate::stop_words::StopWords;
+use crate::shared::Shared;
 use conf_store::ConfStore;
 use crossbeam_channel::{Receiver, RecvTimeoutError, Sender, unbounded};
 use group_links::{Delivery, Links, run_link, run_timer};
@@ -155,9 +155,7 @@ impl<S: ConfStore + Drop> Started<S> {
         self,
         rt: &R,
         alloc: Global,
-        state: &RunState,
-        links: &Links,
-        stops: &StopWords,
+        shared: &Shared,
         ending: &AtomicU64,
     )
     where
@@ -165,7 +163,7 @@ impl<S: ConfStore + Drop> Started<S> {
     {
         let Started { life, ends } = self;
         let place = life.opened.place;
-        let Some(stop) = stops.of(place) else {
+        let Some(stop) = shared.stops.of(place) else {
             return;
         };
         let mut next = Some(life);
@@ -173,12 +171,12 @@ impl<S: ConfStore + Drop> Started<S> {
             let Some(life) = next.take() else {
                 return;
             };
-            let left = life.run(rt, alloc, state, links, stop);
+            let left = life.run(rt, alloc, &shared.state, &shared.links, stop);
             if ending.load(Ordering::SeqCst) != 0 {
                 return;
             }
             let Some(left) = left else {
-                return end_for_want(state, ending);
+                return end_for_want(&shared.state, ending);
             };
             next = ends.again(rt, left, place, ending);
         }

@@ -117,7 +117,7 @@ fn two_threads_of_a_port_answer(rt: HostRuntime) -> Result<(), Fail> {
         threads: 2,
         courtesies: false,
     };
-    let Ok(group) = Group::open_with(&rt, alloc, confs, stores, settings) else {
+    let Ok(group) = Group::open_with(&rt, alloc, confs, stores, settings, 0) else {
         return Err(Fail::from("no group"));
     };
     // (each thread has one of the two)
