@@ -64,13 +64,13 @@ impl CourteousSession {
         self.exchange.want_password(password);
     }
 
-    /// Takes the next piece of what the client sends, of any length, at a reading of the clock in milliseconds, and puts out the answer to each value that is
-    /// whole with it, in their order: that of `Session::received`, or the courtesy of the value where it has one. INFO takes the turn of SENTINEL MASTERS, and no
+    /// Takes the next piece of what the client sends, of any length, at a reading of the clock in milliseconds, and puts out the answer to each value, in RESP2 or as
+    /// a line, that is whole with it, in their order: that of `Session::received`, or the courtesy of the value where it has one. INFO takes the turn of SENTINEL MASTERS, and no
     /// other courtesy takes one.
     ///
     /// The first call learns the names of the Sentinel's masters, by which ROLE is answered from then on.
     ///
-    /// `Frame` where the bytes are no RESP2 value: the values before were answered, and `-ERR Protocol error` stands after their answers. `Halted` where a
+    /// `Frame` where the bytes are no RESP2 value, nor a line that is a command: the values before were answered, and `-ERR Protocol error` stands after their answers. `Halted` where a
     /// command took a turn and the Sentinel is halted: it has no answer. `NoMemory` where a growth was refused: the values before were answered, and one value
     /// more may have been carried out with no answer. No other fault comes. What was put out before stays, and from then on the session answers the same fault
     /// for good, takes nothing more, holds no bytes and listens to nothing.

@@ -1,5 +1,5 @@
 //! A session with courtesies: the conversation with one client of a port, whose values are answered as a Sentinel's session answers them, or by the table
-//! of `port_courtesies` where the Sentinel's rules know no answer.
+//! of `port_courtesies` where the Sentinel's rules know no answer. A value may come as a line too, which stands for the array of its words.
 //!
 //! It stands over a `Session` of `port_sessions` by its public calls alone, so a session without courtesies is that session itself: `ClientSession` is
 //! one or the other. What a client is answered stands in `specs/Visits`; what each call of a `ClientSession` does in `specs/Clients`.

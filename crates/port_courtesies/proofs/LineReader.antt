@@ -1,16 +1,16 @@
 -- What a reader of a stream with lines answers.
-use Rattle.std.proofs.Common.{◌≡◌, ◌∙◌, ℕ, ◌<◌, ◌≤◌, true, false, List, [], length, drop, Option, Some, None, Result, Ok, Err, refl, sym, ap, arith, true≢false}
+use Rattle.std.proofs.Common.{◌≡◌, ◌∙◌, ℕ, ◌<◌, ◌≤◌, true, false, List, length, drop, Option, Some, None, Result, Ok, Err, refl, sym, ap, arith, true≢false}
 use Rattle.std.proofs.lemmas.List.{length-drop}
 use Rattle.resp2_frames.specs.declared.fault.FrameFault.{FrameFault}
 use Rattle.resp2_frames.specs.declared.fault.FrameFault.TheVariants.{BadKind, BadLength, BadNumber, MissingEnd, TooLong, TooDeep, TooMany, NoMemory}
 use Rattle.resp2_frames.specs.declared.value.Value.{Value}
-use Rattle.resp2_frames.specs.Frame.{Frame, view, HasLines}
+use Rattle.resp2_frames.specs.Frame.{view, HasLines}
 use Rattle.resp2_frames.specs.Reading.{frame_at}
 use Rattle.resp2_frames.specs.Stream as streams
 use Rattle.resp2_frames.specs.Stream.{Held, reading, ended, bytes_in, held_size}
 use Rattle.resp2_frames.proofs.HaveLines.{plain_lines}
 use Rattle.port_courtesies.specs.declared.lines.Line.TheVariants.{Whole, Open, Broken}
-use Rattle.port_courtesies.specs.Lines.{begins_line, line_at, value_at, IsFound, Answers}
+use Rattle.port_courtesies.specs.Lines.{begins_line, value_at, IsFound, Answers}
 use Rattle.port_courtesies.proofs.LineStreams.{as_line, as_frame, line_is_faulty, value_is_frame}
 
 -- where no line begins, a stream is read as in RESP2

@@ -8,7 +8,7 @@ use Rattle.resp2_frames.specs.Frame.{Frame}
 use Rattle.port_courtesies.specs.declared.tables.Table.{Table}
 use Rattle.port_courtesies.specs.Refusals.{no_auth}
 use Rattle.port_courtesies.proofs.Silence.{command_asks, asked_is}
-use Rattle.port_courtesies.specs.Courtesies.{Asker, Answer, Looked, left, widens, said, asks_nothing, reply_to, courtesy, asker_after, table_of, own_answer, unless_stranger, or_left, or_same, or_admitted, is_stranger, is_refused, is_miscounted, looked_up_in, words_of}
+use Rattle.port_courtesies.specs.Courtesies.{Asker, Answer, Looked, left, widens, said, asks_nothing, courtesy, asker_after, table_of, own_answer, unless_stranger, or_left, or_same, or_admitted, is_stranger, is_refused, is_miscounted, looked_up_in, words_of}
 
 -- what is left over of a value that was judged so
 abbrev over : Result Command CommandFault → Frame → Option Looked

@@ -1,4 +1,3 @@
-use Rattle.std.proofs.Common.{◌∙◌}
 use Rattle.port_courtesies.proofs.Held.{attended}
 use Rattle.port_courtesies.proofs.attendants.Attendant.attend.Goals as goal
 
