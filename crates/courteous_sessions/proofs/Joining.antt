@@ -1,5 +1,5 @@
 -- Two pieces in a row.
-use Rattle.std.proofs.Common.{◌≡◌, ℕ, List, [], ◌∷◌, ◌++◌, sym, ap, ◌∙◌, subst, append_assoc}
+use Rattle.std.proofs.Common.{ℕ, List, [], ◌∷◌, ◌++◌, sym, ap, ◌∙◌, subst, append_assoc}
 use Rattle.port_courtesies.specs.Lines.{Reads}
 use Rattle.port_courtesies.proofs.LineStreams.{reads_join}
 use Rattle.resp2_frames.specs.Frame.{Frame}

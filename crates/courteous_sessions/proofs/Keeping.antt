@@ -1,24 +1,26 @@
 -- What a session with courtesies keeps of the one without.
-use Rattle.std.proofs.Common.{◌≡◌, ◌∙◌, ◌⊎◌, inl, inr, ℕ, Bool, true, false, ◌||◌, List, refl, ap, sym, subst, Ok, Err, Result, true≢false}
+use Rattle.std.proofs.Common.{◌≡◌, ◌≢◌, ◌∙◌, ◌⊎◌, inl, inr, ℕ, Bool, true, false, ◌||◌, List, refl, ap, sym, subst, Ok, Err, Result, true≢false}
 use Rattle.std.specs.Prelude.{bytes_eq}
 use Rattle.std.specs.List.{list_any}
 use Rattle.ballot_law.specs.Rosters.{master_at}
 use Rattle.port_channels.specs.Answering.{Answer as ChannelAnswer, other, answer as channel_answer}
 use Rattle.port_channels.specs.Globs.{matches}
-use Rattle.port_channels.specs.Listening.{Listening, holds}
+use Rattle.port_channels.specs.Listening.{Listening, holds, is_listening}
 use Rattle.port_channels.specs.Telling.{channel_name, hears, told}
 use Rattle.port_channels.proofs.OwnCommands.{own_is_other, own_is_said}
 use Rattle.port_channels.proofs.Sounding.{untold}
 use Rattle.port_sessions.specs.Listening.{note_text}
 use Rattle.ballot_law.specs.declared.commands.Command.{Command}
-use Rattle.port_courtesies.specs.Courtesies.{is_stranger, Asker, Answer, left, widens, said, asks_masters, silent, asks_nothing, courtesy, own_answer, table_of, kind_of}
+use Rattle.ballot_law.specs.declared.commands.Command.TheVariants.{Ping, IsMasterDownByAddr, GetMasterAddrByName, Masters, Master, Replicas, Sentinels, MyId, CkQuorum, FlushConfig, Subscribe}
+use Rattle.port_courtesies.specs.Courtesies.{is_stranger, Asker, Answer, left, widens, said, asks_masters, silent, asks_nothing, courtesy, own_answer, wording_of, kind_of}
 use Rattle.port_courtesies.specs.declared.courtesies.Courtesy.TheVariants.{Said}
 use Rattle.port_courtesies.proofs.Strangers.{strangers_are_answered}
-use Rattle.port_courtesies.proofs.OwnValues.{own_is_left, own_is_same, refused_or_left}
+use Rattle.port_courtesies.proofs.OwnValues.{own_is_left, own_is_same, common_is_left, refused_or_left}
 use Rattle.port_courtesies.proofs.Silence.{command_asks}
 use Rattle.port_sessions.specs.Talks.{Party, Responds}
 use Rattle.resp2.specs.declared.command.CommandFault.{CommandFault}
 use Rattle.resp2.specs.declared.command.CommandFault.TheVariants.{UnknownCommand, WrongArguments}
+use Rattle.resp2.specs.Asked.{IsCommon}
 use Rattle.resp2.specs.Commands.{command_of}
 use Rattle.resp2_frames.specs.Frame.{Frame, FrameList, no_frames}
 use Rattle.sentinel_cell.specs.Histories.{World}
@@ -36,20 +38,48 @@ is_own answer own value command same is (inr (inr (inl wrong))) = absurd (let no
 is_own answer own value command same is (inr (inr (inr wrong))) = absurd (let none : ⊥ = cc in none)
 
 -- what the session answers, and how it is told
-own_told : (start : World) (now : ℕ) (becomes : Answer) (p : Party) (value : Frame) (bytes : List ℕ) (q : Party) → (becomes ≡ left) ⊎ (becomes ≡ widens)
-    → Answers start now becomes p value bytes q → (answer : List ℕ) × Responds start now p (command_of value) answer q × Tells becomes value answer bytes
-own_told start now left p value bytes q own h = (bytes, h, refl)
-own_told start now widens p value bytes q own h = (h.answer, h.turned, (h.told, h.rest, h.first, h.bytes_are))
-own_told start now (said answer) p value bytes q (inl wrong) h = absurd (let none : ⊥ = cc in none)
-own_told start now (said answer) p value bytes q (inr wrong) h = absurd (let none : ⊥ = cc in none)
-own_told start now asks_masters p value bytes q (inl wrong) h = absurd (let none : ⊥ = cc in none)
-own_told start now asks_masters p value bytes q (inr wrong) h = absurd (let none : ⊥ = cc in none)
-own_told start now silent p value bytes q (inl wrong) h = absurd (let none : ⊥ = cc in none)
-own_told start now silent p value bytes q (inr wrong) h = absurd (let none : ⊥ = cc in none)
+own_told : (start : World) (now : ℕ) (asker : Asker) (becomes : Answer) (p : Party) (value : Frame) (bytes : List ℕ) (q : Party) → (becomes ≡ left) ⊎ (becomes ≡ widens)
+    → Answers start now asker becomes p value bytes q → (answer : List ℕ) × Responds start now p (command_of value) answer q × Tells becomes asker value answer bytes
+own_told start now asker left p value bytes q own h = (bytes, h, refl)
+own_told start now asker widens p value bytes q own h = (h.answer, h.turned, (h.told, h.rest, h.first, h.bytes_are))
+own_told start now asker (said answer) p value bytes q (inl wrong) h = absurd (let none : ⊥ = cc in none)
+own_told start now asker (said answer) p value bytes q (inr wrong) h = absurd (let none : ⊥ = cc in none)
+own_told start now asker asks_masters p value bytes q (inl wrong) h = absurd (let none : ⊥ = cc in none)
+own_told start now asker asks_masters p value bytes q (inr wrong) h = absurd (let none : ⊥ = cc in none)
+own_told start now asker silent p value bytes q (inl wrong) h = absurd (let none : ⊥ = cc in none)
+own_told start now asker silent p value bytes q (inr wrong) h = absurd (let none : ⊥ = cc in none)
 
 -- who gave the password, or of whom none is wanted, has Pub/Sub
 at_home : (asker : Asker) (l : Listening) (value : Frame) → is_stranger asker ≡ false → channel_turn asker l value ≡ channel_answer value l
 at_home asker l value known = ap (λ (b : Bool). elim b as (λ _. ChannelAnswer) [ true ↦ other | false ↦ channel_answer value l ]) known
+
+-- a command that comes nearly always is another one
+common_differs : (command : Command) → IsCommon command → command ≢ Subscribe
+common_differs Subscribe h e = h
+common_differs Ping h e = let no : ⊥ = cc in no
+common_differs (IsMasterDownByAddr addr epoch candidate) h e = let no : ⊥ = cc in no
+common_differs (GetMasterAddrByName name) h e = let no : ⊥ = cc in no
+common_differs Masters h e = absurd h
+common_differs (Master name) h e = absurd h
+common_differs (Replicas name) h e = absurd h
+common_differs (Sentinels name) h e = absurd h
+common_differs MyId h e = absurd h
+common_differs (CkQuorum name) h e = absurd h
+common_differs FlushConfig h e = absurd h
+
+-- such a command of a connection that listens to nothing, whose client gave the password or of whom none is wanted
+pub common_turn : (asker : Asker) (l : Listening) (value : Frame) (command : Command) → IsCommon command → is_stranger asker ≡ false → is_listening l ≡ false
+    → command_of value ≡ Ok command → channel_turn asker l value ≡ other
+common_turn asker l value command common known quiet is =
+    at_home asker l value known ∙ own_is_other value command l quiet (common_differs command common) is
+
+pub common_answers : (start : World) (now : ℕ) (asker : Asker) (value : Frame) (command : Command) (p : Party) (bytes : List ℕ) (q : Party) → IsCommon command
+    → is_stranger asker ≡ false → command_of value ≡ Ok command → Responds start now p (Ok command) bytes q
+    → Answers start now asker (courtesy asker value) p value bytes q
+common_answers start now asker value command p bytes q common known is h =
+    let becomes = common_is_left asker value command known is common in
+    subst (λ (a : Answer). Answers start now asker a p value bytes q) (sym becomes)
+    (subst (λ (k : Result Command CommandFault). Responds start now p k bytes q) (sym is) h)
 
 -- what a value is answered that is none of Pub/Sub's
 by_others : (start : World) (now : ℕ) (g h : Guest) (value : Frame) (bytes : List ℕ) → channel_turn g.asker g.listening value ≡ other → Serves start now g value bytes h
@@ -62,11 +92,11 @@ own_as_before start now g h value command bytes known quiet differs is serves =
     let by = by_others start now g h value bytes none serves in
     let q = by.0 in
     let at = sym (ap (λ (x : Guest). x.party) by.2) in
-    let own = own_answer (table_of (Ok command)) in
+    let own = own_answer (wording_of (Ok command)) in
     let becomes = own_is_left g.asker value command known is in
-    let kept = subst (λ (a : Answer). Answers start now a g.party value bytes q) becomes by.1 in
+    let kept = subst (λ (a : Answer). Answers start now g.asker a g.party value bytes q) becomes by.1 in
     let one = is_own (courtesy g.asker value) own value command becomes is (refused_or_left g.asker value known) in
-    let told = own_told start now own g.party value bytes q one kept in
+    let told = own_told start now g.asker own g.party value bytes q one kept in
     let there = subst (λ (k : Result Command CommandFault). Responds start now g.party k told.0 q) is told.1 in
     let after : h ≡ guest q g.listening g.told g.asker = by.2 ∙ ap (λ (a : Asker). guest q g.listening g.told a) (own_is_same g.asker value command is) in (
       told.0,
@@ -85,30 +115,30 @@ listeners_answered start now g h value command bytes known listens is serves =
 pub no_turn : TakesNoTurn
 no_turn start now g h value answer bytes none is serves =
     let by = by_others start now g h value bytes none serves in
-    let told = subst (λ (a : Answer). Answers start now a g.party value bytes by.0) is by.1 in
+    let told = subst (λ (a : Answer). Answers start now g.asker a g.party value bytes by.0) is by.1 in
     (told.0, ap (λ (x : Guest). x.party) by.2 ∙ told.1)
 
 pub passed_over : IsPassedOver
 passed_over start now g h value bytes none is serves =
     let by = by_others start now g h value bytes none serves in
-    let told = subst (λ (a : Answer). Answers start now a g.party value bytes by.0) is by.1 in
+    let told = subst (λ (a : Answer). Answers start now g.asker a g.party value bytes by.0) is by.1 in
     (told.0, ap (λ (x : Guest). x.party) by.2 ∙ told.1)
 
 -- what is said takes no turn
-said_is_seen : (start : World) (now : ℕ) (answer : Answer) (p : Party) (value : Frame) (bytes : List ℕ) (q : Party) → kind_of answer ≡ Said
-    → Answers start now answer p value bytes q → q ≡ p
-said_is_seen start now left p value bytes q is h = absurd (let no : ⊥ = cc in no)
-said_is_seen start now widens p value bytes q is h = absurd (let no : ⊥ = cc in no)
-said_is_seen start now (said answer) p value bytes q is h = h.1
-said_is_seen start now asks_masters p value bytes q is h = absurd (let no : ⊥ = cc in no)
-said_is_seen start now silent p value bytes q is h = h.1
+said_is_seen : (start : World) (now : ℕ) (asker : Asker) (answer : Answer) (p : Party) (value : Frame) (bytes : List ℕ) (q : Party) → kind_of answer ≡ Said
+    → Answers start now asker answer p value bytes q → q ≡ p
+said_is_seen start now asker left p value bytes q is h = absurd (let no : ⊥ = cc in no)
+said_is_seen start now asker widens p value bytes q is h = absurd (let no : ⊥ = cc in no)
+said_is_seen start now asker (said answer) p value bytes q is h = h.1
+said_is_seen start now asker asks_masters p value bytes q is h = absurd (let no : ⊥ = cc in no)
+said_is_seen start now asker silent p value bytes q is h = h.1
 
 pub strangers_take_no_turn : StrangersTakeNoTurn
 strangers_take_no_turn start now g h value bytes stranger serves =
     let none = ap (λ (b : Bool). elim b as (λ _. ChannelAnswer) [ true ↦ other | false ↦ channel_answer value g.listening ]) stranger in
     let by = by_others start now g h value bytes none serves in (
       ap (λ (x : Guest). x.party) by.2
-          ∙ said_is_seen start now (courtesy g.asker value) g.party value bytes by.0 (strangers_are_answered g.asker value stranger) by.1,
+          ∙ said_is_seen start now g.asker (courtesy g.asker value) g.party value bytes by.0 (strangers_are_answered g.asker value stranger) by.1,
       ap (λ (x : Guest). x.listening) by.2,
     )
 

@@ -9,7 +9,7 @@ use Rattle.port_channels.specs.declared.answers.Turn.TheVariants.{Other as Untou
 use Rattle.port_channels.specs.Answering.{Answer as ChannelAnswer, other, said as confirmed, answer as channel_answer, turn_of, text_of as text_of_turn, listening_after}
 use Rattle.port_channels.specs.Listening.{Listening, is_listening}
 use Rattle.port_channels.proofs.OwnCommands.{subscribe_is_said}
-use Rattle.port_courtesies.specs.Attendants.{Attendance, turn_text}
+use Rattle.port_courtesies.specs.Attendants.{Attendance}
 use Rattle.port_courtesies.proofs.Strangers.{strangers_are_answered}
 use Rattle.port_courtesies.specs.Courtesies.{is_stranger, Asker, Answer, left, widens, said, asks_masters, silent, courtesy, asker_after, kind_of, text_of}
 use Rattle.port_courtesies.specs.declared.courtesies.Courtesy.TheVariants.{Left, Widens, Said, AsksMasters}
@@ -24,7 +24,7 @@ use Rattle.resp2.specs.Commands.{command_of}
 use Rattle.resp2_frames.specs.declared.fault.FrameFault.{FrameFault}
 use Rattle.resp2_frames.specs.declared.fault.FrameFault.TheVariants.{BadKind, BadLength, BadNumber, MissingEnd, TooLong, TooDeep, TooMany, NoMemory}
 use Rattle.resp2_frames.specs.declared.fault.Unread.TheVariants.{Faulty}
-use Rattle.resp2_frames.specs.Frame.{Frame, spelling}
+use Rattle.resp2_frames.specs.Frame.{Frame}
 use Rattle.resp2_frames.specs.Stream.{Held, reading, ended, bytes_in, Feeds}
 use Rattle.sentinel_cell.specs.declared.view.View.{View}
 use Rattle.sentinel_cell.specs.Histories.{World}
@@ -38,59 +38,38 @@ pub was_read : {V : Type 0} (view : V → Frame) (held : Held) (value : V) (afte
 was_read view (reading bytes) value after is h = h
 was_read view (ended fault) value after is h = absurd (let no : ⊥ = cc in no)
 
-pub left_text : (answer : Answer) (value : Frame) → Left ≡ kind_of answer → turn_text (kind_of answer) (text_of answer) value ≡ spelling value
-left_text left value is = refl
-left_text widens value is = refl
-left_text (said answer) value is = absurd (let no : ⊥ = cc in no)
-left_text silent value is = absurd (let no : ⊥ = cc in no)
-left_text asks_masters value is = refl
-
-pub asked_text : (answer : Answer) (value : Frame) → AsksMasters ≡ kind_of answer → turn_text (kind_of answer) (text_of answer) value ≡ spelling value
-asked_text left value is = absurd (let no : ⊥ = cc in no)
-asked_text widens value is = refl
-asked_text (said answer) value is = absurd (let no : ⊥ = cc in no)
-asked_text silent value is = absurd (let no : ⊥ = cc in no)
-asked_text asks_masters value is = refl
-
-pub wide_text : (answer : Answer) (value : Frame) → Widens ≡ kind_of answer → turn_text (kind_of answer) (text_of answer) value ≡ spelling value
-wide_text left value is = refl
-wide_text widens value is = refl
-wide_text (said answer) value is = absurd (let no : ⊥ = cc in no)
-wide_text silent value is = absurd (let no : ⊥ = cc in no)
-wide_text asks_masters value is = refl
-
 module _ (start : World) (now : ℕ) where
-  pub left_answered : (answer : Answer) (p : Party) (value : Frame) (bytes : List ℕ) (q : Party) → Left ≡ kind_of answer → Responds start now p (command_of value) bytes q
-      → Answers start now answer p value bytes q
-  left_answered left p value bytes q is h = h
-  left_answered widens p value bytes q is h = absurd (let no : ⊥ = cc in no)
-  left_answered (said answer) p value bytes q is h = absurd (let no : ⊥ = cc in no)
-  left_answered silent p value bytes q is h = absurd (let no : ⊥ = cc in no)
-  left_answered asks_masters p value bytes q is h = absurd (let no : ⊥ = cc in no)
+  pub left_answered : (asker : Asker) (answer : Answer) (p : Party) (value : Frame) (bytes : List ℕ) (q : Party) → Left ≡ kind_of answer → Responds start now p (command_of value) bytes q
+      → Answers start now asker answer p value bytes q
+  left_answered asker left p value bytes q is h = h
+  left_answered asker widens p value bytes q is h = absurd (let no : ⊥ = cc in no)
+  left_answered asker (said answer) p value bytes q is h = absurd (let no : ⊥ = cc in no)
+  left_answered asker silent p value bytes q is h = absurd (let no : ⊥ = cc in no)
+  left_answered asker asks_masters p value bytes q is h = absurd (let no : ⊥ = cc in no)
 
-  pub said_answered : (answer : Answer) (p : Party) (value : Frame) (bytes : List ℕ) → Said ≡ kind_of answer → bytes ≡ turn_text (kind_of answer) (text_of answer) value
-      → Answers start now answer p value bytes p
-  said_answered left p value bytes is text = absurd (let no : ⊥ = cc in no)
-  said_answered widens p value bytes is text = absurd (let no : ⊥ = cc in no)
-  said_answered (said answer) p value bytes is text = (text, refl)
-  said_answered silent p value bytes is text = (text, refl)
-  said_answered asks_masters p value bytes is text = absurd (let no : ⊥ = cc in no)
+  pub said_answered : (asker : Asker) (answer : Answer) (p : Party) (value : Frame) (bytes : List ℕ) → Said ≡ kind_of answer → bytes ≡ text_of answer
+      → Answers start now asker answer p value bytes p
+  said_answered asker left p value bytes is text = absurd (let no : ⊥ = cc in no)
+  said_answered asker widens p value bytes is text = absurd (let no : ⊥ = cc in no)
+  said_answered asker (said answer) p value bytes is text = (text, refl)
+  said_answered asker silent p value bytes is text = (text, refl)
+  said_answered asker asks_masters p value bytes is text = absurd (let no : ⊥ = cc in no)
 
-  pub wide_answered : (answer : Answer) (p : Party) (value : Frame) (bytes : List ℕ) (q : Party) → Widens ≡ kind_of answer → TellsWide start now p value bytes q
-      → Answers start now answer p value bytes q
-  wide_answered left p value bytes q is h = absurd (let no : ⊥ = cc in no)
-  wide_answered widens p value bytes q is h = h
-  wide_answered (said answer) p value bytes q is h = absurd (let no : ⊥ = cc in no)
-  wide_answered silent p value bytes q is h = absurd (let no : ⊥ = cc in no)
-  wide_answered asks_masters p value bytes q is h = absurd (let no : ⊥ = cc in no)
+  pub wide_answered : (asker : Asker) (answer : Answer) (p : Party) (value : Frame) (bytes : List ℕ) (q : Party) → Widens ≡ kind_of answer → TellsWide start now asker p value bytes q
+      → Answers start now asker answer p value bytes q
+  wide_answered asker left p value bytes q is h = absurd (let no : ⊥ = cc in no)
+  wide_answered asker widens p value bytes q is h = h
+  wide_answered asker (said answer) p value bytes q is h = absurd (let no : ⊥ = cc in no)
+  wide_answered asker silent p value bytes q is h = absurd (let no : ⊥ = cc in no)
+  wide_answered asker asks_masters p value bytes q is h = absurd (let no : ⊥ = cc in no)
 
-  pub asked_answered : (answer : Answer) (p : Party) (value : Frame) (bytes : List ℕ) (q : Party) → AsksMasters ≡ kind_of answer → TellsInfo start now p value bytes q
-      → Answers start now answer p value bytes q
-  asked_answered left p value bytes q is h = absurd (let no : ⊥ = cc in no)
-  asked_answered widens p value bytes q is h = absurd (let no : ⊥ = cc in no)
-  asked_answered (said answer) p value bytes q is h = absurd (let no : ⊥ = cc in no)
-  asked_answered silent p value bytes q is h = absurd (let no : ⊥ = cc in no)
-  asked_answered asks_masters p value bytes q is h = h
+  pub asked_answered : (asker : Asker) (answer : Answer) (p : Party) (value : Frame) (bytes : List ℕ) (q : Party) → AsksMasters ≡ kind_of answer → TellsInfo start now p value bytes q
+      → Answers start now asker answer p value bytes q
+  asked_answered asker left p value bytes q is h = absurd (let no : ⊥ = cc in no)
+  asked_answered asker widens p value bytes q is h = absurd (let no : ⊥ = cc in no)
+  asked_answered asker (said answer) p value bytes q is h = absurd (let no : ⊥ = cc in no)
+  asked_answered asker silent p value bytes q is h = absurd (let no : ⊥ = cc in no)
+  asked_answered asker asks_masters p value bytes q is h = h
 
 asker_is : (attended : Attendance) (l : Listening) (talk : Talk) (v : View) → attended.asker.listens ≡ is_listening l → attended.asker ≡ (guest_of attended l talk v).asker
 asker_is attended l talk v h = ap (λ (b : Bool). let a : Asker = record attended.asker { listens = b } in a) h
@@ -115,13 +94,13 @@ module _ (start : World) (now : ℕ) where
     at None (Ok (CkQuorum name)) differs r = r.1
     at None (Ok FlushConfig) differs r = r.1
 
-  pub answers_alike : (answer : Answer) (p : Party) (value : Frame) (bytes : List ℕ) (q : Party) → command_of value ≢ Ok Subscribe → Answers start now answer p value bytes q
+  pub answers_alike : (asker : Asker) (answer : Answer) (p : Party) (value : Frame) (bytes : List ℕ) (q : Party) → command_of value ≢ Ok Subscribe → Answers start now asker answer p value bytes q
       → q.listens ≡ p.listens
-  answers_alike left p value bytes q not h = responds_alike p (command_of value) bytes q not h
-  answers_alike widens p value bytes q not h = responds_alike p (command_of value) h.answer q not h.turned
-  answers_alike (said answer) p value bytes q not h = ap (λ (x : Party). x.listens) h.1
-  answers_alike silent p value bytes q not h = ap (λ (x : Party). x.listens) h.1
-  answers_alike asks_masters p value bytes q not h = responds_alike p (Ok Masters) h.answer q (λ e. let no : ⊥ = cc in no) h.turned
+  answers_alike asker left p value bytes q not h = responds_alike p (command_of value) bytes q not h
+  answers_alike asker widens p value bytes q not h = responds_alike p (command_of value) h.answer q not h.turned
+  answers_alike asker (said answer) p value bytes q not h = ap (λ (x : Party). x.listens) h.1
+  answers_alike asker silent p value bytes q not h = ap (λ (x : Party). x.listens) h.1
+  answers_alike asker asks_masters p value bytes q not h = responds_alike p (Ok Masters) h.answer q (λ e. let no : ⊥ = cc in no) h.turned
 
 -- a value that Pub/Sub doesn't answer isn't SUBSCRIBE, unless the client is still to give its password
 stranger_or_not : (test : Bool) (given : ChannelAnswer) → elim test as (λ _. ChannelAnswer) [ true ↦ other | false ↦ given ] ≡ other → (test ≡ true) ⊎ (given ≡ other)
@@ -136,25 +115,34 @@ not_subscribe value l is asks =
 
 module _ (start : World) (now : ℕ) where
   -- what a courtesy says takes no turn
-  said_alike : (answer : Answer) (p : Party) (value : Frame) (bytes : List ℕ) (q : Party) → kind_of answer ≡ Said → Answers start now answer p value bytes q → q.listens ≡ p.listens
-  said_alike left p value bytes q is h = absurd (let no : ⊥ = cc in no)
-  said_alike widens p value bytes q is h = absurd (let no : ⊥ = cc in no)
-  said_alike (said answer) p value bytes q is h = ap (λ (x : Party). x.listens) h.1
-  said_alike silent p value bytes q is h = ap (λ (x : Party). x.listens) h.1
-  said_alike asks_masters p value bytes q is h = absurd (let no : ⊥ = cc in no)
+  said_alike : (asker : Asker) (answer : Answer) (p : Party) (value : Frame) (bytes : List ℕ) (q : Party) → kind_of answer ≡ Said → Answers start now asker answer p value bytes q → q.listens ≡ p.listens
+  said_alike asker left p value bytes q is h = absurd (let no : ⊥ = cc in no)
+  said_alike asker widens p value bytes q is h = absurd (let no : ⊥ = cc in no)
+  said_alike asker (said answer) p value bytes q is h = ap (λ (x : Party). x.listens) h.1
+  said_alike asker silent p value bytes q is h = ap (λ (x : Party). x.listens) h.1
+  said_alike asker asks_masters p value bytes q is h = absurd (let no : ⊥ = cc in no)
 
   -- where Pub/Sub doesn't answer a value, the session below listens to notes after it as before
   pub listens_alike : (asker : Asker) (l : Listening) (p : Party) (value : Frame) (bytes : List ℕ) (q : Party) → channel_turn asker l value ≡ other
-      → Answers start now (courtesy asker value) p value bytes q → q.listens ≡ p.listens
+      → Answers start now asker (courtesy asker value) p value bytes q → q.listens ≡ p.listens
   listens_alike asker l p value bytes q none h = at (stranger_or_not (is_stranger asker) (channel_answer value l) none) where
     at : (is_stranger asker ≡ true) ⊎ (channel_answer value l ≡ other) → q.listens ≡ p.listens
-    at (inl stranger) = said_alike (courtesy asker value) p value bytes q (strangers_are_answered asker value stranger) h
-    at (inr is) = answers_alike start now (courtesy asker value) p value bytes q (not_subscribe value l is) h
+    at (inl stranger) = said_alike asker (courtesy asker value) p value bytes q (strangers_are_answered asker value stranger) h
+    at (inr is) = answers_alike start now asker (courtesy asker value) p value bytes q (not_subscribe value l is) h
+
+  same_words : (asker : Asker) (value : Frame) (becomes : Answer) (p : Party) (bytes : List ℕ) (q : Party)
+      → Answers start now (asker_after asker value) becomes p value bytes q → Answers start now asker becomes p value bytes q
+  same_words asker value left p bytes q h = h
+  same_words asker value widens p bytes q h =
+      record { answer = h.answer; turned = h.turned; told = h.told; rest = h.rest; first = h.first; bytes_are = h.bytes_are }
+  same_words asker value (said answer) p bytes q h = h
+  same_words asker value asks_masters p bytes q h = h
+  same_words asker value silent p bytes q h = h
 
   -- a value was attended to, and then answered by what became of it
   pub served_by_others : (before after : Attendance) (l : Listening) (talk later : Talk) (v w : View) (value : Frame) (more : List ℕ) → IsReady before l talk
       → channel_turn before.asker l value ≡ other → after.asker ≡ asker_after before.asker value → later.told ≡ talk.told
-      → Answers start now (courtesy before.asker value) (party v talk.listens) value more (party w later.listens)
+      → Answers start now before.asker (courtesy before.asker value) (party v talk.listens) value more (party w later.listens)
       → Serves start now (guest_of before l talk v) value more (guest_of after l later w)
   served_by_others before after l talk later v w value more ready none is told a =
       let q = party w later.listens in
@@ -171,7 +159,7 @@ module _ (start : World) (now : ℕ) where
   -- it is ready for the next one then
   pub ready_by_others : (before after : Attendance) (l : Listening) (talk later : Talk) (v w : View) (value : Frame) (more : List ℕ) → IsReady before l talk
       → channel_turn before.asker l value ≡ other → after.asker ≡ asker_after before.asker value → after.held ≡ before.held → IsIdle later
-      → Answers start now (courtesy before.asker value) (party v talk.listens) value more (party w later.listens) → IsReady after l later
+      → Answers start now before.asker (courtesy before.asker value) (party v talk.listens) value more (party w later.listens) → IsReady after l later
   ready_by_others before after l talk later v w value more ready none is held idle a =
       record {
         reads = held ∙ ready.reads ∙ ap (λ (h : Held). reading (bytes_in h)) (sym held);
@@ -180,10 +168,24 @@ module _ (start : World) (now : ℕ) where
         hears = ap (λ (since : Option ℕ). is_some since) (listens_alike before.asker l (party v talk.listens) value more (party w later.listens) none a) ∙ ready.hears;
       }
 
+  -- what a connection's own words change of it makes no difference to how an answer is told
+  pub asked_before : (asker after : Asker) (value : Frame) (becomes : Answer) (unsent given : List ℕ) (v : View) (talk later : Talk) (w : View)
+      → after ≡ asker_after asker value → (more : List ℕ) × (given ≡ unsent ++ more) × IsIdle later
+      × Answers start now after becomes (party v talk.listens) value more (party w later.listens)
+      → (more : List ℕ) × (given ≡ unsent ++ more) × IsIdle later
+      × Answers start now asker becomes (party v talk.listens) value more (party w later.listens)
+  asked_before asker after value becomes unsent given v talk later w is got = (
+    got.0,
+    got.1,
+    got.2,
+    same_words asker value becomes (party v talk.listens) got.0 (party w later.listens)
+        (subst (λ (x : Asker). Answers start now x becomes (party v talk.listens) value got.0 (party w later.listens)) is got.3),
+  )
+
   pub answered_by_others : (before after : Attendance) (l later_l : Listening) (talk later : Talk) (v w : View) (value : Frame) (unsent given : List ℕ) → IsReady before l talk
       → channel_turn before.asker l value ≡ other → after.asker ≡ asker_after before.asker value → after.held ≡ before.held → later.told ≡ talk.told → later_l ≡ l
       → (more : List ℕ) × (given ≡ unsent ++ more) × IsIdle later
-      × Answers start now (courtesy before.asker value) (party v talk.listens) value more (party w later.listens)
+      × Answers start now before.asker (courtesy before.asker value) (party v talk.listens) value more (party w later.listens)
       → (more : List ℕ) × (given ≡ unsent ++ more) × IsReady after later_l later
       × Serves start now (guest_of before l talk v) value more (guest_of after later_l later w)
   answered_by_others before after l later_l talk later v w value unsent given ready none is held told same got =

@@ -2,27 +2,34 @@
 use Rattle.std.proofs.Common.{◌≡◌, ◌⊎◌, ℕ, Bool, true, false, List, [], ◌++◌, Option, Some, None, Result, Ok, Err, refl, sym, ap, ◌∙◌, subst, append_assoc, append-nil, true≢false}
 use Rattle.std.specs.Option.{is_some}
 use Rattle.std.specs.Prelude.{OnOk, is_err}
-use Rattle.port_channels.specs.Listening.{Listening}
-use Rattle.port_courtesies.specs.Attendants.{Attendance}
-use Rattle.port_courtesies.specs.Courtesies.{Asker}
+use Rattle.port_channels.specs.Listening.{Listening, is_listening}
+use Rattle.port_courtesies.specs.Attendants.{Attendance, TakesCommon}
+use Rattle.port_courtesies.specs.Courtesies.{Asker, MonitoredMaster, is_stranger}
+use Rattle.port_courtesies.proofs.OwnValues.{own_is_same}
 use Rattle.port_courtesies.specs.Infos.{info}
-use Rattle.port_courtesies.specs.Widening.{wide}
+use Rattle.port_courtesies.specs.Wordings.{wide}
+use Rattle.resp2.specs.Asked.{IsCommon}
 use Rattle.resp2.specs.Commands.{command_of}
 use Rattle.port_serving.specs.declared.fault.ServeFault.{ServeFault}
 use Rattle.port_serving.specs.declared.fault.ServeFault.TheVariants.{Halted, NoMemory as OutOfMemory}
 use Rattle.port_sessions.specs.Notes.{none_told}
 use Rattle.port_sessions.specs.Talks.{Talk, Party, party, Responds, RespondsAt}
+use Rattle.ballot_law.specs.declared.commands.Command.{Command}
 use Rattle.ballot_law.specs.declared.commands.Command.TheVariants.{Masters, Subscribe}
+use Rattle.resp2.specs.declared.command.CommandFault.{CommandFault}
 use Rattle.resp2_frames.specs.declared.fault.FrameFault.{FrameFault}
 use Rattle.resp2_frames.specs.Frame.{Frame, spelling, IsFrame}
 use Rattle.resp2_frames.specs.Stream.{Held, reading, ended, bytes_in, Feeds}
-use Rattle.port_courtesies.specs.Lines.{Answers as Reads}
+use Rattle.port_courtesies.specs.Lines.{value_at, Answers as Reads}
 use Rattle.port_courtesies.proofs.LineStreams.{value_is_frame}
 use Rattle.sentinel_cell.specs.declared.view.View.{View}
 use Rattle.sentinel_cell.specs.Histories.{World}
-use Rattle.courteous_sessions.specs.Visits.{Guest, guest, master_names, introduced, TellsInfo, TellsWide, BeginsNotes, Serves, Breaks, Receives}
+use Rattle.sentinel_rules.specs.Plans.{roster_of}
+use Rattle.ballot_law.specs.Rosters.{size}
+use Rattle.courteous_sessions.specs.Visits.{Guest, guest, masters_of, introduced, TellsInfo, TellsWide, BeginsNotes, Serves, Breaks, Receives}
 use Rattle.courteous_sessions.specs.OnTheWay.{IsIdle, IsReady, IsTuned, BeginsWith, IsOnTheWay, IsDone, Drains, Refuses, guest_of}
-use Rattle.courteous_sessions.proofs.Serving.{was_read, value_served, all_served, refused, cut_by, begun, was_received}
+use Rattle.courteous_sessions.proofs.Keeping.{common_turn, common_answers}
+use Rattle.courteous_sessions.proofs.Serving.{was_read, served_by_others, value_served, all_served, refused, cut_by, begun, was_received}
 
 pub on_ok : {X E A B : Type 0} (answer : Result X E) → (A → B) → OnOk answer A → OnOk answer B
 on_ok (Ok x) f h = f h
@@ -32,12 +39,14 @@ pub ok_of : {X E A : Type 0} (answer : Result X E) → is_err answer ≡ false �
 ok_of (Ok x) is h = h
 ok_of (Err e) is h = absurd (true≢false is)
 
--- the names of the masters were told
-pub introduced_now : (start : World) (knows : Bool) (before after : Attendance) (names : List (List ℕ)) → knows ≡ false → names ≡ master_names start
-    → after ≡ record before { asker = record before.asker { masters = names } } → after ≡ record before { asker = introduced start knows before.asker }
-introduced_now start true before after names is same told = absurd (true≢false is)
-introduced_now start false before after names is same told =
-    told ∙ ap (λ (ns : List (List ℕ)). let a : Attendance = record before { asker = record before.asker { masters = ns } } in a) same
+-- the masters were told
+pub introduced_now : (start : World) (knows : Bool) (before after : Attendance) (masters : List MonitoredMaster) (sentinels : ℕ) → knows ≡ false → masters ≡ masters_of start
+    → sentinels ≡ size (roster_of start.plan) → after ≡ record before { asker = record before.asker { masters = masters; sentinels = sentinels } }
+    → after ≡ record before { asker = introduced start knows before.asker }
+introduced_now start true before after masters sentinels is same count told = absurd (true≢false is)
+introduced_now start false before after masters sentinels is same count told =
+    let with = λ (ms : List MonitoredMaster) (n : ℕ). let a : Attendance = record before { asker = record before.asker { masters = ms; sentinels = n } } in a in
+    told ∙ ap (λ (ms : List MonitoredMaster). with ms sentinels) same ∙ ap (λ (n : ℕ). with (masters_of start) n) count
 
 -- where no whole value is held, nothing changes
 reads_none : {V : Type 0} (view : V → Frame) (held after : Held) → held ≡ reading (bytes_in held) → Reads view held (Ok None) after → after ≡ held
@@ -106,6 +115,27 @@ module _ (start : World) (now : ℕ) where
             serves,
       )
 
+  -- a command that comes nearly always was answered by the session below
+  pub step_common : (command : Command) (stream first bytes : List ℕ) (g : Guest) (before after : Attendance) (l later_l : Listening) (unsent left : List ℕ) (talk later : Talk)
+      (v w : View) → unsent ≡ first ++ bytes → IsOnTheWay start now stream g before.held bytes (guest_of before l talk v) → IsReady before l talk
+      → TakesCommon before.held after.held command → IsCommon command → (is_stranger before.asker ≡ false) × (is_listening l ≡ false) → after.asker ≡ before.asker → later_l ≡ l
+      → later.told ≡ talk.told
+      → (more : List ℕ) × (left ≡ unsent ++ more) × IsIdle later
+      × Responds start now (party v talk.listens) (Ok command) more (party w later.listens)
+      → (more : List ℕ) × (left ≡ first ++ more) × IsOnTheWay start now stream g after.held more (guest_of after later_l later w)
+  step_common command stream first bytes g before after l later_l unsent left talk later v w is a ready taken common plain asker same told got =
+      let value = taken.value in
+      let none = common_turn before.asker l value command common plain.0 plain.1 taken.asked in
+      let answers = common_answers start now before.asker value command (party v talk.listens) got.0 (party w later.listens) common plain.0 taken.asked got.3 in
+      let known = asker ∙ sym (own_is_same before.asker value command taken.asked) in
+      let serves = served_by_others start now before after l talk later v w value got.0 ready none known told answers in
+      let there = subst (λ (x : Listening). Serves start now (guest_of before l talk v) value got.0 (guest_of after x later w)) (sym same) serves in
+      let found = ap value_at (ap bytes_in taken.held_is) ∙ taken.found in (
+        bytes ++ got.0,
+        got.1 ∙ ap (λ (t : List ℕ). t ++ got.0) is ∙ append_assoc first bytes got.0,
+        value_served start now stream g before.held bytes (guest_of before l talk v) value taken.rest after.held got.0 (guest_of after later_l later w) a found taken.left there,
+      )
+
   -- there is no whole value
   pub step_ended : {V : Type 0} (view : V → Frame) (stream first bytes : List ℕ) (g : Guest) (before after : Attendance) (l : Listening) (unsent : List ℕ) (talk : Talk) (v : View)
       → unsent ≡ first ++ bytes → IsOnTheWay start now stream g before.held bytes (guest_of before l talk v) → Reads view before.held (Ok None) after.held
@@ -150,31 +180,31 @@ module _ (start : World) (now : ℕ) where
       (text, is_out, idle_again asked left is_left turned.1 goes_on, info_told value p (party w left.listens) asked.unsent text answer told)
 
   -- the session below answered a value, whose answer is told with more fields, and what it put out was taken away
-  pub wide_told : (value : Frame) (talk asked left : Talk) (v w : View) (unsent out text : List ℕ)
+  pub wide_told : (asker : Asker) (value : Frame) (talk asked left : Talk) (v w : View) (unsent out text : List ℕ)
       → Responds start now (party v talk.listens) (command_of value) asked.unsent (party w asked.listens) × (asked.held ≡ []) → asked.ended ≡ None
-      → left ≡ record asked { unsent = [] } → (answer : Frame) × BeginsWith asked.unsent answer × (text ≡ spelling (wide value answer)) → out ≡ unsent ++ text
-      → (more : List ℕ) × (out ≡ unsent ++ more) × IsIdle left × TellsWide start now (party v talk.listens) value more (party w left.listens)
-  wide_told value talk asked left v w unsent out text turned goes_on is_left told is_out =
+      → left ≡ record asked { unsent = [] } → (answer : Frame) × BeginsWith asked.unsent answer × (text ≡ spelling (wide asker value answer)) → out ≡ unsent ++ text
+      → (more : List ℕ) × (out ≡ unsent ++ more) × IsIdle left × TellsWide start now asker (party v talk.listens) value more (party w left.listens)
+  wide_told asker value talk asked left v w unsent out text turned goes_on is_left told is_out =
       let p = party v talk.listens in
       let since : asked.listens ≡ left.listens = sym (ap (λ (t : Talk). t.listens) is_left) in
       let answer = subst (λ (x : Option ℕ). Responds start now p (command_of value) asked.unsent (party w x)) since turned.0 in
-      let wide_answer : TellsWide start now p value text (party w left.listens) =
+      let wide_answer : TellsWide start now asker p value text (party w left.listens) =
       record { answer = asked.unsent; turned = answer; told = told.0; rest = told.1.rest; first = told.1.found; bytes_are = told.2 }
       in
       (text, is_out, idle_again asked left is_left turned.1 goes_on, wide_answer)
 
   -- it answered a value, and its answer was taken away as it is
-  pub handed_on : (value : Frame) (talk asked left : Talk) (v w : View) (unsent out : List ℕ)
-      → Responds start now (party v talk.listens) (command_of value) asked.unsent (party w asked.listens) × (asked.held ≡ []) → asked.ended ≡ None
+  pub handed_on : (command : Result Command CommandFault) (talk asked left : Talk) (v w : View) (unsent out : List ℕ)
+      → Responds start now (party v talk.listens) command asked.unsent (party w asked.listens) × (asked.held ≡ []) → asked.ended ≡ None
       → left ≡ record asked { unsent = [] } → out ≡ unsent ++ asked.unsent
-      → (more : List ℕ) × (out ≡ unsent ++ more) × IsIdle left × Responds start now (party v talk.listens) (command_of value) more (party w left.listens)
-  handed_on value talk asked left v w unsent out turned goes_on is_left is_out =
+      → (more : List ℕ) × (out ≡ unsent ++ more) × IsIdle left × Responds start now (party v talk.listens) command more (party w left.listens)
+  handed_on command talk asked left v w unsent out turned goes_on is_left is_out =
       let p = party v talk.listens in
       let since : asked.listens ≡ left.listens = sym (ap (λ (t : Talk). t.listens) is_left) in (
         asked.unsent,
         is_out,
         idle_again asked left is_left turned.1 goes_on,
-        subst (λ (x : Option ℕ). Responds start now p (command_of value) asked.unsent (party w x)) since turned.0,
+        subst (λ (x : Option ℕ). Responds start now p command asked.unsent (party w x)) since turned.0,
       )
 
   -- ---- to what the session below listens

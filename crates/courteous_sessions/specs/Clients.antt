@@ -18,7 +18,7 @@ use Rattle.courteous_sessions.specs.declared.client_session.ClientSession.TheVar
 
 -- what is known of a connection at its beginning
 abbrev pub newcomer : (id : ℕ) → Asker
-newcomer id = record { id = id; name = []; listens = false; masters = []; password = None; admitted = false }
+newcomer id = record { id = id; name = []; listens = false; masters = []; sentinels = 0; password = None; admitted = false }
 
 -- a session with courtesies to which no bytes came
 abbrev pub arrived : (id : ℕ) → Visit

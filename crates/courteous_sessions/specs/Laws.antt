@@ -8,8 +8,8 @@ use Rattle.port_channels.specs.declared.channel.Event.{Event}
 use Rattle.port_channels.specs.Answering.{other, said as confirmed, answer as channel_answer}
 use Rattle.port_channels.specs.Listening.{Listening, is_listening}
 use Rattle.port_channels.specs.Telling.{channel_name, hears}
-use Rattle.port_courtesies.specs.Courtesies.{Answer, widens, said, silent, is_stranger, table_of, own_answer, courtesy}
-use Rattle.port_courtesies.specs.Widening.{wide}
+use Rattle.port_courtesies.specs.Courtesies.{Asker, Answer, widens, said, silent, is_stranger, wording_of, own_answer, courtesy}
+use Rattle.port_courtesies.specs.Wordings.{wide}
 use Rattle.port_sessions.specs.Talks.{Responds}
 use Rattle.resp2.specs.Commands.{command_of}
 use Rattle.resp2_frames.specs.Frame.{Frame, FrameList, no_frames, spelling, spellings}
@@ -18,10 +18,10 @@ use Rattle.sentinel_cell.specs.Histories.{World}
 use Rattle.courteous_sessions.specs.Events.{told_of, event_told}
 use Rattle.courteous_sessions.specs.Visits.{Guest, guest, hears_switches, channel_turn, Serves, IsAnswered}
 
--- a Sentinel's own answer as it is told: the first value of it with more fields, where it is told so, and else as it is
-abbrev pub Tells : Answer → (value : Frame) → (answer bytes : List ℕ) → Type 0
-Tells widens value answer bytes = (told : Frame) × (rest : List ℕ) × (frame_at answer ≡ Ok (told, rest)) × (bytes ≡ spelling (wide value told))
-Tells becomes value answer bytes = bytes ≡ answer
+-- a Sentinel's own answer as it is told: the first value of it in redis-sentinel's words, where it is told so, and else as it is
+abbrev pub Tells : Answer → Asker → (value : Frame) → (answer bytes : List ℕ) → Type 0
+Tells widens asker value answer bytes = (told : Frame) × (rest : List ℕ) × (frame_at answer ≡ Ok (told, rest)) × (bytes ≡ spelling (wide asker value told))
+Tells becomes asker value answer bytes = bytes ≡ answer
 
 -- Where no password is wanted that the client didn't give, and the connection doesn't listen, a command of the Sentinel's rules but SUBSCRIBE is answered as without
 -- courtesies, in four of them with more fields, and nothing else is known of the connection than before
@@ -29,7 +29,7 @@ abbrev pub AnswersOwnAsBefore : Type 0
 AnswersOwnAsBefore =
     (start : World) (now : ℕ) (g h : Guest) (value : Frame) (command : Command) (bytes : List ℕ)
     → is_stranger g.asker ≡ false → is_listening g.listening ≡ false → command ≢ Subscribe → command_of value ≡ Ok command → Serves start now g value bytes h
-    → (answer : List ℕ) × Responds start now g.party (Ok command) answer h.party × Tells (own_answer (table_of (Ok command))) value answer bytes
+    → (answer : List ℕ) × Responds start now g.party (Ok command) answer h.party × Tells (own_answer (wording_of (Ok command))) g.asker value answer bytes
     × (h ≡ guest h.party g.listening g.told g.asker)
 
 -- while it listens, Pub/Sub alone answers the commands of the Sentinel's rules

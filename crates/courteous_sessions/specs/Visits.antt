@@ -1,15 +1,15 @@
 -- What a client is answered whose session has courtesies, and how its session ends.
 use Rattle.std.specs.Prelude.{◌≡◌, ◌++◌, ◌∷◌, ℕ, Bool, true, false, Option, None, Some, List, [], Result, Ok, Err, map}
 use Rattle.ballot_law.specs.declared.commands.Command.TheVariants.{Masters, Subscribe}
-use Rattle.ballot_law.specs.Rosters.{MasterPlan}
+use Rattle.ballot_law.specs.Rosters.{MasterPlan, size}
 use Rattle.port_channels.specs.declared.channel.Channel.TheVariants.{SwitchMaster}
 use Rattle.port_channels.specs.Answering.{Answer as ChannelAnswer, other, said as confirmed, answer as channel_answer}
 use Rattle.port_channels.specs.Listening.{Listening, is_listening}
 use Rattle.port_channels.specs.Telling.{channel_name, hears}
-use Rattle.port_courtesies.specs.Courtesies.{Asker, Answer, left, widens, said, asks_masters, silent, courtesy, asker_after, is_stranger}
+use Rattle.port_courtesies.specs.Courtesies.{Asker, MonitoredMaster, Answer, left, widens, said, asks_masters, silent, courtesy, asker_after, is_stranger}
 use Rattle.port_courtesies.specs.Infos.{info}
 use Rattle.port_courtesies.specs.Lines.{Reads, Holds}
-use Rattle.port_courtesies.specs.Widening.{wide}
+use Rattle.port_courtesies.specs.Wordings.{wide}
 use Rattle.port_serving.specs.declared.fault.ServeFault.{ServeFault}
 use Rattle.port_serving.specs.declared.fault.ServeFault.TheVariants.{Frame as FaultyFrame, Read, Write, Halted, NoMemory}
 use Rattle.port_serving.specs.Serving.{last_line}
@@ -36,14 +36,18 @@ pub record Visit : Type 0 where
   pub listens : Option ℕ
   pub told : List (Option ℕ)
 
--- the names of the masters of a Sentinel
-abbrev pub master_names : World → List (List ℕ)
-master_names start = map (λ (m : MasterPlan). m.name) (roster_of start.plan).masters
+-- a master of a roster, as a connection knows it
+abbrev pub monitored : MasterPlan → MonitoredMaster
+monitored master = record { name = master.name; quorum = master.quorum }
 
--- what is known of a connection once it was told the names of this Sentinel's masters
+-- the masters of a Sentinel
+abbrev pub masters_of : World → List MonitoredMaster
+masters_of start = map monitored (roster_of start.plan).masters
+
+-- what is known of a connection once it was told the masters of this Sentinel and how many Sentinels there are
 abbrev pub introduced : World → (knows_masters : Bool) → Asker → Asker
 introduced start true asker = asker
-introduced start false asker = record asker { masters = master_names start }
+introduced start false asker = record asker { masters = masters_of start; sentinels = size (roster_of start.plan) }
 
 -- what an answer rests on: what the seat has seen and since which entry the session below listens to notes, what is known of the connection, to what it listens, and
 -- of each master the epoch of the configuration that it was told last
@@ -89,23 +93,23 @@ module _ (start : World) (now : ℕ) where
     pub first : frame_at answer ≡ Ok (told, rest)
     pub bytes_are : bytes ≡ spelling (info value told)
 
-  -- the answer of the session without courtesies, the first value of it told with more fields
-  pub record TellsWide (p : Party) (value : Frame) (bytes : List ℕ) (q : Party) : Type 0 where
+  -- the answer of the session without courtesies, the first value of it told in redis-sentinel's words
+  pub record TellsWide (asker : Asker) (p : Party) (value : Frame) (bytes : List ℕ) (q : Party) : Type 0 where
     pub answer : List ℕ
     pub turned : Responds start now p (command_of value) answer q
     pub told : Frame
     pub rest : List ℕ
     pub first : frame_at answer ≡ Ok (told, rest)
-    pub bytes_are : bytes ≡ spelling (wide value told)
+    pub bytes_are : bytes ≡ spelling (wide asker value told)
 
   -- The answer to a value by what becomes of it. One that is left is answered by the session without courtesies; a courtesy takes no turn, and changes nothing of
   -- what the seat has seen
-  abbrev pub Answers : Answer → Party → Frame → List ℕ → Party → Type 0
-  Answers left p value bytes q = Responds start now p (command_of value) bytes q
-  Answers widens p value bytes q = TellsWide p value bytes q
-  Answers (said answer) p value bytes q = (bytes ≡ spelling answer) × (q ≡ p)
-  Answers asks_masters p value bytes q = TellsInfo p value bytes q
-  Answers silent p value bytes q = (bytes ≡ []) × (q ≡ p)
+  abbrev pub Answers : Asker → Answer → Party → Frame → List ℕ → Party → Type 0
+  Answers asker left p value bytes q = Responds start now p (command_of value) bytes q
+  Answers asker widens p value bytes q = TellsWide asker p value bytes q
+  Answers asker (said answer) p value bytes q = (bytes ≡ spelling answer) × (q ≡ p)
+  Answers asker asks_masters p value bytes q = TellsInfo p value bytes q
+  Answers asker silent p value bytes q = (bytes ≡ []) × (q ≡ p)
 
   -- the session below begins to listen to notes where it doesn't: it is asked SUBSCRIBE, whose answer isn't told
   abbrev pub BeginsNotes : Option ℕ → Party → Party → Type 0
@@ -121,7 +125,7 @@ module _ (start : World) (now : ℕ) where
   -- connection listens to
   abbrev pub ServesBy : ChannelAnswer → Guest → Frame → List ℕ → Guest → Type 0
   ServesBy other g value bytes h =
-      (q : Party) × Answers (courtesy g.asker value) g.party value bytes q × (h ≡ guest q g.listening g.told (asker_after g.asker value))
+      (q : Party) × Answers g.asker (courtesy g.asker value) g.party value bytes q × (h ≡ guest q g.listening g.told (asker_after g.asker value))
   ServesBy (confirmed answers after) g value bytes h =
       (q : Party) × Tunes (hears_switches after) g.party q × (bytes ≡ spellings answers) × (h ≡ guest q after (told_after (hears_switches after) g.told) g.asker)
 

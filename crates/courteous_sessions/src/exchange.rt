@@ -1,13 +1,15 @@
 //! What came from a client and what goes to it.
 
-ghost use Rattle.std.specs.Prelude.{◌≡◌, ◌⊎◌, ◌≤◌, ◌<◌, ◌++◌, ℕ, List, [], None, Some, OnOk, OnErr, IfOk, IfErr, IsTrue, true, false, length, drop};
-ghost use Rattle.port_courtesies.specs.Attendants.{text_at};
-ghost use Rattle.port_courtesies.specs.Courtesies.{Asker, courtesy, kind_of};
+ghost use Rattle.std.specs.Prelude.{◌≡◌, ◌⊎◌, ◌≤◌, ◌<◌, ◌++◌, ℕ, List, [], None, Some, OnOk, OnErr, IfOk, IfErr, IfSome, IsTrue, true, false, length, drop};
+ghost use Rattle.port_channels.specs.Listening.{is_listening};
+ghost use Rattle.port_courtesies.specs.Attendants.{TakesCommon};
+ghost use Rattle.port_courtesies.specs.Courtesies.{Answer, is_stranger, kind_of, text_of};
 ghost use Rattle.port_sessions.specs.Notes.{none_told};
 ghost use Rattle.port_sessions.specs.Talks.{party, Responds};
 ghost use Rattle.port_courtesies.specs.Infos.{info};
-ghost use Rattle.port_courtesies.specs.Widening.{wide};
-ghost use Rattle.resp2.specs.Commands.{command_of};
+ghost use Rattle.port_courtesies.specs.Wordings.{wide};
+ghost use Rattle.resp2.specs.Asked.{IsCommon};
+ghost use Rattle.resp2.specs.Commands.{IsWithin};
 ghost use Rattle.resp2_frames.specs.Frame.{Frame, view, spelling, HasLines, IsFrame};
 ghost use Rattle.resp2_frames.specs.Stream.{reading, held_size, bytes_in};
 ghost use Rattle.courteous_sessions.specs.Clients.{newcomer};
@@ -15,14 +17,15 @@ ghost use Rattle.courteous_sessions.specs.OnTheWay.{IsIdle, IsReady, IsOnTheWay,
 ghost use Rattle.courteous_sessions.specs.Visits.{Guest, guest, unsubscribed, channel_turn, introduced, TellsInfo, TellsWide, Answers, Serves, Receives};
 ghost use Rattle.port_channels.specs.Answering.{other};
 
-use crate::questions::{ask, ask_masters, first_value, names_of};
-use ballot_law::{NoMemory, Text};
+use crate::questions::{ask, first_value, monitored_by};
+use ballot_law::{Command, NoMemory, Text};
 use bytes::BytesMut;
 use conf_store::ConfStore;
 use port_channels::Subscriptions;
 use port_courtesies::{Asker, Attendant, Courtesy};
 use port_serving::ServeFault;
 use port_sessions::Session;
+use resp2::{CommandFault, command_of};
 use resp2_frames::{FrameFault, Value};
 use sentinel_cell::{Seat, SharedSentinel};
 use std::alloc::Global;
@@ -57,6 +60,7 @@ fn newcomer(alloc: Global, id: u64) -> Asker
         name: Text::from_vec(Vec::new(alloc)),
         listens: false,
         masters: Vec::new(alloc),
+        sentinels: 0,
         password: None,
         admitted: false,
     }
@@ -197,9 +201,10 @@ impl Exchange {
         if self.knows_masters {
             return Ok(());
         }
-        match names_of(self.alloc, cell.roster().masters()) {
-            Ok(names) => {
-                self.attendant.note_masters(names);
+        match monitored_by(self.alloc, cell.roster()) {
+            Ok(masters) => {
+                let sentinels = cell.roster().sentinels().len();
+                self.attendant.note_masters(masters, sentinels);
                 self.knows_masters = true;
                 Ok(())
             }
@@ -207,59 +212,54 @@ impl Exchange {
         }
     }
 
-    /// Has the session answer the value that is the attendant's text.
+    /// Has the session answer a command, or a value that is none for this reason.
     fn hand_on<S: ConfStore, R: Wait>(
         &mut self,
         rt: &R,
         cell: &SharedSentinel<S>,
         seat: &mut Seat,
         now: u64,
+        asked: Result<Command, CommandFault>,
     ) -> Result<(), ServeFault>
         requires own { seat.old.cell ≡ cell.now.id }
         requires idle { IsIdle self.old.session }
+        requires within { IfOk asked IsWithin }
         ensures own { seat.new.cell ≡ seat.old.cell }
-        ensures answered { OnOk result ((value : Frame) → IsFrame value → self.old.attendant.text ≡ spelling value
-            → (more : List ℕ) × (self.new.unsent.items ≡ self.old.unsent.items ++ more) × IsIdle self.new.session
-            × Responds cell.now.start now (party seat.old.view self.old.session.listens) (command_of value) more (party seat.new.view self.new.session.listens)) }
-        ensures same { IsSameAsker self.old.attendant self.new.attendant }
+        ensures answered { OnOk result ((more : List ℕ) × (self.new.unsent.items ≡ self.old.unsent.items ++ more) × IsIdle self.new.session
+            × Responds cell.now.start now (party seat.old.view self.old.session.listens) asked more (party seat.new.view self.new.session.listens)) }
         ensures told { self.new.session.told ≡ self.old.session.told }
         ensures err { OnErr result (self.new.unsent.items ≡ self.old.unsent.items) }
         ensures fault { IfErr result (λ fault. (fault ≡ ServeFault.Halted) ⊎ (fault ≡ ServeFault.NoMemory)) }
-        ensures kept { (self.new.knows_masters ≡ self.old.knows_masters) × (self.new.subscriptions ≡ self.old.subscriptions) }
+        ensures kept { (self.new.attendant ≡ self.old.attendant) × (self.new.knows_masters ≡ self.old.knows_masters)
+            × (self.new.subscriptions ≡ self.old.subscriptions) }
     {
-        ask(
-            rt,
-            cell,
-            seat,
-            now,
-            &mut self.session,
-            self.attendant.text(),
-        )?;
+        ask(rt, cell, seat, now, &mut self.session, asked)?;
         self.take_answers()
     }
 
-    /// Answers INFO, which is the attendant's text, by what the session answers to SENTINEL MASTERS.
+    /// Answers INFO by what the session answers to SENTINEL MASTERS.
     fn tell_info<S: ConfStore, R: Wait>(
         &mut self,
         rt: &R,
         cell: &SharedSentinel<S>,
         seat: &mut Seat,
         now: u64,
+        value: &Value,
     ) -> Result<(), ServeFault>
         requires own { seat.old.cell ≡ cell.now.id }
         requires idle { IsIdle self.old.session }
         ensures own { seat.new.cell ≡ seat.old.cell }
-        ensures answered { OnOk result ((value : Frame) → IsFrame value → self.old.attendant.text ≡ spelling value
-            → (more : List ℕ) × (self.new.unsent.items ≡ self.old.unsent.items ++ more) × IsIdle self.new.session
-            × TellsInfo cell.now.start now (party seat.old.view self.old.session.listens) value more (party seat.new.view self.new.session.listens)) }
+        ensures answered { OnOk result ((more : List ℕ) × (self.new.unsent.items ≡ self.old.unsent.items ++ more) × IsIdle self.new.session
+            × TellsInfo cell.now.start now (party seat.old.view self.old.session.listens) (view value.now) more (party seat.new.view self.new.session.listens)) }
         ensures same { IsSameAsker self.old.attendant self.new.attendant }
         ensures told { self.new.session.told ≡ self.old.session.told }
         ensures err { OnErr result (self.new.unsent.items ≡ self.old.unsent.items) }
         ensures fault { IfErr result (λ fault. (fault ≡ ServeFault.Halted) ⊎ (fault ≡ ServeFault.NoMemory)) }
         ensures kept { (self.new.knows_masters ≡ self.old.knows_masters) × (self.new.subscriptions ≡ self.old.subscriptions) }
     {
-        ask_masters(rt, cell, seat, now, &mut self.session)?;
-        if self.inform().is_err() {
+        let asked = Ok(Command::Masters);
+        ask(rt, cell, seat, now, &mut self.session, asked)?;
+        if self.inform(value).is_err() {
             return Err(ServeFault::NoMemory);
         }
         self.drop_answers();
@@ -267,9 +267,9 @@ impl Exchange {
     }
 
     /// Has the attendant's text be the answer to INFO, by the answer that the session has to SENTINEL MASTERS.
-    fn inform(&mut self) -> Result<(), NoMemory>
-        ensures text { OnOk result ((value : Frame) → IsFrame value → self.old.attendant.text ≡ spelling value
-            → (masters : Frame) × BeginsWith self.old.session.unsent masters × (self.new.attendant.text ≡ spelling (info value masters))) }
+    fn inform(&mut self, value: &Value) -> Result<(), NoMemory>
+        ensures text { OnOk result ((masters : Frame) × BeginsWith self.old.session.unsent masters
+            × (self.new.attendant.text ≡ spelling (info (view value.now) masters))) }
         ensures asker { self.new.attendant.asker ≡ self.old.attendant.asker }
         ensures held { self.new.attendant.held ≡ self.old.attendant.held }
         ensures session { self.new.session ≡ self.old.session }
@@ -277,48 +277,43 @@ impl Exchange {
         ensures kept { (self.new.knows_masters ≡ self.old.knows_masters) × (self.new.subscriptions ≡ self.old.subscriptions) }
     {
         let masters = first_value(self.alloc, self.session.unsent())?;
-        self.attendant.inform(&masters)
+        self.attendant.inform(value, &masters)
     }
 
-    /// Answers the value that is the attendant's text by what the session answers to it, told with more fields.
+    /// Answers a value by what the session answers to it, told in redis-sentinel's words.
     fn tell_wide<S: ConfStore, R: Wait>(
         &mut self,
         rt: &R,
         cell: &SharedSentinel<S>,
         seat: &mut Seat,
         now: u64,
+        value: &Value,
     ) -> Result<(), ServeFault>
         requires own { seat.old.cell ≡ cell.now.id }
         requires idle { IsIdle self.old.session }
         ensures own { seat.new.cell ≡ seat.old.cell }
-        ensures answered { OnOk result ((value : Frame) → IsFrame value → self.old.attendant.text ≡ spelling value
-            → (more : List ℕ) × (self.new.unsent.items ≡ self.old.unsent.items ++ more) × IsIdle self.new.session
-            × TellsWide cell.now.start now (party seat.old.view self.old.session.listens) value more (party seat.new.view self.new.session.listens)) }
+        ensures answered { OnOk result ((more : List ℕ) × (self.new.unsent.items ≡ self.old.unsent.items ++ more) × IsIdle self.new.session
+            × TellsWide cell.now.start now self.old.attendant.asker (party seat.old.view self.old.session.listens) (view value.now) more
+            (party seat.new.view self.new.session.listens)) }
         ensures same { IsSameAsker self.old.attendant self.new.attendant }
         ensures told { self.new.session.told ≡ self.old.session.told }
         ensures err { OnErr result (self.new.unsent.items ≡ self.old.unsent.items) }
         ensures fault { IfErr result (λ fault. (fault ≡ ServeFault.Halted) ⊎ (fault ≡ ServeFault.NoMemory)) }
         ensures kept { (self.new.knows_masters ≡ self.old.knows_masters) × (self.new.subscriptions ≡ self.old.subscriptions) }
     {
-        ask(
-            rt,
-            cell,
-            seat,
-            now,
-            &mut self.session,
-            self.attendant.text(),
-        )?;
-        if self.widen().is_err() {
+        let asked = command_of(value);
+        ask(rt, cell, seat, now, &mut self.session, asked)?;
+        if self.widen(value).is_err() {
             return Err(ServeFault::NoMemory);
         }
         self.drop_answers();
         put_out(&mut self.unsent, self.attendant.text())
     }
 
-    /// Has the attendant's text be the answer to the value that it is, by the answer that the session has to that.
-    fn widen(&mut self) -> Result<(), NoMemory>
-        ensures text { OnOk result ((value : Frame) → IsFrame value → self.old.attendant.text ≡ spelling value
-            → (answer : Frame) × BeginsWith self.old.session.unsent answer × (self.new.attendant.text ≡ spelling (wide value answer))) }
+    /// Has the attendant's text be the answer to the value, by the answer that the session has to it.
+    fn widen(&mut self, value: &Value) -> Result<(), NoMemory>
+        ensures text { OnOk result ((answer : Frame) × BeginsWith self.old.session.unsent answer
+            × (self.new.attendant.text ≡ spelling (wide self.old.attendant.asker (view value.now) answer))) }
         ensures asker { self.new.attendant.asker ≡ self.old.attendant.asker }
         ensures held { self.new.attendant.held ≡ self.old.attendant.held }
         ensures session { self.new.session ≡ self.old.session }
@@ -326,7 +321,7 @@ impl Exchange {
         ensures kept { (self.new.knows_masters ≡ self.old.knows_masters) × (self.new.subscriptions ≡ self.old.subscriptions) }
     {
         let answer = first_value(self.alloc, self.session.unsent())?;
-        self.attendant.widen(&answer)
+        self.attendant.widen(value, &answer)
     }
 
     /// Puts out the line of a frame's fault, and gives the fault that ends the session.
@@ -352,15 +347,16 @@ impl Exchange {
         cell: &SharedSentinel<S>,
         seat: &mut Seat,
         now: u64,
+        value: &Value,
         kind: Courtesy,
     ) -> Result<(), ServeFault>
         requires own { seat.old.cell ≡ cell.now.id }
         requires idle { IsIdle self.old.session }
         ensures own { seat.new.cell ≡ seat.old.cell }
-        ensures answered { OnOk result ((asker : Asker) (value : Frame) → IsFrame value → kind ≡ kind_of (courtesy asker value)
-            → self.old.attendant.text ≡ text_at asker value → (more : List ℕ) × (self.new.unsent.items ≡ self.old.unsent.items ++ more)
-            × IsIdle self.new.session × Answers cell.now.start now (courtesy asker value)
-            (party seat.old.view self.old.session.listens) value more (party seat.new.view self.new.session.listens)) }
+        ensures answered { OnOk result ((becomes : Answer) → kind ≡ kind_of becomes → self.old.attendant.text ≡ text_of becomes
+            → (more : List ℕ) × (self.new.unsent.items ≡ self.old.unsent.items ++ more) × IsIdle self.new.session
+            × Answers cell.now.start now self.old.attendant.asker becomes (party seat.old.view self.old.session.listens) (view value.now) more
+            (party seat.new.view self.new.session.listens)) }
         ensures same { IsSameAsker self.old.attendant self.new.attendant }
         ensures told { self.new.session.told ≡ self.old.session.told }
         ensures err { OnErr result (self.new.unsent.items ≡ self.old.unsent.items) }
@@ -368,10 +364,10 @@ impl Exchange {
         ensures kept { (self.new.knows_masters ≡ self.old.knows_masters) × (self.new.subscriptions ≡ self.old.subscriptions) }
     {
         match kind {
-            Courtesy::Left => self.hand_on(rt, cell, seat, now),
-            Courtesy::Widens => self.tell_wide(rt, cell, seat, now),
+            Courtesy::Left => self.hand_on(rt, cell, seat, now, command_of(value)),
+            Courtesy::Widens => self.tell_wide(rt, cell, seat, now, value),
             Courtesy::Said => put_out(&mut self.unsent, self.attendant.text()),
-            Courtesy::AsksMasters => self.tell_info(rt, cell, seat, now),
+            Courtesy::AsksMasters => self.tell_info(rt, cell, seat, now, value),
         }
     }
 
@@ -399,13 +395,13 @@ impl Exchange {
         ensures knows { self.new.knows_masters ≡ self.old.knows_masters }
     {
         match self.attendant.attend_to(value) {
-            Ok(kind) => self.answer(rt, cell, seat, now, kind),
+            Ok(kind) => self.answer(rt, cell, seat, now, value, kind),
             Err(_) => Err(ServeFault::NoMemory),
         }
     }
 
-    /// Answers the first value that is whole, and tells whether there was one.
-    fn answer_next<S: ConfStore, R: Wait>(
+    /// Answers the first value that is whole, whichever it is, and tells whether there was one.
+    fn answer_any<S: ConfStore, R: Wait>(
         &mut self,
         rt: &R,
         cell: &SharedSentinel<S>,
@@ -431,6 +427,54 @@ impl Exchange {
             },
             Ok(None) => Ok(false),
             Err(fault) => Err(self.refuse(fault)),
+        }
+    }
+
+    /// Takes the first value of the bytes that came, where it is a command that comes nearly always and the session answers it: no password is wanted that the client
+    /// didn't give, and the connection listens to nothing.
+    fn next_common(&mut self) -> Option<Command>
+        ensures taken { IfSome result (TakesCommon self.old.attendant.held self.new.attendant.held) }
+        ensures common { IfSome result (λ command. IsCommon command × IsWithin command) }
+        ensures plain { IfSome result (λ command. (is_stranger self.old.attendant.asker ≡ false) × (is_listening self.old.subscriptions ≡ false)) }
+        ensures fewer { IfSome result (λ command. held_size self.new.attendant.held < held_size self.old.attendant.held) }
+        ensures left { result ≡ None → self.new.attendant ≡ self.old.attendant }
+        ensures asker { self.new.attendant.asker ≡ self.old.attendant.asker }
+        ensures session { self.new.session ≡ self.old.session }
+        ensures unsent { self.new.unsent ≡ self.old.unsent }
+        ensures kept { (self.new.knows_masters ≡ self.old.knows_masters) × (self.new.subscriptions ≡ self.old.subscriptions) }
+    {
+        if self.attendant.is_stranger() || self.subscriptions.is_listening() {
+            return None;
+        }
+        self.attendant.next_common()
+    }
+
+    /// Answers the first value that is whole, and tells whether there was one.
+    fn answer_next<S: ConfStore, R: Wait>(
+        &mut self,
+        rt: &R,
+        cell: &SharedSentinel<S>,
+        seat: &mut Seat,
+        now: u64,
+    ) -> Result<bool, ServeFault>
+        requires own { seat.old.cell ≡ cell.now.id }
+        requires ready { IsReady self.old.attendant self.old.subscriptions self.old.session }
+        ensures own { seat.new.cell ≡ seat.old.cell }
+        ensures smaller { IfOk result (λ more. IsTrue more → held_size self.new.attendant.held < held_size self.old.attendant.held) }
+        ensures ready { OnOk result (IsReady self.new.attendant self.new.subscriptions self.new.session) }
+        ensures knows { self.new.knows_masters ≡ self.old.knows_masters }
+        ensures answered { (stream before bytes : List ℕ) (g : Guest) → self.old.unsent.items ≡ before ++ bytes
+            → IsOnTheWay cell.now.start now stream g self.old.attendant.held bytes
+            (guest_of self.old.attendant self.old.subscriptions self.old.session seat.old.view) → (more : List ℕ) × (self.new.unsent.items ≡ before ++ more)
+            × Steps cell.now.start now stream g result self.new.attendant.held more
+            (guest_of self.new.attendant self.new.subscriptions self.new.session seat.new.view) }
+    {
+        match self.next_common() {
+            Some(command) => match self.hand_on(rt, cell, seat, now, Ok(command)) {
+                Ok(()) => Ok(true),
+                Err(fault) => Err(fault),
+            },
+            None => self.answer_any(rt, cell, seat, now),
         }
     }
 

@@ -12,8 +12,8 @@ ghost use Rattle.courteous_sessions.specs.Visits.{channel_turn, hears_switches, 
 ghost use Rattle.port_channels.specs.Telling.{told};
 
 use crate::exchange::{Exchange, put_out};
-use crate::questions::ask_subscribe;
-use ballot_law::{NoMemory, Note, Roster};
+use crate::questions::ask;
+use ballot_law::{Command, NoMemory, Note, Roster};
 use conf_store::ConfStore;
 use port_channels::{Channel, Event, Subscriptions, Turn};
 use port_serving::ServeFault;
@@ -90,7 +90,8 @@ impl Exchange {
         if self.session.listens() {
             return Ok(());
         }
-        ask_subscribe(rt, cell, seat, now, &mut self.session)?;
+        let asked = Ok(Command::Subscribe);
+        ask(rt, cell, seat, now, &mut self.session, asked)?;
         self.drop_answers();
         Ok(())
     }

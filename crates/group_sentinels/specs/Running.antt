@@ -1,9 +1,12 @@
 -- What a running Sentinel is handed, when it ticks, which notes wait for its port, and what went wrong.
-use Rattle.std.specs.Prelude.{ℕ, ◌*◌, ◌/◌, max, Bool, true, false, Option, Some, None}
+use Rattle.std.specs.Prelude.{ℕ, ◌*◌, ◌/◌, max, Bool, true, false, List, Option, Some, None}
 use Rattle.ballot_law.specs.declared.events.Event.{Event}
 use Rattle.ballot_law.specs.declared.events.Input.{Input}
 use Rattle.ballot_law.specs.declared.messages.Output.{Output}
 use Rattle.ballot_law.specs.declared.messages.Output.TheVariants.{Send, Tell}
+use Rattle.sentinel_cell.specs.declared.entry.Entry.{Entry}
+use Rattle.sentinel_cell.specs.declared.keeper.Keeper.{Keeper}
+use Rattle.sentinel_cell.specs.Histories.{World, IsLegal, IsLeft, replay}
 use Rattle.group_sentinels.specs.declared.run_state.RunFault.{RunFault}
 use Rattle.group_sentinels.specs.declared.run_state.RunFault.TheVariants.{LackedThread, LostPort, Halted}
 use Rattle.group_sentinels.specs.declared.switches.Switch.{Switch}
@@ -28,3 +31,7 @@ worst_of true lost_port halted = Some LackedThread
 worst_of false true halted = Some LostPort
 worst_of false false true = Some Halted
 worst_of false false false = None
+
+-- the Sentinel and its store are those that a legal history from this world leaves
+abbrev pub IsLeftByTurns : {S : Type 0} → (text : S → Option (List ℕ)) → (failures : S → ℕ) → World → Keeper S → Type 0
+IsLeftByTurns text failures start keeper = (history : List Entry) × IsLegal start history × IsLeft text failures (replay start history) keeper

@@ -4,7 +4,7 @@ ghost use Rattle.std.specs.Prelude.{◌≡◌, ◌+◌, ◌++◌, ◌<◌, ◌�
 ghost use Rattle.std.specs.List.{AllByRecursion};
 ghost use Rattle.ballot_law.specs.Messages.{sent};
 ghost use Rattle.boxed_nodes.specs.Sendable.{IsSendableOutput};
-ghost use Rattle.group_sentinels.specs.Running.{input_of, phase_of};
+ghost use Rattle.group_sentinels.specs.Running.{input_of, phase_of, IsLeftByTurns};
 ghost use Rattle.group_sentinels.specs.declared.news.TheConstants.{EVENTS_MAX, WAITING_MAX};
 ghost use Rattle.courteous_sessions.specs.Clients.{Takes, NotifiesClient};
 ghost use Rattle.sentinel_cell.specs.declared.entry.Outcome.TheVariants.{Stored};
@@ -25,7 +25,7 @@ use courteous_sessions::ClientSession;
 use log::kv::With;
 use log::{Log, Span};
 use port_serving::ServeFault;
-use sentinel_cell::{ActFault, Seat, SharedSentinel};
+use sentinel_cell::{ActFault, Keeper, Seat, SharedSentinel};
 use sentinel_outbox::Outbox;
 use sentinel_rules::law_outputs_are_within;
 use std::alloc::{AllocError, Global};
@@ -83,6 +83,19 @@ fn with_outbox<J: Which>(alloc: Global, seat: Seat) -> ThreadSeat<J>
 }
 
 impl<J: Which> ThreadSeat<J> {
+    /// The seat.
+    fn into_seat(self) -> Seat
+        ensures { result.cell ≡ J.cell }
+    {
+        let ThreadSeat {
+            seat,
+            outbox: _,
+            sight: _,
+            of: _,
+        } = self;
+        seat
+    }
+
     /// What the last input gave.
     pub(crate) fn outputs(&self) -> &[Output] {
         self.outbox.outputs()
@@ -184,6 +197,28 @@ impl<J: Which, S: ConfStore> RunningSentinel<J, S> {
             }
         }
         Ok(seats)
+    }
+
+    /// Ends the sharing, with the seats of all threads, which have ended: the Sentinel and its store, as the history of its turns leaves them. None where a seat
+    /// is missing; the Sentinel and its store are gone then.
+    pub fn close(self, mut seats: Vec<ThreadSeat<J>>) -> Option<Keeper<S>>
+    where
+        S: Drop,
+        ensures { IfSome result (IsLeftByTurns S.held S.failure_count self.cell.start) }
+    {
+        let RunningSentinel {
+            cell,
+            place: _,
+            port: _,
+            news: _,
+            halt_noted: _,
+            of: _,
+        } = self;
+        let mut whole = seats.pop()?.into_seat();
+        while let Some(seat) = seats.pop() {
+            whole = cell.join(whole, seat.into_seat());
+        }
+        cell.close(whole).ok()
     }
 
     /// One input, and how many calls stand before it. The outbox shows what the Sentinel says, once it is stored; at a fault it says

@@ -1,9 +1,8 @@
 //! The commands that a connection's subscriptions answer.
 
-ghost use Rattle.std.specs.Prelude.{◌≡◌, ◌++◌, List, ℕ, [], IfOk, OnOk};
-ghost use Rattle.resp2.specs.Commands as commands;
-ghost use Rattle.resp2_frames.specs.Frame.{view, frames_view, fault, bulk, spelling};
-ghost use Rattle.port_channels.specs.Answering.{wrong_arguments, not_while_listening, pong, adds, removes, pings, executed, is_own, second, own, answer_words, answer, turn_of, text_of, listening_after};
+ghost use Rattle.std.specs.Prelude.{◌≡◌, ◌++◌, [], false, IfOk, OnOk};
+ghost use Rattle.resp2_frames.specs.Frame.{view, frames_view, fault, bulk, items, spelling};
+ghost use Rattle.port_channels.specs.Answering.{other, wrong_arguments, not_while_listening, pong, adds, removes, pings, executed, own, answer_words, answer, turn_of, text_of, listening_after};
 
 use crate::fault::ChannelFault;
 use crate::kind::Kind;
@@ -13,7 +12,6 @@ use crate::words_in::{are_bulk, is_own, lower_second, words_of};
 use ballot_law::{NoMemory, Text};
 use resp2::command_of;
 use resp2_frames::{OutText, Value, push_bulk};
-use std::alloc::Global;
 
 /// What becomes of a value.
 #[derive(Clone, Copy, Debug, PartialEq, Eq)]
@@ -193,6 +191,19 @@ impl Subscriptions {
         }
     }
 
+    /// Whether the command of these items may be answered, which its name tells before anything is copied: nearly all that a client sends isn't.
+    fn may_answer(&self, values: &[Value]) -> bool
+        ensures { result ≡ false → answer (items (frames_view values.now)) self.now ≡ other }
+    {
+        let [Value::Bulk(name), ..] = values else {
+            return false;
+        };
+        match verb_of(name.as_slice()) {
+            Some(Verb::Adds(_) | Verb::Removes(_)) => true,
+            _ => self.is_listening(),
+        }
+    }
+
     /// Answers a value of the connection, as redis-sentinel 7.0.15 does: SUBSCRIBE, UNSUBSCRIBE, PSUBSCRIBE and PUNSUBSCRIBE, and where the connection
     /// listens, PING in its form for Pub/Sub, and the refusal of the Sentinel's own commands. `Said`: `out` is the answer, of one or more values. `Other`: `out`
     /// is empty and nothing changes; the value is for the courtesies of the port and the rules of the Sentinel.
@@ -208,7 +219,7 @@ impl Subscriptions {
         let Value::Items(items) = value else {
             return Ok(Turn::Other);
         };
-        if !are_bulk(items.as_slice()) {
+        if !self.may_answer(items.as_slice()) || !are_bulk(items.as_slice()) {
             return Ok(Turn::Other);
         }
         let is_of_rules = is_own(&command_of(value));

@@ -1,8 +1,8 @@
 //! Names to which a connection listens.
 
-ghost use Rattle.std.specs.Prelude.{◌≡◌, ◌≤◌, [], IfErr, OnOk, OnErr, length, take};
+ghost use Rattle.std.specs.Prelude.{◌≡◌, ◌≤◌, [], length, take};
 ghost use Rattle.port_channels.specs.declared.names.TheConstants.{NAMES_MAX, NAME_BYTES_MAX};
-ghost use Rattle.port_channels.specs.Listening.{holds, with_name, without_name, IsAdded};
+ghost use Rattle.port_channels.specs.Listening.{holds, without_name, IsAdded};
 
 use crate::fault::ChannelFault;
 use crate::kind::Kind;

@@ -23,24 +23,23 @@ fn is_called(name: &[u8], word: &[u8]) -> bool
     word.eq_ignore_ascii_case(name)
 }
 
-/// The command with this name.
+/// The command with this name. Its length tells which one name it may be, so that nearly all others are told by that alone.
 pub(crate) fn verb_of(name: &[u8]) -> Option<Verb>
     ensures { result ≡ verb_of name.now }
 {
-    if is_called(b"subscribe", name) {
-        return Some(Verb::Adds(Kind::Channels));
-    }
-    if is_called(b"unsubscribe", name) {
-        return Some(Verb::Removes(Kind::Channels));
-    }
-    if is_called(b"psubscribe", name) {
-        return Some(Verb::Adds(Kind::Patterns));
-    }
-    if is_called(b"punsubscribe", name) {
-        return Some(Verb::Removes(Kind::Patterns));
-    }
-    if is_called(b"ping", name) {
-        return Some(Verb::Pings);
-    }
-    None
+    let (is_so, verb) = match name.len() {
+        4 => (is_called(b"ping", name), Verb::Pings),
+        9 => (is_called(b"subscribe", name), Verb::Adds(Kind::Channels)),
+        10 => (is_called(b"psubscribe", name), Verb::Adds(Kind::Patterns)),
+        11 => (
+            is_called(b"unsubscribe", name),
+            Verb::Removes(Kind::Channels),
+        ),
+        12 => (
+            is_called(b"punsubscribe", name),
+            Verb::Removes(Kind::Patterns),
+        ),
+        _ => return None,
+    };
+    if is_so { Some(verb) } else { None }
 }

@@ -11,7 +11,7 @@ use Rattle.port_courtesies.specs.declared.hellos.Expects.{Expects}
 use Rattle.port_courtesies.specs.declared.hellos.Expects.TheVariants.{Start, User, Password, NewName}
 use Rattle.port_courtesies.specs.Refusals.{is_called, printed_byte, printed, wrong_arguments, unknown_subcommand, shown_words, unknown_command, no_option, wrong_password, no_password, no_auth, no_auth_yet, no_name, not_while_listening}
 use Rattle.resp2.specs.Commands.{command_of}
-use Rattle.port_courtesies.specs.declared.tables.Table.{Table}
+use Rattle.port_courtesies.specs.declared.wordings.Wording.{Wording}
 use Rattle.port_courtesies.specs.Courtesies as table
 use Rattle.port_courtesies.specs.Courtesies.{Asker, Answer, left, widens, said, asks_masters, silent, Looked, known, refused, verb_name, Greeted, greeted, expected, taken, is_user, is_password, is_some, admits, is_stranger, lacks_password, is_barred, greeted_by, is_client_name, asks_for_2, is_integer, after_first, first, or_else, hello_map, answered, asks_nothing, reply_to, courtesy, left_over, or_left}
 use Rattle.port_courtesies.proofs.Silence.{asked_is, unasked_is}
@@ -28,13 +28,13 @@ plain b h = (
 )
 
 -- a text of the program, by a test that computes
-checked : (text : List ℕ) → list_all is_plain_byte text ≡ true → IsLine text
+pub checked : (text : List ℕ) → list_all is_plain_byte text ≡ true → IsLine text
 checked [] h = tt
 checked (b ∷ text) h =
     let both = and_parts (is_plain_byte b) (list_all is_plain_byte text) h in
     (plain b both.0, checked text both.1)
 
-joined : (one two : List ℕ) → IsLine one → IsLine two → IsLine (one ++ two)
+pub joined : (one two : List ℕ) → IsLine one → IsLine two → IsLine (one ++ two)
 joined [] two h k = k
 joined (b ∷ one) two h k = (h.0, joined one two h.1 k)
 
@@ -284,7 +284,7 @@ executed_lines asker Reply words = one_of (is_called (codes "on") (first words))
 executed_lines asker Commands words = tt
 executed_lines asker Docs words = tt
 executed_lines asker Count words = tt
-executed_lines asker Role words = (tt, (names_lines asker.masters, tt))
+executed_lines asker Role words = (tt, (names_lines (table.names_of asker.masters), tt))
 executed_lines asker Publish words = publish_lines words
 executed_lines asker Info words = tt
 
@@ -326,7 +326,7 @@ in_lines : (miscounted : Bool) (words : List (List ℕ)) → AreLinesOrNone (tab
 in_lines miscounted [] = tt
 in_lines miscounted (name ∷ words) = maybe (table.names_channels (name ∷ words)) _ _ tt (looked_up_lines miscounted name words)
 
-own_lines : (own : Option Table) → AreAnswerLines (table.own_answer own)
+own_lines : (own : Option Wording) → AreAnswerLines (table.own_answer own)
 own_lines None = tt
 own_lines (Some own) = tt
 
@@ -339,7 +339,7 @@ reply_lines asker value =
     one_answer (table.is_refused (command_of value)) _ _
     (or_left_lines asker (table.looked_up_in (table.is_miscounted (command_of value)) (table.words_of value))
     (in_lines (table.is_miscounted (command_of value)) (table.words_of value)))
-    (one_answer (is_stranger asker) _ _ no_auth_line (own_lines (table.table_of (command_of value))))
+    (one_answer (is_stranger asker) _ _ no_auth_line (own_lines (table.wording_of (command_of value))))
 
 said_by : (asker : Asker) (value answer : Frame) (test : Bool) → asks_nothing value ≡ test → courtesy asker value ≡ said answer → HasLines answer
 said_by asker value answer true h is = absurd (let no = sym (unasked_is asker value h) ∙ is in cc)

@@ -5,7 +5,7 @@ use Rattle.std.specs.Prelude.{OnOk}
 use Rattle.resp2_frames.specs.declared.value.Value.{Value}
 use Rattle.resp2_frames.specs.Frame.{Frame, bulk, items, no_frames, count, frames_of, frames_view, spelling, spellings, line_end}
 use Rattle.port_courtesies.specs.Refusals.{no_auth_yet}
-use Rattle.port_courtesies.specs.Courtesies.{Asker, or_else, is_some, lacks_password, refusal_text, greeting_of, hello_map, role, pong, first}
+use Rattle.port_courtesies.specs.Courtesies.{Asker, MonitoredMaster, names_of, or_else, is_some, lacks_password, refusal_text, greeting_of, hello_map, role, pong, first}
 
 -- a text that was set to the bytes of an answer
 pub set_to : {X E : Type 0} (answer : Result X E) (text bytes wanted : List ℕ) → wanted ≡ bytes → OnOk answer (text ≡ bytes) → OnOk answer (text ≡ wanted)
@@ -61,17 +61,18 @@ pong_front = 42 ∷ 50 ∷ 13 ∷ 10 ∷ 36 ∷ 52 ∷ 13 ∷ 10 ∷ 112 ∷ 111
 pub pong_bytes : (words : List (List ℕ)) → spelling (pong words) ≡ pong_front ++ spelling (bulk (first words))
 pong_bytes words = rw (two, four) (ap (λ (t : List ℕ). pong_front ++ t) (append-nil (spelling (bulk (first words)))))
 
-count_frames : (names : List (List ℕ)) → count (frames_of (map bulk names)) ≡ length names
-count_frames [] = refl
-count_frames (name ∷ names) = ap suc (count_frames names)
+count_names : (masters : List MonitoredMaster) → count (frames_of (map bulk (names_of masters))) ≡ length masters
+count_names [] = refl
+count_names (master ∷ masters) = ap suc (count_names masters)
 
 abbrev pub role_front : List ℕ
 role_front = 42 ∷ 50 ∷ 13 ∷ 10 ∷ 36 ∷ 56 ∷ 13 ∷ 10 ∷ 115 ∷ 101 ∷ 110 ∷ 116 ∷ 105 ∷ 110 ∷ 101 ∷ 108 ∷ 13 ∷ 10 ∷ 42 ∷ []
 
-pub role_bytes : (names : List (List ℕ)) → spelling (role names) ≡ role_front ++ ((decimal (length names) ++ line_end) ++ spellings (frames_of (map bulk names)))
-role_bytes names =
-    rw (two, eight, count_frames names)
-    (ap (λ (t : List ℕ). role_front ++ t) (append-nil ((decimal (length names) ++ line_end) ++ spellings (frames_of (map bulk names)))))
+pub role_bytes : (masters : List MonitoredMaster)
+    → spelling (role (names_of masters)) ≡ role_front ++ ((decimal (length masters) ++ line_end) ++ spellings (frames_of (map bulk (names_of masters))))
+role_bytes masters =
+    rw (two, eight, count_names masters)
+    (ap (λ (t : List ℕ). role_front ++ t) (append-nil ((decimal (length masters) ++ line_end) ++ spellings (frames_of (map bulk (names_of masters))))))
 
 pub count_views : (rows : List Value) → count (frames_view rows) ≡ length rows
 count_views [] = refl

@@ -9,3 +9,4 @@ pub mod OwnValues
 pub mod Silence
 pub mod Strangers
 pub mod WideRows
+pub mod WordingLines

@@ -1,11 +1,9 @@
 -- Lines as values: the array of a line's words is a value that a stream may hold.
-use Rattle.std.proofs.Common.{◌≡◌, ◌∙◌, ℕ, zero, suc, ◌+◌, ◌*◌, ◌^◌, ◌≤◌, ◌<◌, ◌&&◌, Bool, true, false, eqb, List, [], ◌∷◌, ◌++◌, map, length, take, drop, Option, Some, None, Ok, Result, refl, sym, ap, arith, length-append, decimal, true≢false}
-use Rattle.std.specs.Prelude.{not, nat_le, nat_lt}
-use Rattle.std.proofs.lemmas.Bool.{and_parts}
+use Rattle.std.proofs.Common.{◌≡◌, ◌∙◌, ℕ, zero, suc, ◌≤◌, Bool, true, false, eqb, List, [], ◌∷◌, ◌++◌, map, length, refl, sym, ap, arith, length-append, decimal}
 use Rattle.ballot_law.specs.Cuts.{IsEnd}
 use Rattle.ballot_law.proofs.CutLemmas.{tail_end}
-use Rattle.resp2_frames.specs.Frame.{bulk, items, frames_of, frame, count, spelling, spellings, line_end, HasLines, HaveLines, ArePlain, IsFrame, deepest_of, widest_of}
-use Rattle.port_courtesies.specs.Lines.{array_of, is_web, is_short, line_size}
+use Rattle.resp2_frames.specs.Frame.{bulk, frames_of, count, spelling, spellings, line_end, HasLines, HaveLines, ArePlain, IsFrame, deepest_of, widest_of}
+use Rattle.port_courtesies.specs.Lines.{array_of, line_size}
 
 -- ---- the place of the LF
 

@@ -1,16 +1,20 @@
 -- What a reader of a stream with lines answers.
-use Rattle.std.proofs.Common.{◌≡◌, ◌∙◌, ℕ, ◌<◌, ◌≤◌, true, false, List, [], length, drop, Option, Some, None, Result, Ok, Err, refl, sym, ap, arith, true≢false}
+use Rattle.std.proofs.Common.{◌≡◌, ◌∙◌, ℕ, ◌<◌, ◌≤◌, true, false, List, length, drop, Option, Some, None, Result, Ok, Err, refl, sym, ap, arith, true≢false}
+use Rattle.std.specs.Prelude.{IfSome}
 use Rattle.std.proofs.lemmas.List.{length-drop}
+use Rattle.ballot_law.specs.declared.commands.Command.{Command}
+use Rattle.resp2.specs.Asked.{Asks}
 use Rattle.resp2_frames.specs.declared.fault.FrameFault.{FrameFault}
 use Rattle.resp2_frames.specs.declared.fault.FrameFault.TheVariants.{BadKind, BadLength, BadNumber, MissingEnd, TooLong, TooDeep, TooMany, NoMemory}
 use Rattle.resp2_frames.specs.declared.value.Value.{Value}
-use Rattle.resp2_frames.specs.Frame.{Frame, view, HasLines}
+use Rattle.resp2_frames.specs.Frame.{view, HasLines}
 use Rattle.resp2_frames.specs.Reading.{frame_at}
 use Rattle.resp2_frames.specs.Stream as streams
 use Rattle.resp2_frames.specs.Stream.{Held, reading, ended, bytes_in, held_size}
 use Rattle.resp2_frames.proofs.HaveLines.{plain_lines}
 use Rattle.port_courtesies.specs.declared.lines.Line.TheVariants.{Whole, Open, Broken}
-use Rattle.port_courtesies.specs.Lines.{begins_line, line_at, value_at, IsFound, Answers}
+use Rattle.port_courtesies.specs.Attendants.{TakesCommon}
+use Rattle.port_courtesies.specs.Lines.{begins_line, value_at, IsFound, Answers}
 use Rattle.port_courtesies.proofs.LineStreams.{as_line, as_frame, line_is_faulty, value_is_frame}
 
 -- where no line begins, a stream is read as in RESP2
@@ -31,6 +35,18 @@ answers_same (ended fault) after answer same h = h
 pub frame_answered : (before after : Held) (answer : Result (Option Value) FrameFault) → begins_line (bytes_in before) ≡ false → streams.Answers view before answer after
     → Answers view before answer after
 frame_answered before after answer begins h = answers_same before after answer (as_frame (bytes_in before) begins) h
+
+-- a command that is read where it stands is the first value, where no line begins
+common_taken : (before after : Held) (command : Command) → begins_line (bytes_in before) ≡ false → Asks before (Ok (Some (Ok command))) after
+    → TakesCommon before after command
+common_taken (reading bytes) after command begins h =
+    record { bytes = bytes; value = h.0; rest = h.1.0; held_is = refl; found = as_frame bytes begins ∙ h.1.1; left = h.1.2; asked = sym h.2 }
+common_taken (ended fault) after command begins h = absurd (let no = h.1.0 in cc)
+
+pub maybe_common_taken : (before after : Held) (given : Option Command) → begins_line (bytes_in before) ≡ false
+    → IfSome given (λ command. Asks before (Ok (Some (Ok command))) after) → IfSome given (TakesCommon before after)
+maybe_common_taken before after (Some command) begins h = common_taken before after command begins h
+maybe_common_taken before after None begins h = tt
 
 -- a line that is none is at fault in RESP2
 pub broken_answered : (before after : Held) (answer : Result (Option Value) FrameFault) → begins_line (bytes_in before) ≡ true → IsFound Broken (bytes_in before)

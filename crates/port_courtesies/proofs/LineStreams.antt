@@ -1,12 +1,11 @@
 -- Streams with lines: a stream is the same values however it comes in pieces.
-use Rattle.std.proofs.Common.{◌≡◌, ◌∙◌, ◌⊎◌, inl, inr, ℕ, zero, suc, ◌+◌, ◌-◌, ◌≤◌, ◌<◌, ◌&&◌, Bool, true, false, eqb, List, [], ◌∷◌, ◌++◌, map, length, take, drop, Option, Some, None, Result, Ok, Err, refl, sym, ap, subst, arith, length-append, append_assoc, true≢false}
+use Rattle.std.proofs.Common.{◌≡◌, ◌∙◌, ◌⊎◌, inl, inr, ℕ, suc, ◌+◌, ◌-◌, ◌≤◌, ◌<◌, ◌&&◌, Bool, true, false, eqb, List, [], ◌∷◌, ◌++◌, length, take, drop, Option, Some, None, Result, Ok, Err, refl, sym, ap, subst, arith, length-append, true≢false}
 use Rattle.std.specs.Prelude.{not, nat_le, nat_lt}
 use Rattle.std.proofs.lemmas.Bool.{and_parts, or_parts, cases_lt, lt-ltb, le-ltb, leb-true, eqb-true}
 use Rattle.std.proofs.lemmas.List.{take-append-le, drop-append-le}
 use Rattle.ballot_law.specs.Words.{some_if}
 use Rattle.quoted_words.specs.Quotes.{redis_words}
-use Rattle.resp2_frames.specs.declared.fault.FrameFault.{FrameFault}
-use Rattle.resp2_frames.specs.declared.fault.FrameFault.TheVariants.{BadKind, BadLength, BadNumber, MissingEnd, TooLong, TooDeep, TooMany, NoMemory}
+use Rattle.resp2_frames.specs.declared.fault.FrameFault.TheVariants.{BadKind}
 use Rattle.resp2_frames.specs.declared.fault.Unread.{Unread}
 use Rattle.resp2_frames.specs.declared.fault.Unread.TheVariants.{NeedsMore, Faulty}
 use Rattle.resp2_frames.specs.Frame.{Frame, simple, fault, int, bulk, null_bulk, items, null_items, spelling, IsFrame}
@@ -17,7 +16,7 @@ use Rattle.resp2_frames.proofs.Steps.{ok_is}
 use Rattle.resp2_frames.proofs.Streams.{read_is_spelled, spelled_is_read}
 use Rattle.resp2_frames.proofs.Window.{frame_stays, waits_within}
 use Rattle.port_courtesies.specs.Lines.{array_of, is_web, is_short, command_in, command_of_line, is_kind, begins_line, line_size, read_as, line_at, value_at, IsLineOf, Reads}
-use Rattle.port_courtesies.proofs.LineLemmas.{line_ends, line_goes_on, line_within, array_frame}
+use Rattle.port_courtesies.proofs.LineLemmas.{line_ends, line_goes_on, array_frame}
 
 -- ---- lines and values of RESP2
 

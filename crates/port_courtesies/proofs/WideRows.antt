@@ -1,15 +1,15 @@
 -- What an answer with redis-sentinel's fields keeps of the Sentinel's own.
-use Rattle.std.proofs.Common.{◌≡◌, ◌∙◌, ◌*◌, ◌++◌, decimal, ℕ, suc, List, [], ◌∷◌, length, map, Option, None, Some, refl, ap, arith}
+use Rattle.std.proofs.Common.{◌≡◌, ◌∙◌, ◌*◌, ◌++◌, decimal, ℕ, suc, List, [], ◌∷◌, length, map, refl, ap, arith}
 use Rattle.std.specs.List.{AllByRecursion}
-use Rattle.resp2.specs.Commands.{command_of, words}
+use Rattle.resp2.specs.Commands.{words}
 use Rattle.resp2_frames.specs.declared.value.Value.{Value}
 use Rattle.resp2_frames.specs.Frame.{Frame, FrameList, frames_view, spelling, spellings, line_end, simple, fault, int, bulk, null_bulk, items, null_items, no_frames, frame, frames_of, count, HasLines, HaveLines}
 use Rattle.port_courtesies.specs.declared.tables.Table.{Table}
 use Rattle.port_courtesies.specs.declared.tables.Table.TheVariants.{OneMaster, AllMasters, OfReplicas, OfSentinels}
 use Rattle.port_courtesies.specs.declared.tables.Field.{Field}
 use Rattle.port_courtesies.proofs.Bytes.{count_views}
-use Rattle.port_courtesies.specs.Courtesies.{table_of, words_of}
-use Rattle.port_courtesies.specs.Widening.{field_name, otherwise, fields_of, told, wide_words, wide_row, wide_rows, wide_items, widened, wide}
+use Rattle.port_courtesies.specs.Courtesies.{words_of}
+use Rattle.port_courtesies.specs.Widening.{field_name, otherwise, fields_of, told, wide_words, wide_row, wide_rows, wide_items, widened}
 
 -- ---- how many items there are
 
@@ -102,15 +102,11 @@ items_lines AllMasters fs = rows_lines (fields_of AllMasters) fs
 items_lines OfReplicas fs = rows_lines (fields_of OfReplicas) fs
 items_lines OfSentinels fs = rows_lines (fields_of OfSentinels) fs
 
-widened_lines : (table : Option Table) (answer : Frame) → HasLines answer → HasLines (widened table answer)
-widened_lines None answer h = h
-widened_lines (Some table) (simple text) h = h
-widened_lines (Some table) (fault text) h = h
-widened_lines (Some table) (int n) h = h
-widened_lines (Some table) (bulk bytes) h = h
-widened_lines (Some table) null_bulk h = h
-widened_lines (Some table) (items fs) h = items_lines table fs
-widened_lines (Some table) null_items h = h
-
-pub wide_has_lines : (value answer : Frame) → HasLines answer → HasLines (wide value answer)
-wide_has_lines value answer h = widened_lines (table_of (command_of value)) answer h
+pub widened_lines : (table : Table) (answer : Frame) → HasLines answer → HasLines (widened table answer)
+widened_lines table (simple text) h = h
+widened_lines table (fault text) h = h
+widened_lines table (int n) h = h
+widened_lines table (bulk bytes) h = h
+widened_lines table null_bulk h = h
+widened_lines table (items fs) h = items_lines table fs
+widened_lines table null_items h = h

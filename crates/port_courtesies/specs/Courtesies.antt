@@ -2,7 +2,7 @@
 use Rattle.std.specs.Prelude.{ℕ, pos, Bool, true, false, not, ◌||◌, ◌&&◌, ◌==◌, nat_lt, nat_le, List, [], ◌∷◌, ◌++◌, map, length, bytes_eq, codes, Option, Some, None, Result, Ok, Err}
 use Rattle.std.specs.List.{list_all}
 use Rattle.ballot_law.specs.declared.commands.Command.{Command}
-use Rattle.ballot_law.specs.declared.commands.Command.TheVariants.{Masters, Master, Replicas, Sentinels}
+use Rattle.ballot_law.specs.declared.commands.Command.TheVariants.{Masters, Master, Replicas, Sentinels, CkQuorum}
 use Rattle.ballot_law.specs.Words.{lower, canonical_within}
 use Rattle.resp2.specs.declared.command.CommandFault.{CommandFault}
 use Rattle.resp2.specs.declared.command.CommandFault.TheVariants.{UnknownCommand, WrongArguments}
@@ -12,23 +12,30 @@ use Rattle.port_courtesies.specs.declared.verbs.Verb.{Verb}
 use Rattle.port_courtesies.specs.declared.verbs.Verb.TheVariants.{Ping, Hello, Auth, SetName, SetInfo, GetName, Id, NoEvict, Reply, Commands, Docs, Count, Role, Publish, Info}
 use Rattle.port_courtesies.specs.declared.hellos.Expects.{Expects}
 use Rattle.port_courtesies.specs.declared.hellos.Expects.TheVariants.{Start, User, Password, NewName}
-use Rattle.port_courtesies.specs.declared.tables.Table.{Table}
+use Rattle.port_courtesies.specs.declared.wordings.Wording.{Wording}
+use Rattle.port_courtesies.specs.declared.wordings.Wording.TheVariants.{Rows, Quorum}
 use Rattle.port_courtesies.specs.declared.tables.Table.TheVariants.{OneMaster, AllMasters, OfReplicas, OfSentinels}
 use Rattle.port_courtesies.specs.declared.courtesies.Courtesy.{Courtesy}
 use Rattle.port_courtesies.specs.declared.courtesies.Courtesy.TheVariants.{Left, Widens, Said, AsksMasters}
 use Rattle.port_courtesies.specs.Refusals.{is_called, printed_byte, wrong_arguments, unknown_subcommand, unknown_command, syntax_error, wrong_password, no_password, no_auth, no_auth_yet, no_name, no_such_protocol, no_protocol, no_option, no_hello, not_while_listening}
 
--- what is known of a connection: its number, the name that its client gave it, whether it listens to notes, the names of the Sentinel's masters, the password that is
--- wanted of its client, where one is, and whether the client gave it
+-- a master that a Sentinel watches
+pub record MonitoredMaster : Type 0 where
+  pub name : List ℕ
+  pub quorum : ℕ
+
+-- what is known of a connection: its number, the name that its client gave it, whether it listens to notes, the Sentinel's masters, how many Sentinels watch them, the
+-- password that is wanted of its client, where one is, and whether the client gave it
 pub record Asker : Type 0 where
   pub id : ℕ
   pub name : List ℕ
   pub listens : Bool
-  pub masters : List (List ℕ)
+  pub masters : List MonitoredMaster
+  pub sentinels : ℕ
   pub password : Option (List ℕ)
   pub admitted : Bool
 
--- what becomes of a value: the Sentinel's rules answer it, the answer that they give is told with more fields, it is answered by this value, or by what is told of the
+-- what becomes of a value: the Sentinel's rules answer it, the answer that they give is told in other words, it is answered by this value, or by what is told of the
 -- Sentinel's masters, or it has no answer
 pub data Answer : Type 0 where
   left : Answer
@@ -333,6 +340,10 @@ no_evict words = elim (is_called (codes "on") (first words) || is_called (codes 
 abbrev pub reply : List (List ℕ) → Frame
 reply words = elim (is_called (codes "on") (first words)) [ true ↦ ok | false ↦ syntax_error ]
 
+abbrev pub names_of : List MonitoredMaster → List (List ℕ)
+names_of [] = []
+names_of (master ∷ masters) = master.name ∷ names_of masters
+
 abbrev pub role : List (List ℕ) → Frame
 role masters = items (frames_of (bulk (codes "sentinel") ∷ items (frames_of (map bulk masters)) ∷ []))
 
@@ -358,7 +369,7 @@ executed asker Reply words = said (reply words)
 executed asker Commands words = said (items no_frames)
 executed asker Docs words = said (items no_frames)
 executed asker Count words = said (int (pos 0))
-executed asker Role words = said (role asker.masters)
+executed asker Role words = said (role (names_of asker.masters))
 executed asker Publish words = said (publish words)
 executed asker Info words = asks_masters
 
@@ -429,18 +440,19 @@ looked_up_in miscounted (name ∷ words) = elim (names_channels (name ∷ words)
 abbrev pub left_over : Frame → Option Looked
 left_over value = elim (is_refused (command_of value)) [ true ↦ looked_up_in (is_miscounted (command_of value)) (words_of value) | false ↦ None ]
 
--- the answers of the Sentinel's rules that are told with more fields
-abbrev pub table_of : Result Command CommandFault → Option Table
-table_of (Ok (Master name)) = Some OneMaster
-table_of (Ok Masters) = Some AllMasters
-table_of (Ok (Replicas name)) = Some OfReplicas
-table_of (Ok (Sentinels name)) = Some OfSentinels
-table_of asked = None
+-- the answers of the Sentinel's rules that are told in other words
+abbrev pub wording_of : Result Command CommandFault → Option Wording
+wording_of (Ok (Master name)) = Some (Rows OneMaster)
+wording_of (Ok Masters) = Some (Rows AllMasters)
+wording_of (Ok (Replicas name)) = Some (Rows OfReplicas)
+wording_of (Ok (Sentinels name)) = Some (Rows OfSentinels)
+wording_of (Ok (CkQuorum name)) = Some (Quorum name)
+wording_of asked = None
 
 -- what becomes of a value that the rules answer
-abbrev pub own_answer : Option Table → Answer
+abbrev pub own_answer : Option Wording → Answer
 own_answer None = left
-own_answer (Some table) = widens
+own_answer (Some wording) = widens
 
 abbrev pub unless_stranger : Asker → Answer → Answer
 unless_stranger asker answer = elim (is_stranger asker) [ true ↦ said no_auth | false ↦ answer ]
@@ -468,7 +480,7 @@ abbrev pub reply_to : Asker → Frame → Answer
 reply_to asker value =
     elim (is_refused (command_of value)) [
       | true ↦ or_left asker (looked_up_in (is_miscounted (command_of value)) (words_of value))
-      | false ↦ unless_stranger asker (own_answer (table_of (command_of value)))
+      | false ↦ unless_stranger asker (own_answer (wording_of (command_of value)))
     ]
 
 -- the answer to a value of a connection

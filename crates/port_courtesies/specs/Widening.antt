@@ -1,12 +1,12 @@
 -- The answers about masters, replicas and Sentinels with the fields of redis-sentinel, in its order.
-use Rattle.std.specs.Prelude.{ℕ, true, false, List, [], ◌∷◌, map, bytes_eq, codes, Option, Some, None}
-use Rattle.resp2.specs.Commands.{command_of, words}
+use Rattle.std.specs.Prelude.{ℕ, true, false, List, [], ◌∷◌, map, bytes_eq, codes}
+use Rattle.resp2.specs.Commands.{words}
 use Rattle.resp2_frames.specs.Frame.{Frame, FrameList, bulk, items, no_frames, frame, frames_of}
 use Rattle.port_courtesies.specs.declared.tables.Table.{Table}
 use Rattle.port_courtesies.specs.declared.tables.Table.TheVariants.{OneMaster, AllMasters, OfReplicas, OfSentinels}
 use Rattle.port_courtesies.specs.declared.tables.Field.{Field}
 use Rattle.port_courtesies.specs.declared.tables.Field.TheVariants.{Name, Ip, Port, RunId, Flags, PendingCommands, References, PingSent, OkReply, AnyReply, DownAfter, InfoRefresh, MasterReported, ReplicaReported, ReportedTime, ConfigEpoch, ReplicaCount, OtherSentinels, Quorum, FailoverTimeout, ParallelSyncs, LinkDownTime, LinkStatus, MasterHost, MasterPort, Priority, Offset, Announced, HelloMessage, VotedLeader, VotedEpoch}
-use Rattle.port_courtesies.specs.Courtesies.{table_of, words_of}
+use Rattle.port_courtesies.specs.Courtesies.{words_of}
 
 -- ---- fields
 
@@ -102,11 +102,6 @@ wide_items OfReplicas fs = items (wide_rows (fields_of OfReplicas) fs)
 wide_items OfSentinels fs = items (wide_rows (fields_of OfSentinels) fs)
 
 -- an answer that is no array, as an error, stays as it is
-abbrev pub widened : Option Table → Frame → Frame
-widened None answer = answer
-widened (Some table) (items fs) = wide_items table fs
-widened (Some table) answer = answer
-
--- the answer to the value, where the Sentinel gives this one
-abbrev pub wide : (value answer : Frame) → Frame
-wide value answer = widened (table_of (command_of value)) answer
+abbrev pub widened : Table → Frame → Frame
+widened table (items fs) = wide_items table fs
+widened table answer = answer

@@ -7,6 +7,39 @@ use crate::passwords::is_same;
 use ballot_law::{Name, Text};
 use std::marker::Model;
 
+/// A master that a Sentinel watches.
+#[derive(Drop)]
+pub struct MonitoredMaster {
+    /// Its name.
+    pub name: Name,
+    /// How many Sentinels have to call it down before a failover.
+    pub quorum: u32,
+}
+
+impl Model for MonitoredMaster {
+    ghost use Rattle.port_courtesies.specs.Courtesies.{MonitoredMaster as MonitoredMasterModel};
+
+    ghost Value = { MonitoredMasterModel };
+
+    ghost view = { λ master. record { name = master.name; quorum = master.quorum } };
+}
+
+impl MonitoredMaster {
+    /// The name.
+    pub(crate) fn name(&self) -> &[u8]
+        ensures { result.now ≡ self.now.name }
+    {
+        self.name.as_slice()
+    }
+
+    /// The quorum.
+    pub(crate) fn quorum(&self) -> u32
+        ensures { result ≡ self.now.quorum }
+    {
+        self.quorum
+    }
+}
+
 /// What is known of a connection.
 #[derive(Drop)]
 pub struct Asker {
@@ -17,7 +50,9 @@ pub struct Asker {
     /// Whether it listens to notes.
     pub listens: bool,
     /// The Sentinel's masters, in the roster's order.
-    pub masters: Vec<Name>,
+    pub masters: Vec<MonitoredMaster>,
+    /// How many Sentinels watch them, this one too.
+    pub sentinels: usize,
     /// The password that is wanted of its client; none where every client is admitted.
     pub password: Option<Text>,
     /// Whether the client gave the password.
@@ -29,7 +64,7 @@ impl Model for Asker {
 
     ghost Value = { AskerModel };
 
-    ghost view = { λ asker. record { id = asker.id; name = asker.name; listens = asker.listens; masters = asker.masters.items; password = asker.password; admitted = asker.admitted } };
+    ghost view = { λ asker. record { id = asker.id; name = asker.name; listens = asker.listens; masters = asker.masters.items; sentinels = asker.sentinels; password = asker.password; admitted = asker.admitted } };
 }
 
 impl Asker {
@@ -55,10 +90,17 @@ impl Asker {
     }
 
     /// The masters.
-    pub(crate) fn masters(&self) -> &[Name]
+    pub(crate) fn masters(&self) -> &[MonitoredMaster]
         ensures { result.now ≡ self.now.masters }
     {
         self.masters.as_slice()
+    }
+
+    /// How many Sentinels there are.
+    pub(crate) fn sentinels(&self) -> usize
+        ensures { result ≡ self.now.sentinels }
+    {
+        self.sentinels
     }
 
     /// Whether a password is wanted.
@@ -113,11 +155,12 @@ impl Asker {
         self.listens = listens;
     }
 
-    /// Has it know these masters.
-    pub(crate) fn watch(&mut self, masters: Vec<Name>)
-        ensures { self.new ≡ record self.old { masters = masters.items } }
+    /// Has it know these masters, which so many Sentinels watch.
+    pub(crate) fn watch(&mut self, masters: Vec<MonitoredMaster>, sentinels: usize)
+        ensures { self.new ≡ record self.old { masters = masters.items; sentinels = sentinels } }
     {
         self.masters = masters;
+        self.sentinels = sentinels;
     }
 
     /// Has it want this password, which its client didn't give.

@@ -3,11 +3,12 @@
 ghost use Rattle.std.specs.Prelude.{◌≡◌, ◌++◌, OnOk, length, map, pos, decimal};
 ghost use Rattle.resp2_frames.specs.Frame as frames;
 ghost use Rattle.resp2_frames.specs.Frame.{spelling, spellings, frames_of, line_end};
-ghost use Rattle.port_courtesies.specs.Courtesies.{get_name, no_evict, reply, role, is_hello_channel, publish, pong};
+ghost use Rattle.port_courtesies.specs.Courtesies.{get_name, no_evict, reply, names_of, role, is_hello_channel, publish, pong};
 
+use crate::asker::MonitoredMaster;
 use crate::hellos::first;
 use crate::refusals::{is_called, say};
-use ballot_law::{Name, NoMemory, Text};
+use ballot_law::{NoMemory, Text};
 use itoa::Buffer;
 use resp2_frames::{OutText, push_bulk};
 
@@ -90,29 +91,29 @@ pub(crate) fn reply(words: &[Text], out: &mut OutText) -> Result<(), NoMemory>
 }
 
 /// Adds the names of masters.
-fn add_names(out: &mut OutText, names: &[Name]) -> Result<(), NoMemory>
-    ensures { OnOk result (out.new ≡ out.old ++ spellings (frames_of (map frames.bulk names.now))) }
+fn add_names(out: &mut OutText, masters: &[MonitoredMaster]) -> Result<(), NoMemory>
+    ensures { OnOk result (out.new ≡ out.old ++ spellings (frames_of (map frames.bulk (names_of masters.now)))) }
 {
-    let mut rest = names;
-    while let [name, more @ ..] = rest {
-        push_bulk(out, name.as_slice())?;
+    let mut rest = masters;
+    while let [master, more @ ..] = rest {
+        push_bulk(out, master.name())?;
         rest = more;
     }
     Ok(())
 }
 
-/// The answer is the number of names and then the names, after a text.
-fn say_names(out: &mut OutText, before: &[u8], names: &[Name]) -> Result<(), NoMemory>
-    ensures { OnOk result (out.new ≡ before.now ++ ((decimal (length names.now) ++ line_end) ++ spellings (frames_of (map frames.bulk names.now)))) }
+/// The answer is the number of masters and then their names, after a text.
+fn say_names(out: &mut OutText, before: &[u8], masters: &[MonitoredMaster]) -> Result<(), NoMemory>
+    ensures { OnOk result (out.new ≡ before.now ++ ((decimal (length masters.now) ++ line_end) ++ spellings (frames_of (map frames.bulk (names_of masters.now))))) }
 {
     say(out, before)?;
-    add_number(out, names.len() as u64)?;
-    add_names(out, names)
+    add_number(out, masters.len() as u64)?;
+    add_names(out, masters)
 }
 
 /// The answer to ROLE at a Sentinel with these masters.
-pub(crate) fn role(masters: &[Name], out: &mut OutText) -> Result<(), NoMemory>
-    ensures { OnOk result (out.new ≡ spelling (role masters.now)) }
+pub(crate) fn role(masters: &[MonitoredMaster], out: &mut OutText) -> Result<(), NoMemory>
+    ensures { OnOk result (out.new ≡ spelling (role (names_of masters.now))) }
 {
     say_names(out, b"*2\r\n$8\r\nsentinel\r\n*", masters)
 }

@@ -13,8 +13,8 @@ use crate::clients::{
 use crate::hellos::{auth, first, hello, is_client_name, set_name};
 use crate::lookup::looked_up;
 use crate::refusals::{is_called, refuse_listener, say};
-use crate::tables::{Table, table_of};
 use crate::verbs::Verb;
+use crate::wordings::{Wording, wording_of};
 use ballot_law::{Command, NoMemory, Text};
 use resp2::{CommandFault, command_of};
 use resp2_frames::{OutText, Value};
@@ -27,7 +27,7 @@ const NO_AUTH: &[u8] = b"-NOAUTH Authentication required.\r\n";
 pub enum Courtesy {
     /// The Sentinel's rules answer it.
     Left,
-    /// The Sentinel's rules answer it, and the answer is then told with redis-sentinel's fields.
+    /// The Sentinel's rules answer it, and the answer is then told in redis-sentinel's words.
     Widens,
     /// Its answer is told, where it has one.
     Said,
@@ -227,18 +227,18 @@ fn answer_known(
     Ok(kind_of(verb))
 }
 
-/// What becomes of a value that the rules of the Sentinel answer, the answer being told with more fields where there is a table: it is left to them, once
+/// What becomes of a value that the rules of the Sentinel answer, the answer being told in other words where there are some: it is left to them, once
 /// the client gave the password that is wanted.
-fn leave(asker: &Asker, table: Option<Table>, out: &mut OutText) -> Result<Courtesy, NoMemory>
+fn leave(asker: &Asker, wording: Option<Wording>, out: &mut OutText) -> Result<Courtesy, NoMemory>
     requires { out.old ≡ [] }
-    ensures kind { IfOk result (λ kind. kind ≡ kind_of (unless_stranger asker.now (own_answer table))) }
-    ensures text { OnOk result (out.new ≡ text_of (unless_stranger asker.now (own_answer table))) }
+    ensures kind { IfOk result (λ kind. kind ≡ kind_of (unless_stranger asker.now (own_answer wording))) }
+    ensures text { OnOk result (out.new ≡ text_of (unless_stranger asker.now (own_answer wording))) }
 {
     if asker.is_stranger() {
         say(out, NO_AUTH)?;
         return Ok(Courtesy::Said);
     }
-    match table {
+    match wording {
         Some(_) => Ok(Courtesy::Widens),
         None => Ok(Courtesy::Left),
     }
@@ -303,7 +303,7 @@ fn reply_to(
 {
     let asked = command_of(value);
     if !is_refused(&asked) {
-        return leave(asker, table_of(&asked), out);
+        return leave(asker, wording_of(&asked), out);
     }
     let words = words_of(alloc, value)?;
     answer_words(alloc, asker, is_miscounted(&asked), words.as_slice(), out)

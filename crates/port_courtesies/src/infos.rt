@@ -230,7 +230,7 @@ fn add_told(
 }
 
 /// Adds a text where that is so.
-fn add_where(out: &mut OutText, is_so: bool, text: &[u8]) -> Result<(), NoMemory>
+pub(crate) fn add_where(out: &mut OutText, is_so: bool, text: &[u8]) -> Result<(), NoMemory>
     ensures { OnOk result (out.new ≡ out.old ++ where_told is_so text.now) }
 {
     if is_so {

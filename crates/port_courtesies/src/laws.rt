@@ -4,6 +4,7 @@ ghost use Rattle.std.specs.Prelude.{◌≡◌, ◌↔◌, ◌⊎◌, ◌≤◌, 
 ghost use Rattle.std.specs.List.{AllByRecursion, list_any};
 ghost use Rattle.ballot_law.specs.declared.commands.Command.{Command};
 ghost use Rattle.resp2.specs.declared.command.CommandFault.TheVariants.{UnknownCommand, WrongArguments};
+ghost use Rattle.resp2.specs.Asked.{IsCommon};
 ghost use Rattle.resp2.specs.Commands.{command_of};
 ghost use Rattle.resp2_frames.specs.declared.fault.Unread.TheVariants.{NeedsMore};
 ghost use Rattle.resp2_frames.specs.Frame.{Frame, spelling, HasLines, IsFrame};
@@ -11,16 +12,19 @@ ghost use Rattle.resp2_frames.specs.Reading.{Stays};
 ghost use Rattle.port_courtesies.specs.declared.courtesies.Courtesy.TheVariants.{Said};
 ghost use Rattle.port_courtesies.specs.declared.tables.Table.{Table};
 ghost use Rattle.port_courtesies.specs.Lines.{value_at, IsLineOf};
-ghost use Rattle.port_courtesies.specs.Widening.{field_name, otherwise, fields_of, told, wide_words, wide};
-ghost use Rattle.port_courtesies.specs.Courtesies.{Asker, left, widens, table_of, own_answer, said, silent, asks_nothing, is_stranger, is_password, words_of, courtesy, asker_after, kind_of};
+ghost use Rattle.port_courtesies.specs.Widening.{field_name, otherwise, fields_of, told, wide_words};
+ghost use Rattle.port_courtesies.specs.Wordings.{wide};
+ghost use Rattle.port_courtesies.specs.Courtesies.{Asker, left, widens, wording_of, own_answer, said, silent, asks_nothing, is_stranger, is_password, words_of, courtesy, asker_after, kind_of};
 
-/// A command of the Sentinel's rules is left to them, where the client gave the password that is wanted: SENTINEL MASTER, MASTERS, REPLICAS and SENTINELS with
-/// their answers told with more fields, each other one with nothing added. So is each value that they refuse for another reason than that they don't know
+/// A command of the Sentinel's rules is left to them, where the client gave the password that is wanted: SENTINEL MASTER, MASTERS, REPLICAS, SENTINELS and
+/// CKQUORUM with their answers told in other words, each other one as it is, so each that comes nearly always. So is each value that they refuse for another reason than that they don't know
 /// the command or its number of words, but for an array without items. A command changes nothing of the connection.
 pub fn law_own_values_are_left()
     ensures own { (asker : Asker) (value : Frame) (command : Command) → is_stranger asker ≡ false → command_of value ≡ Ok command
-        → courtesy asker value ≡ own_answer (table_of (Ok command)) }
+        → courtesy asker value ≡ own_answer (wording_of (Ok command)) }
     ensures same { (asker : Asker) (value : Frame) (command : Command) → command_of value ≡ Ok command → asker_after asker value ≡ asker }
+    ensures common { (asker : Asker) (value : Frame) (command : Command) → is_stranger asker ≡ false → command_of value ≡ Ok command → IsCommon command
+        → courtesy asker value ≡ left }
     ensures refused { (asker : Asker) (value : Frame) → is_stranger asker ≡ false
         → (asks_nothing value ≡ true)
         ⊎ (((courtesy asker value ≡ left) ⊎ (courtesy asker value ≡ widens)) ⊎ ((command_of value ≡ Err UnknownCommand) ⊎ (command_of value ≡ Err WrongArguments))) }
@@ -40,9 +44,9 @@ pub fn law_wide_rows_keep_fields()
         → AllByRecursion (λ f. told (field_name f) [] (wide_words (fields_of table) words) ≡ told (field_name f) (otherwise f) words) (fields_of table) }
 {}
 
-/// An answer that is told with more fields is one value, where the Sentinel's own is one.
+/// An answer that is told in other words is one value, where the Sentinel's own is one.
 pub fn law_wide_answers_are_values()
-    ensures { (value answer : Frame) → HasLines answer → HasLines (wide value answer) }
+    ensures { (asker : Asker) (value answer : Frame) → HasLines answer → HasLines (wide asker value answer) }
 {}
 
 /// No line of an answer holds a CR or LF, so what is written of it is one value: one answer.

@@ -3,7 +3,7 @@
 //!
 //! `courtesy_of` says what becomes of a value. One that the Sentinel's rules answer is left to them; each that they call unknown, or refuse for its
 //! number of words, has exactly one answer, by the table in docs/COURTESIES.md. No Sentinel is known here, so nothing of one is changed; what INFO says
-//! comes from the Sentinel's own answer to SENTINEL MASTERS. The answers about masters, replicas and Sentinels are told with redis-sentinel's fields. An
+//! comes from the Sentinel's own answer to SENTINEL MASTERS. The answers about masters, replicas, Sentinels and quorums are told in redis-sentinel's words. An
 //! `Attendant` reads the values of a client, in whose stream a command may come as a line in place of an array.
 #![tactic(auto)]
 
@@ -17,12 +17,14 @@ mod laws;
 mod lines;
 mod lookup;
 mod passwords;
+mod quorums;
 mod refusals;
 mod tables;
 mod verbs;
 mod widening;
+mod wordings;
 
-pub use asker::Asker;
+pub use asker::{Asker, MonitoredMaster};
 pub use attendants::Attendant;
 pub use courtesies::{Courtesy, courtesy_of};
 pub use infos::info;
@@ -31,4 +33,4 @@ pub use laws::{
     law_own_values_are_left, law_strangers_reach_nothing, law_values_are_spelled_or_lines,
     law_wide_answers_are_values, law_wide_rows_keep_fields,
 };
-pub use widening::wide;
+pub use wordings::wide;

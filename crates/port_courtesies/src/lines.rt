@@ -1,14 +1,17 @@
 //! Commands that come as lines.
 
-ghost use Rattle.std.specs.Prelude.{◌≡◌, ◌≤◌, ◌<◌, ◌==◌, true, length, IfOk, IfSome, MatchOption};
+ghost use Rattle.std.specs.Prelude.{◌≡◌, ◌≤◌, ◌<◌, ◌==◌, true, false, None, length, IfOk, IfSome, MatchOption};
 ghost use Rattle.ballot_law.specs.Cuts.{IsEnd};
+ghost use Rattle.resp2.specs.Asked.{IsCommon};
+ghost use Rattle.resp2.specs.Commands.{IsWithin};
 ghost use Rattle.resp2_frames.specs.Frame.{view, spelling, HasLines};
 ghost use Rattle.resp2_frames.specs.Stream as streams;
 ghost use Rattle.resp2_frames.specs.Stream.{held_size, bytes_in};
+ghost use Rattle.port_courtesies.specs.Attendants.{TakesCommon};
 ghost use Rattle.port_courtesies.specs.Lines.{array_of, is_web, command_in, command_of_line, is_kind, begins_line, line_size, IsFound, Answers};
 
 use crate::refusals::is_called;
-use ballot_law::{NoMemory, Text};
+use ballot_law::{Command, NoMemory, Text};
 use memchr::memchr;
 use quoted_words::redis_words;
 use resp2_frames::{FrameFault, Frames, OutText, Value, write_value};
@@ -178,4 +181,30 @@ pub(crate) fn next_value(alloc: Global, frames: &mut Frames) -> Result<Option<Va
     } else {
         next_frame(frames)
     }
+}
+
+/// Takes the next value, where it is a command that is read where it stands, and no line.
+pub(crate) fn next_common(frames: &mut Frames) -> Option<Command>
+    ensures taken { IfSome result (TakesCommon frames.old frames.new) }
+    ensures common { IfSome result IsCommon }
+    ensures within { IfSome result IsWithin }
+    ensures fewer { IfSome result (λ command. held_size frames.new < held_size frames.old) }
+    ensures left { result ≡ None → frames.new ≡ frames.old }
+{
+    if begins_line(frames.held()) {
+        return None;
+    }
+    take_common(frames)
+}
+
+/// Takes the next value, where it is a command that is read where it stands; the stream goes on with no line.
+fn take_common(frames: &mut Frames) -> Option<Command>
+    requires { begins_line (bytes_in frames.old) ≡ false }
+    ensures taken { IfSome result (TakesCommon frames.old frames.new) }
+    ensures common { IfSome result IsCommon }
+    ensures within { IfSome result IsWithin }
+    ensures fewer { IfSome result (λ command. held_size frames.new < held_size frames.old) }
+    ensures left { result ≡ None → frames.new ≡ frames.old }
+{
+    resp2::next_common(frames)
 }

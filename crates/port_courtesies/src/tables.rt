@@ -1,11 +1,7 @@
 //! The answers about masters, replicas and Sentinels, and the fields that redis-sentinel shows there.
 
 ghost use Rattle.std.specs.Prelude.{◌≡◌};
-ghost use Rattle.port_courtesies.specs.Courtesies.{table_of};
 ghost use Rattle.port_courtesies.specs.Widening.{field_name, otherwise, fields_of};
-
-use ballot_law::Command;
-use resp2::CommandFault;
 
 /// An answer that redis-sentinel tells with more fields.
 #[derive(Clone, Copy)]
@@ -54,19 +50,6 @@ pub(crate) enum Field {
     HelloMessage,
     VotedLeader,
     VotedEpoch,
-}
-
-/// The answer that is told with more fields, where these words ask for one.
-pub(crate) fn table_of(asked: &Result<Command, CommandFault>) -> Option<Table>
-    ensures { result ≡ table_of asked.now }
-{
-    match asked {
-        Ok(Command::Master(_)) => Some(Table::OneMaster),
-        Ok(Command::Masters) => Some(Table::AllMasters),
-        Ok(Command::Replicas(_)) => Some(Table::OfReplicas),
-        Ok(Command::Sentinels(_)) => Some(Table::OfSentinels),
-        _ => None,
-    }
 }
 
 impl Table {

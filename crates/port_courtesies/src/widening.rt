@@ -1,17 +1,16 @@
 //! The answers about masters, replicas and Sentinels with the fields of redis-sentinel.
 
-ghost use Rattle.std.specs.Prelude.{◌≡◌, ◌*◌, ◌∷◌, ◌++◌, Some, OnOk, length, map, decimal};
+ghost use Rattle.std.specs.Prelude.{◌≡◌, ◌*◌, ◌∷◌, ◌++◌, OnOk, length, map, decimal};
 ghost use Rattle.resp2.specs.Commands as commands;
 ghost use Rattle.resp2_frames.specs.Frame as frames;
 ghost use Rattle.resp2_frames.specs.Frame.{view, frames_view, frames_of, spelling, spellings, line_end};
-ghost use Rattle.port_courtesies.specs.Widening.{field_name, otherwise, told, wide_words, wide_row, wide_rows, wide_items, widened, wide};
+ghost use Rattle.port_courtesies.specs.Widening.{field_name, otherwise, told, wide_words, wide_row, wide_rows, wide_items, widened};
 
 use crate::clients::{add_number, say_bulk};
 use crate::courtesies::{words_of, words_of_items};
 use crate::refusals::say;
-use crate::tables::{Field, Table, table_of};
+use crate::tables::{Field, Table};
 use ballot_law::{NoMemory, Text};
-use resp2::command_of;
 use resp2_frames::{OutText, Value, push_bulk, push_int};
 use std::alloc::Global;
 
@@ -136,7 +135,7 @@ fn say_items(
 }
 
 /// The answer is a line after the byte of its kind.
-fn say_line(out: &mut OutText, kind: &[u8], line: &[u8]) -> Result<(), NoMemory>
+pub(crate) fn say_line(out: &mut OutText, kind: &[u8], line: &[u8]) -> Result<(), NoMemory>
     ensures { OnOk result (out.new ≡ kind.now ++ (line.now ++ line_end)) }
 {
     say(out, kind)?;
@@ -152,17 +151,12 @@ fn say_int(out: &mut OutText, number: i64) -> Result<(), NoMemory>
     push_int(out, number)
 }
 
-/// The answer is this one, with the fields that redis-sentinel shows there.
-fn say_widened(
-    alloc: Global,
-    out: &mut OutText,
-    table: Table,
-    answer: &Value,
-) -> Result<(), NoMemory>
-    ensures { OnOk result (out.new ≡ spelling (widened (Some table) (view answer.now))) }
+/// The answer is this one, where it is no array. NoMemory also where it is one.
+pub(crate) fn say_same(out: &mut OutText, answer: &Value) -> Result<(), NoMemory>
+    ensures { OnOk result (out.new ≡ spelling (view answer.now)) }
 {
     match answer {
-        Value::Items(items) => say_items(alloc, out, table, items.as_slice()),
+        Value::Items(_) => Err(NoMemory),
         Value::Fault(line) => say_line(out, b"-", line.as_slice()),
         Value::Simple(line) => say_line(out, b"+", line.as_slice()),
         Value::Int(number) => say_int(out, *number),
@@ -172,15 +166,17 @@ fn say_widened(
     }
 }
 
-/// Has `out` hold the answer to the value, SENTINEL MASTER, MASTERS, REPLICAS or SENTINELS, with redis-sentinel's fields in its order, where the Sentinel
-/// answers it with `answer`: docs/COURTESIES.md has the fields. An answer that is no array, as an error, stays as it is.
-///
-/// NoMemory: memory was refused, or the value is another one; what `out` then holds isn't told.
-pub fn wide(alloc: Global, value: &Value, answer: &Value, out: &mut OutText) -> Result<(), NoMemory>
-    ensures { OnOk result (out.new ≡ spelling (wide (view value.now) (view answer.now))) }
+/// The answer is this one, with the fields that redis-sentinel shows there.
+pub(crate) fn say_widened(
+    alloc: Global,
+    out: &mut OutText,
+    table: Table,
+    answer: &Value,
+) -> Result<(), NoMemory>
+    ensures { OnOk result (out.new ≡ spelling (widened table (view answer.now))) }
 {
-    match table_of(&command_of(value)) {
-        Some(table) => say_widened(alloc, out, table, answer),
-        None => Err(NoMemory),
+    match answer {
+        Value::Items(items) => say_items(alloc, out, table, items.as_slice()),
+        _ => say_same(out, answer),
     }
 }

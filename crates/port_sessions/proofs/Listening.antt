@@ -1,6 +1,6 @@
 -- The bytes of what a client is sent that listens.
 use Rattle.std.proofs.Common.{◌≡◌, ◌∙◌, ℕ, List, [], ◌∷◌, ◌++◌, decimal, refl, sym, ap, arith, subst, append-nil, Result, Ok, Err}
-use Rattle.std.proofs.lemmas.Fmt.{decimal_digit, decimal_step}
+use Rattle.std.proofs.lemmas.Fmt.{decimal_digit}
 use Rattle.std.specs.Prelude.{OnOk}
 use Rattle.resp2_frames.specs.Frame.{bulk, spelling}
 use Rattle.resp2_frames.specs.Writing.{Adds}

@@ -1,7 +1,7 @@
 -- The answer to a value, and the text that it is written to.
-use Rattle.std.proofs.Common.{◌≡◌, ℕ, true, List, Result, Ok, Err, Option, Some, None, refl, sym, ap, ◌∙◌, subst, inl, inr, true≢false}
+use Rattle.std.proofs.Common.{◌≡◌, ◌++◌, ℕ, true, List, [], Result, Ok, Err, Option, None, refl, sym, ap, ◌∙◌, subst, inl, inr, true≢false}
 use Rattle.std.proofs.lemmas.List.{append-nil}
-use Rattle.std.specs.Prelude.{OnOk, IfErr, is_some}
+use Rattle.std.specs.Prelude.{OnOk, OnErr, IfErr}
 use Rattle.ballot_law.specs.declared.cards.Shown.{Shown}
 use Rattle.ballot_law.specs.declared.commands.Command.{Command}
 use Rattle.ballot_law.specs.declared.commands.Command.TheVariants.{Ping, IsMasterDownByAddr, GetMasterAddrByName, Masters, Master, Replicas, Sentinels, MyId, CkQuorum, FlushConfig, Subscribe}
@@ -12,17 +12,14 @@ use Rattle.ballot_law.specs.declared.messages.Output.{Output}
 use Rattle.messages.specs.MessageTexts.{message_bytes}
 use Rattle.port_serving.specs.Serving.{output_bytes}
 use Rattle.std.specs.List.{flat_map}
-use Rattle.port_answers.specs.Answers.{command_fault}
 use Rattle.port_serving.specs.declared.fault.ServeFault.{ServeFault}
 use Rattle.port_serving.specs.declared.fault.ServeFault.TheVariants.{Frame as FaultyFrame, Read, Write, Halted as ServeHalted, NoMemory as OutOfMemory}
 use Rattle.resp2.specs.declared.command.CommandFault.{CommandFault}
-use Rattle.resp2_frames.specs.Frame.{spelling}
 use Rattle.sentinel_cell.specs.declared.view.View.{View}
 use Rattle.sentinel_cell.specs.Histories.{World}
 use Rattle.sentinel_rules.specs.Answers.{named}
-use Rattle.port_sessions.specs.Listening.{answer_while_listening}
-use Rattle.port_sessions.specs.Talks.{Party, party, takes_turn, listens_after, IsTold, TakesTurn, Replies, RespondsAt, Responds}
-use Rattle.port_sessions.specs.OnTheWay.{ShowsAnswer, ShowsNothing, Fails, Ends}
+use Rattle.port_sessions.specs.Talks.{Party, party, takes_turn, listens_after, IsTold, TakesTurn, Replies, RespondsAt, Responds, Fails, Ends}
+use Rattle.port_sessions.specs.OnTheWay.{ShowsAnswer, ShowsNothing}
 
 module _ (start : World) (now : ℕ) where
   -- the answer was written, or it had no room
@@ -84,3 +81,12 @@ module _ (start : World) (now : ℕ) where
   turn_failed v listens after command Read w silent still t h = h
   turn_failed v listens after command Write w silent still t h = h
   turn_failed v listens after command (FaultyFrame f) w silent still t h = h
+
+  -- the answer to a value joined those that aren't sent yet, or it had no room among them
+  pub put_out_ends : {X : Type 0} (p : Party) (command : Result Command CommandFault) (put : Result X ServeFault) (text before after : List ℕ)
+      (q : Party)
+      → OnOk put (after ≡ before ++ text) → OnErr put (after ≡ before) → IfErr put (λ fault. fault ≡ OutOfMemory) → Responds start now p command text q
+      → (more : List ℕ) × (after ≡ before ++ more) × Ends start now p command put more q
+  put_out_ends p command (Ok x) text before after q ok err fault r = (text, ok, r)
+  put_out_ends p command (Err f) text before after q ok err fault r =
+      ([], err ∙ sym (append-nil before), subst (λ (g : ServeFault). Fails start now p command g q) (sym fault) (inr (text, r)))

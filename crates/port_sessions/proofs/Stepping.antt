@@ -1,5 +1,5 @@
 -- One value more, and the ends of a piece.
-use Rattle.std.proofs.Common.{◌≡◌, ◌≢◌, ◌⊎◌, ℕ, Bool, true, false, List, [], ◌∷◌, ◌++◌, Some, None, Result, Ok, Err, refl, sym, ap, ◌∙◌, subst, inl, inr, append_assoc, true≢false}
+use Rattle.std.proofs.Common.{◌≡◌, ◌≢◌, ◌⊎◌, ℕ, Bool, true, false, List, [], ◌∷◌, ◌++◌, Some, Result, Ok, Err, refl, sym, ap, ◌∙◌, subst, inl, inr, append_assoc, true≢false}
 use Rattle.std.proofs.lemmas.List.{append-nil}
 use Rattle.std.specs.Prelude.{OnOk, is_err}
 use Rattle.port_serving.specs.declared.fault.ServeFault.{ServeFault}
@@ -15,8 +15,8 @@ use Rattle.resp2.specs.Asked.{Asks}
 use Rattle.resp2.specs.declared.command.CommandFault.{CommandFault}
 use Rattle.ballot_law.specs.declared.commands.Command.{Command}
 use Rattle.sentinel_cell.specs.Histories.{World}
-use Rattle.port_sessions.specs.Talks.{Party, Responds, AnswersTo, IsAnswered, IsRefused, IsCut, IsHaltedAt, Breaks}
-use Rattle.port_sessions.specs.OnTheWay.{Fails, IsOnTheWay, IsDone, Steps, Drains, Refuses, Takes}
+use Rattle.port_sessions.specs.Talks.{Party, Responds, Fails, AnswersTo, IsAnswered, IsRefused, IsCut, IsHaltedAt, Breaks}
+use Rattle.port_sessions.specs.OnTheWay.{IsOnTheWay, IsDone, Steps, Drains, Refuses, Takes}
 
 module _ (start : World) (now : ℕ) where
   answers-push : (p : Party) (values : List Frame) (bytes : List ℕ) (m : Party) (value : Frame) (more : List ℕ) (q : Party) → AnswersTo start now p values bytes m
@@ -97,14 +97,6 @@ module _ (start : World) (now : ℕ) where
   unanswered stream p held bytes m asked after q Read a given ends = absurd ends
   unanswered stream p held bytes m asked after q Write a given ends = absurd ends
   unanswered stream p held bytes m asked after q (FaultyFrame f) a given ends = absurd ends
-
-  -- the answer to a value had no room among those that aren't sent yet
-  pub not_put_out : (stream : List ℕ) (p : Party) (held : Held) (bytes : List ℕ) (m : Party) (asked : Result Command CommandFault) (after : Held) (text : List ℕ) (q : Party)
-      (why : ServeFault)
-      → why ≡ OutOfMemory → IsOnTheWay start now stream p held bytes m → Asks held (Ok (Some asked)) after
-      → Responds start now m asked text q → Breaks start now stream p why bytes q
-  not_put_out stream p held bytes m asked after text q why is a given r =
-      subst (λ (f : ServeFault). Breaks start now stream p f bytes q) (sym is) (unanswered stream p held bytes m asked after q OutOfMemory a given (inr (text, r)))
 
   -- ---- a whole piece
 

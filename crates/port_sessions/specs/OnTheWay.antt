@@ -8,7 +8,6 @@ use Rattle.messages.specs.MessageTexts.{IsWritable}
 use Rattle.port_serving.specs.declared.fault.ServeFault.{ServeFault}
 use Rattle.port_serving.specs.declared.fault.ServeFault.TheVariants.{Frame as FaultyFrame, Read, Write, Halted as ServeHalted, NoMemory as OutOfMemory}
 use Rattle.port_serving.specs.Serving.{last_line}
-use Rattle.resp2.specs.declared.command.CommandFault.{CommandFault}
 use Rattle.resp2_frames.specs.declared.fault.FrameFault.{FrameFault}
 use Rattle.resp2_frames.specs.declared.fault.FrameFault.TheVariants.{NoMemory as FrameMemory}
 use Rattle.resp2_frames.specs.Frame.{Frame}
@@ -19,7 +18,7 @@ use Rattle.sentinel_cell.specs.declared.fault.ActFault.TheVariants.{NoMemory, Sp
 use Rattle.sentinel_cell.specs.declared.view.View.{View}
 use Rattle.sentinel_cell.specs.Histories.{World}
 use Rattle.sentinel_cell.specs.Standing.{Adds, Faulted}
-use Rattle.port_sessions.specs.Talks.{asked, Party, Responds, AnswersTo, IsHaltedAt, IsAnswered, Breaks}
+use Rattle.port_sessions.specs.Talks.{asked, Party, AnswersTo, IsAnswered, Breaks}
 
 module _ (start : World) (now : ℕ) where
   -- a command took its turn, and shows one message
@@ -39,19 +38,6 @@ module _ (start : World) (now : ℕ) where
   abbrev pub Turns : {X : Type 0} → View → Command → Result X ServeFault → (shown : List Output) → View → Type 0
   Turns v command (Ok x) outputs w = ShowsAnswer v command outputs w
   Turns v command (Err fault) outputs w = ShowsNothing v command fault w
-
-  -- a value has no answer
-  abbrev pub Fails : Party → Result Command CommandFault → ServeFault → Party → Type 0
-  Fails p command ServeHalted q = IsHaltedAt start now p command q
-  Fails p command OutOfMemory q = (q ≡ p) ⊎ ((bytes : List ℕ) × Responds start now p command bytes q)
-  Fails p command (FaultyFrame fault) q = ⊥
-  Fails p command Read q = ⊥
-  Fails p command Write q = ⊥
-
-  -- how the answering of one value ends
-  abbrev pub Ends : {X : Type 0} → Party → Result Command CommandFault → Result X ServeFault → (text : List ℕ) → Party → Type 0
-  Ends p command (Ok x) text q = Responds start now p command text q
-  Ends p command (Err fault) text q = Fails p command fault q
 
   -- these values of the stream were answered, and the bytes behind them are held
   pub record IsOnTheWay (stream : List ℕ) (p : Party) (held : Held) (bytes : List ℕ) (q : Party) : Type 0 where

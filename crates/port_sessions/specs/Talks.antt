@@ -103,6 +103,34 @@ module _ (start : World) (now : ℕ) where
   abbrev pub Responds : Party → Result Command CommandFault → List ℕ → Party → Type 0
   Responds p command bytes q = RespondsAt p.listens p.view command bytes q
 
+  -- a command showed nothing in its turn where the session doesn't listen, since the Sentinel is halted or is so now, or has no turn, since no tickets are left
+  pub record IsHaltedAt (p : Party) (command : Result Command CommandFault) (q : Party) : Type 0 where
+    pub what : Command
+    pub is_it : command ≡ Ok what
+    pub turn : takes_turn what ≡ true
+    pub silent : p.listens ≡ None
+    pub why : ActFault
+    pub not_memory : why ≢ NoMemory
+    pub turned : Faulted start p.view (asked now what) [] q.view why
+
+  -- a value has no answer, for which a command may have been carried out
+  abbrev pub Fails : Party → Result Command CommandFault → ServeFault → Party → Type 0
+  Fails p command ServeHalted q = IsHaltedAt p command q
+  Fails p command OutOfMemory q = (q ≡ p) ⊎ ((bytes : List ℕ) × Responds p command bytes q)
+  Fails p command (FaultyFrame fault) q = ⊥
+  Fails p command Read q = ⊥
+  Fails p command Write q = ⊥
+
+  -- how the answering of one value ends
+  abbrev pub Ends : {X : Type 0} → Party → Result Command CommandFault → Result X ServeFault → (bytes : List ℕ) → Party → Type 0
+  Ends p command (Ok x) bytes q = Responds p command bytes q
+  Ends p command (Err fault) bytes q = Fails p command fault q
+
+  -- the same of a whole session: after a fault nothing is put out, and it listens to nothing
+  abbrev pub EndsSession : {X : Type 0} → Party → Result Command CommandFault → Result X ServeFault → (bytes : List ℕ) → Party → Type 0
+  EndsSession p command (Ok x) bytes q = Responds p command bytes q
+  EndsSession p command (Err fault) bytes q = (bytes ≡ []) × (q.listens ≡ None) × (listened : Option ℕ) × Fails p command fault (party q.view listened)
+
   -- the answers to these values, in their order, one behind the other
   abbrev pub AnswersTo : Party → List Frame → List ℕ → Party → Type 0
   AnswersTo p [] bytes q = (bytes ≡ []) × (q ≡ p)
@@ -125,16 +153,6 @@ module _ (start : World) (now : ℕ) where
     pub text : List ℕ
     pub bytes_are : bytes ≡ text ++ last_line
     pub answers : AnswersTo p values text q
-
-  -- a command showed nothing in its turn where the session doesn't listen, since the Sentinel is halted or is so now, or has no turn, since no tickets are left
-  pub record IsHaltedAt (p : Party) (command : Result Command CommandFault) (q : Party) : Type 0 where
-    pub what : Command
-    pub is_it : command ≡ Ok what
-    pub turn : takes_turn what ≡ true
-    pub silent : p.listens ≡ None
-    pub why : ActFault
-    pub not_memory : why ≢ NoMemory
-    pub turned : Faulted start p.view (asked now what) [] q.view why
 
   -- the values before a command were answered, and the command wasn't
   pub record IsHalted (stream : List ℕ) (p : Party) (bytes : List ℕ) (q : Party) : Type 0 where

@@ -4,15 +4,16 @@ ghost use Rattle.std.specs.Prelude.{◌≡◌, ◌≤◌, ◌<◌, ◌++◌, ℕ
 ghost use Rattle.resp2_frames.specs.Stream.{reading, held_size, bytes_in};
 ghost use Rattle.resp2_frames.specs.Frame.{spelling};
 ghost use Rattle.port_sessions.specs.Listening.{note_frame};
-ghost use Rattle.port_sessions.specs.Talks.{Party, party};
+ghost use Rattle.resp2.specs.Commands.{IsWithin};
+ghost use Rattle.port_sessions.specs.Talks.{Party, party, Ends};
 ghost use Rattle.port_sessions.specs.OnTheWay.{IsOnTheWay, Steps, Drains, Refuses, Takes};
 
 use crate::responder::Responder;
-use ballot_law::{NoMemory, Note, Roster};
+use ballot_law::{Command, NoMemory, Note, Roster};
 use bytes::BytesMut;
 use conf_store::ConfStore;
 use port_serving::ServeFault;
-use resp2::next_command;
+use resp2::{CommandFault, next_command};
 use resp2_frames::{FrameFault, Frames};
 use sentinel_cell::{Seat, SharedSentinel};
 use std::alloc::Global;
@@ -80,21 +81,13 @@ impl Exchange {
         }
     }
 
-    /// Drops the bytes that are no whole value.
-    pub(crate) fn drop_held(&mut self)
+    /// The conversation ends: the bytes that are no whole value are dropped, and the client is told of no more notes.
+    pub(crate) fn close(&mut self)
         ensures frames { self.new.frames ≡ reading [] }
-        ensures unsent { self.new.unsent.items ≡ self.old.unsent.items }
-        ensures listens { self.new.responder.listens ≡ self.old.responder.listens }
-    {
-        self.frames = Frames::new(self.alloc);
-    }
-
-    /// The client is told of no more notes.
-    pub(crate) fn stop_listening(&mut self)
-        ensures frames { self.new.frames ≡ self.old.frames }
         ensures unsent { self.new.unsent.items ≡ self.old.unsent.items }
         ensures silent { self.new.responder.listens ≡ None }
     {
+        self.frames = Frames::new(self.alloc);
         self.responder.stop_listening();
     }
 
@@ -142,6 +135,29 @@ impl Exchange {
         ServeFault::Frame(fault)
     }
 
+    /// Answers this command, or a value that is none for this reason.
+    pub(crate) fn answer<S: ConfStore, R: Wait>(
+        &mut self,
+        rt: &R,
+        cell: &SharedSentinel<S>,
+        seat: &mut Seat,
+        now: u64,
+        asked: Result<Command, CommandFault>,
+    ) -> Result<(), ServeFault>
+        requires own { seat.old.cell ≡ cell.now.id }
+        requires within { IfOk asked IsWithin }
+        ensures own { seat.new.cell ≡ seat.old.cell }
+        ensures frames { self.new.frames ≡ self.old.frames }
+        ensures answered { (more : List ℕ) × (self.new.unsent.items ≡ self.old.unsent.items ++ more)
+            × Ends cell.now.start now (party seat.old.view self.old.responder.listens) asked result more (party seat.new.view self.new.responder.listens) }
+        ensures err { OnErr result (self.new.unsent.items ≡ self.old.unsent.items) }
+    {
+        if let Err(fault) = self.responder.answer(rt, cell, seat, now, asked) {
+            return Err(fault);
+        }
+        self.put_out()
+    }
+
     /// Answers the first value that is whole, and tells whether there was one.
     fn answer_next<S: ConfStore, R: Wait>(
         &mut self,
@@ -163,10 +179,7 @@ impl Exchange {
             Ok(None) => return Ok(false),
             Err(fault) => return Err(self.refuse(fault)),
         };
-        if let Err(fault) = self.responder.answer(rt, cell, seat, now, asked) {
-            return Err(fault);
-        }
-        match self.put_out() {
+        match self.answer(rt, cell, seat, now, asked) {
             Ok(()) => Ok(true),
             Err(fault) => Err(fault),
         }

@@ -14,8 +14,8 @@ ghost use Rattle.sentinel_cell.specs.declared.view.View.{View};
 ghost use Rattle.sentinel_rules.specs.Answers.{named};
 ghost use Rattle.sentinel_rules.specs.Plans.{master_count};
 ghost use Rattle.port_sessions.specs.Listening.{note_frame, answer_while_listening};
-ghost use Rattle.port_sessions.specs.Talks.{IsTold, takes_turn, party, listens_after};
-ghost use Rattle.port_sessions.specs.OnTheWay.{Ends, Turns, ended_by};
+ghost use Rattle.port_sessions.specs.Talks.{IsTold, takes_turn, party, listens_after, Ends};
+ghost use Rattle.port_sessions.specs.OnTheWay.{Turns, ended_by};
 
 use crate::notes::{write_for_listener, write_note};
 use ballot_law::{

@@ -1,15 +1,17 @@
 //! A session as its callers see it.
 
-ghost use Rattle.std.specs.Prelude.{◌≡◌, ◌≤◌, ◌<◌, ◌++◌, ℕ, List, [], None, Some, OnOk, OnErr, IfErr, IfSome, length, drop};
+ghost use Rattle.std.specs.Prelude.{◌≡◌, ◌≤◌, ◌<◌, ◌++◌, ℕ, List, [], None, Some, OnOk, OnErr, IfOk, IfErr, IfSome, MatchResult, length, drop};
 ghost use Rattle.std.specs.Option.{is_some};
 ghost use Rattle.ballot_law.specs.declared.rosters.TheConstants.{MASTERS_MAX};
 ghost use Rattle.port_sessions.specs.Notes.{none_told, is_due, Notifies};
-ghost use Rattle.port_sessions.specs.Talks.{Receives, party};
+ghost use Rattle.port_sessions.specs.Talks.{EndsSession, Receives, party};
+ghost use Rattle.resp2.specs.Commands.{IsWithin};
 
 use crate::exchange::Exchange;
-use ballot_law::{MASTERS_MAX, NoMemory, Note, Roster};
+use ballot_law::{Command, MASTERS_MAX, NoMemory, Note, Roster};
 use conf_store::ConfStore;
 use port_serving::ServeFault;
+use resp2::CommandFault;
 use sentinel_cell::{Seat, SharedSentinel};
 use std::alloc::Global;
 use std::marker::Model;
@@ -98,8 +100,44 @@ impl Session {
         match self.exchange.take_piece(rt, cell, seat, now, piece) {
             Ok(()) => Ok(()),
             Err(fault) => {
-                self.exchange.drop_held();
-                self.exchange.stop_listening();
+                self.exchange.close();
+                self.fault = Some(fault);
+                Err(fault)
+            }
+        }
+    }
+
+    /// Answers a command, or a value that is none for this reason, as `received` answers the value that spells it: for a caller who reads the client's stream.
+    /// What is held is no part of it, and stays. It waits for the Sentinel's turn where the command takes one.
+    ///
+    /// `Halted` and `NoMemory` are those of `received`, and end the session as they do there; no other fault comes.
+    pub fn answer<S: ConfStore, R: Wait>(
+        &mut self,
+        rt: &R,
+        cell: &SharedSentinel<S>,
+        seat: &mut Seat,
+        now: u64,
+        asked: Result<Command, CommandFault>,
+    ) -> Result<(), ServeFault>
+        requires own { seat.old.cell ≡ cell.now.id }
+        requires within { IfOk asked IsWithin }
+        ensures own { seat.new.cell ≡ seat.old.cell }
+        ensures answered { self.old.ended ≡ None → (more : List ℕ) × (self.new.unsent ≡ self.old.unsent ++ more)
+            × EndsSession cell.now.start now (party seat.old.view self.old.listens) asked result more (party seat.new.view self.new.listens) }
+        ensures held { OnOk result (self.new.held ≡ self.old.held) }
+        ensures told { self.new.told ≡ self.old.told }
+        ensures end { MatchResult result (λ done. self.new.ended ≡ None) (λ fault. self.new.ended ≡ Some fault) }
+        ensures emptied { OnErr result ((self.new.held ≡ []) × (self.new.listens ≡ None)) }
+        // An ended session answers its fault, and nothing else happens.
+        ensures ended { IfSome self.old.ended (λ fault. (result ≡ Err fault) × (self.new ≡ self.old) × (seat.new ≡ seat.old)) }
+    {
+        if let Some(fault) = self.fault {
+            return Err(fault);
+        }
+        match self.exchange.answer(rt, cell, seat, now, asked) {
+            Ok(()) => Ok(()),
+            Err(fault) => {
+                self.exchange.close();
                 self.fault = Some(fault);
                 Err(fault)
             }

@@ -1,6 +1,7 @@
 -- A command that stands at the front of a list of bytes, apart from the value that it is.
 use Rattle.std.specs.Prelude.{◌≡◌, ◌≤◌, ℕ, List, ◌∷◌, ◌++◌, length, decimal, codes, Option, Result, Ok, IfOk, IfSome}
 use Rattle.ballot_law.specs.declared.commands.Command.{Command}
+use Rattle.ballot_law.specs.declared.commands.Command.TheVariants.{Ping, GetMasterAddrByName, IsMasterDownByAddr}
 use Rattle.ballot_law.specs.Words.{lower}
 use Rattle.resp2.specs.declared.command.CommandFault.{CommandFault}
 use Rattle.resp2.specs.Commands.{command_of}
@@ -30,3 +31,10 @@ abbrev pub IsBehindNames : ℕ → List ℕ → List ℕ → List ℕ → Type 0
 IsBehindNames n name bytes rest =
     (first : List ℕ) × (second : List ℕ) × (bytes ≡ 42 ∷ ((decimal n ++ line_end) ++ (spelling (bulk first) ++ (spelling (bulk second) ++ rest))))
     × Reads (codes "sentinel") first × Reads name second
+
+-- the command is one of those that come nearly always
+abbrev pub IsCommon : Command → Type 0
+IsCommon Ping = Unit {0}
+IsCommon (GetMasterAddrByName name) = Unit {0}
+IsCommon (IsMasterDownByAddr addr epoch candidate) = Unit {0}
+IsCommon command = ⊥

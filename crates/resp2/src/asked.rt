@@ -4,7 +4,7 @@
 //! small letters, as client libraries spell them. What these functions don't know is left to the reader of values.
 
 ghost use Rattle.std.specs.Prelude.{◌≡◌, ◌≤◌, ◌+◌, ◌⊎◌, ◌∷◌, ◌++◌, ℕ, length, drop, decimal, codes, IfOk, IfSome};
-ghost use Rattle.resp2.specs.Asked.{Found, IsBehindPing, IsBehindNames};
+ghost use Rattle.resp2.specs.Asked.{Found, IsBehindPing, IsBehindNames, IsCommon};
 ghost use Rattle.resp2.specs.Commands as commands;
 ghost use Rattle.resp2_frames.specs.Frame.{bulk, spelling, line_end};
 
@@ -177,6 +177,7 @@ fn behind_question(bytes: &[u8]) -> Option<&[u8]>
 fn ping_at(bytes: &[u8]) -> Option<(Result<Command, CommandFault>, &[u8])>
     ensures found { IfSome result (λ x. Found bytes.now x.0 x.1.now) }
     ensures within { IfSome result (λ x. IfOk x.0 commands.IsWithin) }
+    ensures common { IfSome result (λ x. IfOk x.0 IsCommon) }
 {
     let rest = behind_ping(bytes)?;
     Some((Ok(Command::Ping), rest))
@@ -185,6 +186,7 @@ fn ping_at(bytes: &[u8]) -> Option<(Result<Command, CommandFault>, &[u8])>
 fn address_at(bytes: &[u8]) -> Option<(Result<Command, CommandFault>, &[u8])>
     ensures found { IfSome result (λ x. Found bytes.now x.0 x.1.now) }
     ensures within { IfSome result (λ x. IfOk x.0 commands.IsWithin) }
+    ensures common { IfSome result (λ x. IfOk x.0 IsCommon) }
 {
     let (name, rest) = word_at(behind_address(bytes)?)?;
     Some((Ok(Command::GetMasterAddrByName(name_of(name))), rest))
@@ -193,6 +195,7 @@ fn address_at(bytes: &[u8]) -> Option<(Result<Command, CommandFault>, &[u8])>
 fn question_at(bytes: &[u8]) -> Option<(Result<Command, CommandFault>, &[u8])>
     ensures found { IfSome result (λ x. Found bytes.now x.0 x.1.now) }
     ensures within { IfSome result (λ x. IfOk x.0 commands.IsWithin) }
+    ensures common { IfSome result (λ x. IfOk x.0 IsCommon) }
 {
     let (ip, rest) = word_at(behind_question(bytes)?)?;
     let (port, rest) = word_at(rest)?;
@@ -206,6 +209,7 @@ fn question_at(bytes: &[u8]) -> Option<(Result<Command, CommandFault>, &[u8])>
 fn asked_at(bytes: &[u8]) -> Option<(Result<Command, CommandFault>, &[u8])>
     ensures found { IfSome result (λ x. Found bytes.now x.0 x.1.now) }
     ensures within { IfSome result (λ x. IfOk x.0 commands.IsWithin) }
+    ensures common { IfSome result (λ x. IfOk x.0 IsCommon) }
 {
     match bytes.get(1)? {
         b'1' => ping_at(bytes),
@@ -220,6 +224,7 @@ pub(crate) fn asked_of(bytes: &[u8]) -> Option<(Result<Command, CommandFault>, u
     ensures found { IfSome result (λ x. Found bytes.now x.0 (drop x.1 bytes.now)) }
     ensures short { IfSome result (λ x. x.1 ≤ length bytes.now) }
     ensures within { IfSome result (λ x. IfOk x.0 commands.IsWithin) }
+    ensures common { IfSome result (λ x. IfOk x.0 IsCommon) }
 {
     match asked_at(bytes) {
         Some((asked, rest)) => Some((asked, bytes.len().saturating_sub(rest.len()))),

@@ -1,6 +1,7 @@
 //! The commands of a Sentinel's port, as values.
 ghost use Rattle.std.specs.Prelude.{◌≡◌, ◌∷◌, [], IfOk};
 ghost use Rattle.ballot_law.specs.Words.{name, lower};
+ghost use Rattle.resp2.specs.Asked.{IsCommon};
 ghost use Rattle.resp2.specs.Commands as commands;
 ghost use Rattle.resp2_frames.specs.Frame as frames;
 ghost use Rattle.resp2_frames.specs.Frame.{view, frames_view};
@@ -94,6 +95,7 @@ pub(crate) fn question_of(
     id: &[u8],
 ) -> Result<Command, CommandFault>
     ensures within { IfOk result commands.IsWithin }
+    ensures common { IfOk result IsCommon }
     ensures command { result
         ≡ commands.is_master_down_by_addr (ip.now ∷ port.now ∷ epoch.now ∷ id.now ∷ []) }
 {

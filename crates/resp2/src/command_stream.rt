@@ -1,6 +1,6 @@
 //! Reads commands from a stream that comes in pieces.
-ghost use Rattle.std.specs.Prelude.{◌≡◌, ◌<◌, ◌≤◌, OnOk, IfOk, IfSome};
-ghost use Rattle.resp2.specs.Asked.{Asks};
+ghost use Rattle.std.specs.Prelude.{◌≡◌, ◌<◌, ◌≤◌, Ok, Some, None, OnOk, IfOk, IfSome};
+ghost use Rattle.resp2.specs.Asked.{Asks, IsCommon};
 ghost use Rattle.resp2.specs.Commands.{IsWithin};
 ghost use Rattle.resp2_frames.specs.Stream.{held_size};
 
@@ -34,5 +34,25 @@ pub fn next_command(
         Ok(Some(value)) => Ok(Some(command_of(&value))),
         Ok(None) => Ok(None),
         Err(fault) => Err(fault),
+    }
+}
+
+/// Takes the first value out of the bytes that came, where it is PING, a question for the address of a master or the question whether a master is down, in
+/// a spelling that `next_command` reads where it stands. `None` leaves the reader unchanged: any other value, less than a whole one, or a fault may stand there. No
+/// memory is taken.
+pub fn next_common(frames: &mut Frames) -> Option<Command>
+    ensures taken { IfSome result (λ command. Asks frames.old (Ok (Some (Ok command))) frames.new) }
+    ensures within { IfSome result IsWithin }
+    ensures common { IfSome result IsCommon }
+    // With each value fewer bytes are held.
+    ensures fewer { IfSome result (λ command. held_size frames.new < held_size frames.old) }
+    ensures left { result ≡ None → frames.new ≡ frames.old }
+{
+    match asked_of(frames.held()) {
+        Some((Ok(command), count)) => {
+            frames.skip(count);
+            Some(command)
+        }
+        _ => None,
     }
 }

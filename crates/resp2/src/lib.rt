@@ -11,6 +11,6 @@ mod command_stream;
 mod laws;
 
 pub use command::{CommandFault, command_of};
-pub use command_stream::next_command;
+pub use command_stream::{next_command, next_common};
 pub use laws::law_ask_is_read_again;
 pub use resp2_frames::{FrameFault, Frames, OutText, Value, write_value};

@@ -1,24 +1,33 @@
 //! What a port answers to commands beside a Sentinel's own.
 
-use crate::commands::{array, value_of};
+ghost use Rattle.resp2_frames.specs.Frame.{view, HasLines};
+
+use crate::commands::{array, tell_command, value_of};
+use crate::given::number_32;
 use crate::told::{Told, Unplayed};
 use ballot_law::{Name, Text};
-use port_courtesies::{Asker, Attendant, Courtesy, courtesy_of, info, wide};
-use resp2_frames::{FrameFault, OutText};
+use port_courtesies::{Asker, Attendant, Courtesy, MonitoredMaster, courtesy_of, info, wide};
+use resp2_frames::{FrameFault, OutText, Value, write_value};
 use std::alloc::Global;
 
-/// A connection with number 21 and this name, at a Sentinel that watches `mymaster`.
-fn asker(alloc: Global, name: &[u8], listens: bool) -> Result<Asker, Unplayed> {
+/// The master `mymaster` with this quorum.
+fn mymaster(alloc: Global, quorum: u32) -> Result<Vec<MonitoredMaster>, Unplayed> {
     let mut masters = Vec::new(alloc);
-    let Some(master) = Name::from_slice(b"mymaster") else {
+    let Some(name) = Name::from_slice(b"mymaster") else {
         return Err(Unplayed::WrongWords);
     };
-    masters.push(master)?;
+    masters.push(MonitoredMaster { name, quorum })?;
+    Ok(masters)
+}
+
+/// A connection with number 21 and this name, at one of three Sentinels that watch `mymaster`.
+fn asker(alloc: Global, name: &[u8], listens: bool) -> Result<Asker, Unplayed> {
     Ok(Asker {
         id: 21,
         name: Text::from_slice(alloc, name)?,
         listens,
-        masters,
+        masters: mymaster(alloc, 2)?,
+        sentinels: 3,
         password: None,
         admitted: false,
     })
@@ -89,6 +98,7 @@ fn tell_wide(
     let mut out = OutText::new(alloc);
     wide(
         alloc,
+        &asker(alloc, b"", false)?,
         &array(alloc, words)?,
         &value_of(alloc, answer)?,
         &mut out,
@@ -96,35 +106,104 @@ fn tell_wide(
     told.bytes(out.as_slice())
 }
 
-/// Tells what becomes of the values that are whole, a value that is left by its bytes; of INFO also its answer, and of a command whose answer is told with
-/// more fields its bytes and that answer, where the Sentinel answers with no masters. Whether the stream goes on.
+/// Tells the answer to CKQUORUM in redis-sentinel's words, where a Sentinel gives this one, `mymaster` has this quorum, and there are so many Sentinels.
+fn tell_quorum(
+    alloc: Global,
+    quorum: u32,
+    sentinels: u32,
+    answer: &[u8],
+    words: &[Vec<u8>],
+    told: &mut Told,
+) -> Result<(), Unplayed> {
+    let mut asker = asker(alloc, b"", false)?;
+    asker.masters = mymaster(alloc, quorum)?;
+    asker.sentinels = sentinels as usize;
+    let mut out = OutText::new(alloc);
+    let answer = value_of(alloc, answer)?;
+    wide(alloc, &asker, &array(alloc, words)?, &answer, &mut out)?;
+    told.bytes(out.as_slice())
+}
+
+/// Tells a value by its bytes.
+fn tell_value(alloc: Global, value: &Value, told: &mut Told) -> Result<(), Unplayed>
+    requires { HasLines (view value.now) }
+{
+    let mut out = OutText::new(alloc);
+    write_value(value, &mut out)?;
+    told.bytes(out.as_slice())
+}
+
+/// Tells what becomes of a value, one that is left by its bytes; of INFO also its answer, and of a command whose answer is told in other words its bytes and that
+/// answer, where the Sentinel answers with no masters.
+fn tell_one(
+    alloc: Global,
+    attendant: &mut Attendant,
+    value: &Value,
+    told: &mut Told,
+) -> Result<(), Unplayed>
+    requires { HasLines (view value.now) }
+{
+    let kind = attendant.attend_to(value)?;
+    tell_kind(kind, attendant.text(), told)?;
+    match kind {
+        Courtesy::Said => Ok(()),
+        Courtesy::Left => tell_value(alloc, value, told),
+        Courtesy::Widens => {
+            tell_value(alloc, value, told)?;
+            attendant.widen(value, &array(alloc, &[])?)?;
+            told.bytes(attendant.text())
+        }
+        Courtesy::AsksMasters => {
+            attendant.inform(value, &array(alloc, &[])?)?;
+            told.bytes(attendant.text())
+        }
+    }
+}
+
+/// Tells what becomes of the values that are whole. Whether the stream goes on.
 fn tell_whole(alloc: Global, attendant: &mut Attendant, told: &mut Told) -> Result<bool, Unplayed> {
     for _ in 0..u64::MAX {
-        let kind = match attendant.attend() {
-            Ok(Some(kind)) => kind,
+        match attendant.next() {
+            Ok(Some(value)) => tell_one(alloc, attendant, &value, told)?,
             Ok(None) => return Ok(true),
             Err(FrameFault::NoMemory) => return Err(Unplayed::NoMemory),
             Err(fault) => {
                 told.shown(&fault)?;
                 return Ok(false);
             }
-        };
-        tell_kind(kind, attendant.text(), told)?;
-        match kind {
-            Courtesy::Said => {}
-            Courtesy::Left => told.bytes(attendant.text())?,
-            Courtesy::Widens => {
-                told.bytes(attendant.text())?;
-                attendant.widen(&array(alloc, &[])?)?;
-                told.bytes(attendant.text())?;
-            }
-            Courtesy::AsksMasters => {
-                attendant.inform(&array(alloc, &[])?)?;
-                told.bytes(attendant.text())?;
-            }
         }
     }
     Ok(false)
+}
+
+/// Tells the commands that come first and are read where they stand.
+fn tell_commands(attendant: &mut Attendant, told: &mut Told) -> Result<(), Unplayed> {
+    for _ in 0..u64::MAX {
+        match attendant.next_common() {
+            Some(command) => tell_command(&command, told)?,
+            None => return Ok(()),
+        }
+    }
+    Ok(())
+}
+
+/// Tells of each piece the commands that come first and are read where they stand, and the value after them by its bytes.
+fn tell_common(
+    alloc: Global,
+    attendant: &mut Attendant,
+    pieces: &[Vec<u8>],
+    told: &mut Told,
+) -> Result<(), Unplayed> {
+    for piece in pieces {
+        if attendant.feed(piece).is_err() {
+            return Err(Unplayed::NoMemory);
+        }
+        tell_commands(attendant, told)?;
+        if let Ok(Some(value)) = attendant.next() {
+            tell_value(alloc, &value, told)?;
+        }
+    }
+    Ok(())
 }
 
 /// Tells what becomes of the values of a stream that comes in these pieces.
@@ -179,6 +258,11 @@ pub(crate) fn play(
         ("ask_as", [name, words @ ..]) => tell(alloc, &mut asker(alloc, name, false)?, words, told),
         ("info", [masters, words @ ..]) => tell_info(alloc, masters, words, told),
         ("widen", [answer, words @ ..]) => tell_wide(alloc, answer, words, told),
+        ("quorum", [quorum, sentinels, answer, words @ ..]) => {
+            let (quorum, sentinels) = (number_32(quorum)?, number_32(sentinels)?);
+            tell_quorum(alloc, quorum, sentinels, answer, words, told)
+        }
+        ("take_common", pieces) => tell_common(alloc, &mut attendant(alloc)?, pieces, told),
         ("attend", pieces) => tell_stream(alloc, &mut attendant(alloc)?, pieces, told),
         ("attend_listening", pieces) => tell_stream(alloc, &mut listening(alloc)?, pieces, told),
         ("attend_locked", pieces) => tell_stream(alloc, &mut demanding(alloc)?, pieces, told),

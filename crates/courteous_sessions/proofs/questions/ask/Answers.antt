@@ -1,7 +1,12 @@
-use Rattle.courteous_sessions.proofs.Values.{asked_one}
+use Rattle.courteous_sessions.proofs.Values.{answered_idle, faults_of}
 use Rattle.courteous_sessions.proofs.questions.ask.Goals as goal
 
-pub returns-in-Ok-clause-answered : goal.returns-in-Ok-clause-answered
-returns-in-Ok-clause-answered g c = λ value frame is.
-    asked_one c.args.cell.now.start c.args.now c.args.session.now c.received.new.self c.args.seat.now.view c.received.new.seat.view c.in-Ok.field-0 c.args.bytes.now value
-    c.requires.idle frame is c.in-Ok.ensures.received
+pub returns-clause-answered : goal.returns-clause-answered
+returns-clause-answered g c =
+    answered_idle c.args.cell.now.start c.args.now c.args.session.now c.answer.new.self c.args.seat.now.view c.answer.new.seat.view c.args.asked c.answer.result c.requires.idle
+    c.answer.ensures.answered c.answer.ensures.held
+
+pub returns-clause-fault : goal.returns-clause-fault
+returns-clause-fault g c =
+    faults_of c.args.cell.now.start c.args.now c.args.session.now c.answer.new.self c.args.seat.now.view c.answer.new.seat.view c.args.asked c.answer.result c.requires.idle
+    c.answer.ensures.answered

@@ -1,9 +1,10 @@
 use Rattle.std.proofs.Common.{◌≡◌, ◌++◌, length, map}
 use Rattle.resp2_frames.specs.Frame.{bulk, frames_of, spellings}
+use Rattle.port_courtesies.specs.Courtesies.{names_of}
 use Rattle.port_courtesies.proofs.clients.add_names.Given as goal
 
 abbrev pub invariant-loop-rest : goal.invariant-loop-rest
-invariant-loop-rest l = l.fn.out ++ spellings (frames_of (map bulk l.names)) ≡ l.out ++ spellings (frames_of (map bulk l.rest))
+invariant-loop-rest l = l.fn.out ++ spellings (frames_of (map bulk (names_of l.masters))) ≡ l.out ++ spellings (frames_of (map bulk (names_of l.rest)))
 
 abbrev pub decreases-loop-rest : goal.decreases-loop-rest
 decreases-loop-rest l = length l.rest

@@ -1,4 +1,4 @@
-use Rattle.port_courtesies.proofs.WideRows.{wide_has_lines}
+use Rattle.port_courtesies.proofs.WordingLines.{wide_has_lines}
 use Rattle.port_courtesies.proofs.laws.law_wide_answers_are_values.Goals as goal
 
 pub returns : goal.returns

@@ -1,5 +1,4 @@
 use Rattle.std.proofs.Common.{◌∙◌, List, ℕ, ap, subst}
-use Rattle.port_courtesies.specs.declared.lines.Line.{Line}
 use Rattle.port_courtesies.specs.declared.lines.Line.TheVariants.{Whole, Open, Broken}
 use Rattle.port_courtesies.specs.Lines.{begins_line, IsFound}
 use Rattle.port_courtesies.proofs.LineReader.{whole_answered, open_answered, broken_answered, whole_has_lines}

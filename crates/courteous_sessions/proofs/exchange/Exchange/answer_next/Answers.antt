@@ -1,17 +1,23 @@
-use Rattle.resp2_frames.specs.Frame.{view}
-use Rattle.courteous_sessions.proofs.Stepping.{read_frame, step_answered}
+use Rattle.std.proofs.Common.{◌∙◌, ap, sym, subst}
+use Rattle.port_courtesies.specs.Attendants.{Attendance, TakesCommon}
+use Rattle.port_sessions.specs.Talks.{Talk}
+use Rattle.courteous_sessions.proofs.Stepping.{step_common}
 use Rattle.courteous_sessions.proofs.exchange.Exchange.answer_next.Goals as goal
-
-pub answer_value-requires-clause-frame : goal.answer_value-requires-clause-frame
-answer_value-requires-clause-frame g c = (
-  read_frame view c.in-Ok-Some.value c.args.self.now.attendant.held c.next.new.self.held c.requires.ready.reads (rw c.in-Ok-Some.field-0-is at c.in-Ok-Some.ensures.exact),
-  rw c.in-Ok-Some.field-0-is at c.in-Ok-Some.ensures.lines,
-)
 
 pub returns-in-Ok-clause-answered : goal.returns-in-Ok-clause-answered
 returns-in-Ok-clause-answered g c = λ stream first bytes visitor is a.
     let before = c.args.self.now in
-    let after = c.answer_value.new.self in
-    step_answered c.args.cell.now.start c.args.now view c.in-Ok-Some.value stream first bytes visitor before.attendant c.next.new.self after.attendant before.subscriptions
-    after.subscriptions before.unsent.items after.unsent.items before.session after.session c.args.seat.now.view c.answer_value.new.seat.view is a c.requires.ready
-    (rw c.in-Ok-Some.field-0-is at c.in-Ok-Some.ensures.exact) c.next.ensures.asker c.in-Ok.ensures.held c.in-Ok.ensures.served
+    let after = c.hand_on.new.self in
+    let kept = c.hand_on.ensures.kept.0 in
+    let command = c.in-Some.command in
+    let taken = subst (λ (x : Attendance). TakesCommon before.attendant.held x.held command) (sym kept) c.in-Some.ensures.taken in
+    step_common c.args.cell.now.start c.args.now command stream first bytes visitor before.attendant after.attendant before.subscriptions after.subscriptions before.unsent.items
+    after.unsent.items before.session after.session c.args.seat.now.view c.hand_on.new.seat.view is a c.requires.ready taken c.in-Some.ensures.common.0 c.in-Some.ensures.plain
+    (ap (λ (x : Attendance). x.asker) kept ∙ c.next_common.ensures.asker) (c.hand_on.ensures.kept.2 ∙ c.next_common.ensures.kept.1)
+    (c.hand_on.ensures.told ∙ ap (λ (t : Talk). t.told) c.next_common.ensures.session)
+    (rw (c.next_common.ensures.session, c.next_common.ensures.unsent) at c.in-Ok.ensures.answered)
+
+pub returns-in-None-clause-answered : goal.returns-in-None-clause-answered
+returns-in-None-clause-answered g c =
+    let same = c.next_common.ensures.left c.in-None.is in
+    rw (same, c.next_common.ensures.session, c.next_common.ensures.unsent, c.next_common.ensures.kept.1) at c.answer_any.ensures.answered

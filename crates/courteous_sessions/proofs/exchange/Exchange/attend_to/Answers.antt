@@ -1,6 +1,7 @@
 use Rattle.std.proofs.Common.{◌∙◌}
+use Rattle.port_courtesies.specs.Courtesies.{courtesy}
 use Rattle.resp2_frames.specs.Frame.{view}
-use Rattle.courteous_sessions.proofs.Serving.{answered_by_others}
+use Rattle.courteous_sessions.proofs.Serving.{answered_by_others, asked_before}
 use Rattle.courteous_sessions.proofs.Stepping.{on_ok}
 use Rattle.courteous_sessions.proofs.exchange.Exchange.attend_to.Goals as goal
 
@@ -14,5 +15,7 @@ returns-in-Ok-clause-served g c =
     answered_by_others c.args.cell.now.start c.args.now before.attendant after.attendant before.subscriptions after.subscriptions before.session after.session
     c.args.seat.now.view c.answer.new.seat.view value before.unsent.items after.unsent.items c.requires.ready c.requires.other
     (c.answer.ensures.same.asker ∙ c.in-Ok.ensures.asker) (c.answer.ensures.same.held ∙ c.attend_to.ensures.held) c.answer.ensures.told c.answer.ensures.kept.1
-    (answered before.attendant.asker value c.requires.frame.0 c.in-Ok.ensures.kind c.in-Ok.ensures.text))
+    (asked_before c.args.cell.now.start c.args.now before.attendant.asker c.attend_to.new.self.asker value (courtesy before.attendant.asker value) before.unsent.items
+    after.unsent.items c.args.seat.now.view before.session after.session c.answer.new.seat.view c.in-Ok.ensures.asker
+    (answered (courtesy before.attendant.asker value) c.in-Ok.ensures.kind c.in-Ok.ensures.text)))
     c.answer.ensures.answered

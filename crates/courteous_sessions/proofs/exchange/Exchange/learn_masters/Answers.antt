@@ -1,10 +1,12 @@
-use Rattle.std.proofs.Common.{◌∙◌, ap, List, map}
-use Rattle.ballot_law.specs.Rosters.{Roster, MasterPlan}
+use Rattle.std.proofs.Common.{◌∙◌, List, ap, map, length}
+use Rattle.ballot_law.specs.declared.rosters.Member.{Member}
+use Rattle.ballot_law.specs.Rosters.{Roster}
+use Rattle.courteous_sessions.specs.Visits.{monitored}
 use Rattle.courteous_sessions.proofs.Stepping.{introduced_now}
 use Rattle.courteous_sessions.proofs.exchange.Exchange.learn_masters.Goals as goal
 
 pub returns-in-Ok-clause-attendant : goal.returns-in-Ok-clause-attendant
 returns-in-Ok-clause-attendant g c =
-    let of_roster = c.masters.ensures ∙ ap (λ (r : Roster). r.masters) c.roster.ensures in
-    introduced_now c.args.cell.now.start c.args.self.now.knows_masters c.args.self.now.attendant c.note_masters.new.self c.in-Ok.names.items c.if-self.false
-    (c.in-Ok.ensures ∙ ap (λ (ms : List MasterPlan). map (λ (m : MasterPlan). m.name) ms) of_roster) c.note_masters.ensures
+    introduced_now c.args.cell.now.start c.args.self.now.knows_masters c.args.self.now.attendant c.note_masters.new.self c.in-Ok.masters.items
+    (length c.sentinels-sentinels.result.now) c.if-self.false (c.in-Ok.ensures ∙ ap (λ (r : Roster). map monitored r.masters) c.roster.ensures)
+    (ap (λ (ms : List Member). length ms) c.sentinels-sentinels.ensures ∙ ap (λ (r : Roster). length r.sentinels) c.roster-in-Ok.ensures) c.note_masters.ensures

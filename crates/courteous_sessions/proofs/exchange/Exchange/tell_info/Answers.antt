@@ -2,18 +2,19 @@ use Rattle.std.proofs.Common.{◌∙◌, ◌++◌, ap, sym, List, [], ℕ}
 use Rattle.port_courtesies.specs.Attendants.{Attendance}
 use Rattle.port_sessions.specs.Talks.{Talk}
 use Rattle.courteous_sessions.proofs.Stepping.{on_ok, ok_of, masters_told}
+use Rattle.resp2_frames.specs.Frame.{view}
 use Rattle.courteous_sessions.proofs.exchange.Exchange.tell_info.Goals as goal
 
 pub returns-clause-answered : goal.returns-clause-answered
 returns-clause-answered g c =
     let before = c.args.self.now in
-    let asked = c.ask_masters.new.session in
+    let asked = c.ask.new.session in
     let kept = c.drop_answers.new.self in
     on_ok c.put_out.result
-    (λ put value frame is.
-    let told = ok_of c.inform.result (sym c.is_err.ensures.value ∙ c.if-is_err.false) c.inform.ensures.text value frame is in
-    masters_told c.args.cell.now.start c.args.now value before.session asked kept.session c.args.seat.now.view c.ask_masters.new.seat.view before.unsent.items
-    c.put_out.new.unsent.items kept.attendant.text c.in_ok-ask_masters.ensures.answered c.in_ok-ask_masters.ensures.goes_on
+    (λ put.
+    let told = ok_of c.inform.result (sym c.is_err.ensures.value ∙ c.if-is_err.false) c.inform.ensures.text in
+    masters_told c.args.cell.now.start c.args.now (view c.args.value.now) before.session asked kept.session c.args.seat.now.view c.ask.new.seat.view before.unsent.items
+    c.put_out.new.unsent.items kept.attendant.text c.in_ok-ask.ensures.answered c.in_ok-ask.ensures.goes_on
     (c.drop_answers.ensures.session ∙ ap (λ (t : Talk). let s : Talk = record t { unsent = [] } in s) c.inform.ensures.session)
     (told.0, told.1, ap (λ (a : Attendance). a.text) c.drop_answers.ensures.attendant ∙ told.2)
     (put

@@ -2,6 +2,7 @@ use Rattle.std.proofs.Common.{◌∙◌, ◌++◌, ap, sym, List, [], ℕ}
 use Rattle.port_courtesies.specs.Attendants.{Attendance}
 use Rattle.port_sessions.specs.Talks.{Talk}
 use Rattle.courteous_sessions.proofs.Stepping.{on_ok, ok_of, wide_told}
+use Rattle.resp2_frames.specs.Frame.{view}
 use Rattle.courteous_sessions.proofs.exchange.Exchange.tell_wide.Goals as goal
 
 pub returns-clause-answered : goal.returns-clause-answered
@@ -10,13 +11,13 @@ returns-clause-answered g c =
     let asked = c.ask.new.session in
     let kept = c.drop_answers.new.self in
     on_ok c.put_out.result
-    (λ put value frame is.
-    let told = ok_of c.widen.result (sym c.is_err.ensures.value ∙ c.if-is_err.false) c.widen.ensures.text value frame is in
-    wide_told c.args.cell.now.start c.args.now value before.session asked kept.session c.args.seat.now.view c.ask.new.seat.view before.unsent.items
-    c.put_out.new.unsent.items kept.attendant.text (c.in_ok-ask.ensures.answered value frame (c.text.ensures ∙ is)) c.in_ok-ask.ensures.goes_on
+    (λ put.
+    let told = ok_of c.widen.result (sym c.is_err.ensures.value ∙ c.if-is_err.false) c.widen.ensures.text in
+    wide_told c.args.cell.now.start c.args.now before.attendant.asker (view c.args.value.now) before.session asked kept.session c.args.seat.now.view c.ask.new.seat.view before.unsent.items
+    c.put_out.new.unsent.items kept.attendant.text (rw c.command_of-asked.ensures.command at c.in_ok-ask.ensures.answered) c.in_ok-ask.ensures.goes_on
     (c.drop_answers.ensures.session ∙ ap (λ (t : Talk). let s : Talk = record t { unsent = [] } in s) c.widen.ensures.session)
     (told.0, told.1, ap (λ (a : Attendance). a.text) c.drop_answers.ensures.attendant ∙ told.2)
     (put
-    ∙ ap (λ (t : List ℕ). kept.unsent.items ++ t) c.text-2.ensures
+    ∙ ap (λ (t : List ℕ). kept.unsent.items ++ t) c.text.ensures
     ∙ ap (λ u. u.items ++ kept.attendant.text) (c.drop_answers.ensures.unsent ∙ c.widen.ensures.unsent)))
     c.put_out.ensures.ok
