@@ -39,7 +39,7 @@ const ROOM_KEPT: usize = 16_384;
 
 /// What tells what becomes of each value, to what the connection listens, the session that answers what is left to it, and the answers that aren't sent yet.
 ///
-/// The session is handed each value by itself, so it holds no bytes between two calls. It listens to notes where the connection hears of new addresses.
+/// The session is asked commands alone, so it holds no bytes. It listens to notes where the connection hears of new addresses.
 /// `knows_masters` is whether the attendant was told the names of the Sentinel's masters.
 #[derive(Drop)]
 pub(crate) struct Exchange {
@@ -219,14 +219,14 @@ impl Exchange {
         cell: &SharedSentinel<S>,
         seat: &mut Seat,
         now: u64,
-        asked: Result<Command, CommandFault>,
+        asked: &Result<Command, CommandFault>,
     ) -> Result<(), ServeFault>
         requires own { seat.old.cell ≡ cell.now.id }
         requires idle { IsIdle self.old.session }
-        requires within { IfOk asked IsWithin }
+        requires within { IfOk asked.now IsWithin }
         ensures own { seat.new.cell ≡ seat.old.cell }
         ensures answered { OnOk result ((more : List ℕ) × (self.new.unsent.items ≡ self.old.unsent.items ++ more) × IsIdle self.new.session
-            × Responds cell.now.start now (party seat.old.view self.old.session.listens) asked more (party seat.new.view self.new.session.listens)) }
+            × Responds cell.now.start now (party seat.old.view self.old.session.listens) asked.now more (party seat.new.view self.new.session.listens)) }
         ensures told { self.new.session.told ≡ self.old.session.told }
         ensures err { OnErr result (self.new.unsent.items ≡ self.old.unsent.items) }
         ensures fault { IfErr result (λ fault. (fault ≡ ServeFault.Halted) ⊎ (fault ≡ ServeFault.NoMemory)) }
@@ -258,7 +258,7 @@ impl Exchange {
         ensures kept { (self.new.knows_masters ≡ self.old.knows_masters) × (self.new.subscriptions ≡ self.old.subscriptions) }
     {
         let asked = Ok(Command::Masters);
-        ask(rt, cell, seat, now, &mut self.session, asked)?;
+        ask(rt, cell, seat, now, &mut self.session, &asked)?;
         if self.inform(value).is_err() {
             return Err(ServeFault::NoMemory);
         }
@@ -302,7 +302,7 @@ impl Exchange {
         ensures kept { (self.new.knows_masters ≡ self.old.knows_masters) × (self.new.subscriptions ≡ self.old.subscriptions) }
     {
         let asked = command_of(value);
-        ask(rt, cell, seat, now, &mut self.session, asked)?;
+        ask(rt, cell, seat, now, &mut self.session, &asked)?;
         if self.widen(value).is_err() {
             return Err(ServeFault::NoMemory);
         }
@@ -364,7 +364,7 @@ impl Exchange {
         ensures kept { (self.new.knows_masters ≡ self.old.knows_masters) × (self.new.subscriptions ≡ self.old.subscriptions) }
     {
         match kind {
-            Courtesy::Left => self.hand_on(rt, cell, seat, now, command_of(value)),
+            Courtesy::Left => self.hand_on(rt, cell, seat, now, &command_of(value)),
             Courtesy::Widens => self.tell_wide(rt, cell, seat, now, value),
             Courtesy::Said => put_out(&mut self.unsent, self.attendant.text()),
             Courtesy::AsksMasters => self.tell_info(rt, cell, seat, now, value),
@@ -470,7 +470,7 @@ impl Exchange {
             (guest_of self.new.attendant self.new.subscriptions self.new.session seat.new.view) }
     {
         match self.next_common() {
-            Some(command) => match self.hand_on(rt, cell, seat, now, Ok(command)) {
+            Some(command) => match self.hand_on(rt, cell, seat, now, &Ok(command)) {
                 Ok(()) => Ok(true),
                 Err(fault) => Err(fault),
             },

@@ -91,7 +91,7 @@ impl Exchange {
             return Ok(());
         }
         let asked = Ok(Command::Subscribe);
-        ask(rt, cell, seat, now, &mut self.session, asked)?;
+        ask(rt, cell, seat, now, &mut self.session, &asked)?;
         self.drop_answers();
         Ok(())
     }

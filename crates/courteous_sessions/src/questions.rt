@@ -25,13 +25,13 @@ pub(crate) fn ask<S: ConfStore, R: Wait>(
     seat: &mut Seat,
     now: u64,
     session: &mut Session,
-    asked: Result<Command, CommandFault>,
+    asked: &Result<Command, CommandFault>,
 ) -> Result<(), ServeFault>
     requires own { seat.old.cell ≡ cell.now.id }
     requires idle { IsIdle session.old }
-    requires within { IfOk asked IsWithin }
+    requires within { IfOk asked.now IsWithin }
     ensures own { seat.new.cell ≡ seat.old.cell }
-    ensures answered { OnOk result (Responds cell.now.start now (party seat.old.view session.old.listens) asked session.new.unsent
+    ensures answered { OnOk result (Responds cell.now.start now (party seat.old.view session.old.listens) asked.now session.new.unsent
         (party seat.new.view session.new.listens) × (session.new.held ≡ [])) }
     ensures goes_on { OnOk result (session.new.ended ≡ None) }
     ensures told { session.new.told ≡ session.old.told }

@@ -98,6 +98,14 @@ module _ (start : World) (now : ℕ) where
   unanswered stream p held bytes m asked after q Write a given ends = absurd ends
   unanswered stream p held bytes m asked after q (FaultyFrame f) a given ends = absurd ends
 
+  -- the answer to a value had no room among those that aren't sent yet
+  pub not_put_out : (stream : List ℕ) (p : Party) (held : Held) (bytes : List ℕ) (m : Party) (asked : Result Command CommandFault) (after : Held) (text : List ℕ) (q : Party)
+      (why : ServeFault)
+      → why ≡ OutOfMemory → IsOnTheWay start now stream p held bytes m → Asks held (Ok (Some asked)) after
+      → Responds start now m asked text q → Breaks start now stream p why bytes q
+  not_put_out stream p held bytes m asked after text q why is a given r =
+      subst (λ (f : ServeFault). Breaks start now stream p f bytes q) (sym is) (unanswered stream p held bytes m asked after q OutOfMemory a given (inr (text, r)))
+
   -- ---- a whole piece
 
   pub went_on : (stream : List ℕ) (p : Party) (more : Bool) (held : Held) (bytes : List ℕ) (q : Party) → more ≡ true → Steps start now stream p (Ok more) held bytes q

@@ -142,17 +142,17 @@ impl Exchange {
         cell: &SharedSentinel<S>,
         seat: &mut Seat,
         now: u64,
-        asked: Result<Command, CommandFault>,
+        asked: &Result<Command, CommandFault>,
     ) -> Result<(), ServeFault>
         requires own { seat.old.cell ≡ cell.now.id }
-        requires within { IfOk asked IsWithin }
+        requires within { IfOk asked.now IsWithin }
         ensures own { seat.new.cell ≡ seat.old.cell }
         ensures frames { self.new.frames ≡ self.old.frames }
         ensures answered { (more : List ℕ) × (self.new.unsent.items ≡ self.old.unsent.items ++ more)
-            × Ends cell.now.start now (party seat.old.view self.old.responder.listens) asked result more (party seat.new.view self.new.responder.listens) }
+            × Ends cell.now.start now (party seat.old.view self.old.responder.listens) asked.now result more (party seat.new.view self.new.responder.listens) }
         ensures err { OnErr result (self.new.unsent.items ≡ self.old.unsent.items) }
     {
-        if let Err(fault) = self.responder.answer(rt, cell, seat, now, asked) {
+        if let Err(fault) = self.responder.answer(rt, cell, seat, now, *asked) {
             return Err(fault);
         }
         self.put_out()
@@ -179,7 +179,10 @@ impl Exchange {
             Ok(None) => return Ok(false),
             Err(fault) => return Err(self.refuse(fault)),
         };
-        match self.answer(rt, cell, seat, now, asked) {
+        if let Err(fault) = self.responder.answer(rt, cell, seat, now, asked) {
+            return Err(fault);
+        }
+        match self.put_out() {
             Ok(()) => Ok(true),
             Err(fault) => Err(fault),
         }

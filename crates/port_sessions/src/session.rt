@@ -117,13 +117,13 @@ impl Session {
         cell: &SharedSentinel<S>,
         seat: &mut Seat,
         now: u64,
-        asked: Result<Command, CommandFault>,
+        asked: &Result<Command, CommandFault>,
     ) -> Result<(), ServeFault>
         requires own { seat.old.cell ≡ cell.now.id }
-        requires within { IfOk asked IsWithin }
+        requires within { IfOk asked.now IsWithin }
         ensures own { seat.new.cell ≡ seat.old.cell }
         ensures answered { self.old.ended ≡ None → (more : List ℕ) × (self.new.unsent ≡ self.old.unsent ++ more)
-            × EndsSession cell.now.start now (party seat.old.view self.old.listens) asked result more (party seat.new.view self.new.listens) }
+            × EndsSession cell.now.start now (party seat.old.view self.old.listens) asked.now result more (party seat.new.view self.new.listens) }
         ensures held { OnOk result (self.new.held ≡ self.old.held) }
         ensures told { self.new.told ≡ self.old.told }
         ensures end { MatchResult result (λ done. self.new.ended ≡ None) (λ fault. self.new.ended ≡ Some fault) }

@@ -34,7 +34,7 @@ pub(crate) enum Unserved {
 fn tell_orders(rt: HostRuntime) {
     if rt.stdin().is_terminal() {
         let _ = eprintln!(rt;
-            "sentinel_group: takes the lines stop d0, start d0 and set d0 100 0 0, and ends with standard input (Ctrl-D)"
+            "sentinel_group: takes the lines stop d0, start d0, set d0 100 0 0, stop s0 and start s0, and ends with standard input (Ctrl-D)"
         );
     }
 }
@@ -48,7 +48,7 @@ fn run_group<R, S, P>(
     words: &ArgMatches,
 ) -> Result<(), OrderedFault>
 where
-    R: Threads + Wait + Clock + Log + Input + Sync,
+    R: Threads + Wait + Net + Clock + Log + Input + Sync,
     S: ConfStore + Drop + Send,
     P: ServesNodes + Drop + Send,
 {

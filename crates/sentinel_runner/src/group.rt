@@ -8,14 +8,16 @@ ghost use Rattle.sentinel_runner.specs.Groups.{AreOneGroup};
 use crate::group_fault::{GroupFault, OrderedFault};
 use crate::node_parts::{ServesNodes, WithoutPorts};
 use crate::opened::{PortSettings, room_of};
-use crate::orders::{Orders, ReadFailed};
+use crate::orders::{FollowsOrders, NetOrders, Orders, ReadFailed};
 use crate::port_parts::end_for_want;
+use crate::restarts::Restarts;
+use crate::shared::Shared;
 use crate::started::Started;
+use crate::stop_words::StopWords;
 use conf_store::ConfStore;
 use crossbeam_channel::Receiver;
 use group_checks::is_one_group;
 use group_links::{DataNodes, Links, NodeOrder, SharedNodes};
-use group_ports::PortRoom;
 use group_sentinels::{GroupClock, RunFault, RunState};
 use log::Log;
 use sentinel_conf::Conf;
@@ -39,8 +41,10 @@ struct Beginning<S: ConfStore> {
 #[derive(Drop)]
 pub struct Group<S: ConfStore> {
     threads: Beginning<S>,
+    restarts: Restarts<S>,
     nodes: DataNodes,
     links: Links,
+    stops: StopWords,
     state: RunState,
 }
 
@@ -51,14 +55,14 @@ fn start_all<S: ConfStore + Drop, R: Net + Log>(
     mut confs: Vec<Conf>,
     mut stores: Vec<S>,
     links: &mut Links,
-    room: PortRoom,
+    restarts: &mut Restarts<S>,
 ) -> Result<Vec<Started<S>>, GroupFault>
     requires room { All (λ s. S.failure_count s < 2 ^ 64 - 1) stores.items }
     ensures roster { IfErr result (λ fault. fault ≢ NotOneRoster) }
 {
     let mut sentinels = Vec::new(alloc);
     while let (Some(conf), Some(store)) = (confs.pop(), stores.pop()) {
-        sentinels.push(Started::open(rt, alloc, conf, store, links, room)?)?;
+        sentinels.push(Started::open(rt, alloc, conf, store, links, restarts)?)?;
     }
     Ok(sentinels)
 }
@@ -133,18 +137,25 @@ impl<S: ConfStore + Drop> Group<S> {
             unreachable!()
         };
         let nodes = DataNodes::of(alloc, first)?;
+        let Ok(roster) = first.roster().copy(alloc) else {
+            return Err(GroupFault::NoMemory);
+        };
         let (mut links, node_orders) = Links::open(alloc, confs.len())?;
+        let stops = StopWords::new(alloc, confs.len())?;
         let clock = GroupClock::start(rt);
         let room = room_of(rt, alloc, confs.len(), port, own)?;
-        let sentinels = start_all(rt, alloc, confs, stores, &mut links, room)?;
+        let mut restarts = Restarts::new(alloc, confs.len(), roster, room)?;
+        let sentinels = start_all(rt, alloc, confs, stores, &mut links, &mut restarts)?;
         Ok(Group {
             threads: Beginning {
                 sentinels,
                 node_orders,
                 alloc,
             },
+            restarts,
             nodes,
             links,
+            stops,
             state: RunState::new(clock),
         })
     }
@@ -152,14 +163,6 @@ impl<S: ConfStore + Drop> Group<S> {
     /// From now on a Sentinel of the group that is halted closes its port, with the connections that are there.
     pub fn close_halted(&self) {
         self.state.close_halted();
-    }
-
-    /// Takes lines that stop, start or set a data node while the group runs.
-    fn orders(&self) -> Result<Orders, GroupFault>
-        ensures roster { IfErr result (λ fault. fault ≢ NotOneRoster) }
-    {
-        let node_orders = self.links.node_orders()?;
-        Ok(Orders::new(node_orders, self.nodes.count()))
     }
 }
 
@@ -186,19 +189,26 @@ impl<S: ConfStore + Drop + Send> Group<S> {
     {
         let Group {
             threads,
+            restarts: _,
             nodes,
             links,
+            stops,
             state,
         } = self;
-        let nodes = SharedNodes::new(nodes);
-        run_beside_ports(rt, ports, threads, &nodes, &state, &links, ending);
-        outcome(&state)
+        let shared = Shared {
+            nodes: SharedNodes::new(nodes),
+            links,
+            stops,
+            state,
+        };
+        run_beside_ports(rt, ports, threads, &shared, ending);
+        outcome(&shared.state)
     }
 
     /// Runs each Sentinel and the data nodes, and obeys the lines of the input until its end, which ends the group. The stores are gone then.
     ///
     /// `Read` where the input couldn't be read to its end and nothing of the group was at fault.
-    pub fn run_by_orders<I: Read, R: Threads + Wait + Clock + Log + Sync>(
+    pub fn run_by_orders<I: Read, R: Threads + Wait + Net + Clock + Log + Sync>(
         self,
         rt: &R,
         input: &mut I,
@@ -208,7 +218,7 @@ impl<S: ConfStore + Drop + Send> Group<S> {
     }
 
     /// As `run_by_orders`, with what serves the data nodes to clients.
-    pub fn run_by_orders_with<P, I: Read, R: Threads + Wait + Clock + Log + Sync>(
+    pub fn run_by_orders_with<P, I: Read, R: Threads + Wait + Net + Clock + Log + Sync>(
         self,
         rt: &R,
         ports: P,
@@ -218,30 +228,39 @@ impl<S: ConfStore + Drop + Send> Group<S> {
     where
         P: ServesNodes + Drop + Send,
     {
-        let orders = self.orders()?;
+        let Ok(node_orders) = self.links.node_orders() else {
+            return Err(OrderedFault::Group(GroupFault::NoMemory));
+        };
         let Group {
             threads,
+            restarts,
             nodes,
             links,
+            stops,
             state,
         } = self;
-        let nodes = SharedNodes::new(nodes);
-        let read = follow_beside_ports(
-            rt, ports, threads, orders, input, &nodes, &state, &links, ending,
-        );
-        outcome(&state)?;
+        let orders = NetOrders {
+            orders: Orders::new(node_orders, nodes.count(), restarts),
+            net: rt,
+        };
+        let shared = Shared {
+            nodes: SharedNodes::new(nodes),
+            links,
+            stops,
+            state,
+        };
+        let read = follow_beside_ports(rt, ports, threads, orders, input, &shared, ending);
+        outcome(&shared.state)?;
         read.map_err(|_| OrderedFault::Read)
     }
 }
 
-/// Starts the thread that serves the data nodes to clients, and runs all others. Many parameters: as those of `follow_beside`.
+/// Starts the thread that serves the data nodes to clients, and runs all others.
 fn run_beside_ports<'a, S, P, R>(
     rt: &'a R,
     ports: P,
     threads: Beginning<S>,
-    nodes: &'a SharedNodes,
-    state: &'a RunState,
-    links: &'a Links,
+    shared: &'a Shared,
     ending: &'a AtomicU64,
 )
 where
@@ -250,25 +269,23 @@ where
     R: Threads + Wait + Clock + Log + Sync,
 {
     thread::scope(thread::scope_env(), rt, |scope| {
-        let begun = scope.spawn(move || ports.serve(rt, state, nodes, ending));
+        let begun = scope.spawn(move || ports.serve(rt, &shared.state, &shared.nodes, ending));
         if begun.is_err() {
-            return end_for_want(state, ending);
+            return end_for_want(&shared.state, ending);
         }
-        run_threads(rt, threads, nodes, state, links, ending);
+        run_threads(rt, threads, shared, ending);
     })
 }
 
-/// Starts the thread that serves the data nodes to clients, and follows the orders of the input beside all others. Many parameters: as those of
-/// `follow_beside`.
-fn follow_beside_ports<'a, S, P, I: Read, R>(
+/// Starts the thread that serves the data nodes to clients, and follows the orders of the input beside all others. Many parameters: the threads borrow
+/// what they share, and have the rest by value.
+fn follow_beside_ports<'a, S, P, O: FollowsOrders + Drop, I: Read, R>(
     rt: &'a R,
     ports: P,
     threads: Beginning<S>,
-    orders: Orders,
+    orders: O,
     input: &mut I,
-    nodes: &'a SharedNodes,
-    state: &'a RunState,
-    links: &'a Links,
+    shared: &'a Shared,
     ending: &'a AtomicU64,
 ) -> Result<(), ReadFailed>
 where
@@ -277,25 +294,22 @@ where
     R: Threads + Wait + Clock + Log + Sync,
 {
     thread::scope(thread::scope_env(), rt, |scope| {
-        let begun = scope.spawn(move || ports.serve(rt, state, nodes, ending));
+        let begun = scope.spawn(move || ports.serve(rt, &shared.state, &shared.nodes, ending));
         if begun.is_err() {
-            end_for_want(state, ending);
+            end_for_want(&shared.state, ending);
             return Ok(());
         }
-        follow_beside(rt, threads, orders, input, nodes, state, links, ending)
+        follow_beside(rt, threads, orders, input, shared, ending)
     })
 }
 
-/// Runs all threads, beside which this one follows the orders of the input to its end. Then they end too. Many parameters: the threads borrow
-/// the parts of a group one by one.
-fn follow_beside<'a, S, I: Read, R>(
+/// Runs all threads, beside which this one follows the orders of the input to its end. Then they end too.
+fn follow_beside<'a, S, O: FollowsOrders + Drop, I: Read, R>(
     rt: &'a R,
     threads: Beginning<S>,
-    mut orders: Orders,
+    mut orders: O,
     input: &mut I,
-    nodes: &'a SharedNodes,
-    state: &'a RunState,
-    links: &'a Links,
+    shared: &'a Shared,
     ending: &'a AtomicU64,
 ) -> Result<(), ReadFailed>
 where
@@ -303,12 +317,12 @@ where
     R: Threads + Wait + Clock + Log + Sync,
 {
     thread::scope(thread::scope_env(), rt, |scope| {
-        let begun = scope.spawn(move || run_threads(rt, threads, nodes, state, links, ending));
+        let begun = scope.spawn(move || run_threads(rt, threads, shared, ending));
         if begun.is_err() {
-            state.note(RunFault::LackedThread);
+            shared.state.note(RunFault::LackedThread);
             return Ok(());
         }
-        let read = orders.follow(rt, input);
+        let read = orders.follow(rt, input, shared, ending);
         ending.store(1, Ordering::SeqCst);
         read
     })
@@ -335,13 +349,12 @@ pub(crate) fn outcome(state: &RunState) -> Result<(), GroupFault>
     }
 }
 
-/// Runs the data nodes in a thread, and each Sentinel in one that starts its others. Where one can't be made, all end.
+/// Runs the data nodes in a thread, and each Sentinel in one that starts its others. Where one can't be made, all end. The threads of a Sentinel look at its
+/// own word alone, and each word says that they are to end once the data nodes have ended.
 fn run_threads<'a, S, R>(
     rt: &'a R,
     threads: Beginning<S>,
-    nodes: &'a SharedNodes,
-    state: &'a RunState,
-    links: &'a Links,
+    shared: &'a Shared,
     ending: &'a AtomicU64,
 )
 where
@@ -355,16 +368,16 @@ where
     } = threads;
     thread::scope(thread::scope_env(), rt, |scope| {
         let mut refused = scope
-            .spawn(move || nodes.run(rt, state, links, &node_orders, ending))
+            .spawn(move || shared.run_nodes(rt, &node_orders, ending))
             .is_err();
         for started in sentinels {
             refused |= scope
-                .spawn(move || started.run(rt, alloc, state, links, ending))
+                .spawn(move || started.run(rt, alloc, shared, ending))
                 .is_err();
         }
         if refused {
-            state.note(RunFault::LackedThread);
-            ending.store(1, Ordering::SeqCst);
+            end_for_want(&shared.state, ending);
+            shared.stops.stop_all();
         }
     })
 }

@@ -9,7 +9,10 @@ mod node_parts;
 mod opened;
 mod orders;
 mod port_parts;
+mod restarts;
+mod shared;
 mod started;
+mod stop_words;
 mod watch;
 
 pub use group::{Group, run_group};

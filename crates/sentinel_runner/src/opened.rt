@@ -106,7 +106,7 @@ impl<S: ConfStore + Drop> Opened<S> {
     {
         let number = conf.port();
         match Port::open(rt, alloc, number, room) {
-            Ok(ports) => Self::with_port(alloc, conf, store, ports, room.threads(), beside),
+            Ok(ports) => Self::with_port(alloc, conf, store, ports, room.threads(), beside, 0),
             Err(error) => {
                 if error.kind() != ErrorKind::OutOfMemory {
                     warn!(rt; "port {number} of 127.0.0.1 can't be had");
@@ -116,8 +116,8 @@ impl<S: ConfStore + Drop> Opened<S> {
         }
     }
 
-    /// Opens the Sentinel of this conf at clock 0, with what each of the so many threads of its port serves, and a seat for each of them and for so many
-    /// threads beside them.
+    /// Opens the Sentinel of this conf at this reading of the clock, with what each of the `threads` threads of its port serves, and a seat for each of them and
+    /// for the `beside` other threads. Many parameters: each is what the Sentinel begins with.
     pub(crate) fn with_port(
         alloc: Global,
         conf: Conf,
@@ -125,6 +125,7 @@ impl<S: ConfStore + Drop> Opened<S> {
         ports: (Port, Vec<Port>),
         threads: u16,
         beside: u16,
+        now: u64,
     ) -> Result<Opened<S>, GroupFault>
         requires room { S.failure_count store < 2 ^ 64 - 1 }
         requires threads { length ports.1.items + 1 ≡ threads }
@@ -133,7 +134,7 @@ impl<S: ConfStore + Drop> Opened<S> {
     {
         let (port, others) = ports;
         let (number, place) = (conf.port(), conf.place());
-        let Ok(sentinel) = Sentinel::open(alloc, conf, 0) else {
+        let Ok(sentinel) = Sentinel::open(alloc, conf, now) else {
             return Err(GroupFault::NoMemory);
         };
         let seats = u64::from(threads) + u64::from(beside);

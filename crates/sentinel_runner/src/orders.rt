@@ -1,72 +1,135 @@
-//! Lines that stop, start or set a data node while a group runs.
+//! Lines that stop, start or set a data node while a group runs, or stop or start a Sentinel.
 
 ghost use Rattle.std.specs.Prelude.{◌≡◌, ◌∷◌, [], ℕ, None, Some, IfSome};
 ghost use Rattle.ballot_law.specs.Words.{cut_at};
-ghost use Rattle.sentinel_runner.specs.Orders.{node_of, order_of, order_of_words, plain_order, set_order};
+ghost use Rattle.sentinel_runner.specs.Orders.{number_below, target_of, node_of, stopping, starting, plain_order, set_order, order_of, order_of_words};
 
 use crate::line_reader::LineReader;
+use crate::restarts::Restarts;
+use crate::shared::Shared;
 use ballot_law::is_same_bytes;
+use conf_store::ConfStore;
 use crossbeam_channel::Sender;
 use group_links::{GREATEST, NodeOrder};
 use log::{Log, warn};
 use std::io::{ErrorKind, Read};
+use std::net::Net;
+use std::rt::Clock;
 use std::sync::Wait;
+use std::sync::atomic::AtomicU64;
 use words::{number_of, split_at_byte};
 
 /// How many bytes one read asks for.
 const PIECE: usize = 512;
 
-/// Where orders go, and how many data nodes there are.
-#[derive(Drop)]
-pub(crate) struct Orders {
-    node_orders: Sender<NodeOrder>,
-    nodes: u16,
-    reader: LineReader,
-}
-
 /// The input couldn't be read to its end.
 #[derive(Clone, Copy, PartialEq, Eq)]
 pub(crate) struct ReadFailed;
 
-/// The data node that `d` and its number name, where there is one.
-fn node_of(word: &[u8], nodes: u16) -> Option<u16>
-    ensures { result ≡ node_of nodes word.now }
-{
-    let (letter, digits) = word.split_first()?;
-    if *letter != b'd' {
-        return None;
-    }
-    let number = number_of(digits, 0, u64::from(u16::MAX))? as u16;
-    if number < nodes { Some(number) } else { None }
+/// How many Sentinels and data nodes there are that orders can name.
+#[derive(Clone, Copy)]
+pub(crate) struct Counts {
+    pub(crate) sentinels: u16,
+    pub(crate) nodes: u16,
 }
 
-/// Has a data node stop or start.
-fn plain_order(verb: &[u8], number: u16) -> Option<NodeOrder>
-    ensures { result ≡ plain_order verb.now number }
+/// What a word of an order names, by its number.
+#[derive(Clone, Copy)]
+pub(crate) enum Target {
+    /// A Sentinel.
+    Sentinel(u16),
+    /// A data node.
+    Node(u16),
+}
+
+/// What a line orders.
+#[derive(Drop)]
+pub(crate) enum LineOrder {
+    /// The Sentinel with this number stops.
+    StopSentinel(u16),
+    /// It starts.
+    StartSentinel(u16),
+    /// A data node does something.
+    ToNode(NodeOrder),
+}
+
+/// The number that these digits are, where it is below the count.
+fn number_below(digits: &[u8], count: u16) -> Option<u16>
+    ensures { result ≡ number_below count digits.now }
+{
+    let number = number_of(digits, 0, u64::from(u16::MAX))? as u16;
+    if number < count { Some(number) } else { None }
+}
+
+/// The Sentinel that `s` and its number name, or the data node that `d` and its number name, where there is one.
+fn target_of(word: &[u8], counts: Counts) -> Option<Target>
+    ensures { result ≡ target_of counts word.now }
+{
+    let (letter, digits) = word.split_first()?;
+    match *letter {
+        b's' => Some(Target::Sentinel(number_below(digits, counts.sentinels)?)),
+        b'd' => Some(Target::Node(number_below(digits, counts.nodes)?)),
+        _ => None,
+    }
+}
+
+/// The data node that `d` and its number name, where there is one.
+fn node_of(word: &[u8], counts: Counts) -> Option<u16>
+    ensures { result ≡ node_of counts word.now }
+{
+    match target_of(word, counts)? {
+        Target::Node(number) => Some(number),
+        Target::Sentinel(_) => None,
+    }
+}
+
+/// Has what was named stop.
+fn stopping(target: Target) -> LineOrder
+    ensures { result ≡ stopping target }
+{
+    match target {
+        Target::Sentinel(place) => LineOrder::StopSentinel(place),
+        Target::Node(number) => LineOrder::ToNode(NodeOrder::stopping(number)),
+    }
+}
+
+/// Has what was named start.
+fn starting(target: Target) -> LineOrder
+    ensures { result ≡ starting target }
+{
+    match target {
+        Target::Sentinel(place) => LineOrder::StartSentinel(place),
+        Target::Node(number) => LineOrder::ToNode(NodeOrder::starting(number)),
+    }
+}
+
+/// Has what was named stop or start.
+fn plain_order(verb: &[u8], target: Target) -> Option<LineOrder>
+    ensures { result ≡ plain_order verb.now target }
 {
     if is_same_bytes(verb, b"stop") {
-        return Some(NodeOrder::stopping(number));
+        return Some(stopping(target));
     }
     if is_same_bytes(verb, b"start") {
-        return Some(NodeOrder::starting(number));
+        return Some(starting(target));
     }
     None
 }
 
 /// A data node's new priority, offset and link down time in seconds.
-fn set_order(number: u16, priority: &[u8], offset: &[u8], link_down: &[u8]) -> Option<NodeOrder>
+fn set_order(number: u16, priority: &[u8], offset: &[u8], link_down: &[u8]) -> Option<LineOrder>
     ensures { result ≡ set_order number priority.now offset.now link_down.now }
 {
     let priority = number_of(priority, 0, GREATEST)?;
     let offset = number_of(offset, 0, GREATEST)?;
     let link_down = number_of(link_down, 0, GREATEST)?;
-    NodeOrder::becoming(number, priority, offset, link_down)
+    Some(LineOrder::ToNode(NodeOrder::becoming(number, priority, offset, link_down)?))
 }
 
 /// What a line of more than two words orders.
 #[tactic(auto, using(crate::proofs::Cutting::too_many_words))]
-fn long_order(verb: &[u8], node: &[u8], rest: &[u8], nodes: u16) -> Option<NodeOrder>
-    ensures { result ≡ order_of_words nodes (verb.now ∷ node.now ∷ cut_at 32 rest.now) }
+fn long_order(verb: &[u8], node: &[u8], rest: &[u8], counts: Counts) -> Option<LineOrder>
+    ensures { result ≡ order_of_words counts (verb.now ∷ node.now ∷ cut_at 32 rest.now) }
 {
     let (priority, rest) = split_at_byte(rest, b' ')?;
     let (offset, link_down) = split_at_byte(rest, b' ')?;
@@ -76,50 +139,83 @@ fn long_order(verb: &[u8], node: &[u8], rest: &[u8], nodes: u16) -> Option<NodeO
     if !is_same_bytes(verb, b"set") {
         return None;
     }
-    set_order(node_of(node, nodes)?, priority, offset, link_down)
+    set_order(node_of(node, counts)?, priority, offset, link_down)
 }
 
-/// What a line orders: `stop d0`, `start d0`, or `set d0 100 0 0` with a priority, an offset and a link down time in seconds.
-fn order_of(line: &[u8], nodes: u16) -> Option<NodeOrder>
-    ensures { result ≡ order_of nodes line.now }
+/// What a line orders: `stop s0`, `start s0`, `stop d0`, `start d0`, or `set d0 100 0 0` with a priority, an offset and a link down time in seconds.
+fn order_of(line: &[u8], counts: Counts) -> Option<LineOrder>
+    ensures { result ≡ order_of counts line.now }
 {
     let (verb, rest) = split_at_byte(line, b' ')?;
     match split_at_byte(rest, b' ') {
-        None => plain_order(verb, node_of(rest, nodes)?),
-        Some((node, rest)) => long_order(verb, node, rest, nodes),
+        None => plain_order(verb, target_of(rest, counts)?),
+        Some((node, rest)) => long_order(verb, node, rest, counts),
     }
 }
 
-impl Orders {
-    /// Orders that go to this end of the data nodes' channel, of which there are so many.
-    pub(crate) fn new(node_orders: Sender<NodeOrder>, nodes: u16) -> Orders {
+/// Where orders go, and what they can name.
+#[derive(Drop)]
+pub(crate) struct Orders<S: ConfStore> {
+    node_orders: Sender<NodeOrder>,
+    restarts: Restarts<S>,
+    counts: Counts,
+    reader: LineReader,
+}
+
+impl<S: ConfStore + Drop> Orders<S> {
+    /// Orders that go to this end of the data nodes' channel, of which there are `nodes`, and to these Sentinels.
+    pub(crate) fn new(
+        node_orders: Sender<NodeOrder>,
+        nodes: u16,
+        restarts: Restarts<S>,
+    ) -> Orders<S> {
+        let sentinels = restarts.count();
         Orders {
             node_orders,
-            nodes,
+            restarts,
+            counts: Counts { sentinels, nodes },
             reader: LineReader::new(),
         }
     }
 
     /// What the line orders that was read, where it is an order.
-    fn order(&self) -> Option<NodeOrder> {
-        order_of(self.reader.line()?, self.nodes)
+    fn order(&self) -> Option<LineOrder> {
+        order_of(self.reader.line()?, self.counts)
     }
 
-    /// Sends what the line orders; a line that orders nothing gets a note. The next line begins.
-    fn obey<R: Wait + Log>(&mut self, rt: &R) {
+    /// Carries out what the line orders; a line that orders nothing gets a note. The next line begins.
+    fn obey<R: Wait + Clock + Log, N: Net>(
+        &mut self,
+        rt: &R,
+        net: &N,
+        shared: &Shared,
+        ending: &AtomicU64,
+    ) {
         match self.order() {
-            Some(order) => drop(self.node_orders.send(rt, order)),
-            None =>
-                warn!(rt; "a line of standard input is no order: stop d0, start d0, set d0 100 0 0"),
+            Some(LineOrder::ToNode(order)) => drop(self.node_orders.send(rt, order)),
+            Some(LineOrder::StopSentinel(place)) => self.restarts.stop(rt, shared, place),
+            Some(LineOrder::StartSentinel(place)) => self
+                .restarts
+                .start(rt, net, shared, ending, place),
+            None => warn!(rt;
+                    "a line of standard input is no order: stop d0, start d0, set d0 100 0 0, stop s0, start s0"
+                ),
         }
         self.reader = LineReader::new();
     }
 
     /// Takes a piece of the input: each LF ends a line, which is obeyed.
-    fn take<R: Wait + Log>(&mut self, rt: &R, piece: &[u8]) {
+    fn take<R: Wait + Clock + Log, N: Net>(
+        &mut self,
+        rt: &R,
+        net: &N,
+        shared: &Shared,
+        ending: &AtomicU64,
+        piece: &[u8],
+    ) {
         for byte in piece {
             if *byte == b'\n' {
-                self.obey(rt);
+                self.obey(rt, net, shared, ending);
             } else {
                 self.reader.add(*byte);
             }
@@ -127,16 +223,19 @@ impl Orders {
     }
 
     /// Reads to the end of the input.
-    fn read_all<I: Read, R: Wait + Log>(
+    fn read_all<I: Read, R: Wait + Clock + Log, N: Net>(
         &mut self,
         rt: &R,
+        net: &N,
         input: &mut I,
+        shared: &Shared,
+        ending: &AtomicU64,
     ) -> Result<(), ReadFailed> {
         let mut piece = [0u8; PIECE];
         for _ in 0..u64::MAX {
             match input.read(&mut piece) {
                 Ok(0) => return Ok(()),
-                Ok(count) => self.take(rt, &piece[..count]),
+                Ok(count) => self.take(rt, net, shared, ending, &piece[..count]),
                 Err(error) => {
                     if error.kind() != ErrorKind::Interrupted {
                         return Err(ReadFailed);
@@ -146,16 +245,38 @@ impl Orders {
         }
         Err(ReadFailed)
     }
+}
 
+/// What follows the orders of an input beside the threads of a group. By this trait `follow_beside` knows of it no more than that.
+pub(crate) trait FollowsOrders {
     /// Obeys each line of the input until its end, or until it can't be read. A last line without LF is obeyed too.
-    pub(crate) fn follow<I: Read, R: Wait + Log>(
+    fn follow<I: Read, R: Wait + Clock + Log>(
         &mut self,
         rt: &R,
         input: &mut I,
+        shared: &Shared,
+        ending: &AtomicU64,
+    ) -> Result<(), ReadFailed>;
+}
+
+/// Orders, with the handle for the ports of Sentinels that are started.
+#[derive(Drop)]
+pub(crate) struct NetOrders<'n, S: ConfStore, N: Net> {
+    pub(crate) orders: Orders<S>,
+    pub(crate) net: &'n N,
+}
+
+impl<S: ConfStore + Drop, N: Net> FollowsOrders for NetOrders<'_, S, N> {
+    fn follow<I: Read, R: Wait + Clock + Log>(
+        &mut self,
+        rt: &R,
+        input: &mut I,
+        shared: &Shared,
+        ending: &AtomicU64,
     ) -> Result<(), ReadFailed> {
-        let read = self.read_all(rt, input);
-        if !self.reader.is_empty() {
-            self.obey(rt);
+        let read = self.orders.read_all(rt, self.net, input, shared, ending);
+        if !self.orders.reader.is_empty() {
+            self.orders.obey(rt, self.net, shared, ending);
         }
         read
     }

@@ -5,6 +5,8 @@ ghost use Rattle.std.specs.Prelude.{◌≡◌, IfOk, length};
 use crate::group_fault::GroupFault;
 use crate::opened::fault_of;
 use conf_store::ConfStore;
+use crossbeam_channel::{Receiver, Sender};
+use group_links::Delivery;
 use group_ports::Port;
 use group_sentinels::{RunFault, RunState, RunningSentinel, ThreadSeat, Which};
 use std::alloc::{AllocError, Global};
@@ -14,38 +16,68 @@ use std::sync::Wait;
 use std::sync::atomic::{AtomicU64, Ordering};
 use std::thread::{self, Threads};
 
-/// What a thread of a port serves, and its seat.
+/// What a thread of a Sentinel hands back when it ends.
+#[derive(Drop)]
+pub(crate) enum Back<J: Which> {
+    /// Its seat.
+    Seat(ThreadSeat<J>),
+    /// The seat of the link, and the end of the Sentinel's channel.
+    Link(ThreadSeat<J>, Receiver<Delivery>),
+}
+
+/// What a thread of a port serves, and its seat, which it hands back where it is told whom.
 #[derive(Drop)]
 pub(crate) struct PortPart<J: Which> {
     pub(crate) port: Port,
     pub(crate) seat: ThreadSeat<J>,
+    pub(crate) back: Option<Sender<Back<J>>>,
 }
 
 /// What a thread of a port of such a Sentinel does. By this trait `serve_parts` knows of a part no more than that it may be sent.
 pub(crate) trait ServesPort<M> {
-    /// Serves the port until `ending` isn't 0.
-    fn serve<R: Wait + Clock>(&mut self, rt: &R, state: &RunState, member: &M, ending: &AtomicU64);
+    /// Serves the port until `ending` isn't 0. Then it is closed.
+    fn serve<R: Wait + Clock>(self, rt: &R, state: &RunState, member: &M, ending: &AtomicU64);
 }
 
 impl<J: Which, S: ConfStore> ServesPort<RunningSentinel<J, S>> for PortPart<J> {
     fn serve<R: Wait + Clock>(
-        &mut self,
+        self,
         rt: &R,
         state: &RunState,
         member: &RunningSentinel<J, S>,
         ending: &AtomicU64,
     ) {
-        if let Err(error) = self.port.serve(rt, state, member, &mut self.seat, ending) {
+        let PortPart {
+            mut port,
+            mut seat,
+            back,
+        } = self;
+        if let Err(error) = port.serve(rt, state, member, &mut seat, ending) {
             note_lost(state, &error);
+        }
+        drop(port);
+        if let Some(back) = back {
+            drop(back.send(rt, Back::Seat(seat)));
         }
     }
 }
 
-/// What each further thread of a port serves, with its seat.
+/// A further end at which seats are handed back, where they are.
+pub(crate) fn end_of<J: Which>(
+    back: &Option<Sender<Back<J>>>,
+) -> Result<Option<Sender<Back<J>>>, AllocError> {
+    match back {
+        None => Ok(None),
+        Some(back) => Ok(Some(back.clone()?)),
+    }
+}
+
+/// What each further thread of a port serves, with its seat, which goes back to this end.
 pub(crate) fn parts_of<J: Which>(
     alloc: Global,
     mut ports: Vec<Port>,
     mut seats: Vec<ThreadSeat<J>>,
+    back: &Option<Sender<Back<J>>>,
 ) -> Result<Vec<PortPart<J>>, AllocError>
     requires { length seats.items ≡ length ports.items }
     ensures { IfOk result (λ parts. length parts.items ≡ length ports.items) }
@@ -55,7 +87,8 @@ pub(crate) fn parts_of<J: Which>(
         let Some(seat) = seats.pop() else {
             unreachable!()
         };
-        parts.push(PortPart { port, seat })?;
+        let back = end_of(back)?;
+        parts.push(PortPart { port, seat, back })?;
     }
     Ok(parts)
 }
@@ -65,7 +98,7 @@ pub(crate) fn serve_parts<'a, M: Sync, P: ServesPort<M> + Drop + Send, R>(
     rt: &'a R,
     state: &'a RunState,
     member: &'a M,
-    mut first: P,
+    first: P,
     others: Vec<P>,
     ending: &'a AtomicU64,
 )
@@ -74,7 +107,7 @@ where
 {
     thread::scope(thread::scope_env(), rt, |scope| {
         let mut refused = false;
-        for mut part in others {
+        for part in others {
             refused |= scope
                 .spawn(move || part.serve(rt, state, member, ending))
                 .is_err();
@@ -83,11 +116,10 @@ where
             return end_for_want(state, ending);
         }
         first.serve(rt, state, member, ending);
-        drop(first);
     })
 }
 
-/// Ends the group, since a thread or its room couldn't be made.
+/// Ends the threads that look at this word, since one of them or its room couldn't be made.
 pub(crate) fn end_for_want(state: &RunState, ending: &AtomicU64) {
     state.note(RunFault::LackedThread);
     ending.store(1, Ordering::SeqCst);

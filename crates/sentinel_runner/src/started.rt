@@ -5,70 +5,219 @@ ghost use Rattle.sentinel_runner.specs.declared.started.TheConstants.{BESIDE};
 ghost use Rattle.sentinel_runner.specs.declared.group_fault.GroupFault.TheVariants.{NotOneRoster};
 
 use crate::group_fault::GroupFault;
-use crate::opened::Opened;
-use crate::port_parts::{PortPart, ServesPort, end_for_want, parts_of, serve_parts};
+use crate::opened::{Opened, PORT_THREADS_MAX};
+use crate::port_parts::{Back, PortPart, ServesPort, end_for_want, end_of, parts_of, serve_parts};
+use crate::restarts::{LifeEnds, Restart, Restarts, Resting};
+use crate::shared::Shared;
 use conf_store::ConfStore;
-use crossbeam_channel::Receiver;
+use crossbeam_channel::{Receiver, RecvTimeoutError, Sender, unbounded};
 use group_links::{Delivery, Links, run_link, run_timer};
-use group_ports::{Port, PortRoom};
+use group_ports::Port;
 use group_sentinels::{RunState, RunningSentinel, ThreadSeat, Which};
 use log::Log;
+use sentinel_cell::Keeper;
 use sentinel_conf::Conf;
 use std::alloc::{AllocError, Global};
 use std::marker::Brand;
 use std::net::Net;
 use std::rt::Clock;
 use std::sync::Wait;
-use std::sync::atomic::AtomicU64;
+use std::sync::atomic::{AtomicU64, Ordering};
 use std::thread::{self, Threads};
+use std::time::Duration;
 
 /// How many threads use a Sentinel beside those of its port: its timer and its link.
-const BESIDE: u16 = 2;
+pub(crate) const BESIDE: u16 = 2;
+
+/// How many seats threads hand back at most.
+const SEATS_MAX: u16 = PORT_THREADS_MAX + BESIDE;
+
+/// How long a Sentinel that is stopped waits to be started before it looks whether the group ends, in milliseconds.
+const START_MS: u64 = 50;
+
+/// How many messages a Sentinel that is stopped loses before it looks whether it is started.
+const LOST_MAX: u32 = 1_024;
 
 /// A Sentinel that is open, and the end of its channel.
 #[derive(Drop)]
-pub(crate) struct Started<S: ConfStore> {
+struct Life<S: ConfStore> {
     opened: Opened<S>,
     deliveries: Receiver<Delivery>,
     ghost seats: { opened.beside ≡ BESIDE },
 }
 
+/// What is left of a Sentinel when its threads have ended: its store, and the end of its channel.
+#[derive(Drop)]
+struct Left<S> {
+    store: S,
+    deliveries: Receiver<Delivery>,
+}
+
+/// A Sentinel that is open, and where it comes in again once it was stopped.
+#[derive(Drop)]
+pub(crate) struct Started<S: ConfStore> {
+    life: Life<S>,
+    ends: LifeEnds<S>,
+}
+
+/// Loses the messages that came for a Sentinel that is stopped.
+fn lose_all<R: Wait>(rt: &R, deliveries: &Receiver<Delivery>) {
+    for _ in 0..LOST_MAX {
+        if deliveries.try_recv(rt).is_err() {
+            return;
+        }
+    }
+}
+
+impl<S: ConfStore + Drop> LifeEnds<S> {
+    /// Waits until the Sentinel is started; what is sent to it meanwhile is lost. None where the group ends.
+    fn await_start<R: Wait + Clock>(
+        &self,
+        rt: &R,
+        deliveries: &Receiver<Delivery>,
+        ending: &AtomicU64,
+    ) -> Option<Restart<S>> {
+        for _ in rt.forever() {
+            lose_all(rt, deliveries);
+            let came = self
+                .restarts
+                .recv_timeout(rt, Duration::from_millis(START_MS));
+            if ending.load(Ordering::SeqCst) != 0 {
+                return None;
+            }
+            match came {
+                Ok(restart) => return Some(restart),
+                Err(RecvTimeoutError::Timeout) => {}
+                Err(RecvTimeoutError::Disconnected) => return None,
+            }
+        }
+        unreachable!()
+    }
+
+    /// Hands over the store of the Sentinel at this place, and waits until it is started. None where the group ends.
+    fn again<R: Wait + Clock>(
+        &self,
+        rt: &R,
+        left: Left<S>,
+        place: u16,
+        ending: &AtomicU64,
+    ) -> Option<Life<S>> {
+        let Left { store, deliveries } = left;
+        drop(self.rests.send(rt, Resting { place, store }));
+        let Restart { opened } = self.await_start(rt, &deliveries, ending)?;
+        Some(Life { opened, deliveries })
+    }
+}
+
+impl<S: ConfStore + Drop> Life<S> {
+    /// Runs the threads of the Sentinel until the word isn't 0; this thread is the first one of the port. None where a thread couldn't be made.
+    fn run<R: Threads + Wait + Clock + Log + Sync>(
+        self,
+        rt: &R,
+        alloc: Global,
+        state: &RunState,
+        links: &Links,
+        stop: &AtomicU64,
+    ) -> Option<Left<S>>
+    where
+        S: Send,
+    {
+        let Life { opened, deliveries } = self;
+        run_named::<Brand, S, R>(rt, alloc, state, links, opened, deliveries, stop)
+    }
+}
+
 impl<S: ConfStore + Drop> Started<S> {
-    /// Opens the Sentinel of this conf at clock 0, and its port with so much room, and connects it.
+    /// Opens the Sentinel of this conf at clock 0, and its port, and connects it.
     pub(crate) fn open<R: Net + Log>(
         rt: &R,
         alloc: Global,
         conf: Conf,
         store: S,
         links: &mut Links,
-        room: PortRoom,
+        restarts: &mut Restarts<S>,
     ) -> Result<Started<S>, GroupFault>
         requires room { S.failure_count store < 2 ^ 64 - 1 }
         ensures roster { IfErr result (λ fault. fault ≢ NotOneRoster) }
     {
-        let opened = Opened::open(rt, alloc, conf, store, room, BESIDE)?;
+        let opened = Opened::open(rt, alloc, conf, store, restarts.room(), BESIDE)?;
         let deliveries = links.connect(opened.place)?;
-        Ok(Started { opened, deliveries })
+        let ends = restarts.add(opened.place, opened.number)?;
+        Ok(Started {
+            life: Life { opened, deliveries },
+            ends,
+        })
     }
 
-    /// Runs its threads until `ending` isn't 0; this thread is the first one of the port.
+    /// Runs its threads until `ending` isn't 0; each time that it is stopped they end, and when it is started there are others. Where they can't be
+    /// made, the group ends.
     pub(crate) fn run<R: Threads + Wait + Clock + Log + Sync>(
         self,
         rt: &R,
         alloc: Global,
-        state: &RunState,
-        links: &Links,
+        shared: &Shared,
         ending: &AtomicU64,
     )
     where
         S: Send,
     {
-        let Started { opened, deliveries } = self;
-        run_named::<Brand, S, R>(rt, alloc, state, links, opened, deliveries, ending);
+        let Started { life, ends } = self;
+        let place = life.opened.place;
+        let Some(stop) = shared.stops.of(place) else {
+            return;
+        };
+        let mut next = Some(life);
+        for _ in rt.forever() {
+            let Some(life) = next.take() else {
+                return;
+            };
+            let left = life.run(rt, alloc, &shared.state, &shared.links, stop);
+            if ending.load(Ordering::SeqCst) != 0 {
+                return;
+            }
+            let Some(left) = left else {
+                return end_for_want(&shared.state, ending);
+            };
+            next = ends.again(rt, left, place, ending);
+        }
     }
 }
 
-/// Runs the threads of a Sentinel that has a name for proofs.
+/// The seats that threads handed back, and the end of their Sentinel's channel, where all have come.
+fn come_back<J: Which, R: Wait>(
+    rt: &R,
+    alloc: Global,
+    back: &Receiver<Back<J>>,
+) -> Option<(Vec<ThreadSeat<J>>, Receiver<Delivery>)> {
+    let mut seats = Vec::new(alloc);
+    let mut end = None;
+    for _ in 0..SEATS_MAX {
+        match back.try_recv(rt) {
+            Ok(Back::Seat(seat)) => seats.push(seat).ok()?,
+            Ok(Back::Link(seat, deliveries)) => {
+                seats.push(seat).ok()?;
+                end = Some(deliveries);
+            }
+            Err(_) => break,
+        }
+    }
+    Some((seats, end?))
+}
+
+/// Ends a Sentinel whose threads have ended: what is left of it, where they handed all back.
+fn close<J: Which, S: ConfStore + Drop, R: Wait>(
+    rt: &R,
+    alloc: Global,
+    member: RunningSentinel<J, S>,
+    back: &Receiver<Back<J>>,
+) -> Option<Left<S>> {
+    let (seats, deliveries) = come_back(rt, alloc, back)?;
+    let Keeper { sentinel, store } = member.close(seats)?;
+    drop(sentinel);
+    Some(Left { store, deliveries })
+}
+
+/// Runs the threads of a Sentinel that has a name for proofs: what is left of it. None where a thread or its room couldn't be made.
 ///
 /// Many parameters: a thread takes its own parts by value, and they have several lifetimes, so no one struct holds them.
 fn run_named<J: Which + Send + Sync, S: ConfStore + Drop + Send, R>(
@@ -78,8 +227,8 @@ fn run_named<J: Which + Send + Sync, S: ConfStore + Drop + Send, R>(
     links: &Links,
     opened: Opened<S>,
     deliveries: Receiver<Delivery>,
-    ending: &AtomicU64,
-)
+    stop: &AtomicU64,
+) -> Option<Left<S>>
 where
     R: Threads + Wait + Clock + Log + Sync,
     requires named { opened.cell.id ≡ J.cell }
@@ -97,10 +246,10 @@ where
     } = opened;
     let made = RunningSentinel::<J, S>::with_seat(alloc, cell, seat, place, number, port_threads);
     let Ok((member, seat)) = made else {
-        return end_for_want(state, ending);
+        return none_for_want(state, stop);
     };
-    let Ok(seated) = Seated::of(alloc, &member, seat, port, others) else {
-        return end_for_want(state, ending);
+    let Ok((seated, back)) = Seated::of(alloc, &member, seat, (port, others), deliveries) else {
+        return none_for_want(state, stop);
     };
     let Seated {
         timer,
@@ -109,29 +258,35 @@ where
         others,
     } = seated;
     let parts = Parts {
-        timer: LinkedPart::Timer(TimerPart { seat: timer, alloc }),
-        link: LinkedPart::Link(LinkPart {
-            seat: link,
-            deliveries,
-        }),
+        timer: LinkedPart::Timer(timer),
+        link: LinkedPart::Link(link),
         first,
         others,
     };
-    run_threads(rt, state, links, &member, parts, ending);
+    run_threads(rt, state, links, &member, parts, stop);
+    close(rt, alloc, member, &back)
 }
 
-/// What the thread of the ticks has.
+/// Nothing is left of a Sentinel whose threads can't be made.
+fn none_for_want<S>(state: &RunState, stop: &AtomicU64) -> Option<Left<S>> {
+    end_for_want(state, stop);
+    None
+}
+
+/// What the thread of the ticks has, and where it hands its seat back.
 #[derive(Drop)]
 struct TimerPart<J: Which> {
     seat: ThreadSeat<J>,
     alloc: Global,
+    back: Sender<Back<J>>,
 }
 
-/// What the thread of the link has.
+/// What the thread of the link has, and where it hands that back.
 #[derive(Drop)]
 struct LinkPart<J: Which> {
     seat: ThreadSeat<J>,
     deliveries: Receiver<Delivery>,
+    back: Sender<Back<J>>,
 }
 
 /// What a thread of a Sentinel has that uses its links.
@@ -167,15 +322,22 @@ impl<J: Which, S: ConfStore> UsesLinks<RunningSentinel<J, S>> for LinkedPart<J> 
     ) {
         match self {
             LinkedPart::Timer(part) => {
-                let TimerPart { mut seat, alloc } = part;
+                let TimerPart {
+                    mut seat,
+                    alloc,
+                    back,
+                } = part;
                 run_timer(rt, alloc, state, links, member, &mut seat, ending);
+                drop(back.send(rt, Back::Seat(seat)));
             }
             LinkedPart::Link(part) => {
                 let LinkPart {
                     mut seat,
                     deliveries,
+                    back,
                 } = part;
                 run_link(rt, state, links, member, &mut seat, &deliveries, ending);
+                drop(back.send(rt, Back::Link(seat, deliveries)));
             }
         }
     }
@@ -184,33 +346,52 @@ impl<J: Which, S: ConfStore> UsesLinks<RunningSentinel<J, S>> for LinkedPart<J> 
 /// The threads of a Sentinel, each with its seat.
 #[derive(Drop)]
 struct Seated<J: Which> {
-    timer: ThreadSeat<J>,
-    link: ThreadSeat<J>,
+    timer: TimerPart<J>,
+    link: LinkPart<J>,
     first: PortPart<J>,
     others: Vec<PortPart<J>>,
 }
 
 impl<J: Which> Seated<J> {
-    /// Cuts the seat of the Sentinel into one for each thread.
+    /// Cuts the seat of the Sentinel into one for each thread, and the end at which the threads hand them back.
     fn of<S: ConfStore>(
         alloc: Global,
         member: &RunningSentinel<J, S>,
         seat: ThreadSeat<J>,
-        port: Port,
-        ports: Vec<Port>,
-    ) -> Result<Seated<J>, AllocError>
-        requires { seat.seat.view.share ≡ length ports.items + 1 + BESIDE }
+        ports: (Port, Vec<Port>),
+        deliveries: Receiver<Delivery>,
+    ) -> Result<(Seated<J>, Receiver<Back<J>>), AllocError>
+        requires { seat.seat.view.share ≡ length ports.1.items + 1 + BESIDE }
     {
+        let (port, ports) = ports;
+        let (back, backs) = unbounded(alloc)?;
         let mut seats = member.seats(alloc, seat)?;
         let (Some(timer), Some(link), Some(seat)) = (seats.pop(), seats.pop(), seats.pop()) else {
             unreachable!()
         };
-        Ok(Seated {
+        let timer = TimerPart {
+            seat: timer,
+            alloc,
+            back: back.clone()?,
+        };
+        let link = LinkPart {
+            seat: link,
+            deliveries,
+            back: back.clone()?,
+        };
+        let back = Some(back);
+        let first = PortPart {
+            port,
+            seat,
+            back: end_of(&back)?,
+        };
+        let seated = Seated {
             timer,
             link,
-            first: PortPart { port, seat },
-            others: parts_of(alloc, ports, seats)?,
-        })
+            first,
+            others: parts_of(alloc, ports, seats, &back)?,
+        };
+        Ok((seated, backs))
     }
 }
 

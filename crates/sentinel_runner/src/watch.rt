@@ -161,7 +161,7 @@ impl<S: ConfStore + Drop> Watch<S> {
         let (wires, far) = wires_of(rt, alloc, &conf, logins)?;
         let room = room_of(rt, alloc, &conf, port)?;
         let ports = port_of(rt, alloc, conf.port(), ips.as_slice(), room, &admission)?;
-        let opened = Opened::with_port(alloc, conf, store, ports, room.threads(), BESIDE)?;
+        let opened = Opened::with_port(alloc, conf, store, ports, room.threads(), BESIDE, 0)?;
         let state = WatchState {
             run: RunState::new(GroupClock::start(rt)),
             turned: AtomicU64::new(0),
@@ -298,8 +298,12 @@ impl<J: Which> Seated<J> {
         };
         Ok(Seated {
             ticks,
-            first: PortPart { port, seat },
-            others: parts_of(alloc, ports, seats)?,
+            first: PortPart {
+                port,
+                seat,
+                back: None,
+            },
+            others: parts_of(alloc, ports, seats, &None)?,
         })
     }
 }

@@ -1,4 +1,4 @@
-use Rattle.sentinel_runner.proofs.started.Started.run.Given as goal
+use Rattle.sentinel_runner.proofs.started.Life.run.Given as goal
 
 -- the Sentinel has its own cell for a name
 abbrev pub ghosts-run_named : goal.ghosts-run_named
