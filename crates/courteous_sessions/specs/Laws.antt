@@ -24,7 +24,7 @@ Tells widens asker value answer bytes = (told : Frame) × (rest : List ℕ) × (
 Tells becomes asker value answer bytes = bytes ≡ answer
 
 -- Where no password is wanted that the client didn't give, and the connection doesn't listen, a command of the Sentinel's rules but SUBSCRIBE is answered as without
--- courtesies, in four of them with more fields, and nothing else is known of the connection than before
+-- courtesies, five of them in other words, and nothing else is known of the connection than before
 abbrev pub AnswersOwnAsBefore : Type 0
 AnswersOwnAsBefore =
     (start : World) (now : ℕ) (g h : Guest) (value : Frame) (command : Command) (bytes : List ℕ)

@@ -42,7 +42,7 @@ no_majority = codes ". Not enough available Sentinels to reach the majority and 
 unfoldable pub enough : List ℕ
 enough = codes ". Quorum and failover authorization can be reached"
 
--- why so many Sentinels aren't enough: fewer than the quorum, fewer than more than half of all, or both
+-- why the usable Sentinels aren't enough: fewer than the quorum, fewer than more than half of all, or both
 abbrev pub shortfall : (quorum sentinels : ℕ) → (usable : Option ℕ) → List ℕ
 shortfall quorum sentinels None = []
 shortfall quorum sentinels (Some usable) = where_told (nat_lt usable quorum) no_quorum ++ where_told (nat_lt usable (sentinels / 2 + 1)) no_majority
@@ -55,7 +55,7 @@ reached_by (Some counted) text = counted ++ enough
 abbrev pub reached : List ℕ → List ℕ
 reached text = reached_by (before (codes ", quorum and majority can be reached") text) text
 
--- the answer about a master with this quorum, where there are so many Sentinels
+-- the answer about a master with this quorum, at a group with this number of Sentinels
 abbrev pub counted : (quorum sentinels : ℕ) → Frame → Frame
 counted quorum sentinels (simple text) = simple (reached text)
 counted quorum sentinels (fault text) = fault (text ++ shortfall quorum sentinels (usable_in text))

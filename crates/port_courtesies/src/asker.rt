@@ -155,7 +155,7 @@ impl Asker {
         self.listens = listens;
     }
 
-    /// Has it know these masters, which so many Sentinels watch.
+    /// Has it know these masters, which `sentinels` Sentinels watch.
     pub(crate) fn watch(&mut self, masters: Vec<MonitoredMaster>, sentinels: usize)
         ensures { self.new ≡ record self.old { masters = masters.items; sentinels = sentinels } }
     {

@@ -84,7 +84,7 @@ fn enough() -> &'static [u8]
     b". Quorum and failover authorization can be reached"
 }
 
-/// Adds why so many Sentinels aren't enough, where it is known how many there are.
+/// Adds why the usable Sentinels aren't enough, where their number is known.
 fn add_shortfall(
     out: &mut OutText,
     quorum: u32,
@@ -115,7 +115,7 @@ fn say_unreached(
     out.add(b"\r\n")
 }
 
-/// The answer is so many Sentinels, which are enough.
+/// The answer is that the counted Sentinels are enough.
 fn say_enough(out: &mut OutText, counted: &[u8]) -> Result<(), NoMemory>
     ensures { OnOk result (out.new ≡ spelling (frames.simple (counted.now ++ enough))) }
 {
@@ -135,7 +135,7 @@ fn say_reached(out: &mut OutText, text: &[u8]) -> Result<(), NoMemory>
     }
 }
 
-/// The answer about a master with this quorum, where there are so many Sentinels.
+/// The answer about a master with this quorum, at a group with this number of Sentinels.
 fn say_counted(
     out: &mut OutText,
     answer: &Value,
