@@ -5,6 +5,7 @@
 #![tactic(auto)]
 
 mod exchange;
+mod fault_notes;
 mod hello_notes;
 mod logins;
 mod rounds;
