@@ -23,7 +23,7 @@ use std::rt::Clock;
 use std::sync::Wait;
 use std::thread::Threads;
 use tcp_wires::Logins;
-use watch_conf::{EVERYWHERE, WatchConf, WatchFault, WatchKind, read_watch};
+use watch_conf::{Bind, WatchConf, WatchFault, WatchKind, read_watch};
 
 /// Why a Sentinel didn't run, or ended.
 #[derive(Drop)]
@@ -70,16 +70,23 @@ fn logins_of(alloc: Global, roster: &Roster, watch: &WatchConf) -> Result<Logins
     Ok(logins)
 }
 
-/// Whom its port lets in: in the protected mode, where no line says at which ips it listens and no password is wanted, the clients of this machine alone.
+/// Whom its port lets in: in the protected mode, where no password is wanted, the clients of this machine alone, at whichever ips it listens.
 /// The client of a connection beyond the most that it keeps is told so.
 fn admission_of(alloc: Global, watch: &WatchConf) -> Result<Admission, AllocError> {
     let password = Vec::from_slice(alloc, watch.own_pass())?;
-    let listens_everywhere = watch.ips() == [EVERYWHERE].as_slice();
     Ok(Admission {
-        near_only: watch.protected_mode() && listens_everywhere && password.is_empty(),
+        near_only: watch.protected_mode() && password.is_empty(),
         limit: Some(watch.max_clients()),
         password: Text::from_vec(password),
     })
+}
+
+/// The numbers of the ips at which its port listens.
+fn ips_of(alloc: Global, binds: &[Bind]) -> Result<Vec<u32>, AllocError> {
+    binds
+        .iter()
+        .map(|bind| u32::from_be_bytes(bind.ip))
+        .collect(alloc)
 }
 
 /// What the lines say that count for `watch` alone, as its Sentinel takes it.
@@ -90,7 +97,7 @@ fn taken_settings(
     port: PortSettings,
 ) -> Result<WatchSettings, AllocError> {
     Ok(WatchSettings {
-        ips: Vec::from_slice(alloc, watch.ips())?,
+        ips: ips_of(alloc, watch.binds())?,
         port,
         admission: admission_of(alloc, watch)?,
         logins: logins_of(alloc, roster, watch)?,
