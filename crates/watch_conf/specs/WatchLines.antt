@@ -1,13 +1,13 @@
 -- What a line says that counts for `watch` alone.
-use Rattle.std.specs.Prelude.{ℕ, Bool, true, false, List, [], ◌∷◌, Option, Some, None, min, bytes_eq, codes}
+use Rattle.std.specs.Prelude.{ℕ, Bool, true, false, List, [], ◌∷◌, Option, Some, None, bytes_eq, codes}
 use Rattle.ballot_law.specs.Orders.{same_bytes}
 use Rattle.ballot_law.specs.Words.{some_if, name, number_within, lower}
 use Rattle.quoted_words.specs.Quotes.{is_comment, redis_words}
 use Rattle.watch_conf.specs.declared.faults.WatchKind.{WatchKind}
-use Rattle.watch_conf.specs.declared.faults.WatchKind.TheVariants.{BadDirective, BadName, BadNumber, BadBind, BadYesNo, BadQuotes, NamesOfHosts}
+use Rattle.watch_conf.specs.declared.faults.WatchKind.TheVariants.{BadDirective, BadName, BadNumber, BadSeconds, BadBind, BadYesNo, BadQuotes, NamesOfHosts}
 use Rattle.watch_conf.specs.declared.settings.Setting.{Setting}
-use Rattle.watch_conf.specs.declared.settings.Setting.TheVariants.{Bind, NodePass, NodeUser, OwnPass, PeerPass, PeerUser, MaxClients, ProtectedMode}
-use Rattle.watch_conf.specs.declared.settings.TheConstants.{CLIENTS_MAX}
+use Rattle.watch_conf.specs.declared.settings.Setting.TheVariants.{Bind, NodePass, NodeUser, OwnPass, PeerPass, PeerUser, MaxClients, Timeout, ProtectedMode}
+use Rattle.watch_conf.specs.declared.binds.Bind.{Bind as BindAt}
 use Rattle.watch_conf.specs.declared.settings.WatchLine.{WatchLine}
 use Rattle.watch_conf.specs.declared.settings.WatchLine.TheVariants as line
 use Rattle.watch_conf.specs.Binds.{bound}
@@ -35,7 +35,7 @@ yes_or_no word =
 
 -- the lines of each directive, from the words after it
 abbrev pub bind_line : List (List ℕ) → WatchLine
-bind_line args = given_or BadBind (bound args) (λ ips. line.Says (Bind ips))
+bind_line args = given_or BadBind (bound args) (λ binds. line.Says (Bind binds))
 
 abbrev pub node_pass_line : List (List ℕ) → WatchLine
 node_pass_line = two (λ n pass. given_or BadName (name n) (λ name. line.Says (NodePass name pass)))
@@ -52,9 +52,13 @@ peer_pass_line = one (λ pass. line.Says (PeerPass pass))
 abbrev pub peer_user_line : List (List ℕ) → WatchLine
 peer_user_line = one (λ user. line.Says (PeerUser user))
 
--- more connections than a port keeps are as many as it keeps
 abbrev pub max_clients_line : List (List ℕ) → WatchLine
-max_clients_line = one (λ n. given_or BadNumber (number_within 1 4294967295 n) (λ count. line.Says (MaxClients (min count CLIENTS_MAX))))
+max_clients_line = one (λ n. given_or BadNumber (number_within 1 4294967295 n) (λ count. line.Says (MaxClients count)))
+
+-- whatever is wrong with its words has one fault
+abbrev pub timeout_line : List (List ℕ) → WatchLine
+timeout_line (n ∷ []) = given_or BadSeconds (number_within 0 2147483647 n) (λ seconds. line.Says (Timeout seconds))
+timeout_line _ = line.Faulty BadSeconds
 
 abbrev pub protected_line : List (List ℕ) → WatchLine
 protected_line = one (λ w. given_or BadYesNo (yes_or_no w) (λ on. line.Says (ProtectedMode on)))
@@ -92,6 +96,7 @@ first_directives =
     ∷ (codes "bind", bind_line)
     ∷ (codes "requirepass", own_pass_line)
     ∷ (codes "maxclients", max_clients_line)
+    ∷ (codes "timeout", timeout_line)
     ∷ (codes "protected-mode", protected_line)
     ∷ []
 
@@ -104,9 +109,9 @@ abbrev pub watch_line : List ℕ → WatchLine
 watch_line text = elim (is_comment text) as (λ _. WatchLine) [ true ↦ line.Other | false ↦ given_or BadQuotes (redis_words text) line_of_words ]
 
 -- what a setting gives, where it gives anything of the kind
-abbrev pub ips_of : Setting → Option (List ℕ)
-ips_of (Bind ips) = Some ips
-ips_of _ = None
+abbrev pub binds_of : Setting → Option (List BindAt)
+binds_of (Bind binds) = Some binds
+binds_of _ = None
 
 abbrev pub node_pass_of : List ℕ → Setting → Option (List ℕ)
 node_pass_of name (NodePass other pass) = some_if (same_bytes name other) pass
@@ -131,6 +136,10 @@ peer_user_of _ = None
 abbrev pub clients_of : Setting → Option ℕ
 clients_of (MaxClients count) = Some count
 clients_of _ = None
+
+abbrev pub seconds_of : Setting → Option ℕ
+seconds_of (Timeout seconds) = Some seconds
+seconds_of _ = None
 
 abbrev pub protected_of : Setting → Option Bool
 protected_of (ProtectedMode on) = Some on

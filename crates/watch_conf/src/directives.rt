@@ -2,11 +2,11 @@
 
 ghost use Rattle.std.specs.Prelude.{◌≡◌, IfOk, bytes_eq};
 ghost use Rattle.ballot_law.specs.Words.{lower};
-ghost use Rattle.watch_conf.specs.WatchLines.{yes_or_no, bind_line, node_pass_line, node_user_line, own_pass_line, peer_pass_line, peer_user_line, max_clients_line, protected_line, resolved, resolve_line, first_named, sentinel_directives, sentinel_line, first_directives, line_of_words, watch_line};
+ghost use Rattle.watch_conf.specs.WatchLines.{yes_or_no, bind_line, node_pass_line, node_user_line, own_pass_line, peer_pass_line, peer_user_line, max_clients_line, timeout_line, protected_line, resolved, resolve_line, first_named, sentinel_directives, sentinel_line, first_directives, line_of_words, watch_line};
 
 use crate::binds::bound;
 use crate::faults::WatchKind;
-use crate::settings::{CLIENTS_MAX, Setting, WatchLine};
+use crate::settings::{Setting, WatchLine};
 use ballot_law::{Name, NoMemory, Text};
 use quoted_words::{is_comment, redis_words};
 use std::alloc::Global;
@@ -14,6 +14,9 @@ use words::number_of;
 
 /// The greatest number of clients that a Redis takes.
 const COUNT_MAX: u64 = 4_294_967_295;
+
+/// The greatest number of seconds that a Redis takes.
+const SECONDS_MAX: u64 = 2_147_483_647;
 
 /// Whether the word is this name, but for the case of its ASCII letters.
 fn is_named(word: &Text, name: &[u8]) -> bool
@@ -47,7 +50,7 @@ fn bind_line(alloc: Global, args: &[Text]) -> Result<WatchLine, NoMemory>
     ensures { IfOk result (λ line. line ≡ bind_line args.now) }
 {
     match bound(alloc, args)? {
-        Some(ips) => Ok(WatchLine::Says(Setting::Bind(ips))),
+        Some(binds) => Ok(WatchLine::Says(Setting::Bind(binds))),
         None => Ok(WatchLine::Faulty(WatchKind::BadBind)),
     }
 }
@@ -123,11 +126,21 @@ fn max_clients_line(args: &[Text]) -> WatchLine
         return WatchLine::Faulty(WatchKind::BadDirective);
     };
     match number_of(count.as_slice(), 1, COUNT_MAX) {
-        Some(count) => {
-            let count = count.min(u64::from(CLIENTS_MAX));
-            WatchLine::Says(Setting::MaxClients(count as u16))
-        }
+        Some(count) => WatchLine::Says(Setting::MaxClients(count as u32)),
         None => WatchLine::Faulty(WatchKind::BadNumber),
+    }
+}
+
+/// `timeout <seconds>`.
+fn timeout_line(args: &[Text]) -> WatchLine
+    ensures { result ≡ timeout_line args.now }
+{
+    let [seconds] = args else {
+        return WatchLine::Faulty(WatchKind::BadSeconds);
+    };
+    match number_of(seconds.as_slice(), 0, SECONDS_MAX) {
+        Some(seconds) => WatchLine::Says(Setting::Timeout(seconds as u32)),
+        None => WatchLine::Faulty(WatchKind::BadSeconds),
     }
 }
 
@@ -205,6 +218,9 @@ fn first_named(alloc: Global, name: &Text, args: &[Text]) -> Result<WatchLine, N
     }
     if is_named(name, b"maxclients") {
         return Ok(max_clients_line(args));
+    }
+    if is_named(name, b"timeout") {
+        return Ok(timeout_line(args));
     }
     if is_named(name, b"protected-mode") {
         return Ok(protected_line(args));

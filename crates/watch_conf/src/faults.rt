@@ -18,6 +18,9 @@ pub enum WatchKind {
     /// A number of clients isn't a number from 1 to 4,294,967,295.
     #[error("BadNumber: write how many clients are served, 1 or more")]
     BadNumber,
+    /// The words of a line `timeout` aren't one number from 0 to 2,147,483,647.
+    #[error("BadSeconds: write after how many seconds `timeout` closes a silent connection, one number from 0, which is never, to 2147483647")]
+    BadSeconds,
     /// A line `bind` has no word, more than `IPS_MAX` words, one that is no ip, or no ip at all.
     #[error("BadBind: write the ips at which this Sentinel listens, as `bind 10.0.0.1 127.0.0.1`, or no such line")]
     BadBind,

@@ -17,9 +17,9 @@ mod settings;
 mod watch_confs;
 
 pub use announcing::lacks_announce_ip;
-pub use binds::{BindWord, EVERYWHERE, IPS_MAX, Ips};
+pub use binds::{Bind, BindWord, Binds, EVERYWHERE, IPS_MAX};
 pub use directives::line_of;
 pub use faults::{WatchFault, WatchKind};
 pub use redis_texts::{law_lines_are_text, redis_text};
-pub use settings::{CLIENTS_MAX, Setting, WatchLine};
+pub use settings::{CLIENTS_MAX, IDLE_SECONDS, IDLE_SECONDS_MAX, Setting, WatchLine};
 pub use watch_confs::{WatchConf, read_watch};
