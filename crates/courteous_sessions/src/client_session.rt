@@ -1,7 +1,7 @@
 //! A session with courtesies or without.
 
-ghost use Rattle.std.specs.Prelude.{◌≡◌, ◌≤◌, ◌<◌, length, drop};
-ghost use Rattle.courteous_sessions.specs.Clients.{begun, unsent_of, wanting_password, with_unsent, Takes, NotifiesClient, TellsClient};
+ghost use Rattle.std.specs.Prelude.{◌≡◌, ◌≤◌, ◌<◌, ◌↔◌, [], IsTrue, length, drop};
+ghost use Rattle.courteous_sessions.specs.Clients.{begun, unsent_of, held_of, listens_of, owes_password, wanting_password, with_unsent, Takes, NotifiesClient, TellsClient};
 
 use crate::courteous_session::CourteousSession;
 use ballot_law::{NoMemory, Note, Roster, Text};
@@ -71,6 +71,36 @@ impl ClientSession {
         match self {
             ClientSession::Plain(session) => session.unsent(),
             ClientSession::Courteous(session) => session.unsent(),
+        }
+    }
+
+    /// Whether all that came was whole values: no bytes are held.
+    pub fn holds_nothing(&self) -> bool
+        ensures { IsTrue result ↔ (held_of self.now ≡ []) }
+    {
+        match self {
+            ClientSession::Plain(session) => session.holds_nothing(),
+            ClientSession::Courteous(session) => session.holds_nothing(),
+        }
+    }
+
+    /// Whether its client listens: one that doesn't is told of no note and no event.
+    pub fn listens(&self) -> bool
+        ensures { result ≡ listens_of self.now }
+    {
+        match self {
+            ClientSession::Plain(session) => session.listens(),
+            ClientSession::Courteous(session) => session.listens(),
+        }
+    }
+
+    /// Whether it wants a password of its client, who didn't give it yet.
+    pub fn owes_password(&self) -> bool
+        ensures { result ≡ owes_password self.now }
+    {
+        match self {
+            ClientSession::Plain(_) => false,
+            ClientSession::Courteous(session) => session.owes_password(),
         }
     }
 

@@ -1,6 +1,8 @@
 //! A session with courtesies.
 
-ghost use Rattle.std.specs.Prelude.{◌≡◌, ◌≤◌, ◌<◌, ◌++◌, ℕ, List, [], None, Some, Err, true, OnOk, OnErr, IfErr, IfSome, length, drop};
+ghost use Rattle.std.specs.Prelude.{◌≡◌, ◌≤◌, ◌<◌, ◌↔◌, ◌++◌, ℕ, List, [], None, Some, Err, true, OnOk, OnErr, IfErr, IfSome, IsTrue, length, drop};
+ghost use Rattle.port_channels.specs.Listening.{is_listening};
+ghost use Rattle.port_courtesies.specs.Courtesies.{is_stranger};
 ghost use Rattle.courteous_sessions.specs.Clients.{arrived, guest_at, guest_of_visit, wanting, NotifiesVisit, TellsVisit};
 ghost use Rattle.courteous_sessions.specs.Visits.{unsubscribed, Receives};
 
@@ -117,6 +119,27 @@ impl CourteousSession {
         ensures { result.now ≡ self.now.unsent }
     {
         self.exchange.unsent()
+    }
+
+    /// Whether all that came was whole values: no bytes are held.
+    pub fn holds_nothing(&self) -> bool
+        ensures { IsTrue result ↔ (self.now.held ≡ []) }
+    {
+        self.exchange.attendant.holds_nothing()
+    }
+
+    /// Whether it listens to a channel or a pattern.
+    pub fn listens(&self) -> bool
+        ensures { result ≡ is_listening self.now.listening }
+    {
+        self.exchange.subscriptions.is_listening()
+    }
+
+    /// Whether it wants a password of its client, who didn't give it yet.
+    pub fn owes_password(&self) -> bool
+        ensures { result ≡ is_stranger self.now.asker }
+    {
+        self.exchange.attendant.is_stranger()
     }
 
     /// Takes away the first `n` bytes of what isn't sent yet, which the connection took. No memory is taken. Room that they leave is used

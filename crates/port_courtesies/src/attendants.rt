@@ -1,10 +1,10 @@
 //! A client's stream with courtesies.
 
-ghost use Rattle.std.specs.Prelude.{◌≡◌, ◌<◌, [], Some, None, false, IfOk, IfSome, OnOk};
+ghost use Rattle.std.specs.Prelude.{◌≡◌, ◌<◌, ◌↔◌, [], Some, None, false, IfOk, IfSome, IsTrue, OnOk};
 ghost use Rattle.resp2.specs.Asked.{IsCommon};
 ghost use Rattle.resp2.specs.Commands.{IsWithin};
 ghost use Rattle.resp2_frames.specs.Frame.{view, spelling, HasLines};
-ghost use Rattle.resp2_frames.specs.Stream.{reading, held_size, Feeds};
+ghost use Rattle.resp2_frames.specs.Stream.{reading, held_size, bytes_in, Feeds};
 ghost use Rattle.port_courtesies.specs.Attendants.{TakesCommon};
 ghost use Rattle.port_courtesies.specs.Courtesies.{courtesy, asker_after, is_stranger, kind_of, text_of};
 ghost use Rattle.port_courtesies.specs.Infos.{info};
@@ -65,6 +65,13 @@ impl Attendant {
         ensures { result ≡ is_stranger self.now.asker }
     {
         self.asker.is_stranger()
+    }
+
+    /// Whether all that came was taken: no bytes are held.
+    pub fn holds_nothing(&self) -> bool
+        ensures { IsTrue result ↔ (bytes_in self.now.held ≡ []) }
+    {
+        self.frames.held().is_empty()
     }
 
     /// Has it know that the connection listens to notes, or doesn't.

@@ -1,6 +1,6 @@
 //! A session as its callers see it.
 
-ghost use Rattle.std.specs.Prelude.{◌≡◌, ◌≤◌, ◌<◌, ◌++◌, ℕ, List, [], None, Some, OnOk, OnErr, IfOk, IfErr, IfSome, MatchResult, length, drop};
+ghost use Rattle.std.specs.Prelude.{◌≡◌, ◌≤◌, ◌<◌, ◌↔◌, ◌++◌, ℕ, List, [], None, Some, OnOk, OnErr, IfOk, IfErr, IfSome, IsTrue, MatchResult, length, drop};
 ghost use Rattle.std.specs.Option.{is_some};
 ghost use Rattle.ballot_law.specs.declared.rosters.TheConstants.{MASTERS_MAX};
 ghost use Rattle.port_sessions.specs.Notes.{none_told, is_due, Notifies};
@@ -156,6 +156,13 @@ impl Session {
         ensures { result ≡ is_some self.now.listens }
     {
         self.exchange.responder.listens.is_some()
+    }
+
+    /// Whether all that came was whole values: no bytes are held.
+    pub fn holds_nothing(&self) -> bool
+        ensures { IsTrue result ↔ (self.now.held ≡ []) }
+    {
+        self.exchange.frames.held().is_empty()
     }
 
     /// Takes away the first `n` bytes of what isn't sent yet, which the connection took. No memory is taken. Room that they leave is used

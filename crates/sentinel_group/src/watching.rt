@@ -11,19 +11,19 @@ use crate::starting::note_sentinel;
 use crate::telling::tell_faults;
 use ballot_law::{Roster, Text};
 use clap::ArgMatches;
-use group_ports::Admission;
+use group_ports::{Admission, PortAddress};
 use log::{LevelFilter, Log};
 use port_serving::ServeFault;
 use sentinel_conf::{Conf, read};
 use sentinel_runner::{GroupFault, PortSettings, Watch, WatchSettings};
 use std::alloc::{AllocError, Global};
-use std::net::Net;
+use std::net::{Ipv4Addr, Net, SocketAddr};
 use std::process::ExitCode;
 use std::rt::Clock;
 use std::sync::Wait;
 use std::thread::Threads;
 use tcp_wires::Logins;
-use watch_conf::{Bind, WatchConf, WatchFault, WatchKind, read_watch};
+use watch_conf::{WatchConf, WatchFault, WatchKind, read_watch};
 
 /// Why a Sentinel didn't run, or ended.
 #[derive(Drop)]
@@ -70,37 +70,58 @@ fn logins_of(alloc: Global, roster: &Roster, watch: &WatchConf) -> Result<Logins
     Ok(logins)
 }
 
+/// The ip of each other Sentinel of the group.
+fn peers_of(alloc: Global, conf: &Conf) -> Result<Vec<u32>, AllocError> {
+    let mut peers = Vec::new(alloc);
+    for (place, member) in conf.roster().sentinels().iter().enumerate() {
+        if place != usize::from(conf.place()) {
+            peers.push(member.addr.ip)?;
+        }
+    }
+    Ok(peers)
+}
+
 /// Whom its port lets in: in the protected mode, where no password is wanted, the clients of this machine alone, at whichever ips it listens.
-/// The client of a connection beyond the most that it keeps is told so.
-fn admission_of(alloc: Global, watch: &WatchConf) -> Result<Admission, AllocError> {
+/// Where as many clients are there as may be, the client goes that has been silent for longest; seats for the other Sentinels are kept.
+fn admission_of(alloc: Global, conf: &Conf, watch: &WatchConf) -> Result<Admission, AllocError> {
     let password = Vec::from_slice(alloc, watch.own_pass())?;
     Ok(Admission {
         near_only: watch.protected_mode() && password.is_empty(),
         limit: Some(watch.max_clients()),
         password: Text::from_vec(password),
+        peers: peers_of(alloc, conf)?,
+        idle_seconds: watch.idle_seconds(),
     })
 }
 
-/// The numbers of the ips at which its port listens.
-fn ips_of(alloc: Global, binds: &[Bind]) -> Result<Vec<u32>, AllocError> {
-    binds
-        .iter()
-        .map(|bind| u32::from_be_bytes(bind.ip))
-        .collect(alloc)
+/// At which addresses its port listens.
+fn addresses_of(
+    alloc: Global,
+    conf: &Conf,
+    watch: &WatchConf,
+) -> Result<Vec<PortAddress>, AllocError> {
+    let mut addresses = Vec::new(alloc);
+    for bind in watch.binds() {
+        addresses.push(PortAddress {
+            address: SocketAddr::from((Ipv4Addr::from(bind.ip), conf.port())),
+            may_lack: bind.may_lack,
+        })?;
+    }
+    Ok(addresses)
 }
 
 /// What the lines say that count for `watch` alone, as its Sentinel takes it.
 fn taken_settings(
     alloc: Global,
-    roster: &Roster,
+    conf: &Conf,
     watch: &WatchConf,
     port: PortSettings,
 ) -> Result<WatchSettings, AllocError> {
     Ok(WatchSettings {
-        ips: ips_of(alloc, watch.binds())?,
+        addresses: addresses_of(alloc, conf, watch)?,
         port,
-        admission: admission_of(alloc, watch)?,
-        logins: logins_of(alloc, roster, watch)?,
+        admission: admission_of(alloc, conf, watch)?,
+        logins: logins_of(alloc, conf.roster(), watch)?,
     })
 }
 
@@ -124,7 +145,7 @@ fn settings_of(
         Ok(watch) => watch,
         Err(fault) => return Err(refuse_watch(rt, path, fault)),
     };
-    match taken_settings(rt.alloc(), conf.roster(), &watch, port) {
+    match taken_settings(rt.alloc(), conf, &watch, port) {
         Ok(settings) => Ok(settings),
         Err(_) => Err(fail(&rt, ServeFault::NoMemory)),
     }

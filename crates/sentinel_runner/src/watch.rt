@@ -9,14 +9,14 @@ use crate::group_fault::GroupFault;
 use crate::opened::{Opened, PortSettings, fault_of};
 use crate::port_parts::{PortPart, ServesPort, end_for_want, note_lost, parts_of, serve_parts};
 use conf_store::ConfStore;
-use group_ports::{Admission, Port, PortRoom, connections_beside};
+use group_ports::{Admission, Port, PortAddress, PortRoom, Sockets, seats_beside};
 use group_sentinels::{GroupClock, RunState, RunningSentinel, ThreadSeat, Which};
-use log::{Log, warn};
+use log::{Log, info, warn};
 use sentinel_conf::{Conf, ConfText, rewrite_into};
 use std::alloc::{AllocError, Global};
 use std::io::ErrorKind;
 use std::marker::Brand;
-use std::net::{Ipv4Addr, Net, SocketAddr};
+use std::net::Net;
 use std::rt::Clock;
 use std::sync::Wait;
 use std::sync::atomic::{AtomicU64, Ordering};
@@ -30,8 +30,8 @@ const BESIDE: u16 = 1;
 /// What a Sentinel of its own is told beside its conf.
 #[derive(Drop)]
 pub struct WatchSettings {
-    /// The ips at which its port listens.
-    pub ips: Vec<u32>,
+    /// At which addresses its port listens.
+    pub addresses: Vec<PortAddress>,
     /// How the port is served.
     pub port: PortSettings,
     /// Whom the port lets in.
@@ -85,18 +85,20 @@ fn wires_of<R: Net>(
     }
 }
 
-/// How many connections each thread of its port keeps, which is served so, beside those that the Sentinel of this conf opens itself.
+/// How many connections each thread of its port keeps, which is served so and wants so many, beside those that the Sentinel of this conf opens itself.
 fn room_of<R: Net>(
     rt: &R,
     alloc: Global,
     conf: &Conf,
     port: PortSettings,
+    admission: &Admission,
 ) -> Result<PortRoom, GroupFault>
     ensures threads { IfOk result (λ room. 0 < port.threads → port.threads ≤ PORT_THREADS_MAX → room.threads ≡ port.threads) }
     ensures courtesies { IfOk result (λ room. room.courteous ≡ port.courtesies) }
 {
     let own = connection_count(conf.roster()) as u64;
-    let room = match connections_beside(rt, alloc, 1, port.threads_of_each(), own) {
+    let threads = port.threads_of_each();
+    let room = match seats_beside(rt, alloc, threads, own, admission.wanted(threads)) {
         Ok(room) => room,
         Err(error) => return Err(fault_of(&error)),
     };
@@ -106,32 +108,46 @@ fn room_of<R: Net>(
     Ok(room.with_courtesies(port.courtesies))
 }
 
-/// The sockets' addresses of a port of this number at these ips.
-fn addresses_of(alloc: Global, ips: &[u32], number: u16) -> Result<Vec<SocketAddr>, AllocError> {
-    let mut addresses = Vec::new(alloc);
-    for ip in ips {
-        addresses.push(SocketAddr::from((Ipv4Addr::from(*ip), number)))?;
+/// Notes how many clients the port has room for, where a file lets so many in.
+fn note_room<R: Log>(rt: &R, number: u16, wanted: Option<u16>, admission: &Admission) {
+    let (Some(wanted), Some(most)) = (wanted, admission.limit) else {
+        return;
+    };
+    let kept = admission.kept_seats();
+    let noting = rt.span("sentinel").with("port", number);
+    info!(noting; "room for {most} connections of clients (maxclients), and {kept} seats kept for the other Sentinels");
+    if most < wanted {
+        warn!(noting; "maxclients is {wanted}, and the system gives descriptors for {most}: raise the limit of open files (LimitNOFILE, ulimit -n)");
     }
-    Ok(addresses)
 }
 
-/// The port of this number at these ips, for whom it lets in, with so much room: what its first thread serves, and what each further one does.
+/// The sockets of its port, at these addresses.
+fn sockets_of<R: Net + Log>(
+    rt: &R,
+    alloc: Global,
+    addresses: &[PortAddress],
+) -> Result<Sockets, GroupFault> {
+    match Sockets::listen(rt, alloc, addresses) {
+        Ok(sockets) => Ok(sockets),
+        Err(error) => Err(fault_of(&error)),
+    }
+}
+
+/// The port with these sockets, for whom it lets in, with so much room: what its first thread serves, and what each further one does.
 fn port_of<R: Net + Log>(
     rt: &R,
     alloc: Global,
-    number: u16,
-    ips: &[u32],
+    sockets: Sockets,
     room: PortRoom,
     admission: &Admission,
 ) -> Result<(Port, Vec<Port>), GroupFault>
     ensures { IfOk result (λ parts. length parts.1.items + 1 ≡ room.threads) }
 {
-    let addresses = addresses_of(alloc, ips, number)?;
-    match Port::open_at(rt, alloc, addresses.as_slice(), room, admission) {
+    match Port::open_at(rt, alloc, sockets, room, admission) {
         Ok(parts) => Ok(parts),
         Err(error) => {
             if error.kind() != ErrorKind::OutOfMemory {
-                warn!(rt; "port {number} can't be had: {error}");
+                warn!(rt; "the port can't be served: {error}");
             }
             Err(fault_of(&error))
         }
@@ -152,15 +168,19 @@ impl<S: ConfStore + Drop> Watch<S> {
         requires { S.failure_count store < 2 ^ 64 - 1 }
     {
         let WatchSettings {
-            ips,
+            addresses,
             port,
             admission,
             logins,
         } = settings;
         prove_store(alloc, &conf, &mut store)?;
         let (wires, far) = wires_of(rt, alloc, &conf, logins)?;
-        let room = room_of(rt, alloc, &conf, port)?;
-        let ports = port_of(rt, alloc, conf.port(), ips.as_slice(), room, &admission)?;
+        let room = room_of(rt, alloc, &conf, port, &admission)?;
+        let wanted = admission.limit;
+        let admission = admission.within(room);
+        let sockets = sockets_of(rt, alloc, addresses.as_slice())?;
+        let ports = port_of(rt, alloc, sockets, room, &admission)?;
+        note_room(rt, conf.port(), wanted, &admission);
         let opened = Opened::with_port(alloc, conf, store, ports, room.threads(), BESIDE, 0)?;
         let state = WatchState {
             run: RunState::new(GroupClock::start(rt)),
