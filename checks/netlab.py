@@ -84,11 +84,15 @@ def ask(address, *words, password=None, timeout=1.0):
 
 class Lab:
     """A master d0 with replicas d1 .., and Sentinels s0 .. of a kind each: `ours` or `redis`. `own` has the quorum and down-after of single Sentinels, by
-    place; replicas know the master by the name `replicaof`, where there is one; `has_fsync` is whether stores can be made slow, which needs `cc`."""
+    place; replicas know the master by the name `replicaof`, where there is one; `has_fsync` is whether stores can be made slow, which needs `cc`. The file of each
+    Sentinel also has `lines`, and the one at a place those of `more`; `port_password` is the one that its port wants."""
 
-    def __init__(self, kinds, nodes=3, after=2000, password=None, quorum=None, timeout=10_000, own=None, replicaof=None, has_fsync=False):
+    def __init__(
+        self, kinds, nodes=3, after=2000, password=None, quorum=None, timeout=10_000, own=None, replicaof=None, has_fsync=False, lines=(), more=None, port_password=None
+    ):
         self.kinds, self.after, self.password, self.timeout = list(kinds), after, password, timeout
         self.quorum, self.own_settings, self.replicaof = quorum or len(kinds) // 2 + 1, own or {}, replicaof
+        self.lines, self.more, self.port_password = list(lines), more or {}, port_password
         self.stores, self.sentinels = [f"d{number}" for number in range(nodes)], [f"s{place}" for place in range(len(kinds))]
         self.names = [*self.stores, *self.sentinels, OBSERVER]
         self.folder = tempfile.mkdtemp(prefix="netlab-")
@@ -211,6 +215,9 @@ class Lab:
         if self.password:
             lines.append(f"sentinel auth-pass mymaster {self.password}")
         lines += [f"sentinel known-replica mymaster {self.address(name)} {PORT}" for name in self.stores[1:]]
+        if self.port_password:
+            lines += [f"requirepass {self.port_password}", f"sentinel sentinel-pass {self.port_password}"]
+        lines += [*self.lines, *self.more.get(place, ())]
         others = [(at, name) for at, name in enumerate(self.sentinels) if at != place]
         return lines + [f"sentinel known-sentinel mymaster {self.address(name)} {SENTINEL_PORT} {common.run_id(at)}" for at, name in others]
 
@@ -249,14 +256,18 @@ class Lab:
             return "d0"
         return next((name for name in self.names if self.address(name) == address), address)
 
+    def asked(self, name, *words, timeout=1.0):
+        """What a Sentinel answers on a connection of its own, after the password where its port wants one; None where it answers nothing."""
+        return ask((self.address(name), SENTINEL_PORT), *words, password=self.port_password, timeout=timeout)
+
     def told(self, name):
         """The node that a Sentinel tells as the master; None where it tells none."""
-        found = ask((self.address(name), SENTINEL_PORT), "SENTINEL", "GET-MASTER-ADDR-BY-NAME", "mymaster")
+        found = self.asked(name, "SENTINEL", "GET-MASTER-ADDR-BY-NAME", "mymaster")
         return self.named(found[0]) if isinstance(found, list) and len(found) == 2 else None
 
     def row(self, name):
         """The fields of the master as a Sentinel tells them; none where it tells nothing."""
-        row = ask((self.address(name), SENTINEL_PORT), "SENTINEL", "MASTER", "mymaster")
+        row = self.asked(name, "SENTINEL", "MASTER", "mymaster")
         return dict(zip(row[::2], row[1::2])) if isinstance(row, list) else {}
 
     def configuration(self, name):
