@@ -8,10 +8,15 @@ use crate::group_files::text_at;
 use crate::locks::{FileLock, lock_file, refuse_lock};
 use crate::noted_store::NotedStore;
 use crate::starting::note_sentinel;
-use crate::telling::tell_faults;
+use crate::telling::{note_watch, tell_faults, tell_watch};
 use ballot_law::{Roster, Text};
 use clap::ArgMatches;
+<<<<<<< HEAD
 use group_ports::{Admission, PortAddress};
+=======
+use conf_store::FileText;
+use group_ports::Admission;
+>>>>>>> doors/doors
 use log::{LevelFilter, Log};
 use port_serving::ServeFault;
 use sentinel_conf::{Conf, read};
@@ -38,6 +43,7 @@ pub(crate) enum Unwatched {
 #[derive(Drop)]
 struct WatchFile<'a, R: Log> {
     conf: Conf,
+    text: FileText,
     store: NotedStore<'a, R>,
     settings: WatchSettings,
 }
@@ -51,11 +57,21 @@ pub(crate) fn watch_level(words: &ArgMatches) -> LevelFilter {
     }
 }
 
-/// Tells why a file that can be read isn't one for `watch`.
-fn refuse_watch(rt: HostRuntime, path: &str, fault: WatchFault) -> ExitCode {
+/// Tells why a file that can be read, and says this, isn't one for `watch`: the fault, then each line that is refused, and the warnings.
+pub(crate) fn refuse_watch(
+    rt: HostRuntime,
+    path: &str,
+    conf: &Conf,
+    text: &[u8],
+    fault: WatchFault,
+) -> ExitCode {
     match fault.kind {
         WatchKind::NoMemory => fail(&rt, ServeFault::NoMemory),
-        kind => refuse_file(&rt, path, fault.line, kind),
+        kind => {
+            let status = refuse_file(&rt, path, fault.line, kind);
+            tell_watch(rt, path, conf.roster().sentinels().len() as u64, text);
+            status
+        }
     }
 }
 
@@ -143,7 +159,7 @@ fn settings_of(
 ) -> Result<WatchSettings, ExitCode> {
     let watch = match read_watch(rt.alloc(), conf, text) {
         Ok(watch) => watch,
-        Err(fault) => return Err(refuse_watch(rt, path, fault)),
+        Err(fault) => return Err(refuse_watch(rt, path, conf, text, fault)),
     };
     match taken_settings(rt.alloc(), conf, &watch, port) {
         Ok(settings) => Ok(settings),
@@ -174,6 +190,7 @@ fn watch_file<'a, R: Log>(
     match NotedStore::of(rt, noting, store, conf.port(), path) {
         Ok(store) => Ok(WatchFile {
             conf,
+            text,
             store,
             settings,
         }),
@@ -209,10 +226,14 @@ where
     };
     let WatchFile {
         conf,
+        text,
         store,
         settings,
     } = file;
     note_sentinel(noting, &conf);
+    let path = words.get_str("conf").unwrap_or("");
+    let sentinels = conf.roster().sentinels().len() as u64;
+    note_watch(rt, noting, path, sentinels, text.as_slice());
     let ended = match Watch::open(noting, rt.alloc(), conf, store, settings) {
         Ok(watch) => watch.run(noting),
         Err(fault) => Err(fault),
