@@ -7,6 +7,7 @@
 #![tactic(auto)]
 
 mod clock;
+mod known_epoch;
 mod lookout;
 mod named;
 mod news;

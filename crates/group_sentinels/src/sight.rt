@@ -31,9 +31,14 @@ pub(crate) struct Vote {
 }
 
 /// What a Sentinel shows of a master: whether its clock isn't to be trusted, the configuration, what it finds of the master, how far its own failover has come, its vote,
-/// and which of the master's replicas, by their places among its nodes, and of the other Sentinels, by their places in the roster, are down.
+/// and which of the master's replicas, by their places among its nodes, and of the other Sentinels, by their places in the roster, are down; `at` which reading of its clock
+/// that was, its run id and its current epoch, and the master's `failover-timeout`, in milliseconds.
 #[derive(Clone, Copy)]
 pub(crate) struct Look {
+    pub(crate) at: u64,
+    pub(crate) me: RunId,
+    pub(crate) current: u64,
+    pub(crate) timeout: u64,
     pub(crate) is_tilted: bool,
     pub(crate) card: Card,
     pub(crate) flags: Flags,
@@ -102,6 +107,8 @@ impl Look {
     /// What a Sentinel shows of a master, by what it keeps at a reading of its clock.
     fn at(plan: &Plan, core: &Core, now: u64, m: u16) -> Look
         requires { m < master_count plan.now }
+        ensures now { result.at ≡ now }
+        ensures epoch { result.current ≡ core.now.kept.current }
         ensures tilted { result.is_tilted ≡ is_tilted core.now }
         ensures card { result.card ≡ card_of core.now.kept m }
         ensures flags { result.flags ≡ record {
@@ -116,6 +123,10 @@ impl Look {
         ensures sentinels { take (group_size plan.now) result.sentinels ≡ at_places (is_other_down plan.now core.now (clock now)) 0 (group_size plan.now) }
     {
         Look {
+            at: now,
+            me: plan.me(),
+            current: core.kept().current,
+            timeout: plan.settings(m).timeout,
             is_tilted: core.is_tilted(),
             card: core.card(m),
             flags: flags_of(plan, core, now, m),
@@ -158,9 +169,10 @@ impl Nearness {
 }
 
 /// Who takes down what a Sentinel shows of one master at the end of a turn, at the reading of its clock, and of which masters a campaign comes near. Where no master is
-/// wanted nothing is.
+/// wanted nothing is. `current` is the Sentinel's current epoch after the last turn.
 #[derive(Drop)]
 pub(crate) struct Sight {
+    current: u64,
     wanted: Option<(u16, u64)>,
     look: Option<Look>,
     ahead: Option<(u16, u64)>,
@@ -171,6 +183,7 @@ impl Sight {
     /// No master is wanted.
     pub(crate) fn none() -> Sight {
         Sight {
+            current: 0,
             wanted: None,
             look: None,
             ahead: None,
@@ -179,6 +192,11 @@ impl Sight {
                 come: None,
             },
         }
+    }
+
+    /// The Sentinel's current epoch after the last turn, 0 before the first one.
+    pub(crate) fn current(&self) -> u64 {
+        self.current
     }
 
     /// This master is wanted of the next turn, at this reading of the clock in milliseconds.
@@ -219,6 +237,7 @@ impl Observer for Sight {
     fn observe(&mut self, sentinel: &Sentinel) {
         self.look = None;
         let (plan, core) = (sentinel.plan(), sentinel.core());
+        self.current = core.kept().current;
         if let Some((master, now)) = self.wanted {
             if master < plan.master_count() {
                 self.look = Some(Look::at(plan, core, now, master));

@@ -240,6 +240,7 @@ where
     let Ok((member, seat)) = made else {
         return end_for_want(&state.run, &state.ending);
     };
+    far.guard(&member);
     let Ok(seated) = Seated::of(alloc, &member, seat, port, others) else {
         return end_for_want(&state.run, &state.ending);
     };

@@ -5,8 +5,10 @@
 #![tactic(auto)]
 
 mod exchange;
+mod far_hellos;
 mod hello_notes;
 mod logins;
+mod replica_notes;
 mod rounds;
 mod traffic;
 mod wire;
