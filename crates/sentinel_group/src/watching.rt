@@ -11,12 +11,8 @@ use crate::starting::note_sentinel;
 use crate::telling::{note_watch, tell_faults, tell_watch};
 use ballot_law::{Roster, Text};
 use clap::ArgMatches;
-<<<<<<< HEAD
-use group_ports::{Admission, PortAddress};
-=======
 use conf_store::FileText;
-use group_ports::Admission;
->>>>>>> doors/doors
+use group_ports::{Admission, PortAddress};
 use log::{LevelFilter, Log};
 use port_serving::ServeFault;
 use sentinel_conf::{Conf, read};
