@@ -20,7 +20,7 @@ use watch_conf::{WatchKind, lacks_announce_ip, read_watch};
 /// The text of the file at the path, and what it says. A file that is refused is told, with all that is wrong with it, and the status tells
 /// it too.
 fn conf_at(rt: HostRuntime, path: &str) -> Result<(FileText, Conf), ExitCode> {
-    let (text, _) = text_at(rt, path)?;
+    let text = text_at(rt, path)?;
     match read(rt.alloc(), text.as_slice()) {
         Ok(conf) => Ok((text, conf)),
         Err(fault) => {

@@ -3,8 +3,9 @@
 ghost use Rattle.std.specs.Prelude.{◌≡◌, ◌<◌, ◌-◌, ◌^◌, IfOk};
 
 use crate::command_line::port_threads_of;
+use crate::conf_paths::ConfPath;
 use crate::failures::{fail, fail_group, refuse_conf, refuse_file, status_of_group};
-use crate::group_files::text_at;
+use crate::group_files::{opened, refuse_unopened_by_reason};
 use crate::locks::{FileLock, lock_file, refuse_lock};
 use crate::noted_store::NotedStore;
 use crate::starting::note_sentinel;
@@ -168,12 +169,17 @@ fn settings_of(
 fn watch_file<'a, R: Log>(
     rt: HostRuntime,
     noting: &'a R,
-    path: &str,
+    path: &ConfPath<'_>,
     port: PortSettings,
 ) -> Result<WatchFile<'a, R>, ExitCode>
     ensures { IfOk result (λ file. file.store ≡ 0) }
 {
-    let (text, store) = text_at(rt, path)?;
+    let opened = opened(rt, path);
+    let path = path.named();
+    let (text, store) = match opened {
+        Ok(opened) => opened,
+        Err(why) => return Err(refuse_unopened_by_reason(rt, path, why)),
+    };
     let conf = match read(rt.alloc(), text.as_slice()) {
         Ok(conf) => conf,
         Err(fault) => {
@@ -202,11 +208,16 @@ fn locked_file<'a, R: Log>(
 ) -> Result<(WatchFile<'a, R>, FileLock), ExitCode>
     ensures { IfOk result (λ locked. locked.0.store ≡ 0) }
 {
-    let path = words.get_str("conf").unwrap_or("");
-    let locked = lock_file(rt, path);
-    let file = watch_file(rt, noting, path, port_of(words))?;
+    let Ok(path) = ConfPath::of(rt, words.get_str("conf").unwrap_or("")) else {
+        return Err(fail(&rt, ServeFault::NoMemory));
+    };
+    let locked = lock_file(rt, &path);
+    let file = watch_file(rt, noting, &path, port_of(words))?;
     match locked {
-        Ok(lock) => Ok((file, lock)),
+        Ok(lock) => {
+            lock.note(noting, path.named());
+            Ok((file, lock))
+        }
         Err(fault) => Err(refuse_lock(rt, fault)),
     }
 }
