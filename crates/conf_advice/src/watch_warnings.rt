@@ -5,7 +5,7 @@ ghost use Rattle.std.specs.List.{filter, flat_map};
 ghost use Rattle.ballot_law.specs.Cuts.{lines};
 ghost use Rattle.conf_advice.specs.Advices.{advices};
 ghost use Rattle.conf_advice.specs.Losses.{loss_of};
-ghost use Rattle.conf_advice.specs.WatchWarnings.{named, excess_words, known_words, is_refused, watch_words, told_line, watch_warning, is_idle_line, is_idle, comma, add_place, places, lines_have, idle_note, watch_warnings};
+ghost use Rattle.conf_advice.specs.WatchWarnings.{named, excess_words, loss_words, known_words, is_refused, watch_words, told_line, watch_warning, is_idle_line, is_idle, comma, add_place, places, lines_have, idle_note, watch_warnings};
 ghost use Rattle.watch_conf.specs.WatchLines.{watch_line};
 
 use crate::line_advices::{Advice, AdviceKind, advices};
@@ -39,7 +39,7 @@ fn add_excess(out: &mut Vec<u8>, setting: &Setting) -> Result<(), NoMemory>
 
 /// Adds what is lost with a line that has no effect.
 fn add_loss(out: &mut Vec<u8>, text: &[u8]) -> Result<(), NoMemory>
-    ensures { OnOk result (out.new.items ≡ out.old.items ++ known_words text.now WatchLine.Other) }
+    ensures { OnOk result (out.new.items ≡ out.old.items ++ loss_words text.now (loss_of text.now)) }
 {
     if let Some(words) = loss_of(text) {
         add_directive(out, text)?;
