@@ -34,10 +34,14 @@ password_rule [] = None
 password_rule (rule ∷ rules) =
     elim (is_plain rule) as (λ _. Option (List ℕ)) [ true ↦ password_rule rules | false ↦ some_if (list_all is_plain rules) rule ]
 
--- a # and the digits of a hash
+-- a # and the digits of a hash, one at least
+abbrev pub with_digits : List ℕ → WatchLine
+with_digits [] = line.Faulty AclUser
+with_digits (d ∷ digits) = line.Says (DefaultUser (d ∷ digits))
+
 abbrev pub hashed : List ℕ → WatchLine
 hashed [] = line.Faulty AclUser
-hashed (b ∷ digits) = elim (b == 35) as (λ _. WatchLine) [ true ↦ line.Says (DefaultUser digits) | false ↦ line.Faulty AclUser ]
+hashed (b ∷ digits) = elim (b == 35) as (λ _. WatchLine) [ true ↦ with_digits digits | false ↦ line.Faulty AclUser ]
 
 -- the default user may have no password, or one of which the line has the hash
 abbrev pub user_with : List ℕ → WatchLine
@@ -55,6 +59,7 @@ abbrev pub user_line : List (List ℕ) → WatchLine
 user_line [] = line.Faulty AclUser
 user_line (name ∷ rules) = elim (same_bytes name (codes "default")) as (λ _. WatchLine) [ true ↦ default_user rules | false ↦ line.Faulty AclUser ]
 
--- the digits by which a Redis writes a password down
+-- the digits by which a Redis writes a password down; an empty one is none here, so no hash is its own
 abbrev pub hash_of : List ℕ → List ℕ
-hash_of password = encode_lower (sha256 password)
+hash_of [] = []
+hash_of (b ∷ bs) = encode_lower (sha256 (b ∷ bs))

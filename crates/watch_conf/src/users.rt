@@ -79,7 +79,7 @@ fn user_with(alloc: Global, rule: &Text) -> Result<WatchLine, NoMemory>
         return Ok(WatchLine::Other);
     }
     match rule.as_slice().split_first() {
-        Some((first, digits)) if *first == b'#' => {
+        Some((first, digits)) if *first == b'#' && !digits.is_empty() => {
             let digits = Text::from_slice(alloc, digits)?;
             Ok(WatchLine::Says(Setting::DefaultUser(digits)))
         }
@@ -109,10 +109,13 @@ pub(crate) fn user_line(alloc: Global, args: &[Text]) -> Result<WatchLine, NoMem
     }
 }
 
-/// The digits by which a Redis writes this password down: those of its SHA-256 digest.
+/// The digits by which a Redis writes this password down: those of its SHA-256 digest. An empty one is none, and has no digits.
 pub(crate) fn hash_of(alloc: Global, password: &[u8]) -> Result<String, NoMemory>
     ensures { IfOk result (λ text. string_bytes text ≡ hash_of password.now) }
 {
+    if password.is_empty() {
+        return Ok(String::new(alloc));
+    }
     let digest = Sha256::digest(password);
     Ok(hex::encode(alloc, digest.as_slice())?)
 }
