@@ -85,7 +85,9 @@ impl Admission {
             Some(most) => usize::from(most),
             None => CONNECTIONS_MAX,
         };
-        (limit + self.beside(threads)).min(SEATS_MAX)
+        (limit + self.beside(threads))
+            .next_multiple_of(usize::from(threads.max(1)))
+            .min(SEATS_MAX)
     }
 
     /// The same, where no more clients are let in than a port with this room has seats for beside the kept ones, but one at least.

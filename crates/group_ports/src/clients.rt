@@ -184,7 +184,8 @@ impl Clients {
         self.waiting.make_room(key)?;
         if self.terms.makes_room {
             self.silent.add(key, self.now)?;
-            if !self.terms.password.as_slice().is_empty() {
+            let is_open = self.terms.password.as_slice().is_empty();
+            if !is_open {
                 self.strangers.add(key, self.now)?;
             }
         }
@@ -285,11 +286,11 @@ impl Clients {
     fn count_unsent(&mut self, key: usize)
         ensures others { (other : ℕ) → other ≢ key → get self.new.connections other ≡ get self.old.connections other }
     {
-        let Some(client) = self.connections.get_mut(key) else {
+        let Some(connection) = self.connections.get_mut(key) else {
             return;
         };
-        let before = client.counted();
-        let after = client.count_unsent();
+        let before = connection.counted();
+        let after = connection.count_unsent();
         self.unsent = self.unsent.saturating_sub(before).saturating_add(after);
         if self.terms.makes_room && after >= LEFT_MAX && self.unsent > self.unsent_max() {
             self.close(key);
