@@ -137,6 +137,16 @@ impl ClientSession {
         }
     }
 
+    /// Gives back the room in which nothing is held, as where its client is silent for a while; the next answer takes it anew.
+    pub fn rest(&mut self)
+        ensures { self.new ≡ self.old }
+    {
+        match self {
+            ClientSession::Plain(session) => session.rest(),
+            ClientSession::Courteous(session) => session.rest(),
+        }
+    }
+
     /// Tells the client of a note, where it is due, as `Session::notify` and `CourteousSession::notify` do: whether it is.
     pub fn notify(&mut self, roster: &Roster, note: &Note, entry: u64) -> Result<bool, NoMemory>
         requires { note.now.master < length roster.now.masters }

@@ -167,6 +167,13 @@ impl CourteousSession {
         self.exchange.sent(n);
     }
 
+    /// Gives back the room in which nothing is held, as where its client is silent for a while; the next answer takes it anew.
+    pub fn rest(&mut self)
+        ensures { self.new ≡ self.old }
+    {
+        self.exchange.rest();
+    }
+
     /// Tells the client of a note, where it is due, as `Session::notify` has it: whether it is. It is told on its channel, and for each pattern that matches that, in the
     /// form of Pub/Sub. After `NoMemory` the client misses a note: the connection is to be closed.
     pub fn notify(&mut self, roster: &Roster, note: &Note, entry: u64) -> Result<bool, NoMemory>

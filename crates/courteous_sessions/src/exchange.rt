@@ -139,6 +139,20 @@ impl Exchange {
         }
     }
 
+    /// Gives back all room in which nothing is held.
+    pub(crate) fn rest(&mut self)
+        ensures attendant { self.new.attendant ≡ record self.old.attendant { text = [] } }
+        ensures session { self.new.session ≡ self.old.session }
+        ensures unsent { self.new.unsent.items ≡ self.old.unsent.items }
+        ensures kept { (self.new.knows_masters ≡ self.old.knows_masters) × (self.new.subscriptions ≡ self.old.subscriptions) }
+    {
+        self.session.rest();
+        self.attendant.drop_text();
+        if self.unsent.is_empty() {
+            self.unsent = BytesMut::new(self.alloc);
+        }
+    }
+
     /// Has it want this password of its client, who didn't give it yet.
     pub(crate) fn want_password(&mut self, password: Text)
         ensures attendant { self.new.attendant ≡ record self.old.attendant {

@@ -1,6 +1,6 @@
 //! Whom a port lets in.
 
-ghost use Rattle.std.specs.Prelude.{◌≡◌, ◌≤◌, ◌*◌, ◌↔◌, ℕ, [], None, Some, IsSome, false, min, max, vec_len};
+ghost use Rattle.std.specs.Prelude.{◌≡◌, ◌≤◌, ◌+◌, ◌*◌, ◌/◌, ◌↔◌, ℕ, [], None, Some, IfSome, IsSome, false, min, max, vec_len};
 ghost use Rattle.ballot_law.specs.declared.rosters.TheConstants.{SENTINELS_MAX};
 ghost use Rattle.group_ports.specs.declared.port_room.TheConstants.{SEATS_MAX};
 ghost use Rattle.group_ports.specs.declared.seats.TheConstants.{SEATS_OF_EACH};
@@ -64,28 +64,19 @@ impl Admission {
         SEATS_OF_EACH as usize * self.peers.len().min(SENTINELS_MAX)
     }
 
-    /// How many connections a port of so many threads keeps beside those that `limit` counts: those on kept seats, and of several threads those that come to each while others go.
-    fn beside(&self, threads: u16) -> usize
-        ensures alone { threads ≤ 1 → result ≡ SEATS_OF_EACH * min (vec_len self.now.peers) SENTINELS_MAX }
-        ensures kept { SEATS_OF_EACH * min (vec_len self.now.peers) SENTINELS_MAX ≤ result }
-    {
-        let kept = self.kept_seats();
-        if threads > 1 {
-            kept + AT_ONCE * usize::from(threads)
-        } else {
-            kept
-        }
-    }
-
-    /// How many connections a port of so many threads keeps that lets these in, where descriptors are there for them.
+    /// How many connections a port of so many threads keeps that lets these in, where descriptors are there for them: those that `limit` has, those on kept seats, and of several threads
+    /// those that come to each of them while others go.
     pub fn wanted(&self, threads: u16) -> usize
         ensures few { result ≤ SEATS_MAX }
+        ensures enough { IfSome self.now.limit (λ most. min (most + SEATS_OF_EACH * min (vec_len self.now.peers) SENTINELS_MAX) SEATS_MAX ≤ result) }
     {
         let limit = match self.limit {
             Some(most) => usize::from(most),
             None => CONNECTIONS_MAX,
         };
-        (limit + self.beside(threads)).min(SEATS_MAX)
+        let threads = usize::from(threads.max(1));
+        let all = limit + self.kept_seats() + while_others_go(threads, SEATS_MAX);
+        all.next_multiple_of(threads).min(SEATS_MAX)
     }
 
     /// The same, where no more clients are let in than a port with this room has seats for beside the kept ones, but one at least.
@@ -96,10 +87,24 @@ impl Admission {
         ensures password { result.password ≡ self.password }
     {
         if let Some(most) = self.limit {
-            let left = room.all().saturating_sub(self.beside(room.threads()));
-            self.limit = Some(limit_of(most, left));
+            let all = room.all();
+            let while_others_go = while_others_go(usize::from(room.threads()), all);
+            let left = all.saturating_sub(self.kept_seats());
+            self.limit = Some(limit_of(most, left.saturating_sub(while_others_go)));
         }
         self
+    }
+}
+
+/// How many of so many connections may be those that come to a thread while others go: `AT_ONCE` for each of several threads, and at most a fourth; none where there is one thread.
+fn while_others_go(threads: usize, all: usize) -> usize
+    ensures alone { threads ≤ 1 → result ≡ 0 }
+    ensures few { result ≤ all / 4 }
+{
+    if threads > 1 {
+        threads.saturating_mul(AT_ONCE).min(all / 4)
+    } else {
+        0
     }
 }
 

@@ -34,6 +34,12 @@ const WAIT_MS: u64 = 100;
 /// How long it is at least between two looks at who has been silent for long, in milliseconds; and how much later a connection is looked at again that may not go.
 const LOOK_MS: u64 = 1_000;
 
+/// How many bytes may be unsent of all connections of a port together: where there are more, each one is closed that leaves `LEFT_MAX` or more once it sent what it could.
+const UNSENT_ALL: usize = 268_435_456;
+
+/// How many unsent bytes a connection may leave in any case.
+const LEFT_MAX: usize = 16_384;
+
 /// Whom a thread's connections are for: the password that is wanted of each client, where it isn't empty; after how many milliseconds without a byte one is closed that listens to
 /// nothing, where that isn't 0; and whether one goes for a further one.
 #[derive(Drop)]
@@ -47,7 +53,7 @@ pub(crate) struct Terms {
 ///
 /// `busy` is whether there is something to do before the next wait. Those that have something to do, and those that listen, are `waiting`. `silent` has all by their last byte, and
 /// `strangers` those that owe the password by when they came. `next_id` is the number of the next connection: no other one of the port has it, since each of its threads has its own
-/// numbers. `now` is the clock's reading at the last turn, and `next_look` that from which on it is looked who has been silent for long.
+/// numbers. `unsent` is how many bytes of all of them were unsent as each was looked at last. `now` is the clock's reading at the last turn, and `next_look` that from which on it is looked who has been silent for long.
 #[derive(Drop)]
 pub(crate) struct Clients {
     poll: Poll,
@@ -56,6 +62,7 @@ pub(crate) struct Clients {
     seats: Arc<Seats, Global>,
     busy: bool,
     waiting: Waiting,
+    unsent: usize,
     silent: Ages,
     strangers: Ages,
     now: u64,
@@ -94,6 +101,7 @@ impl Clients {
             seats,
             busy: false,
             waiting: Waiting::new(alloc),
+            unsent: 0,
             silent: Ages::new(alloc),
             strangers: Ages::new(alloc),
             now: 0,
@@ -102,6 +110,11 @@ impl Clients {
             terms: terms_of(alloc, admission)?,
             alloc,
         })
+    }
+
+    /// How many bytes may be unsent of all connections of this thread.
+    fn unsent_max(&self) -> usize {
+        UNSENT_ALL / usize::from(self.room.threads()).max(1)
     }
 
     /// Where they are registered.
@@ -171,7 +184,8 @@ impl Clients {
         self.waiting.make_room(key)?;
         if self.terms.makes_room {
             self.silent.add(key, self.now)?;
-            if !self.terms.password.as_slice().is_empty() {
+            let is_open = self.terms.password.as_slice().is_empty();
+            if !is_open {
                 self.strangers.add(key, self.now)?;
             }
         }
@@ -219,6 +233,7 @@ impl Clients {
         ensures gone { get self.new.connections key ≡ None }
     {
         if let Some(connection) = self.connections.try_remove(key) {
+            self.unsent = self.unsent.saturating_sub(connection.counted());
             self.seats.free(connection.place());
         }
     }
@@ -263,6 +278,23 @@ impl Clients {
         if connection.listens() {
             self.waiting.listeners.join(key);
         }
+        self.waiting.active.join(key);
+    }
+
+    /// Counts what a connection leaves unsent, and closes it where that is too much for all of them together.
+    #[tactic(auto, using(crate::proofs::Keeping::kept_few, crate::proofs::Keeping::others_kept, crate::proofs::Keeping::others_left))]
+    fn count_unsent(&mut self, key: usize)
+        ensures others { (other : ℕ) → other ≢ key → get self.new.connections other ≡ get self.old.connections other }
+    {
+        let Some(connection) = self.connections.get_mut(key) else {
+            return;
+        };
+        let before = connection.counted();
+        let after = connection.count_unsent();
+        self.unsent = self.unsent.saturating_sub(before).saturating_add(after);
+        if self.terms.makes_room && after >= LEFT_MAX && self.unsent > self.unsent_max() {
+            self.close(key);
+        }
     }
 
     /// Sends what one connection can send, and closes it where it ended.
@@ -280,6 +312,7 @@ impl Clients {
             self.waiting.join(client.line(), key);
             self.busy = true;
         }
+        self.count_unsent(key);
     }
 
     /// Notes what the system told of one connection: whether it is to read and answer at once. One that may ask for votes waits for its turn among those.
@@ -403,6 +436,8 @@ impl Clients {
             return self.close(key);
         }
         self.waiting.listeners.join(key);
+        self.waiting.active.join(key);
+        self.count_unsent(key);
     }
 
     /// Tells the subscribers of a master's new address or of another event, each in its turn. Those that listen no more leave the line.
@@ -522,22 +557,52 @@ impl Clients {
         }
     }
 
-    /// Closes those that are idle for long. It looks at most once in `LOOK_MS`: whether it looked.
-    pub(crate) fn close_idle(&mut self) -> bool {
-        if self.now < self.next_look || !self.terms.makes_room {
+    /// Has a connection give back its room where no byte came of it for `LOOK_MS`; else it is looked at again later.
+    #[tactic(auto, using(crate::proofs::Keeping::kept_few, crate::proofs::Keeping::others_kept))]
+    fn rest_one(&mut self, key: usize)
+        ensures others { (other : ℕ) → other ≢ key → get self.new.connections other ≡ get self.old.connections other }
+    {
+        let Some(connection) = self.connections.get_mut(key) else {
+            return;
+        };
+        if self.now.saturating_sub(connection.heard()) >= LOOK_MS {
+            connection.rest();
+        } else {
+            self.waiting.active.join(key);
+        }
+    }
+
+    /// Has those give back their room from which no byte came for `LOOK_MS`.
+    fn rest_silent(&mut self) {
+        for _ in 0..self.waiting.active.len() {
+            if let Some(key) = self.waiting.active.next() {
+                self.rest_one(key);
+            }
+        }
+    }
+
+    /// Has those that are silent give back their room, and closes those that are idle for long. It looks at most once in `LOOK_MS`: whether it looked.
+    pub(crate) fn look_at_silent(&mut self) -> bool {
+        if self.now < self.next_look {
             return false;
         }
         self.next_look = self.now.saturating_add(LOOK_MS);
+        self.rest_silent();
+        self.close_idle();
+        true
+    }
+
+    /// Closes those that are idle for long.
+    fn close_idle(&mut self) {
         let idle_ms = self.terms.idle_ms;
         for _ in 0..self.silent.len() {
             match self.silent.first() {
                 Some((since, key)) if idle_ms > 0 && self.now.saturating_sub(since) >= idle_ms => {
                     self.look_at(since, key);
                 }
-                _ => return true,
+                _ => return,
             }
         }
-        true
     }
 
     /// The clock's reading is this by now.

@@ -40,6 +40,7 @@ pub(crate) struct Origin {
 /// `readable` is whether the system told of bytes that may not be read yet. `half` is whether its client has ended its stream or broken off, as the
 /// system told: then the end is still to be read after the last piece. `votes` is whether it may have asked for a vote that isn't answered yet. `ends` is whether
 /// no more of it is read or answered: it is closed once all is sent. `heard` is the clock's reading of the turn that read its last byte, or of when it came.
+/// `counted` is how many bytes were unsent when that was looked at last.
 #[derive(Drop)]
 pub(crate) struct Connection<T: Read + Write + Drop> {
     stream: T,
@@ -51,6 +52,7 @@ pub(crate) struct Connection<T: Read + Write + Drop> {
     ends: bool,
     origin: Origin,
     heard: u64,
+    counted: usize,
 }
 
 impl<T: Read + Write + Drop> Connection<T> {
@@ -66,6 +68,7 @@ impl<T: Read + Write + Drop> Connection<T> {
             ends: false,
             origin,
             heard: origin.came,
+            counted: 0,
         }
     }
 
@@ -81,6 +84,36 @@ impl<T: Read + Write + Drop> Connection<T> {
         ensures { result ≡ listens_of self.now.session }
     {
         self.session.listens()
+    }
+
+    /// The clock's reading of the turn that read its last byte, or of when it came.
+    pub(crate) fn heard(&self) -> u64
+        ensures { result ≡ self.now.heard }
+    {
+        self.heard
+    }
+
+    /// How many bytes were unsent when that was looked at last.
+    pub(crate) fn counted(&self) -> usize
+        ensures { result ≡ self.now.counted }
+    {
+        self.counted
+    }
+
+    /// How many bytes are unsent, which is looked at.
+    pub(crate) fn count_unsent(&mut self) -> usize
+        ensures count { result ≡ length (unsent_of self.old.session) }
+        ensures rest { self.new ≡ record self.old { counted = result } }
+    {
+        self.counted = self.session.unsent().len();
+        self.counted
+    }
+
+    /// Gives back the room in which nothing is held.
+    pub(crate) fn rest(&mut self)
+        ensures { self.new.session ≡ self.old.session }
+    {
+        self.session.rest();
     }
 
     /// What counts where it may have to go.

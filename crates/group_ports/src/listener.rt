@@ -297,9 +297,9 @@ impl Entrance {
         self.admit(rt, log, state, clients);
     }
 
-    /// Closes the connections that are idle for long, and tells the thread that accepts since when the one is silent that has to go first.
-    pub(crate) fn close_idle(&self, clients: &mut Clients) {
-        if clients.close_idle()
+    /// Looks at the connections that are silent, and tells the thread that accepts since when the one is silent that has to go first.
+    pub(crate) fn look_at_silent(&self, clients: &mut Clients) {
+        if clients.look_at_silent()
             && let Entrance::IsHanded(desk) = self
         {
             desk.tell_silent(clients.silent_since());

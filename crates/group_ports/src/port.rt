@@ -113,17 +113,17 @@ impl Port {
             self.clients.send_events(&self.events);
             self.clients.serve_busy(rt, state, member, seat, ending);
             self.clients.tell_news(rt, member, self.thread);
-            self.close_idle(rt, state);
+            self.look_at_silent(rt, state);
         }
         unreachable!()
     }
 
-    /// Closes the connections that are idle for long. The clock is read for it only where nothing came.
-    fn close_idle<R: Clock>(&mut self, rt: &R, state: &RunState) {
+    /// Looks at the connections that are silent. The clock is read for it only where nothing came.
+    fn look_at_silent<R: Clock>(&mut self, rt: &R, state: &RunState) {
         if self.events.is_empty() {
             self.clients.note_time(state.clock.now(rt));
         }
-        self.entrance.close_idle(&mut self.clients);
+        self.entrance.look_at_silent(&mut self.clients);
     }
 
     /// Has the connections of which the system told read and answer, and takes in new ones. It stops where the group ends.

@@ -16,7 +16,7 @@ pub(crate) enum Line {
     OtherVoter,
 }
 
-/// The lines of those that have something to do, and those that listen. Of the voters' turns every second one is that of a peer, where one waits; `peer_was_last` is whether the last
+/// The lines of those that have something to do, those that listen, and those that had a turn or were told something since they gave back their room last. Of the voters' turns every second one is that of a peer, where one waits; `peer_was_last` is whether the last
 /// one was.
 #[derive(Drop)]
 pub(crate) struct Waiting {
@@ -24,6 +24,7 @@ pub(crate) struct Waiting {
     peers: KeyQueue,
     voters: KeyQueue,
     pub(crate) listeners: KeyQueue,
+    pub(crate) active: KeyQueue,
     peer_was_last: bool,
 }
 
@@ -44,6 +45,7 @@ impl Waiting {
             peers: KeyQueue::new(alloc),
             voters: KeyQueue::new(alloc),
             listeners: KeyQueue::new(alloc),
+            active: KeyQueue::new(alloc),
             peer_was_last: false,
         }
     }
@@ -53,7 +55,8 @@ impl Waiting {
         self.plain.make_room(key)?;
         self.peers.make_room(key)?;
         self.voters.make_room(key)?;
-        self.listeners.make_room(key)
+        self.listeners.make_room(key)?;
+        self.active.make_room(key)
     }
 
     /// A connection waits in this line, where it doesn't yet.

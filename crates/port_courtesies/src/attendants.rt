@@ -125,6 +125,13 @@ impl Attendant {
         self.frames = Frames::new(self.alloc);
     }
 
+    /// Gives back the room of the last answer, which is gone.
+    pub fn drop_text(&mut self)
+        ensures { self.new ≡ record self.old { text = [] } }
+    {
+        self.text = OutText::new(self.alloc);
+    }
+
     /// Takes the first whole value of the bytes that came; `None` where more bytes are needed. A line that begins with no byte of a kind of RESP2 is the array
     /// of its words, as Redis splits it into words.
     ///

@@ -174,6 +174,13 @@ impl Session {
         self.exchange.sent(n);
     }
 
+    /// Gives back the room in which nothing is held, as where its client is silent for a while; the next answer takes it anew.
+    pub fn rest(&mut self)
+        ensures { self.new ≡ self.old }
+    {
+        self.exchange.rest();
+    }
+
     /// Whether a note of this entry is news to the client.
     fn is_due(&self, note: &Note, entry: u64) -> bool
         requires { note.now.master < MASTERS_MAX }
