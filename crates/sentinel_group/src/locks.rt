@@ -116,7 +116,7 @@ impl FileLock {
     /// Notes where no file to lock can be made beside the file at this path.
     pub(crate) fn note<R: Log>(&self, noting: &R, path: &str) {
         if let Some(error) = self.unmade {
-            warn!(noting; "{path}.lock can't be made, so nothing can be stored, nor is every program kept away: {error}");
+            warn!(noting; "no lock file can be made beside {path}, so nothing can be stored there: {error}");
         }
     }
 }
