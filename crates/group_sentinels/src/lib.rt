@@ -15,6 +15,7 @@ mod notes;
 mod outlet;
 mod run_state;
 mod running_sentinel;
+mod settling;
 mod sight;
 mod switches;
 mod ticking;

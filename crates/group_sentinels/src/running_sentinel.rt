@@ -268,7 +268,7 @@ impl<J: Which, S: ConfStore> RunningSentinel<J, S> {
     {
         let input = Input { now, event };
         let entry = self.turn(rt, seat, &input)?;
-        self.known.raise(seat.sight.current());
+        self.settle(seat, now);
         let outputs = seat.outbox.outputs();
         send_all(outlet, outputs);
         tell_all(
@@ -279,6 +279,15 @@ impl<J: Which, S: ConfStore> RunningSentinel<J, S> {
             entry,
         );
         Ok(())
+    }
+
+    /// Takes in the current epoch after a turn, where `guard_epochs` was called.
+    fn settle(&self, seat: &mut ThreadSeat<J>, now: u64)
+        ensures { (seat.new.seat ≡ seat.old.seat) × (seat.new.outbox ≡ seat.old.outbox) }
+    {
+        if let Some(known) = self.known.current() {
+            self.known.tell(seat.sight.settle(known, now));
+        }
     }
 
     /// Whether it is still to be noted that it is halted; a second time it isn't.
@@ -310,15 +319,21 @@ impl<J: Which, S: ConfStore> RunningSentinel<J, S> {
         self.news.tell_events();
     }
 
-    /// From now on a request for a vote in an epoch that is more than `EPOCHS_AHEAD` above the current one of the Sentinel is answered as one of epoch 0: `epoch` is one that
-    /// this isn't below, as that of its file. Sessions without courtesies hear each epoch as it is.
+    /// From now on a request for a vote in an epoch that is more than `EPOCHS_AHEAD` above what the current one of the Sentinel was 10 to 20 s ago is answered as one of epoch
+    /// 0. `epoch` is the current one of its file, of which the others have heard. Who asks for votes in ever later epochs so leads it no further than the others follow by its
+    /// hellos. One thread alone, that of its ticks, may call `carry_out` from then on. Sessions without courtesies hear each epoch as it is.
     pub fn guard_epochs(&self, epoch: u64) {
         self.known.begin(epoch);
     }
 
-    /// An epoch that the current one of the Sentinel isn't below: that after the last turn of the thread which ticks it, or of the call of `guard_epochs`; none before that.
+    /// An epoch that the current one of the Sentinel isn't below: that after the last call of `carry_out`, or of `guard_epochs`; none before that.
     pub fn known_epoch(&self) -> Option<u64> {
-        self.known.get()
+        self.known.current()
+    }
+
+    /// The epoch from which requests for votes count, 10 to 20 s old; none where `guard_epochs` wasn't called.
+    pub fn settled_epoch(&self) -> Option<u64> {
+        self.known.settled()
     }
 
     /// The last request for a vote that was answered as one of epoch 0, where one was since this was asked.
@@ -368,7 +383,7 @@ impl<J: Which, S: ConfStore> RunningSentinel<J, S> {
     }
 
     /// Hands a session the next piece of its stream, at a reading of the clock in milliseconds: all that `ClientSession::received` says of it holds of this
-    /// Sentinel. Where `guard_epochs` was called, the session is told before that which epoch is known.
+    /// Sentinel. Where `guard_epochs` was called, the session is told before that from which epoch requests for votes count.
     pub fn receive<R: Wait>(
         &self,
         rt: &R,
@@ -387,11 +402,11 @@ impl<J: Which, S: ConfStore> RunningSentinel<J, S> {
         received
     }
 
-    /// Tells a session which epoch is known, where one is.
+    /// Tells a session from which epoch requests for votes count, where one is known.
     fn inform(&self, session: &mut ClientSession)
         ensures { (known : Option ℕ) × (session.new ≡ informed session.old known) }
     {
-        if let Some(epoch) = self.known.get() {
+        if let Some(epoch) = self.known.settled() {
             session.note_epoch(epoch);
         }
     }

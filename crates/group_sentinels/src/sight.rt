@@ -8,6 +8,7 @@ ghost use Rattle.sentinel_rules.specs.Plans.{group_size, master_count, nodes_of}
 ghost use Rattle.sentinel_rules.specs.States.{card_place, failover_of, is_failing_over, is_master_down, is_odown_at, is_tilted};
 ghost use Rattle.sentinel_rules.specs.Ticks.{at_places};
 
+use crate::settling::Settling;
 use ballot_law::{Card, MASTERS_MAX, NODES_MAX, RunId, SENTINELS_MAX};
 use failover_states::FailoverState;
 use sentinel_cell::Observer;
@@ -169,10 +170,11 @@ impl Nearness {
 }
 
 /// Who takes down what a Sentinel shows of one master at the end of a turn, at the reading of its clock, and of which masters a campaign comes near. Where no master is
-/// wanted nothing is. `current` is the Sentinel's current epoch after the last turn.
+/// wanted nothing is. `current` is the Sentinel's current epoch after the last turn, and `settling` how far it has come, where that is looked after.
 #[derive(Drop)]
 pub(crate) struct Sight {
     current: u64,
+    settling: Option<Settling>,
     wanted: Option<(u16, u64)>,
     look: Option<Look>,
     ahead: Option<(u16, u64)>,
@@ -184,6 +186,7 @@ impl Sight {
     pub(crate) fn none() -> Sight {
         Sight {
             current: 0,
+            settling: None,
             wanted: None,
             look: None,
             ahead: None,
@@ -194,9 +197,16 @@ impl Sight {
         }
     }
 
-    /// The Sentinel's current epoch after the last turn, 0 before the first one.
-    pub(crate) fn current(&self) -> u64 {
-        self.current
+    /// Takes in the current epoch after the last turn, at a reading of the clock: how far it has come. Where this wasn't called before, `known` is an epoch of which the others
+    /// have heard.
+    pub(crate) fn settle(&mut self, known: u64, now: u64) -> Settling {
+        let settling = match self.settling {
+            Some(settling) => settling,
+            None => Settling::begun(known, now),
+        };
+        let settling = settling.see(self.current, now);
+        self.settling = Some(settling);
+        settling
     }
 
     /// This master is wanted of the next turn, at this reading of the clock in milliseconds.

@@ -205,11 +205,17 @@ impl HelloNotes {
     }
 
     /// Notes a request for a vote whose epoch was too far ahead, at most once a minute.
-    pub(crate) fn hear_far_request<R: Log>(&mut self, rt: &R, by: Hearer<'_>, request: FarRequest) {
-        if self.far_request.takes_note(by.now, STRANGERS_MS) {
-            let (id, epoch, known) = (Id(request.candidate), request.epoch, by.known.unwrap_or(0));
+    pub(crate) fn hear_far_request<R: Log>(
+        &mut self,
+        rt: &R,
+        request: FarRequest,
+        settled: Option<u64>,
+        now: u64,
+    ) {
+        if self.far_request.takes_note(now, STRANGERS_MS) {
+            let (id, epoch, known) = (Id(request.candidate), request.epoch, settled.unwrap_or(0));
             warn!(rt;
-                "a request for a vote for {id} in epoch {epoch} got none: that is more than {EPOCHS_AHEAD} above {known}, the current one here. See who reaches the port of this Sentinel"
+                "a request for a vote for {id} in epoch {epoch} got none: that is more than {EPOCHS_AHEAD} above {known}, the current one here some seconds ago. See who reaches the port of this Sentinel"
             );
         }
     }

@@ -311,7 +311,7 @@ impl Rounds {
         self.hellos.look(&member.noting(rt), member.roster(), now);
         if let Some(request) = member.take_far(rt) {
             self.hellos
-                .hear_far_request(&member.noting(rt), hearer(member, now), request);
+                .hear_far_request(&member.noting(rt), request, member.settled_epoch(), now);
         }
         goes_on
     }
