@@ -4,7 +4,8 @@ use crate::named::{NamedId, NamedMaster, NamedNode, NamedSentinel};
 use crate::notes::Announcing;
 use crate::sight::{Flags, Look, Vote};
 use ballot_law::{
-    Addr, Body, Card, MAX_EPOCH, Member, Message, NODES_MAX, NodeName, Output, Roster, SENTINELS_MAX,
+    Addr, Body, Card, MAX_EPOCH, Member, Message, NODES_MAX, NodeName, Output, Roster,
+    SENTINELS_MAX,
 };
 use failover_states::FailoverState;
 use log::{Log, info, warn};
