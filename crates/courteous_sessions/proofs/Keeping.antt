@@ -42,19 +42,19 @@ is_own answer own value command same is (inr (inr (inr wrong))) = absurd (let no
 own_told : (start : World) (now : ℕ) (asker : Asker) (becomes : Answer) (p : Party) (value : Frame) (asked kept : Result Command CommandFault) (bytes : List ℕ) (q : Party)
     → (becomes ≡ left) ⊎ (becomes ≡ widens) → command_of value ≡ asked → (becomes ≡ widens → kept ≡ asked) → heard_as asker.current asked ≡ kept
     → Answers start now asker becomes p value bytes q → (answer : List ℕ) × Responds start now p kept answer q × Tells becomes asker value answer bytes
-own_told start now asker left p value asked kept bytes q own is same as h =
-    (bytes, subst (λ (k : Result Command CommandFault). Responds start now p k bytes q) (ap (heard_as asker.current) is ∙ as) h, refl)
-own_told start now asker widens p value asked kept bytes q own is same as h = (
+own_told start now asker left p value asked kept bytes q own is same there h =
+    (bytes, subst (λ (k : Result Command CommandFault). Responds start now p k bytes q) (ap (heard_as asker.current) is ∙ there) h, refl)
+own_told start now asker widens p value asked kept bytes q own is same there h = (
   h.answer,
   subst (λ (k : Result Command CommandFault). Responds start now p k h.answer q) (is ∙ sym (same refl)) h.turned,
   (h.told, h.rest, h.first, h.bytes_are),
 )
-own_told start now asker (said answer) p value asked kept bytes q (inl wrong) is same as h = absurd (let none : ⊥ = cc in none)
-own_told start now asker (said answer) p value asked kept bytes q (inr wrong) is same as h = absurd (let none : ⊥ = cc in none)
-own_told start now asker asks_masters p value asked kept bytes q (inl wrong) is same as h = absurd (let none : ⊥ = cc in none)
-own_told start now asker asks_masters p value asked kept bytes q (inr wrong) is same as h = absurd (let none : ⊥ = cc in none)
-own_told start now asker silent p value asked kept bytes q (inl wrong) is same as h = absurd (let none : ⊥ = cc in none)
-own_told start now asker silent p value asked kept bytes q (inr wrong) is same as h = absurd (let none : ⊥ = cc in none)
+own_told start now asker (said answer) p value asked kept bytes q (inl wrong) is same there h = absurd (let none : ⊥ = cc in none)
+own_told start now asker (said answer) p value asked kept bytes q (inr wrong) is same there h = absurd (let none : ⊥ = cc in none)
+own_told start now asker asks_masters p value asked kept bytes q (inl wrong) is same there h = absurd (let none : ⊥ = cc in none)
+own_told start now asker asks_masters p value asked kept bytes q (inr wrong) is same there h = absurd (let none : ⊥ = cc in none)
+own_told start now asker silent p value asked kept bytes q (inl wrong) is same there h = absurd (let none : ⊥ = cc in none)
+own_told start now asker silent p value asked kept bytes q (inr wrong) is same there h = absurd (let none : ⊥ = cc in none)
 
 -- no answer to a question is told in other words
 widened_as_it_is : (current : Option ℕ) (command : Command) → own_answer (wording_of (Ok command)) ≡ widens → heard_as current (Ok command) ≡ Ok command

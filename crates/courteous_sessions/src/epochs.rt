@@ -80,11 +80,13 @@ pub(crate) fn far_request(
     match (current, asked) {
         (
             Some(current),
-            Ok(Command::IsMasterDownByAddr {
-                addr: _,
-                epoch,
-                candidate: Some(candidate),
-            }),
+            Ok(
+                Command::IsMasterDownByAddr {
+                    addr: _,
+                    epoch,
+                    candidate: Some(candidate),
+                },
+            ),
         ) if is_far(*epoch, current) => Some(FarRequest {
             candidate: *candidate,
             epoch: *epoch,

@@ -4,7 +4,8 @@ use crate::named::{NamedId, NamedMaster, NamedNode, NamedSentinel};
 use crate::notes::Announcing;
 use crate::sight::{Flags, Look, Vote};
 use ballot_law::{
-    Addr, Body, Card, MAX_EPOCH, Member, Message, NODES_MAX, NodeName, Output, Roster, SENTINELS_MAX,
+    Addr, Body, Card, MAX_EPOCH, Member, Message, NODES_MAX, NodeName, Output, Roster,
+    SENTINELS_MAX,
 };
 use failover_states::FailoverState;
 use log::{Log, info, warn};
@@ -88,7 +89,7 @@ const SPREAD_MS: u64 = 1_000;
 const NO_EPOCH_MS: u64 = 60_000;
 
 /// What was last seen of one master. `started` is when the Sentinel last began a failover of it or voted for another one, since its own start, `put_off` after which of these a
-/// start that is put off was noted, and `spent` when it was noted that no epoch is left.
+/// start that is put off was noted since the master is objectively down, and `spent` when it was noted that no epoch is left.
 #[derive(Drop)]
 struct Seen {
     addr: Option<Addr>,
@@ -272,6 +273,9 @@ impl Seen {
         look: &Look,
         master: NamedMaster<'_>,
     ) {
+        if !look.flags.agreed {
+            self.put_off = None;
+        }
         if !look.flags.agreed || look.flags.failing_over {
             return;
         }
@@ -285,7 +289,7 @@ impl Seen {
         }
     }
 
-    /// Notes that a start is put off until two timeouts after this one, once for each.
+    /// Notes that a start is put off until two timeouts after this one, once while the master is objectively down.
     fn note_put_off<R: Log + Wait>(
         &mut self,
         to: &Announcing<'_, '_, R>,

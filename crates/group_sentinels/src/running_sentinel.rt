@@ -31,8 +31,8 @@ use sentinel_outbox::Outbox;
 use sentinel_rules::law_outputs_are_within;
 use std::alloc::{AllocError, Global};
 use std::marker::{Brand, PhantomData};
-use std::sync::{Mutex, Wait};
 use std::sync::atomic::{AtomicU64, Ordering};
+use std::sync::{Mutex, Wait};
 
 /// Which Sentinel it is. Only proofs read it.
 pub trait Which {

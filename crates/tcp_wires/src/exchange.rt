@@ -6,8 +6,8 @@ ghost use Rattle.messages.specs.MessageTexts.{IsWritable};
 ghost use Rattle.sentinel_rules.specs.Facts.{IsWithinEvent};
 
 use ballot_law::{Event, Message};
-use crossbeam_channel::{Receiver, Sender, unbounded};
 use conf_store::ConfStore;
+use crossbeam_channel::{Receiver, Sender, unbounded};
 use group_sentinels::{Outlet, RunState, RunningSentinel, Which};
 use messages::copy_of;
 use mio::{Registry, Token, Waker};

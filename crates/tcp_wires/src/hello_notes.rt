@@ -84,7 +84,8 @@ pub(crate) struct HelloNotes {
     far: Seldom,
     far_request: Seldom,
     moved: [Seldom; SENTINELS_MAX],
-    differing: [Seldom; SENTINELS_MAX],
+    unknown_addr: [Seldom; SENTINELS_MAX],
+    unknown_master: [Seldom; SENTINELS_MAX],
 }
 
 /// Notes a hello of nobody.
@@ -118,18 +119,20 @@ fn note_moved<R: Log>(rt: &R, hello: &Hello, member: Member) {
     );
 }
 
-/// Notes that a Sentinel tells a master, or an address of it, that the roster doesn't have.
-fn note_differing<R: Log>(rt: &R, hello: &Hello, is_named: bool) {
+/// Notes that a Sentinel tells an address of a master that the roster doesn't have.
+fn note_unknown_addr<R: Log>(rt: &R, hello: &Hello) {
     let (id, name, told) = (Id(hello.id), named(&hello.master), Told(hello.card.addr));
-    if is_named {
-        warn!(rt;
-            "the files of this group differ: Sentinel {id} tells {told} as the address of master {name}, which the file here doesn't name, so it isn't followed. Name it in all files by `sentinel known-replica {name}`"
-        );
-    } else {
-        warn!(rt;
-            "the files of this group differ: Sentinel {id} watches a master {name}, which the file here doesn't name. Give all files the same `sentinel monitor` lines"
-        );
-    }
+    warn!(rt;
+        "the files of this group differ: Sentinel {id} tells {told} as the address of master {name}, which the file here doesn't name, so it isn't followed. Name it in all files by `sentinel known-replica {name}`"
+    );
+}
+
+/// Notes that a Sentinel tells a master that the roster doesn't have.
+fn note_unknown_master<R: Log>(rt: &R, hello: &Hello) {
+    let (id, name) = (Id(hello.id), named(&hello.master));
+    warn!(rt;
+        "the files of this group differ: Sentinel {id} watches a master {name}, which the file here doesn't name. Give all files the same `sentinel monitor` lines"
+    );
 }
 
 impl HelloNotes {
@@ -141,7 +144,8 @@ impl HelloNotes {
             far: Seldom::new(),
             far_request: Seldom::new(),
             moved: [Seldom::new(); SENTINELS_MAX],
-            differing: [Seldom::new(); SENTINELS_MAX],
+            unknown_addr: [Seldom::new(); SENTINELS_MAX],
+            unknown_master: [Seldom::new(); SENTINELS_MAX],
         }
     }
 
@@ -165,13 +169,18 @@ impl HelloNotes {
         if member.addr != hello.addr && self.moved[place].takes_note(by.now, DIFFERENT_MS) {
             note_moved(rt, hello, member);
         }
-        let master = by.roster.master_named(&hello.master);
-        let is_known = match master {
-            Some(master) => by.roster.has_node(master, hello.card.addr),
-            None => false,
-        };
-        if !is_known && self.differing[place].takes_note(by.now, DIFFERENT_MS) {
-            note_differing(rt, hello, master.is_some());
+        match by.roster.master_named(&hello.master) {
+            Some(master) if by.roster.has_node(master, hello.card.addr) => {}
+            Some(_) => {
+                if self.unknown_addr[place].takes_note(by.now, DIFFERENT_MS) {
+                    note_unknown_addr(rt, hello);
+                }
+            }
+            None => {
+                if self.unknown_master[place].takes_note(by.now, DIFFERENT_MS) {
+                    note_unknown_master(rt, hello);
+                }
+            }
         }
     }
 

@@ -54,7 +54,9 @@ impl ReplicaNotes {
         }
         let mut noted = Seldom::new();
         let is_new = noted.takes_note(now, DIFFERENT_MS);
-        is_new && self.unnamed.len() < KEPT_MAX && self.unnamed.push(Unnamed { addr, noted }).is_ok()
+        is_new
+            && self.unnamed.len() < KEPT_MAX
+            && self.unnamed.push(Unnamed { addr, noted }).is_ok()
     }
 
     /// Takes in an INFO of a data node at a reading of the clock. Where it is a master's, each replica that it lists and the roster doesn't have is noted.
