@@ -4,13 +4,14 @@ ghost use Rattle.std.specs.Prelude.{◌≡◌, ◌≢◌, ◌≤◌, ◌⊎◌, 
 ghost use Rattle.slab.specs.Slab.{get, slab_len};
 ghost use Rattle.courteous_sessions.specs.Clients.{begun, listens_of, owes_password, unsent_of};
 ghost use Rattle.group_ports.specs.Admitting.{admitting, has_own_seat};
+ghost use Rattle.group_ports.specs.declared.standing.Look.TheVariants.{Goes};
 
 use crate::admission::{Admission, refuse_further};
 use crate::ages::Ages;
 use crate::connection::{Connection, Origin};
 use crate::port_room::PortRoom;
 use crate::seats::{Newcomer, Seats};
-use crate::standing::Standing;
+use crate::standing::{LOOK_MS, Look};
 use crate::waiting::{Line, Waiting};
 use ballot_law::{NoMemory, Text};
 use conf_store::ConfStore;
@@ -30,9 +31,6 @@ use std::time::Duration;
 
 /// How long a port waits before it looks whether the group ends, in milliseconds.
 const WAIT_MS: u64 = 100;
-
-/// How long it is at least between two looks at who has been silent for long, in milliseconds; and how much later a connection is looked at again that may not go.
-const LOOK_MS: u64 = 1_000;
 
 /// How many bytes may be unsent of all connections of a port together: where there are more, each one is closed that leaves `LEFT_MAX` or more once it sent what it could.
 const UNSENT_ALL: usize = 268_435_456;
@@ -227,7 +225,6 @@ impl Clients {
     }
 
     /// Closes a connection: its seat is free.
-    #[tactic(auto, using(crate::proofs::Keeping::kept_few))]
     fn close(&mut self, key: usize)
         ensures others { (other : ℕ) → other ≢ key → get self.new.connections other ≡ get self.old.connections other }
         ensures gone { get self.new.connections key ≡ None }
@@ -256,7 +253,7 @@ impl Clients {
     }
 
     /// Has one connection read and answer, and drops it where it is broken.
-    #[tactic(auto, using(crate::proofs::Keeping::kept_few, crate::proofs::Keeping::others_kept, crate::proofs::Keeping::others_left))]
+    #[tactic(auto, using(crate::proofs::Keeping::kept_few, crate::proofs::Keeping::others_kept, crate::proofs::Keeping::others_closed))]
     fn answer_one<J: Which, S: ConfStore, R: Wait + Clock>(
         &mut self,
         rt: &R,
@@ -282,7 +279,7 @@ impl Clients {
     }
 
     /// Counts what a connection leaves unsent, and closes it where that is too much for all of them together.
-    #[tactic(auto, using(crate::proofs::Keeping::kept_few, crate::proofs::Keeping::others_kept, crate::proofs::Keeping::others_left))]
+    #[tactic(auto, using(crate::proofs::Keeping::kept_few, crate::proofs::Keeping::others_kept, crate::proofs::Keeping::others_closed))]
     fn count_unsent(&mut self, key: usize)
         ensures others { (other : ℕ) → other ≢ key → get self.new.connections other ≡ get self.old.connections other }
     {
@@ -298,7 +295,7 @@ impl Clients {
     }
 
     /// Sends what one connection can send, and closes it where it ended.
-    #[tactic(auto, using(crate::proofs::Keeping::kept_few, crate::proofs::Keeping::others_kept, crate::proofs::Keeping::others_left))]
+    #[tactic(auto, using(crate::proofs::Keeping::kept_few, crate::proofs::Keeping::others_kept, crate::proofs::Keeping::others_closed))]
     fn send_one(&mut self, key: usize)
         ensures others { (other : ℕ) → other ≢ key → get self.new.connections other ≡ get self.old.connections other }
     {
@@ -316,7 +313,7 @@ impl Clients {
     }
 
     /// Notes what the system told of one connection: whether it is to read and answer at once. One that may ask for votes waits for its turn among those.
-    #[tactic(auto, using(crate::proofs::Keeping::kept_few, crate::proofs::Keeping::others_kept, crate::proofs::Keeping::others_left))]
+    #[tactic(auto, using(crate::proofs::Keeping::kept_few, crate::proofs::Keeping::others_kept, crate::proofs::Keeping::others_closed))]
     fn note_event(&mut self, key: usize, event: &Event) -> bool
         ensures others { (other : ℕ) → other ≢ key → get self.new.connections other ≡ get self.old.connections other }
     {
@@ -417,7 +414,7 @@ impl Clients {
     }
 
     /// Tells one connection of a master's new address or of another event, and closes it where it has no memory for that.
-    #[tactic(auto, using(crate::proofs::Keeping::kept_few, crate::proofs::Keeping::others_kept, crate::proofs::Keeping::others_left))]
+    #[tactic(auto, using(crate::proofs::Keeping::kept_few, crate::proofs::Keeping::others_kept, crate::proofs::Keeping::others_closed))]
     fn tell_one<J: Which, S: ConfStore>(
         &mut self,
         member: &RunningSentinel<J, S>,
@@ -467,13 +464,14 @@ impl Clients {
         self.room.courteous()
     }
 
-    /// How the connection with this key stands, where there is one.
-    fn standing(&self, key: usize) -> Option<Standing>
-        ensures { IfSome result (λ s. IfSome (get self.now.connections key) (λ c. (s.has_own_seat ≡ has_own_seat c.origin.place)
-            × (s.listens ≡ listens_of c.session) × (s.owes ≡ owes_password c.session) × (s.works ≡ false → unsent_of c.session ≡ []))) }
+    /// What becomes of the connection with this key, as the first of those that owe the password, which counts since this reading.
+    fn look_at_stranger(&self, since: u64, key: usize) -> Look
+        ensures goes { result ≡ Goes → IfSome (get self.now.connections key) (λ c. (has_own_seat c.origin.place ≡ false) × (owes_password c.session ≡ true)) }
     {
-        let connection = self.connections.get(key)?;
-        Some(connection.standing())
+        match self.connections.get(key) {
+            Some(connection) => connection.standing().among_strangers(since, self.now),
+            None => Look::Leaves,
+        }
     }
 
     /// The connection that owes the password for longest, where that is so long that it goes before any other.
@@ -483,21 +481,31 @@ impl Clients {
     {
         for _ in 0..self.strangers.len() {
             let (since, key) = self.strangers.first()?;
-            match self.standing(key) {
-                Some(standing) if standing.owes_long(self.now) => return Some(key),
-                Some(standing) if standing.owes && !standing.has_own_seat => {
-                    if since >= standing.came {
-                        return None;
-                    }
-                    self.strangers.put_off(standing.came);
-                }
-                _ => self.strangers.drop_first(),
+            match self.look_at_stranger(since, key) {
+                Look::Goes => return Some(key),
+                Look::Later(reading) => self.strangers.put_off(reading),
+                Look::Leaves => self.strangers.drop_first(),
+                Look::Stays => return None,
             }
         }
         None
     }
 
-    /// The connection that has been silent for longest, of those that may go. Those that may not are looked at again `LOOK_MS` later.
+    /// What becomes of the connection with this key, as the first of those that are silent, which counts since this reading.
+    fn look_at_silent_one(&self, since: u64, key: usize) -> Look
+        ensures goes { result ≡ Goes → IfSome (get self.now.connections key) (λ c. (has_own_seat c.origin.place ≡ false)
+            × (listens_of c.session ≡ false) × (unsent_of c.session ≡ [])) }
+    {
+        if since > self.now {
+            return Look::Stays;
+        }
+        match self.connections.get(key) {
+            Some(connection) => connection.standing().among_silent(since, self.now),
+            None => Look::Leaves,
+        }
+    }
+
+    /// The connection that has been silent for longest, of those that may go.
     fn longest_silent(&mut self) -> Option<usize>
         ensures goes { IfSome result (λ key. IfSome (get self.new.connections key) (λ c. (has_own_seat c.origin.place ≡ false)
             × (listens_of c.session ≡ false) × (unsent_of c.session ≡ []))) }
@@ -505,22 +513,17 @@ impl Clients {
     {
         for _ in 0..self.silent.len() {
             let (since, key) = self.silent.first()?;
-            if since > self.now {
-                return None;
-            }
-            match self.standing(key) {
-                Some(standing) if !standing.may_go() => {
-                    self.silent.put_off(self.now.saturating_add(LOOK_MS));
-                }
-                Some(standing) if standing.heard > since => self.silent.put_off(standing.heard),
-                Some(_) => return Some(key),
-                None => self.silent.drop_first(),
+            match self.look_at_silent_one(since, key) {
+                Look::Goes => return Some(key),
+                Look::Later(reading) => self.silent.put_off(reading),
+                Look::Leaves => self.silent.drop_first(),
+                Look::Stays => return None,
             }
         }
         None
     }
 
-    /// The connection that has to go for a further one, where one has to.
+    /// The connection that has to go for a further one, where one has to: it has none of the kept seats, and it owes the password, or it listens to nothing and has nothing unsent.
     fn first_to_go(&mut self) -> Option<usize>
         ensures goes { IfSome result (λ key. IfSome (get self.new.connections key) (λ c. (has_own_seat c.origin.place ≡ false)
             × ((owes_password c.session ≡ true) ⊎ ((listens_of c.session ≡ false) × (unsent_of c.session ≡ []))))) }
@@ -540,20 +543,9 @@ impl Clients {
         let Some(key) = self.longest_silent() else {
             return u64::MAX;
         };
-        self.standing(key)
-            .map_or(u64::MAX, |standing| standing.heard)
-    }
-
-    /// Closes a connection that the first of those that are silent is, where it is idle for long; else it counts from its last byte, or from now where it listens.
-    fn look_at(&mut self, since: u64, key: usize) {
-        match self.standing(key) {
-            Some(standing) if standing.is_idle(self.terms.idle_ms, self.now) => {
-                self.silent.drop_first();
-                self.close(key);
-            }
-            Some(standing) if standing.heard > since => self.silent.put_off(standing.heard),
-            Some(_) => self.silent.put_off(self.now),
-            None => self.silent.drop_first(),
+        match self.connections.get(key) {
+            Some(connection) => connection.heard(),
+            None => u64::MAX,
         }
     }
 
@@ -592,15 +584,37 @@ impl Clients {
         true
     }
 
+    /// What becomes of the connection with this key, as the first of those that are silent, which counts since this reading, where those are closed that are idle for long.
+    fn look_at_idle_one(&self, since: u64, key: usize) -> Look {
+        if self.now.saturating_sub(since) < self.terms.idle_ms {
+            return Look::Stays;
+        }
+        match self.connections.get(key) {
+            Some(connection) => {
+                let standing = connection.standing();
+                standing.among_idle(since, self.terms.idle_ms, self.now)
+            }
+            None => Look::Leaves,
+        }
+    }
+
     /// Closes those that are idle for long.
     fn close_idle(&mut self) {
-        let idle_ms = self.terms.idle_ms;
+        if self.terms.idle_ms == 0 {
+            return;
+        }
         for _ in 0..self.silent.len() {
-            match self.silent.first() {
-                Some((since, key)) if idle_ms > 0 && self.now.saturating_sub(since) >= idle_ms => {
-                    self.look_at(since, key);
+            let Some((since, key)) = self.silent.first() else {
+                return;
+            };
+            match self.look_at_idle_one(since, key) {
+                Look::Goes => {
+                    self.silent.drop_first();
+                    self.close(key);
                 }
-                _ => return,
+                Look::Later(reading) => self.silent.put_off(reading),
+                Look::Leaves => self.silent.drop_first(),
+                Look::Stays => return,
             }
         }
     }
