@@ -1,5 +1,6 @@
 //! What is told of files on standard error beside the line of a fault: all that is wrong with them, and warnings.
 
+use crate::new_files::make_file;
 use conf_advice::{Directives, add_warnings};
 use conf_faults::add_notes;
 use conf_mending::add_sides;
@@ -26,7 +27,7 @@ pub(crate) fn tell_faults(rt: HostRuntime, path: &str, text: &[u8]) {
 /// Writes the text to a new file beside that at the path, and removes it: so a file can be replaced there.
 fn try_beside(rt: HostRuntime, path: &str, text: &[u8]) -> io::Result<()> {
     let trial = format!(in rt.alloc(); "{path}.check")?;
-    let mut file = fs::File::create_new(&rt, trial.as_str())?;
+    let mut file = make_file(rt, trial.as_str())?;
     let written = file.write_all(text).and_then(|()| file.sync_all());
     drop(file);
     fs::remove_file(&rt, trial.as_str())?;
