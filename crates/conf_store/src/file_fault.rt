@@ -11,7 +11,8 @@ pub enum FileStep {
     /// To open the file and to read it. The file is as it was.
     #[error("read")]
     Read,
-    /// To remove a leftover new file, to make it anew, and to give it the owner and the permissions. The file is as it was.
+    /// To remove a leftover new file, to make it anew, and to give it the owner and the permissions. The file is as it
+    /// was.
     #[error("make")]
     Make,
     /// To write the text to the new file. The file is as it was.
@@ -23,8 +24,8 @@ pub enum FileStep {
     /// To rename the new file over the file. The file is as it was.
     #[error("rename")]
     Rename,
-    /// To have the disk hold the names in the folder: the file holds the new text, which a loss of power may take back, or at a start that
-    /// which it held.
+    /// To have the disk hold the names in the folder. Of a store the file holds the new text then, which a loss of power
+    /// may take back.
     #[error("sync of the folder")]
     SyncFolder,
 }

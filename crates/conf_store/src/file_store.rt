@@ -41,7 +41,8 @@ impl Access {
     }
 }
 
-/// Gives an open file this access: its owner and its group where the system lets it. In another group its mode lets the group do no more than others.
+/// Gives an open file this access: its owner and its group where the system lets it. In another group its mode lets the
+/// group do no more than others.
 fn give_access<F: OpenFile + AsFd>(file: &F, access: Access) -> io::Result<()> {
     let own = Access::of(&file.metadata()?);
     let mut mode = access.mode;
@@ -55,11 +56,12 @@ fn give_access<F: OpenFile + AsFd>(file: &F, access: Access) -> io::Result<()> {
     file.set_permissions(Permissions::from_mode(mode))
 }
 
-/// The file at a path. A text that was loaded is durable: its file and the folder were synced. A new text is written to `<path>.new`, which is
-/// made anew, for its owner alone, and gets the owner and the permissions of the file as it is or was seen last; it is synced, and renamed over
-/// the path; then the folder is synced. A crash at any moment, a loss of power too, so leaves the old text or the new one, and once a text is
-/// stored it stays. Each of these steps that fails is a refused store. Where a symlink is at the path, the file takes its place: who wants it to
-/// stay follows it first. Contracts see how many calls have failed.
+/// The file at a path. A text that was loaded is durable: its file and the folder were synced. A new text is written to
+/// `<path>.new`, which is made anew, for its owner alone, and gets the owner and the permissions of the file as it is
+/// or was seen last; it is synced, and renamed over the path; then the folder is synced. A crash at any moment, a loss
+/// of power too, so leaves the old text or the new one, and once a text is stored it stays. Each of these steps that
+/// fails is a refused store. Where a symlink is at the path, the file takes its place: who wants it to stay follows it
+/// first. Contracts see how many calls have failed.
 #[derive(Drop)]
 pub struct FileStore<R: Files + Drop> {
     files: R,
@@ -124,7 +126,8 @@ impl<R: Files + Drop> FileStore<R> {
         Ok((file, bytes, access))
     }
 
-    /// What the file holds, and its access. It was renamed to its name before perhaps, and not yet synced: the disk holds both now.
+    /// What the file holds, and its access. It was renamed to its name before perhaps, and not yet synced: the disk
+    /// holds both now.
     fn read_durably(&self) -> Result<(Vec<u8>, Access), FileFault> {
         let (file, bytes, access) = FileStep::Read.tried(self.read_file())?;
         FileStep::Sync.tried(file.sync_all())?;
@@ -173,7 +176,8 @@ where
         Ok(file)
     }
 
-    /// Writes the text to the new file, puts that in the place of the old one, and has the disk hold both steps: the access of the new one.
+    /// Writes the text to the new file, puts that in the place of the old one, and has the disk hold both steps: the
+    /// access of the new one.
     fn replace_file(&self, text: &[u8]) -> Result<Option<Access>, FileFault> {
         let access = FileStep::Make.tried(self.access())?;
         let mut file = FileStep::Make.tried(self.new_file(access))?;

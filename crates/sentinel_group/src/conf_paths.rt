@@ -6,8 +6,8 @@ use std::alloc::AllocError;
 use std::fs;
 use std::io::{self, ErrorKind};
 
-/// The path of a conf as the words name it, which is told, and that of the file itself, or why it can't be followed there. It is followed once, and the file is
-/// locked, loaded and replaced at its own path: a symbolic link stays one.
+/// The path of a conf as the words name it, which is told, and that of the file itself, or why it can't be followed
+/// there. It is followed once, and the file is locked, loaded and replaced at its own path: a symbolic link stays one.
 #[derive(Drop)]
 pub(crate) struct ConfPath<'a> {
     named: &'a str,

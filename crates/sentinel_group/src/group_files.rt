@@ -29,7 +29,8 @@ pub(crate) enum Unopened {
     NoMemory,
 }
 
-/// The text of the file at the path, which is looked at alone. A file that can't be read is told, with the system's reason, and the status tells it too.
+/// The text of the file at the path, which is looked at alone. A file that can't be read is told, with the system's
+/// reason, and the status tells it too.
 pub(crate) fn text_at(rt: HostRuntime, path: &str) -> Result<FileText, ExitCode> {
     match fs::read(&rt, path) {
         Ok(bytes) => Ok(FileText::from_vec(bytes)),
@@ -69,7 +70,8 @@ pub(crate) fn opened(
     }
 }
 
-/// Tells that a file isn't opened, and the status tells it too. One that can't be synced is told with the system's reason: what it holds may be gone with the power.
+/// Tells that a file isn't opened, and the status tells it too. One that can't be synced is told with the system's
+/// reason: what it holds may be gone with the power.
 pub(crate) fn refuse_unopened(rt: HostRuntime, path: &str, why: Unopened) -> ExitCode {
     let Unopened::Failed(FileFault { step, error }) = why else {
         return fail(&rt, ServeFault::NoMemory);

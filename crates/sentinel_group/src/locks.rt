@@ -1,8 +1,9 @@
 //! Locks of conf files, so that no two programs run on one.
 //!
-//! What is locked is `<path>.lock`, an empty file that is made and stays: the file itself is replaced at each store, and a lock would go with it. The file is locked
-//! too as it is at the start, since it may have another name (a hard link), with another file to lock beside it. The system lets go of a lock when its program ends,
-//! however it does; a program that starts waits a second for that.
+//! What is locked is `<path>.lock`, an empty file that is made and stays: the file itself is replaced at each store,
+//! and a lock would go with it. The file is locked too as it is at the start, since it may have another name (a hard
+//! link), with another file to lock beside it. The system lets go of a lock when its program ends, however it does; a
+//! program that starts waits a second for that.
 
 use crate::conf_paths::ConfPath;
 use crate::failures::{fail, refuse_file, refuse_with_reason};
@@ -22,8 +23,8 @@ const TRIES: u32 = 20;
 /// How long after a try the next one comes, in milliseconds.
 const TRY_MS: u64 = 50;
 
-/// What a program holds of a file while it runs on it: its lock, or the reason why no file to lock can be made beside it; and the file itself. It lets go of these
-/// when it is dropped.
+/// What a program holds of a file while it runs on it: its lock, or the reason why no file to lock can be made beside
+/// it; and the file itself. It lets go of these when it is dropped.
 #[derive(Drop)]
 pub(crate) struct FileLock {
     held: Option<File>,
@@ -61,8 +62,8 @@ fn open_to_lock(rt: HostRuntime, path: &str) -> io::Result<File> {
     }
 }
 
-/// Opens the file to lock beside a file, which is made where it isn't there, with the owner and the permissions of that one: who can't read it can't lock it either,
-/// and who can does, also where another user ran on it before.
+/// Opens the file to lock beside a file, which is made where it isn't there, with the owner and the permissions of that
+/// one: who can't read it can't lock it either, and who can does, also where another user ran on it before.
 fn open_lock(rt: HostRuntime, beside: &Metadata, lock_path: &str) -> io::Result<LockFile> {
     let unmade = match make_file(rt, lock_path) {
         Ok(file) => {
@@ -121,8 +122,8 @@ impl FileLock {
     }
 }
 
-/// Locks the file beside the file at this path of its own, and then that one as it is now. The latter isn't locked where the system has no lock for it: the former
-/// is what keeps other programs away.
+/// Locks the file beside the file at this path of its own, and then that one as it is now. The latter isn't locked
+/// where the system has no lock for it: the former is what keeps other programs away.
 fn lock_both<'a>(
     rt: HostRuntime,
     named: &'a str,
@@ -151,7 +152,8 @@ fn lock_both<'a>(
     Ok(FileLock { held, unmade, file })
 }
 
-/// Locks the file at the path for this program alone. Nothing is locked where the path leads to no file that can be read: the program ends there.
+/// Locks the file at the path for this program alone. Nothing is locked where the path leads to no file that can be
+/// read: the program ends there.
 pub(crate) fn lock_file<'a>(
     rt: HostRuntime,
     path: &ConfPath<'a>,

@@ -7,9 +7,9 @@ use log::{Level, Log, log_enabled, warn};
 use std::alloc::AllocError;
 use std::marker::Model;
 
-/// The file of the Sentinel with this port. Each store that is refused gets a note: which Sentinel, which file, what failed, and the system's reason; so does a load that
-/// fails, as at a start by order.
-/// Contracts see how many calls have failed.
+/// The file of the Sentinel with this port. Each store that is refused gets a note: which Sentinel, which file, what
+/// failed, and the system's reason; so does a load that fails, as at a start by order. Contracts see how many calls
+/// have failed.
 #[derive(Drop)]
 pub(crate) struct NotedStore<'a, R: Log> {
     store: FileStore<HostRuntime>,

@@ -1,5 +1,6 @@
 //! What is told of files beside the line of a fault: all that is wrong with them, and warnings; on standard error, or as notes.
 
+use crate::new_files::make_file;
 use conf_advice::{Directives, add_watch_warnings};
 use conf_faults::add_notes;
 use conf_mending::add_sides;
@@ -85,7 +86,7 @@ pub(crate) fn note_watch<R: Log>(
 /// Writes the text to a new file beside that at the path, and removes it: so a file can be replaced there.
 fn try_beside(rt: HostRuntime, path: &str, text: &[u8]) -> io::Result<()> {
     let trial = format!(in rt.alloc(); "{path}.check")?;
-    let mut file = fs::File::create_new(&rt, trial.as_str())?;
+    let mut file = make_file(rt, trial.as_str())?;
     let written = file.write_all(text).and_then(|()| file.sync_all());
     drop(file);
     fs::remove_file(&rt, trial.as_str())?;

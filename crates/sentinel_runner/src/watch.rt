@@ -155,8 +155,8 @@ fn port_of<R: Net + Log>(
 }
 
 impl<S: ConfStore + Drop> Watch<S> {
-    /// Opens the Sentinel of this conf at clock 0, and its port; no connection is opened yet. What the conf keeps is stored once its port is had, which
-    /// is served after that: where the port can't be had the store is as it was.
+    /// Opens the Sentinel of this conf at clock 0, and its port; no connection is opened yet. What the conf keeps is
+    /// stored once its port is had, which is served after that: where the port can't be had the store is as it was.
     ///
     /// `Halted` where the store refuses that, `PortRefused` where a port can't be had, and `NoMemory`; `NotOneRoster` never comes.
     pub fn open<R: Net + Clock + Log>(
