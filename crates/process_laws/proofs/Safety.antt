@@ -43,7 +43,7 @@ later_actions roster stores all messages (d ∷ ds) more a =
     subst (λ (l : List Message). AreActions roster stores (actions_after (action_after all d) ds) l more) (append_assoc messages (sent_by d) (all_sent ds))
     (later_actions roster stores (action_after all d) (messages ++ sent_by d) ds more a.1)
 
-after_both : (all : ℕ → Process) (ds more : List Action) → actions_after all (ds ++ more) ≡ actions_after (actions_after all ds) more
+pub after_both : (all : ℕ → Process) (ds more : List Action) → actions_after all (ds ++ more) ≡ actions_after (actions_after all ds) more
 after_both all [] more = refl
 after_both all (d ∷ ds) more = after_both (action_after all d) ds more
 
@@ -53,7 +53,8 @@ files_never_fall : (roster : Roster) (start : Group) (actions more : List Action
 files_never_fall roster start actions more ids is a =
     let stores : ℕ = length start.stores in
     let first = merged roster stores (at_first start) [] actions start (stands_at_first roster start is) (first_actions roster stores (at_first start) [] actions more a) in
-    let rest = merged roster stores (actions_after (at_first start) actions) (all_sent actions) more first.1 first.3 (later_actions roster stores (at_first start) [] actions more a) in
+    let rest = merged roster stores (actions_after (at_first start) actions) (all_sent actions) more first.1 first.3
+    (later_actions roster stores (at_first start) [] actions more a) in
     let falls = falls_along roster start first.1 rest.1 (map StepOf first.0) (map StepOf rest.0) ids is first.2 rest.2 in
     subst (FilesNeverFall roster (actions_after (at_first start) actions)) (sym (after_both (at_first start) actions more))
     (λ i m low. subst (λ (x : Kept × Kept). (card_of x.0 m).epoch ≤ (card_of x.1 m).epoch) (λ j. ((first.3.each i low).file j, (rest.3.each i low).file j)) (falls i m))

@@ -26,7 +26,8 @@ use Rattle.failover_states.specs.Replicas.{told, is_due, is_next}
 use Rattle.sentinel_conf.specs.Facts.{IsSoundConf}
 use Rattle.sentinel_conf.specs.Rewritten.{IsKeptPart}
 use Rattle.sentinel_rules.specs.Worked.{id_a, id_b, local, mymaster}
-use Rattle.process_laws.specs.TwoProcesses.{roster, begin, first_file, left_file, plan_at, hello_with, new_card, beginning, finding_down, electing, promoting, adopting, beginning_anew, IsShown, ActionsHappen}
+use Rattle.process_laws.proofs.Safety.{after_both}
+use Rattle.process_laws.specs.TwoProcesses.{roster, begin, first_file, left_file, plan_at, hello_with, new_card, beginning, finding_down, electing, promoting, adopting, beginning_anew, actions, IsShown, ActionsHappen}
 use Rattle.process_laws.specs.Actions.{Action, Process, IsOpened, AreActions, action_after, actions_after, all_sent, sent_by, at_first, opened_by}
 
 -- what is unfolded to compute texts and failovers that are written out
@@ -106,7 +107,8 @@ starts =
 is_local : (port : ℕ) → 1 ≤ port → port ≤ 65535 → IsAddr (local port)
 is_local port low high = record { ip = lit< tt; port_low = low; port_high = high }
 
-nodes_differ : (m j k : ℕ) → m < 1 → j < k → k < length (master_at roster m).nodes → slice_index_or (master_at roster m).nodes j no_addr ≢ slice_index_or (master_at roster m).nodes k no_addr
+nodes_differ : (m j k : ℕ) → m < 1 → j < k → k < length (master_at roster m).nodes →
+    slice_index_or (master_at roster m).nodes j no_addr ≢ slice_index_or (master_at roster m).nodes k no_addr
 nodes_differ zero j zero l less low = absurd (omega arith)
 nodes_differ zero zero (suc zero) l less low = λ e. let f : 6379 ≡ 6380 = ap (λ (a : Addr). a.port) e in omega (arith, f)
 nodes_differ zero (suc j) (suc zero) l less low = absurd (omega arith)
@@ -193,7 +195,82 @@ vote_given = message (SentinelAt 1) (SentinelAt 0) (Answer 0 (local 6379) true (
 abbrev hello_published : Message
 hello_published = message (SentinelAt 0) (StoreAt 0) (Publish (hello_with 1 new_card))
 
--- actions and those after them
+-- Each action meets what is asked of it where it stands
+
+abbrev Meets : (before ds : List Action) → Type 0
+Meets before ds = AreActions roster 2 (actions_after (at_first begin) before) (all_sent before) ds
+
+begins : Meets [] beginning
+unfolding on_literals
+begins = ((lit< tt, opens_well 0 id_a first_file 0 (lit< tt) refl (is_first 0 id_a)), ((lit< tt, opens_well 1 id_b first_file 0 (lit< tt) refl (is_first 1 id_b)), tt))
+
+finds_down : Meets beginning finding_down
+unfolding on_literals
+finds_down = (
+  (lit< tt, refl, (refl, refl, lit≤ tt, tt), inl (inl tt)),
+  (
+    (lit< tt, refl, (refl, refl, lit≤ tt, lit≤ tt), inl (inl tt)),
+    (
+      (lit< tt, refl, (refl, refl, lit≤ tt, tt), inr (inl (first_answer, (8, lit< tt, refl), refl, tt, becomes first_answer))),
+      ((lit< tt, refl, (refl, refl, lit≤ tt, tt), inl (inl tt)), ((lit< tt, refl, (refl, refl, lit≤ tt, tt), inl (inl tt)), tt)),
+    ),
+  ),
+)
+
+elects : Meets (beginning ++ finding_down) electing
+unfolding on_literals
+elects = (
+  (lit< tt, refl, (refl, refl, lit≤ tt, tt), inl (inl tt)),
+  (
+    (lit< tt, refl, (refl, refl, lit≤ tt, lit≤ tt), inl (inl tt)),
+    (
+      (lit< tt, refl, (refl, refl, lit≤ tt, tt), inr (inl (vote_given, (10, lit< tt, refl), refl, tt, becomes vote_given))),
+      ((lit< tt, refl, (refl, refl, lit≤ tt, tt), inl (inl tt)), tt),
+    ),
+  ),
+)
+
+promotes : Meets ((beginning ++ finding_down) ++ electing) promoting
+unfolding on_literals
+promotes = (
+  (lit< tt, refl, (refl, refl, lit≤ tt, tt), inl (inl tt)),
+  ((lit< tt, refl, (refl, refl, lit≤ tt, tt), inl (inl tt)), ((lit< tt, refl, (refl, refl, lit≤ tt, tt), inl (inl tt)), tt)),
+)
+
+adopts : Meets (((beginning ++ finding_down) ++ electing) ++ promoting) adopting
+unfolding on_literals
+adopts = (
+  (lit< tt, refl, lit< tt),
+  (
+    (lit< tt, refl, lit< tt),
+    (
+      (lit< tt, refl, (refl, refl, lit≤ tt, tt), inl (inl tt)),
+      (
+        (lit< tt, refl, (refl, refl, lit≤ tt, tt), inl (inr refl)),
+        (
+          (lit< tt, refl, (refl, refl, lit≤ tt, tt), inr (inr (hello_published, hello_with 1 new_card, 0, (12, lit< tt, refl), refl, lit< tt, refl, refl))),
+          ((lit< tt, refl, lit< tt), tt),
+        ),
+      ),
+    ),
+  ),
+)
+
+begins_anew : Meets ((((beginning ++ finding_down) ++ electing) ++ promoting) ++ adopting) beginning_anew
+unfolding on_literals
+begins_anew = (
+  (lit< tt, refl, (refl, refl, lit< tt, lit≤ tt, refl), inl (inl tt)),
+  (
+    (lit< tt, opens_well 0 id_a left_file 1000 (lit< tt) refl is_left),
+    ((lit< tt, refl, (refl, refl, lit≤ tt, tt), inr (inl (vote_given, (10, lit< tt, refl), refl, tt, becomes vote_given))), ((lit< tt, refl, lit< tt), tt)),
+  ),
+)
+
+-- some actions, and those after them
+
+sent_both : (ds more : List Action) → all_sent (ds ++ more) ≡ all_sent ds ++ all_sent more
+sent_both [] more = refl
+sent_both (d ∷ ds) more = ap (λ (l : List Message). sent_by d ++ l) (sent_both ds more) ∙ sym (append_assoc (sent_by d) (all_sent ds) (all_sent more))
 
 actions_join : (roster : Roster) (stores : ℕ) (all : ℕ → Process) (messages : List Message) (ds more : List Action) → AreActions roster stores all messages ds →
     AreActions roster stores (actions_after all ds) (messages ++ all_sent ds) more → AreActions roster stores all messages (ds ++ more)
@@ -204,44 +281,19 @@ actions_join roster stores all messages (d ∷ ds) more a b = (
       (subst (λ (l : List Message). AreActions roster stores (actions_after (action_after all d) ds) l more) (sym (append_assoc messages (sent_by d) (all_sent ds))) b),
 )
 
-phases_join : (roster : Roster) (stores : ℕ) (all : ℕ → Process) (messages : List Message) (a b c d e f : List Action) →
-    AreActions roster stores all messages a →
-    AreActions roster stores (actions_after all a) (messages ++ all_sent a) b →
-    AreActions roster stores (actions_after (actions_after all a) b) ((messages ++ all_sent a) ++ all_sent b) c →
-    AreActions roster stores (actions_after (actions_after (actions_after all a) b) c) (((messages ++ all_sent a) ++ all_sent b) ++ all_sent c) d →
-    AreActions roster stores (actions_after (actions_after (actions_after (actions_after all a) b) c) d) ((((messages ++ all_sent a) ++ all_sent b) ++ all_sent c) ++ all_sent d) e →
-    AreActions roster stores (actions_after (actions_after (actions_after (actions_after (actions_after all a) b) c) d) e) (((((messages ++ all_sent a) ++ all_sent b) ++ all_sent c) ++ all_sent d) ++ all_sent e) f →
-    AreActions roster stores all messages (a ++ (b ++ (c ++ (d ++ (e ++ f)))))
-phases_join roster stores all messages a b c d e f at bt ct dt et ft =
-    actions_join roster stores all messages a (b ++ (c ++ (d ++ (e ++ f)))) at (actions_join roster stores (actions_after all a) (messages ++ all_sent a) b (c ++ (d ++ (e ++ f))) bt (actions_join roster stores (actions_after (actions_after all a) b) ((messages ++ all_sent a) ++ all_sent b) c (d ++ (e ++ f)) ct (actions_join roster stores (actions_after (actions_after (actions_after all a) b) c) (((messages ++ all_sent a) ++ all_sent b) ++ all_sent c) d (e ++ f) dt (actions_join roster stores (actions_after (actions_after (actions_after (actions_after all a) b) c) d) ((((messages ++ all_sent a) ++ all_sent b) ++ all_sent c) ++ all_sent d) e f et ft))))
+join : (before ds more : List Action) → Meets before ds → Meets (before ++ ds) more → Meets before (ds ++ more)
+join before ds more a b =
+    actions_join roster 2 (actions_after (at_first begin) before) (all_sent before) ds more a
+    (subst (λ (x : (ℕ → Process) × List Message). AreActions roster 2 x.0 x.1 more) (λ j. (after_both (at_first begin) before ds j, sent_both before ds j)) b)
 
-begins : AreActions roster 2 (at_first begin) [] beginning
-unfolding on_literals
-begins = ((lit< tt, opens_well 0 id_a first_file 0 (lit< tt) refl (is_first 0 id_a)), ((lit< tt, opens_well 1 id_b first_file 0 (lit< tt) refl (is_first 1 id_b)), tt))
-
-finds_down : AreActions roster 2 (actions_after (at_first begin) beginning) ([] ++ all_sent beginning) finding_down
-unfolding on_literals
-finds_down = ((lit< tt, refl, (refl, refl, lit≤ tt, tt), inl (inl tt)), ((lit< tt, refl, (refl, refl, lit≤ tt, lit≤ tt), inl (inl tt)), ((lit< tt, refl, (refl, refl, lit≤ tt, tt), inr (inl (first_answer, (8, lit< tt, refl), refl, tt, becomes first_answer))), ((lit< tt, refl, (refl, refl, lit≤ tt, tt), inl (inl tt)), ((lit< tt, refl, (refl, refl, lit≤ tt, tt), inl (inl tt)), tt)))))
-
-elects : AreActions roster 2 (actions_after (actions_after (at_first begin) beginning) finding_down) (([] ++ all_sent beginning) ++ all_sent finding_down) electing
-unfolding on_literals
-elects = ((lit< tt, refl, (refl, refl, lit≤ tt, tt), inl (inl tt)), ((lit< tt, refl, (refl, refl, lit≤ tt, lit≤ tt), inl (inl tt)), ((lit< tt, refl, (refl, refl, lit≤ tt, tt), inr (inl (vote_given, (10, lit< tt, refl), refl, tt, becomes vote_given))), ((lit< tt, refl, (refl, refl, lit≤ tt, tt), inl (inl tt)), tt))))
-
-promotes : AreActions roster 2 (actions_after (actions_after (actions_after (at_first begin) beginning) finding_down) electing) ((([] ++ all_sent beginning) ++ all_sent finding_down) ++ all_sent electing) promoting
-unfolding on_literals
-promotes = ((lit< tt, refl, (refl, refl, lit≤ tt, tt), inl (inl tt)), ((lit< tt, refl, (refl, refl, lit≤ tt, tt), inl (inl tt)), ((lit< tt, refl, (refl, refl, lit≤ tt, tt), inl (inl tt)), tt)))
-
-adopts : AreActions roster 2 (actions_after (actions_after (actions_after (actions_after (at_first begin) beginning) finding_down) electing) promoting) (((([] ++ all_sent beginning) ++ all_sent finding_down) ++ all_sent electing) ++ all_sent promoting) adopting
-unfolding on_literals
-adopts = ((lit< tt, refl, lit< tt), ((lit< tt, refl, lit< tt), ((lit< tt, refl, (refl, refl, lit≤ tt, tt), inl (inl tt)), ((lit< tt, refl, (refl, refl, lit≤ tt, tt), inl (inr refl)), ((lit< tt, refl, (refl, refl, lit≤ tt, tt), inr (inr (hello_published, hello_with 1 new_card, 0, (12, lit< tt, refl), refl, lit< tt, refl, refl))), ((lit< tt, refl, lit< tt), tt))))))
-
-begins_anew : AreActions roster 2 (actions_after (actions_after (actions_after (actions_after (actions_after (at_first begin) beginning) finding_down) electing) promoting) adopting) ((((([] ++ all_sent beginning) ++ all_sent finding_down) ++ all_sent electing) ++ all_sent promoting) ++ all_sent adopting) beginning_anew
-unfolding on_literals
-begins_anew = ((lit< tt, refl, (refl, refl, lit< tt, lit≤ tt, refl), inl (inl tt)), ((lit< tt, opens_well 0 id_a left_file 1000 (lit< tt) refl is_left), ((lit< tt, refl, (refl, refl, lit≤ tt, tt), inr (inl (vote_given, (10, lit< tt, refl), refl, tt, becomes vote_given))), ((lit< tt, refl, lit< tt), tt))))
-
-all_meet : AreActions roster 2 (at_first begin) [] (beginning ++ (finding_down ++ (electing ++ (promoting ++ (adopting ++ beginning_anew)))))
+all_meet : Meets [] actions
 all_meet =
-    phases_join roster 2 (at_first begin) [] beginning finding_down electing promoting adopting beginning_anew begins finds_down elects promotes adopts begins_anew
+    join [] beginning (finding_down ++ (electing ++ (promoting ++ (adopting ++ beginning_anew)))) begins
+    (join beginning finding_down (electing ++ (promoting ++ (adopting ++ beginning_anew))) finds_down
+    (join (beginning ++ finding_down) electing (promoting ++ (adopting ++ beginning_anew)) elects
+    (join ((beginning ++ finding_down) ++ electing) promoting (adopting ++ beginning_anew) promotes
+    (join (((beginning ++ finding_down) ++ electing) ++ promoting) adopting beginning_anew adopts
+    begins_anew))))
 
 pub actions_happen : ActionsHappen
 actions_happen = (is_roster, distinct_ids, starts, all_meet, shown)
