@@ -44,10 +44,6 @@ owes_long s now = not s.has_own_seat && (s.owes && nat_le OWES_MS (now - s.came)
 abbrev pub is_idle : Standing → (idle_ms now : ℕ) → Bool
 is_idle s idle_ms now = nat_lt 0 idle_ms && (not s.listens && nat_le idle_ms (now - s.heard))
 
--- so many of these seats are for anybody, of which the port has room for `all` connections, `own` of them on seats of their own: one at least
-abbrev pub for_anybody : (all own limit : ℕ) → ℕ
-for_anybody all own limit = min limit (max 1 (all - own))
-
 -- nine tenths of the seats that are for anybody are taken
 abbrev pub is_crowded : (count limit : ℕ) → Bool
 is_crowded count limit = nat_le (9 * limit) (10 * count)

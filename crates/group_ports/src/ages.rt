@@ -28,7 +28,7 @@ impl Ages {
 
     /// Adds a key since this reading. One that is there already, left by a connection that is gone, stays with its own reading, which is earlier.
     pub(crate) fn add(&mut self, key: usize, since: u64) -> Result<(), AllocError> {
-        while self.is_in.len() <= key {
+        for _ in self.is_in.len()..key.saturating_add(1) {
             self.is_in.push(false)?;
         }
         let Some(is_in) = self.is_in.get_mut(key) else {

@@ -11,7 +11,7 @@ use crate::ages::Ages;
 use crate::connection::{Connection, Origin};
 use crate::port_room::PortRoom;
 use crate::seats::{Newcomer, Seats};
-use crate::standing::{LOOK_MS, Look};
+use crate::standing::Look;
 use crate::waiting::{Line, Waiting};
 use ballot_law::{NoMemory, Text};
 use conf_store::ConfStore;
@@ -31,6 +31,9 @@ use std::time::Duration;
 
 /// How long a port waits before it looks whether the group ends, in milliseconds.
 const WAIT_MS: u64 = 100;
+
+/// How long it is at least between two looks at those that are silent, in milliseconds; for so long one is set aside that may not go.
+const LOOK_MS: u64 = 1_000;
 
 /// How many bytes may be unsent of all connections of a port together: where there are more, each one is closed that leaves `LEFT_MAX` or more once it sent what it could.
 const UNSENT_ALL: usize = 268_435_456;
@@ -484,7 +487,7 @@ impl Clients {
             match self.look_at_stranger(since, key) {
                 Look::Goes => return Some(key),
                 Look::Later(reading) => self.strangers.put_off(reading),
-                Look::Leaves => self.strangers.drop_first(),
+                Look::Aside | Look::Leaves => self.strangers.drop_first(),
                 Look::Stays => return None,
             }
         }
@@ -496,11 +499,8 @@ impl Clients {
         ensures goes { result ≡ Goes → IfSome (get self.now.connections key) (λ c. (has_own_seat c.origin.place ≡ false)
             × (listens_of c.session ≡ false) × (unsent_of c.session ≡ [])) }
     {
-        if since > self.now {
-            return Look::Stays;
-        }
         match self.connections.get(key) {
-            Some(connection) => connection.standing().among_silent(since, self.now),
+            Some(connection) => connection.standing().among_silent(since),
             None => Look::Leaves,
         }
     }
@@ -516,6 +516,10 @@ impl Clients {
             match self.look_at_silent_one(since, key) {
                 Look::Goes => return Some(key),
                 Look::Later(reading) => self.silent.put_off(reading),
+                Look::Aside => {
+                    self.silent.drop_first();
+                    self.waiting.aside.join(key);
+                }
                 Look::Leaves => self.silent.drop_first(),
                 Look::Stays => return None,
             }
@@ -573,6 +577,18 @@ impl Clients {
         }
     }
 
+    /// Counts those again among the silent ones that were set aside, each since its last byte. One for which memory is refused is closed.
+    fn bring_back(&mut self) {
+        for _ in 0..self.waiting.aside.len() {
+            if let Some(key) = self.waiting.aside.next()
+                && let Some(connection) = self.connections.get(key)
+                && self.silent.add(key, connection.heard()).is_err()
+            {
+                self.close(key);
+            }
+        }
+    }
+
     /// Has those that are silent give back their room, and closes those that are idle for long. It looks at most once in `LOOK_MS`: whether it looked.
     pub(crate) fn look_at_silent(&mut self) -> bool {
         if self.now < self.next_look {
@@ -580,6 +596,7 @@ impl Clients {
         }
         self.next_look = self.now.saturating_add(LOOK_MS);
         self.rest_silent();
+        self.bring_back();
         self.close_idle();
         true
     }
@@ -613,7 +630,7 @@ impl Clients {
                     self.close(key);
                 }
                 Look::Later(reading) => self.silent.put_off(reading),
-                Look::Leaves => self.silent.drop_first(),
+                Look::Aside | Look::Leaves => self.silent.drop_first(),
                 Look::Stays => return,
             }
         }

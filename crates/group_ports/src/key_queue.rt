@@ -22,7 +22,7 @@ impl KeyQueue {
 
     /// Has room for this key, and for all below it.
     pub(crate) fn make_room(&mut self, key: usize) -> Result<(), AllocError> {
-        while self.is_in.len() <= key {
+        for _ in self.is_in.len()..key.saturating_add(1) {
             self.is_in.push(false)?;
         }
         let more = self.is_in.len().saturating_sub(self.keys.len());

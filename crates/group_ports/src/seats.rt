@@ -67,11 +67,12 @@ fn number_of(ip: IpAddr) -> Option<u32> {
 
 /// Keeps seats for one address more.
 fn add_seats(kept: &mut Vec<KeptSeats>, ip: u32) -> io::Result<()> {
-    for seats in kept.iter_mut() {
-        if seats.ip == ip {
-            seats.most = seats.most.saturating_add(SEATS_OF_EACH);
-            return Ok(());
-        }
+    let known = kept.iter().position(|seats| seats.ip == ip);
+    if let Some(number) = known
+        && let Some(seats) = kept.get_mut(number)
+    {
+        seats.most = seats.most.saturating_add(SEATS_OF_EACH);
+        return Ok(());
     }
     kept.push(KeptSeats {
         ip,

@@ -7,9 +7,6 @@ ghost use Rattle.group_ports.specs.Admitting.{may_go, owes_long, is_idle};
 /// How long a client may owe the port's password, in milliseconds, before it goes for a further one.
 pub(crate) const OWES_MS: u64 = 10_000;
 
-/// How much later a connection is looked at again that may not go, in milliseconds.
-pub(crate) const LOOK_MS: u64 = 1_000;
-
 /// What becomes of the first connection of those that may have to go, in an order by readings of the clock.
 #[derive(Clone, Copy)]
 pub(crate) enum Look {
@@ -17,6 +14,8 @@ pub(crate) enum Look {
     Goes,
     /// It counts from this later reading on.
     Later(u64),
+    /// It may not go now, and is looked at again a while later.
+    Aside,
     /// It is none of them any more.
     Leaves,
     /// It doesn't have to go yet, and so none that comes after it.
@@ -74,11 +73,11 @@ impl Standing {
     }
 
     /// What becomes of it where it is the first of those that are silent, which counts since this reading, and another one is to have its seat.
-    pub(crate) fn among_silent(self, since: u64, now: u64) -> Look
+    pub(crate) fn among_silent(self, since: u64) -> Look
         ensures goes { (result ≡ Goes) ↔ ((may_go self ≡ true) × (self.heard ≤ since)) }
     {
         if !self.may_go() {
-            return Look::Later(now.saturating_add(LOOK_MS));
+            return Look::Aside;
         }
         if since < self.heard {
             return Look::Later(self.heard);

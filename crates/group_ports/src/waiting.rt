@@ -16,7 +16,7 @@ pub(crate) enum Line {
     OtherVoter,
 }
 
-/// The lines of those that have something to do, those that listen, and those that had a turn or were told something since they gave back their room last. Of the voters' turns every second one is that of a peer, where one waits; `peer_was_last` is whether the last
+/// The lines of those that have something to do, those that listen, those that had a turn or were told something since they gave back their room last, and those that might not go when they were looked at last. Of the voters' turns every second one is that of a peer, where one waits; `peer_was_last` is whether the last
 /// one was.
 #[derive(Drop)]
 pub(crate) struct Waiting {
@@ -25,6 +25,7 @@ pub(crate) struct Waiting {
     voters: KeyQueue,
     pub(crate) listeners: KeyQueue,
     pub(crate) active: KeyQueue,
+    pub(crate) aside: KeyQueue,
     peer_was_last: bool,
 }
 
@@ -46,6 +47,7 @@ impl Waiting {
             voters: KeyQueue::new(alloc),
             listeners: KeyQueue::new(alloc),
             active: KeyQueue::new(alloc),
+            aside: KeyQueue::new(alloc),
             peer_was_last: false,
         }
     }
@@ -56,7 +58,8 @@ impl Waiting {
         self.peers.make_room(key)?;
         self.voters.make_room(key)?;
         self.listeners.make_room(key)?;
-        self.active.make_room(key)
+        self.active.make_room(key)?;
+        self.aside.make_room(key)
     }
 
     /// A connection waits in this line, where it doesn't yet.
