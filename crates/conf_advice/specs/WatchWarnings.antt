@@ -1,5 +1,5 @@
 -- What is told of a file that is to be one for `watch`.
-use Rattle.std.specs.Prelude.{◌≡◌, ℕ, Bool, true, false, ◌==◌, nat_lt, List, [], ◌∷◌, ◌++◌, length, fold, Option, Some, None, codes, decimal}
+use Rattle.std.specs.Prelude.{◌≡◌, ℕ, Bool, true, false, ◌==◌, nat_le, List, [], ◌∷◌, ◌++◌, length, fold, Option, Some, None, codes, decimal}
 use Rattle.std.specs.List.{filter, flat_map}
 use Rattle.watch_conf.specs.declared.faults.WatchKind.{WatchKind}
 use Rattle.watch_conf.specs.declared.faults.WatchKind.TheVariants as watch
@@ -20,16 +20,20 @@ use Rattle.conf_advice.specs.Warnings.{line_at, told_words}
 abbrev pub named : (text words : List ℕ) → List ℕ
 named text words = directive_of text ++ (codes ": " ++ words)
 
+-- the most that counts between these words, where more is asked for
+abbrev pub most_words : (asked most : ℕ) → (front end : List ℕ) → List ℕ
+most_words asked most front end = elim (nat_le asked most) as (λ _. List ℕ) [ true ↦ [] | false ↦ front ++ (decimal most ++ end) ]
+
+abbrev pub clients_words : (asked : ℕ) → List ℕ
+clients_words asked = most_words asked CLIENTS_MAX (codes "maxclients: a port keeps ") (codes " connections of clients at most")
+
+abbrev pub seconds_words : (asked : ℕ) → List ℕ
+seconds_words asked = most_words asked IDLE_SECONDS_MAX (codes "timeout: it counts as ") (codes " seconds, the most")
+
 -- a number that is more than counts
 abbrev pub excess_words : Setting → List ℕ
-excess_words (MaxClients count) = elim (nat_lt CLIENTS_MAX count) as (λ _. List ℕ) [
-  | true ↦ codes "maxclients: a port keeps " ++ (decimal CLIENTS_MAX ++ codes " connections of clients at most")
-  | false ↦ []
-]
-excess_words (Timeout seconds) = elim (nat_lt IDLE_SECONDS_MAX seconds) as (λ _. List ℕ) [
-  | true ↦ codes "timeout: it counts as " ++ (decimal IDLE_SECONDS_MAX ++ codes " seconds, the most")
-  | false ↦ []
-]
+excess_words (MaxClients count) = clients_words count
+excess_words (Timeout seconds) = seconds_words seconds
 excess_words _ = []
 
 abbrev pub loss_words : (text : List ℕ) → Option (List ℕ) → List ℕ

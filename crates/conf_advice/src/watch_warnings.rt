@@ -5,7 +5,7 @@ ghost use Rattle.std.specs.List.{filter, flat_map};
 ghost use Rattle.ballot_law.specs.Cuts.{lines};
 ghost use Rattle.conf_advice.specs.Advices.{advices};
 ghost use Rattle.conf_advice.specs.Losses.{loss_of};
-ghost use Rattle.conf_advice.specs.WatchWarnings.{named, excess_words, loss_words, known_words, is_refused, watch_words, told_line, watch_warning, is_idle_line, is_idle, comma, add_place, places, lines_have, idle_note, watch_warnings};
+ghost use Rattle.conf_advice.specs.WatchWarnings.{named, most_words, clients_words, seconds_words, excess_words, loss_words, known_words, is_refused, watch_words, told_line, watch_warning, is_idle_line, is_idle, comma, add_place, places, lines_have, idle_note, watch_warnings};
 ghost use Rattle.watch_conf.specs.WatchLines.{watch_line};
 
 use crate::line_advices::{Advice, AdviceKind, advices};
@@ -18,21 +18,57 @@ use watch_conf::{
 };
 use words::add_number;
 
+/// Adds the most that counts between these words, where more is asked for.
+fn add_most(
+    out: &mut Vec<u8>,
+    asked: u32,
+    most: u32,
+    front: &str,
+    end: &str,
+) -> Result<(), NoMemory>
+    ensures { OnOk result (out.new.items ≡ out.old.items ++ most_words asked most front.now end.now) }
+{
+    if asked <= most {
+        return Ok(());
+    }
+    add(out, front)?;
+    add_number(out, u64::from(most))?;
+    add(out, end)
+}
+
+/// Adds that more clients are asked for than a port keeps, where it is so.
+fn add_clients(out: &mut Vec<u8>, asked: u32) -> Result<(), NoMemory>
+    ensures { OnOk result (out.new.items ≡ out.old.items ++ clients_words asked) }
+{
+    add_most(
+        out,
+        asked,
+        u32::from(CLIENTS_MAX),
+        "maxclients: a port keeps ",
+        " connections of clients at most",
+    )
+}
+
+/// Adds that more seconds are asked for than count, where it is so.
+fn add_seconds(out: &mut Vec<u8>, asked: u32) -> Result<(), NoMemory>
+    ensures { OnOk result (out.new.items ≡ out.old.items ++ seconds_words asked) }
+{
+    add_most(
+        out,
+        asked,
+        IDLE_SECONDS_MAX,
+        "timeout: it counts as ",
+        " seconds, the most",
+    )
+}
+
 /// Adds that a number is more than counts, where it is.
 fn add_excess(out: &mut Vec<u8>, setting: &Setting) -> Result<(), NoMemory>
     ensures { OnOk result (out.new.items ≡ out.old.items ++ excess_words setting.now) }
 {
     match setting {
-        Setting::MaxClients(count) if *count > u32::from(CLIENTS_MAX) => {
-            add(out, "maxclients: a port keeps ")?;
-            add_number(out, u64::from(CLIENTS_MAX))?;
-            add(out, " connections of clients at most")
-        }
-        Setting::Timeout(seconds) if *seconds > IDLE_SECONDS_MAX => {
-            add(out, "timeout: it counts as ")?;
-            add_number(out, u64::from(IDLE_SECONDS_MAX))?;
-            add(out, " seconds, the most")
-        }
+        Setting::MaxClients(count) => add_clients(out, *count),
+        Setting::Timeout(seconds) => add_seconds(out, *seconds),
         _ => Ok(()),
     }
 }

@@ -18,14 +18,17 @@ fn tell(rt: HostRuntime, lines: &[u8]) {
     let _ = rt.stderr().write_all(lines);
 }
 
-/// Tells each line of a file that `watch` refuses, and why.
-fn tell_refused(rt: HostRuntime, path: &str, text: &[u8]) {
+/// Tells each line of a file that `watch` refuses, and why, but the line with the number `told`.
+fn tell_refused(rt: HostRuntime, path: &str, text: &[u8], told: u64) {
     let mut number: u64 = 1;
     let mut rest = text;
     while !rest.is_empty() {
         let (line, more) = split_line(rest);
-        if let Ok(WatchLine::Faulty(kind)) = line_of(rt.alloc(), line) {
-            let _ = eprintln!(rt; "note: {path}:{number}: {kind}");
+        match line_of(rt.alloc(), line) {
+            Ok(WatchLine::Faulty(kind)) if number != told => {
+                let _ = eprintln!(rt; "note: {path}:{number}: {kind}");
+            }
+            _ => {}
         }
         number = number.saturating_add(1);
         rest = more;
@@ -41,10 +44,10 @@ fn tell_other_password(rt: HostRuntime, path: &str, conf: &Conf, text: &[u8]) {
     }
 }
 
-/// Tells each line that `watch` refuses, and the warnings of a file that is to be one for `watch`, in a group of so many Sentinels. Where memory
-/// is refused, less is told.
-pub(crate) fn tell_watch(rt: HostRuntime, path: &str, sentinels: u64, text: &[u8]) {
-    tell_refused(rt, path, text);
+/// Tells each line that `watch` refuses, but the one with the number `told`, and the warnings of a file that is to be one for `watch`, in a group of so
+/// many Sentinels. Where memory is refused, less is told.
+pub(crate) fn tell_watch(rt: HostRuntime, path: &str, sentinels: u64, text: &[u8], told: u64) {
+    tell_refused(rt, path, text, told);
     let alloc = rt.alloc();
     let known = Directives::of_redis();
     let mut lines = Vec::new(alloc);
@@ -59,7 +62,7 @@ pub(crate) fn tell_faults(rt: HostRuntime, path: &str, text: &[u8]) {
     if add_notes(rt.alloc(), &mut lines, path, text).is_ok() {
         tell(rt, &lines);
     }
-    tell_watch(rt, path, u64::MAX, text);
+    tell_watch(rt, path, u64::MAX, text, 0);
 }
 
 /// Notes the warnings of the file of a `watch` that starts, and which of its lines have no effect. Where memory is refused, nothing is noted.
@@ -109,7 +112,7 @@ pub(crate) fn tell_file(rt: HostRuntime, file: &NamedConf) {
     let Ok(text) = fs::read(&rt, path) else {
         return;
     };
-    tell_watch(rt, path, sentinels, &text);
+    tell_watch(rt, path, sentinels, &text, 0);
     tell_other_password(rt, path, &file.conf, &text);
     tell_unwritable(rt, path, &text);
 }

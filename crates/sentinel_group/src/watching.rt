@@ -54,7 +54,7 @@ pub(crate) fn watch_level(words: &ArgMatches) -> LevelFilter {
     }
 }
 
-/// Tells why a file that can be read, and says this, isn't one for `watch`: the fault, then each line that is refused, and the warnings.
+/// Tells why a file that can be read, and says this, isn't one for `watch`: the fault, then each other line that is refused, and the warnings.
 pub(crate) fn refuse_watch(
     rt: HostRuntime,
     path: &str,
@@ -66,7 +66,8 @@ pub(crate) fn refuse_watch(
         WatchKind::NoMemory => fail(&rt, ServeFault::NoMemory),
         kind => {
             let status = refuse_file(&rt, path, fault.line, kind);
-            tell_watch(rt, path, conf.roster().sentinels().len() as u64, text);
+            let sentinels = conf.roster().sentinels().len() as u64;
+            tell_watch(rt, path, sentinels, text, fault.line);
             status
         }
     }
