@@ -303,6 +303,15 @@ class Lab:
         with open(f"{self.folder}/{name}.log", encoding="utf-8", errors="replace") as text:
             return text.read()
 
+    def tilted(self):
+        """The Sentinels that are in TILT by what they last said of it, as on a machine that stands still again and again."""
+        last = {name: max(self.log(name).rfind("Sentinel ID is"), self.log(name).rfind("-tilt")) for name in self.sentinels}
+        return [name for name in self.sentinels if self.log(name).rfind("+tilt") > last[name]]
+
+    def calm(self, seconds=150):
+        """Waits until no Sentinel is in TILT, in which none begins anything; whether that came."""
+        return self.wait(lambda: not self.tilted(), seconds) is not None
+
     def wait(self, test, seconds):
         """How long it took until this was so, in seconds; None where it didn't come."""
         began = time.monotonic()
