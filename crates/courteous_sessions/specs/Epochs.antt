@@ -7,7 +7,7 @@ use Rattle.resp2.specs.declared.command.CommandFault.{CommandFault}
 use Rattle.courteous_sessions.specs.declared.epochs.FarRequest.{FarRequest}
 use Rattle.courteous_sessions.specs.declared.epochs.TheConstants.{EPOCHS_AHEAD}
 
--- an epoch is too far above the one that was told
+-- an epoch is too far above the current one
 abbrev pub is_far : (epoch current : ℕ) → Bool
 is_far epoch current = nat_lt (current + EPOCHS_AHEAD) epoch
 

@@ -1,15 +1,11 @@
 -- Which hellos a Sentinel hears.
-use Rattle.std.specs.Prelude.{ℕ, ◌+◌, nat_lt, Bool, true, false, ◌||◌, List, Option, None, Some, Result, Ok, Err}
+use Rattle.std.specs.Prelude.{ℕ, Bool, true, false, ◌||◌, List, Option, None, Some, Result, Ok, Err}
 use Rattle.ballot_law.specs.declared.events.Event.{Event}
 use Rattle.ballot_law.specs.declared.events.Event.TheVariants.{HelloRead}
 use Rattle.ballot_law.specs.declared.replies.Hello.{Hello}
+use Rattle.courteous_sessions.specs.Epochs.{is_far}
 use Rattle.node_texts.specs.declared.faults.TextFault.{TextFault}
 use Rattle.node_texts.specs.Hellos.{hello_of}
-use Rattle.tcp_wires.specs.declared.far_hellos.TheConstants.{HELLOS_AHEAD}
-
--- an epoch is too far above the current one
-abbrev pub is_far : (epoch current : ℕ) → Bool
-is_far epoch current = nat_lt (current + HELLOS_AHEAD) epoch
 
 -- the sender's current epoch, or that of the configuration, is too far above this current one
 abbrev pub is_far_hello : Hello → (current : ℕ) → Bool

@@ -1,21 +1,11 @@
 //! Hellos whose epochs are too far above the Sentinel's own one.
 
 ghost use Rattle.std.specs.Prelude.{◌≡◌};
-ghost use Rattle.tcp_wires.specs.Hearing.{is_far, is_far_hello, is_far_from, is_far_text, is_lost};
+ghost use Rattle.tcp_wires.specs.Hearing.{is_far_hello, is_far_from, is_far_text, is_lost};
 
 use ballot_law::{Event, Hello};
-use courteous_sessions::EPOCHS_AHEAD;
+use courteous_sessions::is_far;
 use node_texts::read_hello;
-
-/// How far an epoch of a hello may be above the Sentinel's current one. That is twice as far as requests for votes may lead another Sentinel ahead while its hellos have time to come.
-pub(crate) const HELLOS_AHEAD: u64 = 2 * EPOCHS_AHEAD;
-
-/// Whether an epoch is too far above the current one.
-fn is_far(epoch: u64, current: u64) -> bool
-    ensures { result ≡ is_far epoch current }
-{
-    current < epoch.saturating_sub(HELLOS_AHEAD)
-}
 
 /// Whether one of the two epochs of a hello, the sender's current one or that of the configuration, is too far above this current one.
 pub(crate) fn is_far_hello(hello: &Hello, current: u64) -> bool

@@ -1,6 +1,6 @@
 //! What is noted of the hellos that a Sentinel hears, and of requests for votes that it doesn't.
 
-use crate::far_hellos::{HELLOS_AHEAD, is_far_hello};
+use crate::far_hellos::is_far_hello;
 use ballot_law::{Addr, Hello, Member, Name, Roster, RunId, SENTINELS_MAX, Text};
 use courteous_sessions::{EPOCHS_AHEAD, FarRequest};
 use log::{Log, info, warn};
@@ -107,7 +107,7 @@ fn note_far<R: Log>(rt: &R, hello: &Hello, known: u64) {
     let (ip, port) = (Ipv4Addr::from(hello.addr.ip), hello.addr.port);
     let (id, current, epoch) = (Id(hello.id), hello.current, hello.card.epoch);
     warn!(rt;
-        "a hello of {id} {ip} {port} is lost: its epochs {current} and {epoch} are not within {HELLOS_AHEAD} above {known}, the current one here. See who publishes on the data nodes, and the epochs in the files of this group"
+        "a hello of {id} {ip} {port} is lost: its epochs {current} and {epoch} are not within {EPOCHS_AHEAD} above {known}, the current one here. See who publishes on the data nodes, and the epochs in the files of this group"
     );
 }
 
