@@ -6,6 +6,7 @@
 
 mod exchange;
 mod far_hellos;
+mod fault_notes;
 mod hello_notes;
 mod logins;
 mod replica_notes;
