@@ -284,7 +284,7 @@ impl Seen {
             Some(start) if look.at < start.saturating_add(pause) => {
                 self.note_put_off(to, look, start, master)
             }
-            Some(start) if look.at < start.saturating_add(pause + SPREAD_MS) => {}
+            Some(start) if look.at < start.saturating_add(pause).saturating_add(SPREAD_MS) => {}
             _ => self.note_spent(to, look, master),
         }
     }

@@ -268,7 +268,7 @@ impl<J: Which, S: ConfStore> RunningSentinel<J, S> {
     {
         let input = Input { now, event };
         let entry = self.turn(rt, seat, &input)?;
-        self.settle(seat, now);
+        self.settle(&mut seat.sight, now);
         let outputs = seat.outbox.outputs();
         send_all(outlet, outputs);
         tell_all(
@@ -281,12 +281,10 @@ impl<J: Which, S: ConfStore> RunningSentinel<J, S> {
         Ok(())
     }
 
-    /// Takes in the current epoch after a turn, where `guard_epochs` was called.
-    fn settle(&self, seat: &mut ThreadSeat<J>, now: u64)
-        ensures { (seat.new.seat ≡ seat.old.seat) × (seat.new.outbox ≡ seat.old.outbox) }
-    {
+    /// Takes in the current epoch after a turn, by the sight of its seat, where `guard_epochs` was called.
+    fn settle(&self, sight: &mut Sight, now: u64) {
         if let Some(known) = self.known.current() {
-            self.known.tell(seat.sight.settle(known, now));
+            self.known.tell(sight.settle(known, now));
         }
     }
 
