@@ -167,7 +167,8 @@ impl CourteousSession {
         self.exchange.sent(n);
     }
 
-    /// Gives back the room in which nothing is held, as where its client is silent for a while; the next answer takes it anew.
+    /// Gives back the room in which nothing is held, as where its client is silent for a while; the next answer takes
+    /// it anew.
     pub fn rest(&mut self)
         ensures { self.new ≡ self.old }
     {

@@ -28,12 +28,14 @@ const DENIED: &[u8] =
 pub struct Admission {
     /// The password that each client has to give before a command of its is carried out; an empty one is none. Clients without courtesies give none.
     pub password: Text,
-    /// How many connections the port keeps at most beside those on kept seats. For a further one that goes which has been silent for longest; where none may go, its client is told
-    /// so, and it is closed. With none the port keeps those of its room, none goes, and a further one is closed.
+    /// How many connections the port keeps at most beside those on kept seats. For a further one that goes which has
+    /// been silent for longest; where none may go, its client is told so, and it is closed. With none the port keeps
+    /// those of its room, none goes, and a further one is closed.
     pub limit: Option<u16>,
     /// Whether clients of other machines are refused, which are told so.
     pub near_only: bool,
-    /// The ip of each other Sentinel, of each address of one: two seats for each are kept for connections from that ip alone.
+    /// The ip of each other Sentinel, of each address of one: two seats for each are kept for connections from that
+    /// ip alone.
     pub peers: Vec<u32>,
     /// After how many seconds without a byte a connection is closed that listens to nothing; after 0 none is.
     pub idle_seconds: u32,
@@ -64,8 +66,9 @@ impl Admission {
         SEATS_OF_EACH as usize * self.peers.len().min(SENTINELS_MAX)
     }
 
-    /// How many connections a port of so many threads keeps that lets these in, where descriptors are there for them: those that `limit` has, those on kept seats, and of several threads
-    /// those that come to each of them while others go.
+    /// How many connections a port of so many threads keeps that lets these in, where descriptors are there for them:
+    /// those that `limit` has, those on kept seats, and of several threads those that come to each of them while
+    /// others go.
     pub fn wanted(&self, threads: u16) -> usize
         ensures few { result ≤ SEATS_MAX }
         ensures enough { IfSome self.now.limit (λ most. min (most + SEATS_OF_EACH * min (vec_len self.now.peers) SENTINELS_MAX) SEATS_MAX ≤ result) }
@@ -79,7 +82,8 @@ impl Admission {
         all.next_multiple_of(threads).min(SEATS_MAX)
     }
 
-    /// The same, where no more clients are let in than a port with this room has seats for beside the kept ones, but one at least.
+    /// The same, where no more clients are let in than a port with this room has seats for beside the kept ones, but
+    /// one at least.
     pub fn within(mut self, room: PortRoom) -> Admission
         ensures less { (old new : ℕ) → self.limit ≡ Some old → result.limit ≡ Some new → new ≤ old }
         ensures some { IsSome result.limit ↔ IsSome self.limit }
@@ -96,7 +100,8 @@ impl Admission {
     }
 }
 
-/// How many of so many connections may be those that come to a thread while others go: `AT_ONCE` for each of several threads, and at most a fourth; none where there is one thread.
+/// How many of so many connections may be those that come to a thread while others go: `AT_ONCE` for each of several
+/// threads, and at most a fourth; none where there is one thread.
 fn while_others_go(threads: usize, all: usize) -> usize
     ensures alone { threads ≤ 1 → result ≡ 0 }
     ensures few { result ≤ all / 4 }
@@ -108,7 +113,8 @@ fn while_others_go(threads: usize, all: usize) -> usize
     }
 }
 
-/// How many connections may have a seat that is for anybody, where the file lets so many have one and the port has room for this many.
+/// How many connections may have a seat that is for anybody, where the file lets so many have one and the port has
+/// room for this many.
 fn limit_of(most: u16, left: usize) -> u16
     ensures { result ≡ min most (max 1 left) }
 {
@@ -143,8 +149,8 @@ fn is_full(limit: Option<u16>, count: u64) -> bool
     }
 }
 
-/// What becomes of a connection that came from this machine or from another one, at a port where `count` connections have a seat that is for anybody. `has_own` is whether a seat is
-/// free that is kept for its ip.
+/// What becomes of a connection that came from this machine or from another one, at a port where `count` connections
+/// have a seat that is for anybody. `has_own` is whether a seat is free that is kept for its ip.
 pub(crate) fn arrival_of(
     limit: Option<u16>,
     near_only: bool,

@@ -4,8 +4,9 @@ use std::alloc::{AllocError, Global};
 use std::cmp::Reverse;
 use std::collections::BinaryHeap;
 
-/// Keys of connections, each at most once, by a reading of the clock in milliseconds. The reading of a key is looked at when it is the earliest one, and put off then where the
-/// connection counts from a later one by now: so nothing is done here while a connection works.
+/// Keys of connections, each at most once, by a reading of the clock in milliseconds. The reading of a key is looked
+/// at when it is the earliest one, and put off then where the connection counts from a later one by now: so nothing
+/// is done here while a connection works.
 #[derive(Drop)]
 pub(crate) struct Ages {
     heap: BinaryHeap<Reverse<(u64, usize)>>,
@@ -26,7 +27,8 @@ impl Ages {
         self.heap.len()
     }
 
-    /// Adds a key since this reading. One that is there already, left by a connection that is gone, stays with its own reading, which is earlier.
+    /// Adds a key since this reading. One that is there already, left by a connection that is gone, stays with its
+    /// own reading, which is earlier.
     pub(crate) fn add(&mut self, key: usize, since: u64) -> Result<(), AllocError> {
         for _ in self.is_in.len()..key.saturating_add(1) {
             self.is_in.push(false)?;

@@ -25,8 +25,8 @@ fn beside(threads: u16) -> u64
     FOR_A_PORT + FOR_A_THREAD * u64::from(threads.saturating_sub(1))
 }
 
-/// How many connections each of these ports may keep, where this many descriptors can still be opened: up to `most`, as many as leave those free that the ports and the rest of the
-/// process need. 0 where these alone are too many.
+/// How many connections each of these ports may keep, where this many descriptors can still be opened: up to `most`,
+/// as many as leave those free that the ports and the rest of the process need. 0 where these alone are too many.
 fn share_of(descriptors: u64, ports: usize, beside: u64, most: usize) -> usize
     requires { 0 < ports }
     ensures few { result ≤ most }
@@ -79,7 +79,8 @@ pub fn connections_beside<N: Net>(
     room_beside(net, alloc, ports, threads, own, CONNECTIONS_MAX)
 }
 
-/// The room of a single port of so many threads that keeps up to `most` connections, where so many descriptors are to stay free for connections that the process opens itself.
+/// The room of a single port of so many threads that keeps up to `most` connections, where so many descriptors are to
+/// stay free for connections that the process opens itself.
 pub fn seats_beside<N: Net>(
     net: &N,
     alloc: Global,
@@ -94,7 +95,8 @@ pub fn seats_beside<N: Net>(
     room_beside(net, alloc, 1, threads, own, most)
 }
 
-/// The room of each of so many ports that keeps up to `most` connections, where `own` descriptors are to stay free for others.
+/// The room of each of so many ports that keeps up to `most` connections, where `own` descriptors are to stay free
+/// for others.
 fn room_beside<N: Net>(
     net: &N,
     alloc: Global,

@@ -32,17 +32,20 @@ use std::time::Duration;
 /// How long a port waits before it looks whether the group ends, in milliseconds.
 const WAIT_MS: u64 = 100;
 
-/// How long it is at least between two looks at those that are silent, in milliseconds; for so long one is set aside that may not go.
+/// How long it is at least between two looks at those that are silent, in milliseconds; for so long one is set aside
+/// that may not go.
 const LOOK_MS: u64 = 1_000;
 
-/// How many bytes may be unsent of all connections of a port together: where there are more, each one is closed that leaves `LEFT_MAX` or more once it sent what it could.
+/// How many bytes may be unsent of all connections of a port together: where there are more, each one is closed that
+/// leaves `LEFT_MAX` or more once it sent what it could.
 const UNSENT_ALL: usize = 268_435_456;
 
 /// How many unsent bytes a connection may leave in any case.
 const LEFT_MAX: usize = 16_384;
 
-/// Whom a thread's connections are for: the password that is wanted of each client, where it isn't empty; after how many milliseconds without a byte one is closed that listens to
-/// nothing, where that isn't 0; and whether one goes for a further one.
+/// Whom a thread's connections are for: the password that is wanted of each client, where it isn't empty; after how
+/// many milliseconds without a byte one is closed that listens to nothing, where that isn't 0; and whether one goes
+/// for a further one.
 #[derive(Drop)]
 pub(crate) struct Terms {
     password: Text,
@@ -52,9 +55,12 @@ pub(crate) struct Terms {
 
 /// The connections that a thread of a port has, no more than its part of the port's room.
 ///
-/// `busy` is whether there is something to do before the next wait. Those that have something to do, and those that listen, are `waiting`. `silent` has all by their last byte, and
-/// `strangers` those that owe the password by when they came. `next_id` is the number of the next connection: no other one of the port has it, since each of its threads has its own
-/// numbers. `unsent` is how many bytes of all of them were unsent as each was looked at last. `now` is the clock's reading at the last turn, and `next_look` that from which on it is looked who has been silent for long.
+/// `busy` is whether there is something to do before the next wait. Those that have something to do, and those that
+/// listen, are `waiting`. `silent` has all by their last byte, and `strangers` those that owe the password by when
+/// they came. `next_id` is the number of the next connection: no other one of the port has it, since each of its
+/// threads has its own numbers. `unsent` is how many bytes of all of them were unsent as each was looked at last.
+/// `now` is the clock's reading at the last turn, and `next_look` that from which on it is looked who has been silent
+/// for long.
 #[derive(Drop)]
 pub(crate) struct Clients {
     poll: Poll,
@@ -86,7 +92,8 @@ fn terms_of(alloc: Global, admission: &Admission) -> Result<Terms, AllocError>
 }
 
 impl Clients {
-    /// None yet, of the thread with this number with its part of this room, at a port that lets these in on these seats.
+    /// None yet, of the thread with this number with its part of this room, at a port that lets these in on these
+    /// seats.
     pub(crate) fn open<N: Net>(
         net: &N,
         alloc: Global,
@@ -150,7 +157,8 @@ impl Clients {
         }
     }
 
-    /// Keeps a connection that has a seat, where there is room and memory for it, and else drops it, which closes it: then its seat is free.
+    /// Keeps a connection that has a seat, where there is room and memory for it, and else drops it, which closes it:
+    /// then its seat is free.
     pub(crate) fn keep(&mut self, newcomer: Newcomer) {
         let place = newcomer.place;
         match self.try_keep(newcomer) {
@@ -180,7 +188,8 @@ impl Clients {
         Ok(session)
     }
 
-    /// Has room for the connection that will have this key in each line, and counts it among those that are silent, and that owe the password, from now on.
+    /// Has room for the connection that will have this key in each line, and counts it among those that are silent,
+    /// and that owe the password, from now on.
     fn make_room(&mut self, key: usize) -> Result<(), AllocError> {
         self.waiting.make_room(key)?;
         if self.terms.makes_room {
@@ -193,8 +202,9 @@ impl Clients {
         Ok(())
     }
 
-    /// Keeps a connection where there is room and memory for it, and else drops it: whether there is room. What is sent on it doesn't wait until the client has acknowledged what was
-    /// sent before, as a note after another one would.
+    /// Keeps a connection where there is room and memory for it, and else drops it: whether there is room. What is
+    /// sent on it doesn't wait until the client has acknowledged what was sent before, as a note after another one
+    /// would.
     fn try_keep(&mut self, newcomer: Newcomer) -> io::Result<bool> {
         if self.connections.len() >= self.room.each() {
             return Ok(false);
@@ -366,7 +376,8 @@ impl Clients {
         None
     }
 
-    /// Has a connection read, answer and send that waits among those that may not have asked for a vote. One that has by now waits for its turn among those.
+    /// Has a connection read, answer and send that waits among those that may not have asked for a vote. One that has
+    /// by now waits for its turn among those.
     fn serve_plain<J: Which, S: ConfStore, R: Wait + Clock>(
         &mut self,
         rt: &R,
@@ -440,7 +451,8 @@ impl Clients {
         self.count_unsent(key);
     }
 
-    /// Tells the subscribers of a master's new address or of another event, each in its turn. Those that listen no more leave the line.
+    /// Tells the subscribers of a master's new address or of another event, each in its turn. Those that listen no
+    /// more leave the line.
     fn tell_all<J: Which, S: ConfStore>(&mut self, member: &RunningSentinel<J, S>, news: &News) {
         for _ in 0..self.waiting.listeners.len() {
             if let Some(key) = self.waiting.listeners.next() {
@@ -467,7 +479,8 @@ impl Clients {
         self.room.courteous()
     }
 
-    /// What becomes of the connection with this key, as the first of those that owe the password, which counts since this reading.
+    /// What becomes of the connection with this key, as the first of those that owe the password, which counts since
+    /// this reading.
     fn look_at_stranger(&self, since: u64, key: usize) -> Look
         ensures goes { result ≡ Goes → IfSome (get self.now.connections key) (λ c. (has_own_seat c.origin.place ≡ false) × (owes_password c.session ≡ true)) }
     {
@@ -494,7 +507,8 @@ impl Clients {
         None
     }
 
-    /// What becomes of the connection with this key, as the first of those that are silent, which counts since this reading.
+    /// What becomes of the connection with this key, as the first of those that are silent, which counts since this
+    /// reading.
     fn look_at_silent_one(&self, since: u64, key: usize) -> Look
         ensures goes { result ≡ Goes → IfSome (get self.now.connections key) (λ c. (has_own_seat c.origin.place ≡ false)
             × (listens_of c.session ≡ false) × (unsent_of c.session ≡ [])) }
@@ -527,7 +541,8 @@ impl Clients {
         None
     }
 
-    /// The connection that has to go for a further one, where one has to: it has none of the kept seats, and it owes the password, or it listens to nothing and has nothing unsent.
+    /// The connection that has to go for a further one, where one has to: it has none of the kept seats, and it owes
+    /// the password, or it listens to nothing and has nothing unsent.
     fn first_to_go(&mut self) -> Option<usize>
         ensures goes { IfSome result (λ key. IfSome (get self.new.connections key) (λ c. (has_own_seat c.origin.place ≡ false)
             × ((owes_password c.session ≡ true) ⊎ ((listens_of c.session ≡ false) × (unsent_of c.session ≡ []))))) }
@@ -539,7 +554,8 @@ impl Clients {
         }
     }
 
-    /// Since when the connection is silent that has to go first: 0 where it owes the password for long, and the greatest reading where none has to.
+    /// Since when the connection is silent that has to go first: 0 where it owes the password for long, and the
+    /// greatest reading where none has to.
     pub(crate) fn silent_since(&mut self) -> u64 {
         if self.first_stranger().is_some() {
             return 0;
@@ -577,7 +593,8 @@ impl Clients {
         }
     }
 
-    /// Counts those again among the silent ones that were set aside, each since its last byte. One for which memory is refused is closed.
+    /// Counts those again among the silent ones that were set aside, each since its last byte. One for which memory
+    /// is refused is closed.
     fn bring_back(&mut self) {
         for _ in 0..self.waiting.aside.len() {
             if let Some(key) = self.waiting.aside.next()
@@ -589,7 +606,8 @@ impl Clients {
         }
     }
 
-    /// Has those that are silent give back their room, and closes those that are idle for long. It looks at most once in `LOOK_MS`: whether it looked.
+    /// Has those that are silent give back their room, and closes those that are idle for long. It looks at most once
+    /// in `LOOK_MS`: whether it looked.
     pub(crate) fn look_at_silent(&mut self) -> bool {
         if self.now < self.next_look {
             return false;
@@ -601,7 +619,8 @@ impl Clients {
         true
     }
 
-    /// What becomes of the connection with this key, as the first of those that are silent, which counts since this reading, where those are closed that are idle for long.
+    /// What becomes of the connection with this key, as the first of those that are silent, which counts since this
+    /// reading, where those are closed that are idle for long.
     fn look_at_idle_one(&self, since: u64, key: usize) -> Look {
         if self.now.saturating_sub(since) < self.terms.idle_ms {
             return Look::Stays;

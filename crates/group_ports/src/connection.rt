@@ -27,7 +27,8 @@ pub(crate) const UNSENT_MAX: usize = 1_048_576;
 /// With how many bytes that wait to be sent a connection is closed at an event: its client doesn't read them.
 const TOLD_MAX: usize = 2 * UNSENT_MAX;
 
-/// Whence a connection came: on which seat it is kept, whether another Sentinel has its ip, and the clock's reading in milliseconds when it came.
+/// Whence a connection came: on which seat it is kept, whether another Sentinel has its ip, and the clock's reading
+/// in milliseconds when it came.
 #[derive(Clone, Copy)]
 pub(crate) struct Origin {
     pub(crate) place: Place,
@@ -37,10 +38,11 @@ pub(crate) struct Origin {
 
 /// A client's connection with its session.
 ///
-/// `readable` is whether the system told of bytes that may not be read yet. `half` is whether its client has ended its stream or broken off, as the
-/// system told: then the end is still to be read after the last piece. `votes` is whether it may have asked for a vote that isn't answered yet. `ends` is whether
-/// no more of it is read or answered: it is closed once all is sent. `heard` is the clock's reading of the turn that read its last byte, or of when it came.
-/// `counted` is how many bytes were unsent when that was looked at last.
+/// `readable` is whether the system told of bytes that may not be read yet. `half` is whether its client has ended
+/// its stream or broken off, as the system told: then the end is still to be read after the last piece. `votes` is
+/// whether it may have asked for a vote that isn't answered yet. `ends` is whether no more of it is read or answered:
+/// it is closed once all is sent. `heard` is the clock's reading of the turn that read its last byte, or of when it
+/// came. `counted` is how many bytes were unsent when that was looked at last.
 #[derive(Drop)]
 pub(crate) struct Connection<T: Read + Write + Drop> {
     stream: T,
@@ -224,8 +226,8 @@ impl<T: Read + Write + Drop> Connection<T> {
         }
     }
 
-    /// Reads once, in the turn that began at this reading of the clock: whether the connection is whole. A read that leaves room has read all that there was, unless the stream has
-    /// ended.
+    /// Reads once, in the turn that began at this reading of the clock: whether the connection is whole. A read that
+    /// leaves room has read all that there was, unless the stream has ended.
     #[tactic(auto, using(crate::proofs::Sends::consumes_nothing))]
     fn read(&mut self, now: u64) -> bool
         requires { self.old.buffer ≡ [] }
@@ -298,8 +300,9 @@ impl<T: Read + Write + Drop> Connection<T> {
         !self.readable && self.buffer.is_empty() && self.session.holds_nothing()
     }
 
-    /// Reads and answers, in the turn that began at this reading of the clock, until it would wait, or until others have their turn: after the step in which the clock's millisecond
-    /// ended, or from which on it may ask for votes. The answer is whether it is whole.
+    /// Reads and answers, in the turn that began at this reading of the clock, until it would wait, or until others
+    /// have their turn: after the step in which the clock's millisecond ended, or from which on it may ask for votes.
+    /// The answer is whether it is whole.
     fn take_steps<J: Which, S: ConfStore, R: Wait + Clock>(
         &mut self,
         rt: &R,
@@ -320,8 +323,8 @@ impl<T: Read + Write + Drop> Connection<T> {
         true
     }
 
-    /// Its turn, which began at this reading of the clock: whether it is whole. After a turn among those that may have asked for votes it isn't one of them any more, once all that it
-    /// asked is answered.
+    /// Its turn, which began at this reading of the clock: whether it is whole. After a turn among those that may
+    /// have asked for votes it isn't one of them any more, once all that it asked is answered.
     pub(crate) fn turn<J: Which, S: ConfStore, R: Wait + Clock>(
         &mut self,
         rt: &R,

@@ -29,7 +29,8 @@ impl Crowding {
         }
     }
 
-    /// Whether it is to be noted now, at this reading of the clock in milliseconds: nine tenths are taken, fewer were since the last note, and that was a minute ago or more.
+    /// Whether it is to be noted now, at this reading of the clock in milliseconds: nine tenths are taken, fewer were
+    /// since the last note, and that was a minute ago or more.
     pub(crate) fn is_due(&mut self, count: u64, limit: u16, now: u64) -> bool {
         if !is_crowded(count, limit) {
             self.is_noted = false;

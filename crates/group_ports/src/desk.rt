@@ -40,7 +40,8 @@ impl Inbox {
         self.kept + self.handed.len()
     }
 
-    /// Puts a connection there where the thread has room for it, and else drops it, which closes it: whether it is there.
+    /// Puts a connection there where the thread has room for it, and else drops it, which closes it: whether it is
+    /// there.
     fn put(&mut self, newcomer: Newcomer) -> bool {
         self.count() < self.most && self.handed.push(newcomer).is_ok()
     }
@@ -62,7 +63,8 @@ impl Inbox {
     }
 }
 
-/// The desk of a thread that accepts no connections itself. `silent_since` is what that thread told last: since when the one of its connections is silent that has to go first.
+/// The desk of a thread that accepts no connections itself. `silent_since` is what that thread told last: since when
+/// the one of its connections is silent that has to go first.
 #[derive(Drop)]
 pub(crate) struct Desk {
     inbox: Mutex<Inbox>,
@@ -80,7 +82,8 @@ impl Desk {
         })
     }
 
-    /// Since when the one of its connections is silent that has to go first, as its thread told last: the greatest reading where none has to.
+    /// Since when the one of its connections is silent that has to go first, as its thread told last: the greatest
+    /// reading where none has to.
     pub(crate) fn silent_since(&self) -> u64 {
         self.silent_since.load(Ordering::SeqCst)
     }

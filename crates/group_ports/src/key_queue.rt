@@ -3,8 +3,8 @@
 use std::alloc::{AllocError, Global};
 use std::collections::VecDeque;
 
-/// Keys of connections, in the order in which they came, each at most once. A key stands for the connection that has it when its turn comes: one that is gone may have left it to
-/// another.
+/// Keys of connections, in the order in which they came, each at most once. A key stands for the connection that has
+/// it when its turn comes: one that is gone may have left it to another.
 #[derive(Drop)]
 pub(crate) struct KeyQueue {
     keys: VecDeque<usize>,

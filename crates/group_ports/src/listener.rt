@@ -55,8 +55,9 @@ impl Sockets {
         Ok(Sockets { all })
     }
 
-    /// One that listens at each of these addresses. Where one can't be had, that is noted with the system's reason; it is passed over where it may be lacking and another one can be had.
-    /// Else the error is the system's, as where a port is taken; `OutOfMemory` is a refused allocation.
+    /// One that listens at each of these addresses. Where one can't be had, that is noted with the system's reason;
+    /// it is passed over where it may be lacking and another one can be had. Else the error is the system's, as where
+    /// a port is taken; `OutOfMemory` is a refused allocation.
     pub fn listen<R: Net + Log>(
         rt: &R,
         alloc: Global,
@@ -96,7 +97,8 @@ pub(crate) struct Listener {
 }
 
 impl Listener {
-    /// Accepts what comes to these sockets and is let in on these seats, for the thread that waits by this registry and those of these desks.
+    /// Accepts what comes to these sockets and is let in on these seats, for the thread that waits by this registry
+    /// and those of these desks.
     pub(crate) fn open(
         registry: &Registry,
         sockets: Sockets,
@@ -144,7 +146,8 @@ impl Listener {
         }
     }
 
-    /// The desk of the thread whose first connection to go has been silent for longest, where that is longer than since this reading.
+    /// The desk of the thread whose first connection to go has been silent for longest, where that is longer than
+    /// since this reading.
     fn most_silent(&self, own: u64) -> Option<&Desk> {
         let mut earliest = own;
         let mut found = None;
@@ -205,7 +208,8 @@ impl Listener {
         Stopped::ManyCame
     }
 
-    /// Notes that nine tenths of the seats that are for anybody are taken, at most once a minute, where there were fewer before.
+    /// Notes that nine tenths of the seats that are for anybody are taken, at most once a minute, where there were
+    /// fewer before.
     fn note_crowding<L: Log>(&mut self, log: &L, now: u64) {
         let Some(limit) = self.seats.limit() else {
             return;
@@ -297,7 +301,8 @@ impl Entrance {
         self.admit(rt, log, state, clients);
     }
 
-    /// Looks at the connections that are silent, and tells the thread that accepts since when the one is silent that has to go first.
+    /// Looks at the connections that are silent, and tells the thread that accepts since when the one is silent that
+    /// has to go first.
     pub(crate) fn look_at_silent(&self, clients: &mut Clients) {
         if clients.look_at_silent()
             && let Entrance::IsHanded(desk) = self

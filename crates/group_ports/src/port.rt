@@ -56,8 +56,9 @@ impl Port {
         Port::open_at(net, alloc, sockets, room, &Admission::of_all(alloc))
     }
 
-    /// Lets those in who come to these sockets, with so much room for all of them: what the first thread serves, and what each further one does, in their order. The
-    /// first one accepts, and each connection goes to the thread that has the fewest; one for which none has room is closed. An error is the system's; `OutOfMemory` is a refused
+    /// Lets those in who come to these sockets, with so much room for all of them: what the first thread serves, and
+    /// what each further one does, in their order. The first one accepts, and each connection goes to the thread that
+    /// has the fewest; one for which none has room is closed. An error is the system's; `OutOfMemory` is a refused
     /// allocation.
     pub fn open_at<N: Net>(
         net: &N,

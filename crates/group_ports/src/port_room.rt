@@ -3,14 +3,16 @@
 ghost use Rattle.std.specs.Prelude.{◌≡◌, ◌≤◌, ◌<◌, ◌+◌, ◌*◌, ◌↔◌, IsTrue, false};
 ghost use Rattle.group_ports.specs.declared.port_room.TheConstants.{SEATS_MAX};
 
-/// How many connections a port keeps at most in all of its threads, unless it is opened for more; a further one is closed.
+/// How many connections a port keeps at most in all of its threads, unless it is opened for more; a further one is
+/// closed.
 pub const CONNECTIONS_MAX: usize = 256;
 
-/// How many connections any port keeps at most, in all of its threads: 10,000, the kept seats of 63 Sentinels, and those that come to a thread while others go.
+/// How many connections any port keeps at most, in all of its threads: 10,000, the kept seats of 63 Sentinels, and
+/// those that come to a thread while others go.
 pub const SEATS_MAX: usize = 11_264;
 
-/// How many threads serve each port, one at least, and how many connections each of them keeps at most: no more than `SEATS_MAX` in all; and whether
-/// these have courtesies.
+/// How many threads serve each port, one at least, and how many connections each of them keeps at most: no more than
+/// `SEATS_MAX` in all; and whether these have courtesies.
 #[derive(Clone, Copy)]
 pub struct PortRoom {
     threads: u16,

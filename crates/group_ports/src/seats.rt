@@ -10,7 +10,8 @@ use std::io;
 use std::net::IpAddr;
 use std::sync::atomic::{AtomicU64, Ordering};
 
-/// How many seats are kept for each address of another Sentinel: for the connection that it has, and for the one that it opens while the old one isn't known to be gone.
+/// How many seats are kept for each address of another Sentinel: for the connection that it has, and for the one that
+/// it opens while the old one isn't known to be gone.
 pub(crate) const SEATS_OF_EACH: u64 = 2;
 
 /// On which seat a connection is kept.
@@ -31,7 +32,8 @@ impl Place {
     }
 }
 
-/// A connection that came, with the seat that it took, and whether another Sentinel has its ip. One that `clears` takes a seat only where another one goes.
+/// A connection that came, with the seat that it took, and whether another Sentinel has its ip. One that `clears`
+/// takes a seat only where another one goes.
 #[derive(Drop)]
 pub(crate) struct Newcomer {
     pub(crate) stream: TcpStream,
@@ -48,7 +50,8 @@ struct KeptSeats {
     taken: AtomicU64,
 }
 
-/// The seats of a port: how many connections have one that is for anybody, and those that are kept. The thread that accepts takes them, and each thread frees those of its connections.
+/// The seats of a port: how many connections have one that is for anybody, and those that are kept. The thread that
+/// accepts takes them, and each thread frees those of its connections.
 #[derive(Drop)]
 pub(crate) struct Seats {
     limit: Option<u16>,
@@ -135,7 +138,8 @@ impl Seats {
         None
     }
 
-    /// What becomes of a connection that came from this ip, where `has_own` is whether a seat that is kept for it is free.
+    /// What becomes of a connection that came from this ip, where `has_own` is whether a seat that is kept for it is
+    /// free.
     pub(crate) fn arrival(&self, ip: IpAddr, has_own: bool) -> Arrival {
         arrival_of(
             self.limit,

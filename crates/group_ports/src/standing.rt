@@ -22,8 +22,10 @@ pub(crate) enum Look {
     Stays,
 }
 
-/// A connection as it stands at one time. `came` and `heard` are the clock's readings in milliseconds when it came and when its last byte was read; `has_own_seat` is whether its
-/// seat is one of those that are kept for its ip, `owes` whether it is still to give the port's password, and `works` whether anything of it is unsent or to be done.
+/// A connection as it stands at one time. `came` and `heard` are the clock's readings in milliseconds when it came
+/// and when its last byte was read; `has_own_seat` is whether its seat is one of those that are kept for its ip,
+/// `owes` whether it is still to give the port's password, and `works` whether anything of it is unsent or to be
+/// done.
 #[derive(Clone, Copy)]
 pub(crate) struct Standing {
     pub(crate) came: u64,
@@ -49,7 +51,8 @@ impl Standing {
         !self.has_own_seat && self.owes && now.saturating_sub(self.came) >= OWES_MS
     }
 
-    /// Whether it is closed, since no byte came of it for so many milliseconds and it listens to nothing. With 0 none is.
+    /// Whether it is closed, since no byte came of it for so many milliseconds and it listens to nothing. With 0 none
+    /// is.
     pub(crate) fn is_idle(self, idle_ms: u64, now: u64) -> bool
         ensures { result ≡ is_idle self idle_ms now }
     {
@@ -72,7 +75,8 @@ impl Standing {
         Look::Stays
     }
 
-    /// What becomes of it where it is the first of those that are silent, which counts since this reading, and another one is to have its seat.
+    /// What becomes of it where it is the first of those that are silent, which counts since this reading, and
+    /// another one is to have its seat.
     pub(crate) fn among_silent(self, since: u64) -> Look
         ensures goes { (result ≡ Goes) ↔ ((may_go self ≡ true) × (self.heard ≤ since)) }
     {
@@ -85,7 +89,8 @@ impl Standing {
         Look::Goes
     }
 
-    /// What becomes of it where it is the first of those that are silent, which counts since this reading, and those are closed that are idle for so long.
+    /// What becomes of it where it is the first of those that are silent, which counts since this reading, and those
+    /// are closed that are idle for so long.
     pub(crate) fn among_idle(self, since: u64, idle_ms: u64, now: u64) -> Look
         ensures goes { (result ≡ Goes) ↔ (is_idle self idle_ms now ≡ true) }
     {

@@ -16,8 +16,9 @@ pub(crate) enum Line {
     OtherVoter,
 }
 
-/// The lines of those that have something to do, those that listen, those that had a turn or were told something since they gave back their room last, and those that might not go when they were looked at last. Of the voters' turns every second one is that of a peer, where one waits; `peer_was_last` is whether the last
-/// one was.
+/// The lines of those that have something to do, those that listen, those that had a turn or were told something
+/// since they gave back their room last, and those that might not go when they were looked at last. Of the voters'
+/// turns every second one is that of a peer, where one waits; `peer_was_last` is whether the last one was.
 #[derive(Drop)]
 pub(crate) struct Waiting {
     plain: KeyQueue,
@@ -86,7 +87,8 @@ impl Waiting {
         self.peers.len().saturating_add(self.voters.len())
     }
 
-    /// The one of these whose turn it is: a peer's after that of another one, and another one's after a peer's, where there are both.
+    /// The one of these whose turn it is: a peer's after that of another one, and another one's after a peer's, where
+    /// there are both.
     pub(crate) fn next_voter(&mut self) -> Option<usize> {
         let is_peers = is_peers_turn(self.peer_was_last, self.peers.len(), self.voters.len());
         self.peer_was_last = is_peers;

@@ -95,8 +95,9 @@ fn peers_of(alloc: Global, conf: &Conf) -> Result<Vec<u32>, AllocError> {
     Ok(peers)
 }
 
-/// Whom its port lets in: in the protected mode, where no password is wanted, the clients of this machine alone, at whichever ips it listens.
-/// Where as many clients are there as may be, the client goes that has been silent for longest; seats for the other Sentinels are kept.
+/// Whom its port lets in: in the protected mode, where no password is wanted, the clients of this machine alone, at
+/// whichever ips it listens. Where as many clients are there as may be, the client goes that has been silent for
+/// longest; seats for the other Sentinels are kept.
 fn admission_of(alloc: Global, conf: &Conf, watch: &WatchConf) -> Result<Admission, AllocError> {
     let password = Vec::from_slice(alloc, watch.own_pass())?;
     Ok(Admission {

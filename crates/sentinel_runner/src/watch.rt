@@ -85,7 +85,8 @@ fn wires_of<R: Net>(
     }
 }
 
-/// How many connections each thread of its port keeps, which is served so and wants so many, beside those that the Sentinel of this conf opens itself.
+/// How many connections each thread of its port keeps, which is served so and wants so many, beside those that the
+/// Sentinel of this conf opens itself.
 fn room_of<R: Net>(
     rt: &R,
     alloc: Global,
@@ -133,7 +134,8 @@ fn sockets_of<R: Net + Log>(
     }
 }
 
-/// The port with these sockets, for whom it lets in, with so much room: what its first thread serves, and what each further one does.
+/// The port with these sockets, for whom it lets in, with so much room: what its first thread serves, and what each
+/// further one does.
 fn port_of<R: Net + Log>(
     rt: &R,
     alloc: Global,
