@@ -1,16 +1,15 @@
 -- Going on in a long bulk string.
-use Rattle.std.proofs.Common.{◌≡◌, ℕ, zero, suc, ◌+◌, ◌-◌, ◌<◌, ◌≤◌, min, Bool, true, false, cond, ltb, List, [], ◌∷◌, ◌++◌, length, take, drop, replicate, Option, Some, None, is_some, IfOk, IfNone, Result, Ok, Err, refl, sym, ap, subst, ◌∙◌, append_assoc, arith, inl, inr}
+use Rattle.std.proofs.Common.{◌≡◌, ℕ, ◌+◌, ◌-◌, ◌<◌, ◌≤◌, min, true, false, cond, ltb, List, [], ◌++◌, length, take, drop, replicate, Option, Some, None, is_some, IfOk, IfNone, Result, Ok, Err, refl, sym, ap, subst, ◌∙◌, append_assoc, arith, inl, inr}
 use Rattle.std.proofs.lemmas.Bool.{lt-ltb, le-ltb, cases_lt}
 use Rattle.std.proofs.lemmas.List.{append-nil, length-append, length-take, take_all, drop_all, take-append-le, length-replicate}
 use Rattle.ballot_law.specs.Results.{◌>>=◌}
 use Rattle.resp2_frames.specs.declared.fault.FrameFault.{FrameFault}
 use Rattle.resp2_frames.specs.declared.fault.FrameFault.TheVariants.{BadKind, BadLength, BadNumber, MissingEnd, TooLong, TooDeep, TooMany, NoMemory}
-use Rattle.resp2_frames.specs.declared.fault.Unread.{Unread}
 use Rattle.resp2_frames.specs.declared.fault.Unread.TheVariants.{NeedsMore, Faulty}
 use Rattle.resp2_frames.specs.Frame.{Frame, view, bulk}
 use Rattle.resp2_frames.specs.Reading.{end_at}
 use Rattle.resp2_frames.specs.declared.value.Value.{Value}
-use Rattle.resp2_frames.specs.Stream.{Held, reading, ended, bytes_in, held_size, Answers}
+use Rattle.resp2_frames.specs.Stream.{Held, reading, bytes_in, held_size, Answers}
 use Rattle.resp2_frames.proofs.Window.{waits_within}
 use Rattle.link_sessions.specs.LongValues.{whole_lines, told_of, header, behind_header, is_long, long_size, long_value_in, value_by, link_value_at, passed_over, passed_in, held_by, as_held, LinkAnswers}
 use Rattle.link_sessions.specs.declared.long_bulk.LongBulk.{LongBulk}

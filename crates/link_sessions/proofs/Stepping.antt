@@ -1,5 +1,5 @@
 -- One value more, and the ends of a piece.
-use Rattle.std.proofs.Common.{◌≡◌, ℕ, ◌+◌, ◌<◌, Bool, true, false, List, [], ◌∷◌, ◌++◌, length, Option, Some, None, Result, Ok, Err, refl, sym, ap, ◌∙◌, subst, append_assoc, true≢false, arith}
+use Rattle.std.proofs.Common.{◌≡◌, ℕ, ◌<◌, Bool, true, false, List, [], ◌∷◌, ◌++◌, length, Option, Some, None, Result, Ok, Err, refl, sym, ap, ◌∙◌, subst, append_assoc, true≢false, arith}
 use Rattle.std.proofs.lemmas.List.{append-nil, length-append}
 use Rattle.std.proofs.lemmas.List.Concat.{flat_map-append}
 use Rattle.std.specs.List.{flat_map}
@@ -10,7 +10,7 @@ use Rattle.resp2_frames.specs.declared.fault.FrameFault.{FrameFault}
 use Rattle.resp2_frames.specs.declared.fault.FrameFault.TheVariants as frames
 use Rattle.resp2_frames.specs.declared.value.Value.{Value}
 use Rattle.resp2_frames.specs.Frame.{Frame, view, spelling}
-use Rattle.resp2_frames.specs.Stream.{Held, reading, ended, bytes_in, held_size}
+use Rattle.resp2_frames.specs.Stream.{Held, reading, bytes_in, held_size}
 use Rattle.resp2_frames.proofs.Passing.{spelled_some}
 use Rattle.link_sessions.specs.declared.fault.LinkFault.{LinkFault}
 use Rattle.link_sessions.specs.declared.fault.LinkFault.TheVariants as links
@@ -54,9 +54,9 @@ parts_push : (stream : List ℕ) (values : List Frame) (bytes : List ℕ) (value
 parts_push stream values bytes value rest p is one =
     let front = flat_map spelling values in (
       p.0
-      ∙ ap (λ (t : List ℕ). front ++ t) (is ∙ ap (λ (t : List ℕ). t ++ rest) (sym (append-nil (spelling value))))
-      ∙ sym (append_assoc front (spelling value ++ []) rest)
-      ∙ ap (λ (t : List ℕ). t ++ rest) (sym (flat_map-append spelling values (value ∷ []))),
+          ∙ ap (λ (t : List ℕ). front ++ t) (is ∙ ap (λ (t : List ℕ). t ++ rest) (sym (append-nil (spelling value))))
+          ∙ sym (append_assoc front (spelling value ++ []) rest)
+          ∙ ap (λ (t : List ℕ). t ++ rest) (sym (flat_map-append spelling values (value ∷ []))),
       all_values values (value ∷ []) p.1 (one, tt),
     )
 

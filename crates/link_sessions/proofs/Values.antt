@@ -1,18 +1,18 @@
 -- Values of which a bulk string may be long: what is read is spelled so, what is spelled so is read, and what was passed over changes nothing.
-use Rattle.std.proofs.Common.{◌≡◌, ℕ, zero, suc, ◌+◌, ◌-◌, ◌^◌, ◌<◌, ◌≤◌, Bool, true, false, cond, ltb, leb, ◌&&◌, List, [], ◌∷◌, ◌++◌, length, take, drop, Option, Some, None, Result, Ok, Err, decimal, refl, sym, ap, subst, ◌∙◌, append_assoc, arith, inl, inr}
+use Rattle.std.proofs.Common.{◌≡◌, ℕ, ◌+◌, ◌≤◌, Bool, true, false, cond, ltb, leb, List, ◌∷◌, ◌++◌, length, take, drop, Option, Some, None, Result, Ok, decimal, refl, sym, ap, subst, ◌∙◌, append_assoc, arith, inl, inr}
 use Rattle.std.proofs.lemmas.Bool.{and_from, lt-ltb, le-ltb, le-leb, ltb-false, cases_lt}
 use Rattle.std.proofs.lemmas.List.{take-append-drop, length-append, length-take, drop_at, take_at}
 use Rattle.ballot_law.specs.Results.{◌>>=◌}
 use Rattle.resp2_frames.specs.declared.fault.Unread.{Unread}
 use Rattle.resp2_frames.specs.declared.fault.Unread.TheVariants.{NeedsMore}
 use Rattle.resp2_frames.specs.Frame.{Frame, simple, fault, int, bulk, null_bulk, items, null_items, line_end, spelling, IsPlain, IsFrame}
-use Rattle.resp2_frames.specs.Reading.{end_at, frame_at}
+use Rattle.resp2_frames.specs.Reading.{end_at}
 use Rattle.resp2_frames.proofs.Lines.{end_takes}
 use Rattle.resp2_frames.proofs.Steps.{bind_ok, guard_ok, ok_is}
 use Rattle.resp2_frames.proofs.Window.{frame_found, frame_again}
-use Rattle.link_sessions.specs.LongValues.{whole_lines, told_of, told_value, IsLongBulk, IsLinkValue, header, is_long, long_size, behind_header, long_value_in, value_by, link_value_at, passed_in, held_by, as_held}
+use Rattle.link_sessions.specs.LongValues.{whole_lines, told_of, told_value, IsLinkValue, header, is_long, long_size, behind_header, long_value_in, value_by, link_value_at, passed_in, held_by, as_held}
 use Rattle.link_sessions.proofs.Passing.{same_passed, value_same, passed_in_same}
-use Rattle.link_sessions.proofs.Headers.{IsLongSize, long_is, size_found, size_reads, no_size}
+use Rattle.link_sessions.proofs.Headers.{long_is, size_found, size_reads, no_size}
 
 -- ---- what is told of a frame is the frame
 

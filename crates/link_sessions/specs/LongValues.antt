@@ -1,5 +1,5 @@
 -- The values that a link takes: those of a frame, and longer bulk strings, of which the whole lines of the first 65,536 bytes are told.
-use Rattle.std.specs.Prelude.{◌≡◌, ℕ, zero, suc, ◌+◌, ◌-◌, ◌≤◌, ◌&&◌, ◌⊎◌, min, Bool, List, [], ◌∷◌, ◌++◌, length, take, drop, replicate, Option, Some, None, Result, Ok, Err, nat_lt, nat_le, ◌==◌, if◌then◌else◌, decimal}
+use Rattle.std.specs.Prelude.{◌≡◌, ℕ, suc, ◌+◌, ◌-◌, ◌≤◌, ◌&&◌, ◌⊎◌, Bool, List, [], ◌∷◌, ◌++◌, length, take, drop, replicate, Option, Some, None, Result, Ok, Err, nat_lt, nat_le, ◌==◌, if◌then◌else◌, decimal}
 use Rattle.std.specs.List.{flat_map, AllByRecursion}
 use Rattle.ballot_law.specs.Results.{◌>>=◌}
 use Rattle.ballot_law.specs.Words.{canonical_within, then_some, some_if}
@@ -9,7 +9,7 @@ use Rattle.resp2_frames.specs.declared.fault.Unread.{Unread}
 use Rattle.resp2_frames.specs.declared.fault.Unread.TheVariants.{NeedsMore, Faulty}
 use Rattle.resp2_frames.specs.Frame.{Frame, bulk, spelling, line_end, IsFrame}
 use Rattle.resp2_frames.specs.Reading.{line_at, end_at, frame_at}
-use Rattle.resp2_frames.specs.Stream.{Held, reading, ended}
+use Rattle.resp2_frames.specs.Stream.{Held, reading}
 
 -- ---- what is told of a long text
 

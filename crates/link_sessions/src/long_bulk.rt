@@ -72,7 +72,8 @@ impl LongBulk {
         ensures err { IfErr result (λ fault. fault ≡ NoMemory) }
     {
         let room = TOLD_MAX - self.kept.len();
-        self.kept.extend_from_slice(&bytes[..bytes.len().min(room)])?;
+        self.kept
+            .extend_from_slice(&bytes[..bytes.len().min(room)])?;
         self.came += bytes.len();
         Ok(())
     }

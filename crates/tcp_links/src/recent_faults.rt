@@ -26,9 +26,7 @@ pub struct RecentFaults {
 fn is_noted(noted: &[NotedFault], place: usize, now: u64) -> bool
     ensures { result ≡ is_noted now place noted.now }
 {
-    noted
-        .iter()
-        .any(|fault| now.saturating_sub(fault.at) < FAULT_NOTE_MS && fault.place == place)
+    noted.iter().any(|fault| now.saturating_sub(fault.at) < FAULT_NOTE_MS && fault.place == place)
 }
 
 impl RecentFaults {

@@ -1,4 +1,4 @@
-use Rattle.std.proofs.Common.{◌≡◌, Ok, ap, sym, ◌∙◌}
+use Rattle.std.proofs.Common.{Ok, ap, sym, ◌∙◌}
 use Rattle.resp2_frames.specs.Frame.{Frame}
 use Rattle.link_sessions.specs.LongValues.{link_value_at}
 use Rattle.link_sessions.proofs.Values.{value_found, value_reads, tells_same}

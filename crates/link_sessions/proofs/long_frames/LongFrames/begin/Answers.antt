@@ -1,4 +1,4 @@
-use Rattle.std.proofs.Common.{Some, sym, ap, ◌∙◌}
+use Rattle.std.proofs.Common.{sym, ap, ◌∙◌}
 use Rattle.link_sessions.specs.LongValues.{long_size}
 use Rattle.link_sessions.proofs.Going.{header_within, begins_it}
 use Rattle.link_sessions.proofs.Headers.{size_found}

@@ -1,4 +1,4 @@
-use Rattle.std.proofs.Common.{◌≡◌, ◌+◌, ◌-◌, ◌≤◌, ◌<◌, ℕ, min, List, Ok, length, drop, sym, ap, ◌∙◌, arith}
+use Rattle.std.proofs.Common.{◌≡◌, ◌≤◌, ◌<◌, ℕ, List, Ok, drop, sym, ap, ◌∙◌, arith}
 use Rattle.resp2_frames.specs.declared.value.Value.TheFolds.{fold-roll-Value}
 use Rattle.resp2_frames.specs.declared.value.Value.TheVariants as values
 use Rattle.resp2_frames.specs.Frame.{Frame, view, view_step, bulk}

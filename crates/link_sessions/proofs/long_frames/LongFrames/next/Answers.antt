@@ -1,4 +1,4 @@
-use Rattle.std.proofs.Common.{sym, ◌∙◌}
+use Rattle.std.proofs.Common.{sym}
 use Rattle.link_sessions.specs.LongHeld.{held_in}
 use Rattle.link_sessions.proofs.Going.{next_short, short_bounded}
 use Rattle.link_sessions.proofs.long_frames.LongFrames.next.Goals as goal
