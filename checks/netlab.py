@@ -24,6 +24,7 @@ NOBODY = "02:00:00:00:00:99"
 CLONE_NEWNET = 0x40000000
 PORT, SENTINEL_PORT = 6379, 26379
 OBSERVER = "obs"
+STANDS = 120  # seconds for a start, which takes one or two where there is no other work
 # Where the logs of each lab are kept, with the time of each line, where that is wanted.
 LOGS = os.environ.get("NETLAB_LOGS")
 
@@ -325,11 +326,11 @@ class Lab:
         """Starts all, and waits until they stand: whether they do."""
         for name in self.stores:
             self.start(name)
-        if self.wait(lambda: all(self.role(name) == ("d0", "connected") for name in self.stores[1:]), 30) is None:
+        if self.wait(lambda: all(self.role(name) == ("d0", "connected") for name in self.stores[1:]), STANDS) is None:
             return False
         for name in self.sentinels:
             self.start(name)
-        return self.wait(lambda: all(self.told(name) == "d0" for name in self.sentinels), 20) is not None
+        return self.wait(lambda: all(self.told(name) == "d0" for name in self.sentinels), STANDS) is not None
 
     def end(self):
         """Ends what it started, and the namespaces."""
