@@ -1,5 +1,5 @@
 -- A client's session, with courtesies or without.
-use Rattle.std.specs.Prelude.{◌≡◌, ℕ, Bool, true, false, None, Some, List, [], ◌++◌, Result, Ok, Err, OnOk, OnErr, IfErr, IfSome, slice_set}
+use Rattle.std.specs.Prelude.{◌≡◌, ℕ, Bool, true, false, None, Some, List, [], ◌++◌, Result, Ok, Err, OnOk, OnErr, IfErr, IfSome, slice_set, Option}
 use Rattle.std.specs.Option.{is_some}
 use Rattle.ballot_law.specs.declared.messages.Note.{Note}
 use Rattle.ballot_law.specs.Rosters.{Roster}
@@ -20,7 +20,7 @@ use Rattle.courteous_sessions.specs.declared.client_session.ClientSession.TheVar
 
 -- what is known of a connection at its beginning
 abbrev pub newcomer : (id : ℕ) → Asker
-newcomer id = record { id = id; name = []; listens = false; masters = []; sentinels = 0; password = None; admitted = false }
+newcomer id = record { id = id; name = []; listens = false; masters = []; sentinels = 0; password = None; admitted = false; current = None }
 
 -- a session with courtesies to which no bytes came
 abbrev pub arrived : (id : ℕ) → Visit
@@ -39,6 +39,19 @@ wanting visit password = record visit { asker = record visit.asker { password = 
 abbrev pub wanting_password : ClientSession → (password : List ℕ) → ClientSession
 wanting_password (Plain talk) password = Plain talk
 wanting_password (Courteous visit) password = Courteous (wanting visit password)
+
+-- one that knows this current epoch of the Sentinel; without courtesies each epoch is heard as it is
+abbrev pub knowing : Visit → (epoch : ℕ) → Visit
+knowing visit epoch = record visit { asker = record visit.asker { current = Some epoch } }
+
+abbrev pub knowing_epoch : ClientSession → (epoch : ℕ) → ClientSession
+knowing_epoch (Plain talk) epoch = Plain talk
+knowing_epoch (Courteous visit) epoch = Courteous (knowing visit epoch)
+
+-- one that was told a current epoch or none
+abbrev pub informed : ClientSession → (current : Option ℕ) → ClientSession
+informed session None = session
+informed session (Some epoch) = knowing_epoch session epoch
 
 -- what isn't sent yet
 abbrev pub unsent_of : ClientSession → List ℕ

@@ -1,9 +1,10 @@
 //! A session with courtesies or without.
 
 ghost use Rattle.std.specs.Prelude.{◌≡◌, ◌≤◌, ◌<◌, ◌↔◌, [], IsTrue, length, drop};
-ghost use Rattle.courteous_sessions.specs.Clients.{begun, unsent_of, held_of, listens_of, owes_password, wanting_password, with_unsent, Takes, NotifiesClient, TellsClient};
+ghost use Rattle.courteous_sessions.specs.Clients.{begun, unsent_of, held_of, listens_of, owes_password, wanting_password, with_unsent, Takes, NotifiesClient, TellsClient, knowing_epoch};
 
 use crate::courteous_session::CourteousSession;
+use crate::epochs::FarRequest;
 use ballot_law::{NoMemory, Note, Roster, Text};
 use conf_store::ConfStore;
 use port_channels::Event;
@@ -41,6 +42,26 @@ impl ClientSession {
         match self {
             ClientSession::Plain(_) => {}
             ClientSession::Courteous(session) => session.want_password(password),
+        }
+    }
+
+    /// Has a session with courtesies know this current epoch of the Sentinel, or an earlier one, as `CourteousSession::note_epoch`; one without hears each epoch as it is.
+    pub fn note_epoch(&mut self, epoch: u64)
+        ensures { self.new ≡ knowing_epoch self.old epoch }
+    {
+        match self {
+            ClientSession::Plain(_) => {}
+            ClientSession::Courteous(session) => session.note_epoch(epoch),
+        }
+    }
+
+    /// The last request for a vote whose epoch was too far above that, where one came since this was asked.
+    pub fn take_far(&mut self) -> Option<FarRequest>
+        ensures { self.new ≡ self.old }
+    {
+        match self {
+            ClientSession::Plain(_) => None,
+            ClientSession::Courteous(session) => session.take_far(),
         }
     }
 

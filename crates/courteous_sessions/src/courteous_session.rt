@@ -3,9 +3,10 @@
 ghost use Rattle.std.specs.Prelude.{◌≡◌, ◌≤◌, ◌<◌, ◌↔◌, ◌++◌, ℕ, List, [], None, Some, Err, true, OnOk, OnErr, IfErr, IfSome, IsTrue, length, drop};
 ghost use Rattle.port_channels.specs.Listening.{is_listening};
 ghost use Rattle.port_courtesies.specs.Courtesies.{is_stranger};
-ghost use Rattle.courteous_sessions.specs.Clients.{arrived, guest_at, guest_of_visit, wanting, NotifiesVisit, TellsVisit};
+ghost use Rattle.courteous_sessions.specs.Clients.{arrived, guest_at, guest_of_visit, wanting, NotifiesVisit, TellsVisit, knowing};
 ghost use Rattle.courteous_sessions.specs.Visits.{unsubscribed, Receives};
 
+use crate::epochs::FarRequest;
 use crate::exchange::Exchange;
 use ballot_law::{NoMemory, Note, Roster, Text};
 use conf_store::ConfStore;
@@ -67,6 +68,21 @@ impl CourteousSession {
         ensures { self.new ≡ wanting self.old password }
     {
         self.exchange.want_password(password);
+    }
+
+    /// Has it know this current epoch of the Sentinel, or an earlier one: from then on a request for a vote in an epoch that is more than `EPOCHS_AHEAD` above it is answered
+    /// as one of epoch 0, for which no vote is given. Before the first such call each epoch is heard as it is.
+    pub fn note_epoch(&mut self, epoch: u64)
+        ensures { self.new ≡ knowing self.old epoch }
+    {
+        self.exchange.note_epoch(epoch);
+    }
+
+    /// The last request for a vote that was answered so, where one was since this was asked.
+    pub fn take_far(&mut self) -> Option<FarRequest>
+        ensures { self.new ≡ self.old }
+    {
+        self.exchange.take_far()
     }
 
     /// Takes the next piece of what the client sends, of any length, at a reading of the clock in milliseconds, and puts out the answer to each value that is

@@ -13,6 +13,8 @@ use Rattle.sentinel_cell.specs.Histories.{World}
 use Rattle.port_sessions.specs.Talks.{Party, Responds}
 use Rattle.link_sessions.specs.declared.questions.Question.{Question}
 use Rattle.link_sessions.specs.Links.{question_of, next_asked, listed, heard_of, Tells}
+use Rattle.link_sessions.specs.LongValues.{told_value, IsLinkValue}
+use Rattle.link_sessions.proofs.Values.{value_plain}
 use Rattle.link_laws.specs.Connections.{IsAskable, Served, AreDelivered, AnswersAreDelivered}
 use Rattle.link_laws.proofs.Turns.{replied_to, question_spelled}
 
@@ -47,7 +49,7 @@ pub delivered : (start : World) (asker : NodeName) (questions : List Body) (p : 
     → AllByRecursion IsAskable questions → p.listens ≡ None
     → flat_map message_bytes questions ≡ (flat_map spelling values ++ unread) ++ not_yet_got → AllByRecursion IsFrame values
     → Served start p values bytes q
-    → bytes ≡ (flat_map spelling replies ++ held) ++ not_yet_come → AllByRecursion IsFrame replies
+    → bytes ≡ (flat_map spelling replies ++ held) ++ not_yet_come → AllByRecursion IsLinkValue replies
     → Tells (SentinelAt start.plan.place) false (map question_of questions) replies events left
     → AreDelivered start asker p.view questions events
 delivered start asker questions p values unread not_yet_got bytes q [] held not_yet_come events left askable silent sent whole served put_out read tells =
@@ -69,12 +71,12 @@ delivered start asker (a ∷ questions) p (x ∷ xs) unread not_yet_got bytes q 
     question_is.0) served.5) in
     let reply_bytes : spelling reply.0.value ++ others ≡ spelling r ++ ((flat_map spelling rs ++ held) ++ not_yet_come) =
     ap (λ (t : List ℕ). t ++ others) (sym reply.0.spelled) ∙ sym served.4 ∙ put_out ∙ by_first r rs held not_yet_come in
-    let reply_is = one_spelling reply.0.value r others ((flat_map spelling rs ++ held) ++ not_yet_come) reply.0.plain read.0.plain reply_bytes in
+    let reply_is = one_spelling reply.0.value r others ((flat_map spelling rs ++ held) ++ not_yet_come) reply.0.plain (value_plain r read.0) reply_bytes in
     let next : next_asked false (question_of a ∷ map question_of questions) ≡ Some (tells.0, tells.1) = tells.4 in
     let same_question : question_of a ≡ tells.0 = first_asked (question_of a) tells.0 (map question_of questions) tells.1 next in
     let same_others : tells.1 ≡ map question_of questions = others_asked (question_of a) tells.0 (map question_of questions) tells.1 next in
-    let heard_it : heard_of voter (question_of a) reply.0.value ≡ Ok tells.2 =
-    ap (λ (k : Question). heard_of voter k reply.0.value) same_question ∙ ap (heard_of voter tells.0) reply_is.0 ∙ tells.5 in
+    let heard_it : heard_of voter (question_of a) (told_value reply.0.value) ≡ Ok tells.2 =
+    ap (λ (k : Question). heard_of voter k (told_value reply.0.value)) same_question ∙ ap (λ (f : Frame). heard_of voter tells.0 (told_value f)) reply_is.0 ∙ tells.5 in
     let event = reply.0.hears tells.2 heard_it in
     let all : events ≡ event.0 ∷ tells.3 = tells.6 ∙ ap (λ (h : Option Event). listed h ++ tells.3) event.1 in
     let later = delivered start asker questions middle xs unread not_yet_got others q rs held not_yet_come tells.3 left askable.1 reply.1 question_is.1 whole.1 served.6

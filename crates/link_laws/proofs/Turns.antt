@@ -40,6 +40,7 @@ use Rattle.sentinel_rules.specs.Takes.{cleared}
 use Rattle.port_sessions.specs.Talks.{asked, Party, Responds, RespondsAt, Replies, TakesTurn, listens_after}
 use Rattle.port_sessions.proofs.Turning.{last_world}
 use Rattle.link_sessions.specs.Links.{question_of, heard_of}
+use Rattle.link_sessions.specs.LongValues.{told_value}
 use Rattle.link_laws.specs.Connections.{IsAskable, Fits, answer_body, port_answer, IsDelivered}
 use Rattle.link_laws.proofs.Reading.{answer_plain, answer_heard}
 
@@ -117,7 +118,7 @@ pub record Reply (start : World) (asker : NodeName) (v : View) (question : Body)
   pub value : Frame
   pub spelled : bytes ≡ spelling value
   pub plain : IsPlain value
-  pub hears : (got : Option Event) → heard_of (SentinelAt start.plan.place) (question_of question) value ≡ Ok got
+  pub hears : (got : Option Event) → heard_of (SentinelAt start.plan.place) (question_of question) (told_value value) ≡ Ok got
       → (event : Event) × (got ≡ Some event) × IsDelivered start asker v question event w
 
 ask_reply : (start : World) (asker : NodeName) (now : ℕ) (v : View) (m : ℕ) (addr : Addr) (epoch : ℕ) (candidate : Option RunId) (bytes : List ℕ) (w : View)

@@ -1,25 +1,31 @@
 -- One value more, and the ends of a piece.
-use Rattle.std.proofs.Common.{◌≡◌, ℕ, Bool, true, false, List, [], ◌∷◌, ◌++◌, Option, Some, Result, Ok, Err, refl, sym, ap, ◌∙◌, subst, append_assoc, true≢false}
-use Rattle.std.proofs.lemmas.List.{append-nil}
+use Rattle.std.proofs.Common.{◌≡◌, ℕ, ◌<◌, Bool, true, false, List, [], ◌∷◌, ◌++◌, length, Option, Some, None, Result, Ok, Err, refl, sym, ap, ◌∙◌, subst, append_assoc, true≢false, arith}
+use Rattle.std.proofs.lemmas.List.{append-nil, length-append}
+use Rattle.std.proofs.lemmas.List.Concat.{flat_map-append}
+use Rattle.std.specs.List.{flat_map}
 use Rattle.std.specs.Prelude.{OnOk, is_err}
 use Rattle.ballot_law.specs.declared.events.Event.{Event}
 use Rattle.ballot_law.specs.declared.messages.NodeName.{NodeName}
 use Rattle.resp2_frames.specs.declared.fault.FrameFault.{FrameFault}
+use Rattle.resp2_frames.specs.declared.fault.FrameFault.TheVariants as frames
 use Rattle.resp2_frames.specs.declared.value.Value.{Value}
-use Rattle.resp2_frames.specs.Frame.{Frame, view}
-use Rattle.resp2_frames.specs.Stream.{Held, reading, ended, bytes_in, Feeds, Answers}
-use Rattle.resp2_frames.proofs.Drains.{value_drains}
+use Rattle.resp2_frames.specs.Frame.{Frame, view, spelling}
+use Rattle.resp2_frames.specs.Stream.{Held, reading, bytes_in, held_size}
+use Rattle.resp2_frames.proofs.Passing.{spelled_some}
 use Rattle.link_sessions.specs.declared.fault.LinkFault.{LinkFault}
 use Rattle.link_sessions.specs.declared.fault.LinkFault.TheVariants as links
 use Rattle.link_sessions.specs.declared.questions.Question.{Question}
+use Rattle.link_sessions.specs.LongValues.{told_value, IsLinkValue, LinkParts, as_held, LinkAnswers}
 use Rattle.link_sessions.specs.Links.{next_asked, heard_of, listed, Tells, IsHeard, IsBroken, Because, Receives}
-use Rattle.link_sessions.specs.OnTheWay.{Told, Untold, IsOnTheWay, IsDone, Steps, Drains}
+use Rattle.link_sessions.specs.OnTheWay.{Told, Untold, closed_by, IsOnTheWay, IsDone, Steps, Drains}
+use Rattle.link_sessions.proofs.Joining.{all_values}
+use Rattle.link_sessions.proofs.Values.{value_found}
 
 module _ (node : NodeName) (listens : Bool) where
   -- after other values one more
   pub tells-push : (asked : List Question) (values : List Frame) (events : List Event) (left : List Question) (value : Frame) (q : Question) (others : List Question) (heard :
       Option Event)
-      → Tells node listens asked values events left → next_asked listens left ≡ Some (q, others) → heard_of node q value ≡ Ok heard
+      → Tells node listens asked values events left → next_asked listens left ≡ Some (q, others) → heard_of node q (told_value value) ≡ Ok heard
       → Tells node listens asked (values ++ value ∷ []) (events ++ listed heard) others
   tells-push asked [] events left value q others heard a next tells = (
     q,
@@ -42,24 +48,57 @@ module _ (node : NodeName) (listens : Bool) where
     tells-push a.1 xs a.3 left value q others heard a.7 next tells,
   )
 
+-- after other values one more
+parts_push : (stream : List ℕ) (values : List Frame) (bytes : List ℕ) (value : Frame) (rest : List ℕ) → LinkParts stream values bytes → bytes ≡ spelling value ++ rest → IsLinkValue value
+    → LinkParts stream (values ++ value ∷ []) rest
+parts_push stream values bytes value rest p is one =
+    let front = flat_map spelling values in (
+      p.0
+          ∙ ap (λ (t : List ℕ). front ++ t) (is ∙ ap (λ (t : List ℕ). t ++ rest) (sym (append-nil (spelling value))))
+          ∙ sym (append_assoc front (spelling value ++ []) rest)
+          ∙ ap (λ (t : List ℕ). t ++ rest) (sym (flat_map-append spelling values (value ∷ []))),
+      all_values values (value ∷ []) p.1 (one, tt),
+    )
+
+-- the reader answers to the bytes that it has
+answers_here : (rest : List ℕ) (held after : Held) (answer : Result (Option Value) FrameFault) → held ≡ reading rest → LinkAnswers view (bytes_in held) answer after
+    → LinkAnswers view rest answer after
+answers_here rest held after answer is h = subst (λ (t : List ℕ). LinkAnswers view t answer after) (ap bytes_in is) h
+
+-- a value that is given is taken away
+pub less_is_held : (held after : Held) (v : Value) → held ≡ reading (bytes_in held) → LinkAnswers view (bytes_in held) (Ok (Some v)) after → held_size after < held_size held
+less_is_held held after v is h =
+    let found = value_found (bytes_in held) (view v) h.0 h.1 in
+    let some = spelled_some found.value in
+    let before : held_size held ≡ length (bytes_in held) = ap held_size is in
+    let now : held_size after ≡ length h.0 = ap held_size h.2 in
+    let parts : length (bytes_in held) ≡ length (spelling found.value ++ h.0) = ap length found.parts in
+    omega (arith, length-append (spelling found.value) h.0)
+
+pub open_is : (held : Held) (bytes : List ℕ) → held ≡ reading bytes → held ≡ reading (bytes_in held)
+open_is held bytes is = is ∙ ap reading (sym (ap bytes_in is))
+
 module _ (node : NodeName) (listens : Bool) (asked : List Question) where
   -- a value was heard
   pub value_heard : (stream : List ℕ) (held after : Held) (events : List Event) (left others : List Question) (v : Value) (before read : List Event)
-      → IsOnTheWay node listens asked stream held events left → Answers view held (Ok (Some v)) after → (t : Told node listens left (view v) before read others)
+      → IsOnTheWay node listens asked stream held events left → LinkAnswers view (bytes_in held) (Ok (Some v)) after
+      → (t : Told node listens left (view v) before read others)
       → IsOnTheWay node listens asked stream after (events ++ listed t.heard) others
   value_heard stream held after events left others v before read a given t =
-      let next = value_drains stream a.values held v after (a.rest, a.held_is, a.parts) given in
+      let next = answers_here a.rest held after (Ok (Some v)) a.held_is given in
+      let found = value_found a.rest (view v) next.0 next.1 in
+      let heard : heard_of node t.question (told_value found.value) ≡ Ok t.heard = ap (heard_of node t.question) (sym found.tells) ∙ t.tells in
       record {
-        values = a.values ++ view v ∷ [];
+        values = a.values ++ found.value ∷ [];
         rest = next.0;
-        held_is = next.1;
-        parts = next.2;
-        tells = tells-push node listens asked a.values events left (view v) t.question others t.heard a.tells t.next t.tells;
+        held_is = next.2;
+        parts = parts_push stream a.values a.rest found.value next.0 a.parts found.parts found.is;
+        tells = tells-push node listens asked a.values events left found.value t.question others t.heard a.tells t.next heard;
       }
 
   -- what came after the first events is there still, with what the value told
   pub value_added : (stream : List ℕ) (held after : Held) (so_far before old new : List Event) (left others : List Question) (v : Value)
-      → old ≡ before ++ so_far → IsOnTheWay node listens asked stream held so_far left → Answers view held (Ok (Some v)) after
+      → old ≡ before ++ so_far → IsOnTheWay node listens asked stream held so_far left → LinkAnswers view (bytes_in held) (Ok (Some v)) after
       → Told node listens left (view v) old new others
       → (more : List Event) × (new ≡ before ++ more) × IsOnTheWay node listens asked stream after more others
   value_added stream held after so_far before old new left others v is a given t = (
@@ -74,7 +113,7 @@ module _ (node : NodeName) (listens : Bool) (asked : List Question) where
   cut_here stream held why events left a because = record { values = a.values; rest = a.rest; parts = a.parts; left = left; tells = a.tells; because = because }
 
   -- a value tells nothing
-  value_shows : (rest : List ℕ) (left : List Question) (v : Value) (after : Held) (why : LinkFault) → Answers view (reading rest) (Ok (Some v)) after
+  value_shows : (rest : List ℕ) (left : List Question) (v : Value) (after : Held) (why : LinkFault) → LinkAnswers view rest (Ok (Some v)) after
       → Untold node listens left (view v) why
       → Because node listens rest left why
   value_shows rest left v after links.Frame h untold = absurd untold
@@ -82,16 +121,47 @@ module _ (node : NodeName) (listens : Bool) (asked : List Question) where
   value_shows rest left v after links.Strange h untold = (view v, h.0, untold.0, untold.1, h.1, untold.2, untold.3)
   value_shows rest left v after links.NoMemory h untold = tt
   value_shows rest left v after links.Full h untold = absurd untold
+  value_shows rest left v after (links.Unread fault) h untold = absurd untold
 
   pub value_broke : (stream : List ℕ) (held after : Held) (so_far before old new : List Event) (left : List Question) (v : Value) (why : LinkFault)
-      → old ≡ before ++ so_far → new ≡ old → IsOnTheWay node listens asked stream held so_far left → Answers view held (Ok (Some v)) after
+      → old ≡ before ++ so_far → new ≡ old → IsOnTheWay node listens asked stream held so_far left → LinkAnswers view (bytes_in held) (Ok (Some v)) after
       → Untold node listens left (view v) why
       → (more : List Event) × (new ≡ before ++ more) × IsBroken node listens asked stream why more
   value_broke stream held after so_far before old new left v why is same a given untold = (
     so_far,
     same ∙ is,
-    cut_here stream held why so_far left a (value_shows a.rest left v after why (subst (λ (h : Held). Answers view h (Ok (Some v)) after) a.held_is given) untold),
+    cut_here stream held why so_far left a (value_shows a.rest left v after why (answers_here a.rest held after (Ok (Some v)) a.held_is given) untold),
   )
+
+  -- no value is whole
+  pub ended_here : (stream : List ℕ) (held after : Held) (events : List Event) (left : List Question) → IsOnTheWay node listens asked stream held events left
+      → LinkAnswers {V = Value} view (bytes_in held) (Ok None) after → IsDone node listens asked stream after events left
+  ended_here stream held after events left a given =
+      let next = answers_here a.rest held after (Ok None) a.held_is given in (
+        as_held a.rest,
+        next.1,
+        record { values = a.values; rest = a.rest; parts = a.parts; waits = next.0; held_is = refl; tells = a.tells },
+      )
+
+  -- a fault shows, or memory was refused
+  pub fault_here : (stream : List ℕ) (held after : Held) (events : List Event) (left : List Question) (fault : FrameFault)
+      → IsOnTheWay node listens asked stream held events left
+      → LinkAnswers {V = Value} view (bytes_in held) (Err fault) after → IsBroken node listens asked stream (closed_by fault) events
+  fault_here stream held after events left frames.NoMemory a given = cut_here stream held links.NoMemory events left a tt
+  fault_here stream held after events left frames.BadKind a given =
+      cut_here stream held (links.Unread frames.BadKind) events left a (answers_here a.rest held after (Err frames.BadKind) a.held_is given)
+  fault_here stream held after events left frames.BadLength a given =
+      cut_here stream held (links.Unread frames.BadLength) events left a (answers_here a.rest held after (Err frames.BadLength) a.held_is given)
+  fault_here stream held after events left frames.BadNumber a given =
+      cut_here stream held (links.Unread frames.BadNumber) events left a (answers_here a.rest held after (Err frames.BadNumber) a.held_is given)
+  fault_here stream held after events left frames.MissingEnd a given =
+      cut_here stream held (links.Unread frames.MissingEnd) events left a (answers_here a.rest held after (Err frames.MissingEnd) a.held_is given)
+  fault_here stream held after events left frames.TooLong a given =
+      cut_here stream held (links.Unread frames.TooLong) events left a (answers_here a.rest held after (Err frames.TooLong) a.held_is given)
+  fault_here stream held after events left frames.TooDeep a given =
+      cut_here stream held (links.Unread frames.TooDeep) events left a (answers_here a.rest held after (Err frames.TooDeep) a.held_is given)
+  fault_here stream held after events left frames.TooMany a given =
+      cut_here stream held (links.Unread frames.TooMany) events left a (answers_here a.rest held after (Err frames.TooMany) a.held_is given)
 
   -- ---- a whole piece
 
@@ -108,17 +178,10 @@ module _ (node : NodeName) (listens : Bool) (asked : List Question) where
   came_to_the_end stream false held events left is h = h
 
   -- the piece was added, and nothing was heard yet
-  pub begun : {X : Type 0} (answer : Result X FrameFault) (held after : Held) (piece : List ℕ) → held ≡ reading (bytes_in held) → is_err answer ≡ false
-      → Feeds held piece answer after → IsOnTheWay node listens asked (bytes_in held ++ piece) after [] asked
-  begun (Ok x) (reading bytes) after piece open_is ok fed =
-      record { values = []; rest = bytes ++ piece; held_is = fed; parts = (refl, tt); tells = (refl, refl) }
-  begun (Err f) (reading bytes) after piece open_is ok fed = absurd (true≢false ok)
-  begun answer (ended f) after piece open_is ok fed = absurd (let no : ⊥ = cc in no)
-
-  pub still_open : {X : Type 0} (answer : Result X LinkFault) (stream : List ℕ) (held : Held) (events : List Event) (left : List Question)
-      → Drains node listens asked stream answer held events left → OnOk answer (held ≡ reading (bytes_in held))
-  still_open (Ok x) stream held events left h = h.1 ∙ ap reading (sym (ap bytes_in h.1))
-  still_open (Err fault) stream held events left h = tt
+  pub begun : {X : Type 0} (answer : Result X FrameFault) (held after : Held) (piece : List ℕ) → is_err answer ≡ false
+      → OnOk answer (after ≡ reading (bytes_in held ++ piece)) → IsOnTheWay node listens asked (bytes_in held ++ piece) after [] asked
+  begun (Ok x) held after piece ok fed = record { values = []; rest = bytes_in held ++ piece; held_is = fed; parts = (refl, tt); tells = (refl, refl) }
+  begun (Err f) held after piece ok fed = absurd (true≢false ok)
 
   pub was_received : {X : Type 0} (answer : Result X LinkFault) (stream : List ℕ) (held : Held) (events : List Event) (left : List Question)
       → Drains node listens asked stream answer held events left → Receives node listens asked stream answer events left (bytes_in held)
@@ -128,12 +191,12 @@ module _ (node : NodeName) (listens : Bool) (asked : List Question) where
 -- all that was whole with a piece was heard
 pub piece_drained : {X Y : Type 0} (node : NodeName) (listens : Bool) (asked left : List Question) (fed : Result X FrameFault) (answer : Result Y LinkFault) (held between
     after : Held) (piece : List ℕ) (old new : List Event)
-    → held ≡ reading (bytes_in held) → is_err fed ≡ false → Feeds held piece fed between
+    → is_err fed ≡ false → OnOk fed (between ≡ reading (bytes_in held ++ piece))
     → ((stream : List ℕ) (first : List Question) (before so_far : List Event) → old ≡ before ++ so_far → IsOnTheWay node listens first stream between so_far asked
     → (more : List Event) × (new ≡ before ++ more) × Drains node listens first stream answer after more left)
     → (more : List Event) × (new ≡ old ++ more) × Drains node listens asked (bytes_in held ++ piece) answer after more left
-piece_drained node listens asked left fed answer held between after piece old new open_is ok feeds heard =
-    heard (bytes_in held ++ piece) asked old [] (sym (append-nil old)) (begun node listens asked fed held between piece open_is ok feeds)
+piece_drained node listens asked left fed answer held between after piece old new ok feeds heard =
+    heard (bytes_in held ++ piece) asked old [] (sym (append-nil old)) (begun node listens asked fed held between piece ok feeds)
 
 -- ---- the node and whether it listens stay the same
 

@@ -1,3 +1,5 @@
+pub mod LongValues
+pub mod LongHeld
 pub mod Links
 pub mod Laws
 pub mod OnTheWay

@@ -13,10 +13,7 @@ use Rattle.ballot_law.specs.Words.{then_some, some_if}
 use Rattle.messages.specs.MessageTexts.{hello_channel}
 use Rattle.resp2.specs.Commands.{candidate}
 use Rattle.resp2_frames.specs.Frame.{Frame, FrameList, no_frames, frame, simple, fault, int, bulk, items}
-use Rattle.resp2_frames.specs.declared.fault.FrameFault.{FrameFault}
-use Rattle.resp2_frames.specs.declared.fault.Unread.TheVariants.{Faulty}
-use Rattle.resp2_frames.specs.Reading.{frame_at}
-use Rattle.resp2_frames.specs.Stream.{reading, Parts, Splits}
+use Rattle.resp2_frames.specs.declared.fault.Unread.TheVariants.{NeedsMore, Faulty}
 use Rattle.link_sessions.specs.declared.conversation.TheConstants.{ASKED_MAX}
 use Rattle.link_sessions.specs.declared.fault.LinkFault.{LinkFault}
 use Rattle.link_sessions.specs.declared.fault.LinkFault.TheVariants.{Strange}
@@ -24,6 +21,7 @@ use Rattle.link_sessions.specs.declared.fault.LinkFault.TheVariants as links
 use Rattle.link_sessions.specs.declared.questions.Question.{Question}
 use Rattle.link_sessions.specs.declared.questions.Question.TheVariants as asks
 use Rattle.link_sessions.specs.declared.replies.Vote.{Vote}
+use Rattle.link_sessions.specs.LongValues.{told_value, LinkParts, link_value_at, as_held}
 
 -- what the answer to a message will be about
 abbrev pub question_of : Body → Question
@@ -133,12 +131,13 @@ IsRefused asked links.NoMemory = Unit {0}
 IsRefused asked _ = ⊥
 
 -- What a connection has: the node at its other end, whether it listens to hellos, what is asked and isn't answered yet, oldest first, the bytes that came and are no
--- whole value yet, the bytes that aren't sent yet, and the fault that ended it
+-- whole value yet, where those that were passed over stand as zeros, how many of them are in memory, the bytes that aren't sent yet, and the fault that ended it
 pub record Link : Type 0 where
   pub node : NodeName
   pub listens : Bool
   pub asked : List Question
   pub held : List ℕ
+  pub kept : ℕ
   pub unsent : List ℕ
   pub ended : Option LinkFault
 
@@ -152,12 +151,12 @@ abbrev pub listed : Option Event → List Event
 listed None = []
 listed (Some event) = event ∷ []
 
--- the values, in their order, answer the oldest questions, and tell these events; the other questions are left
+-- the values, in their order, answer the oldest questions, and what is told of them tells these events; the other questions are left
 abbrev pub Tells : NodeName → Bool → List Question → List Frame → List Event → List Question → Type 0
 Tells node listens asked [] events left = (events ≡ []) × (left ≡ asked)
 Tells node listens asked (value ∷ values) events left =
     (question : Question) × (others : List Question) × (heard : Option Event) × (rest : List Event)
-    × (next_asked listens asked ≡ Some (question, others)) × (heard_of node question value ≡ Ok heard)
+    × (next_asked listens asked ≡ Some (question, others)) × (heard_of node question (told_value value) ≡ Ok heard)
     × (events ≡ listed heard ++ rest) × Tells node listens others values rest left
 
 -- how a piece is taken: `stream` is what was held before it, and then the piece
@@ -165,24 +164,28 @@ Tells node listens asked (value ∷ values) events left =
 -- all values of the stream told these events, and the bytes after the last of them are held
 pub record IsHeard (node : NodeName) (listens : Bool) (asked : List Question) (stream : List ℕ) (events : List Event) (left : List Question) (held : List ℕ) : Type 0 where
   pub values : List Frame
-  pub splits : Splits stream values (reading held)
+  pub rest : List ℕ
+  pub parts : LinkParts stream values rest
+  pub waits : link_value_at rest ≡ Err NeedsMore
+  pub held_is : held ≡ as_held rest
   pub tells : Tells node listens asked values events left
 
--- why the hearing breaks off in front of these bytes, at which these questions wait: a fault of a frame shows, or a value that answers none, or not its own
+-- why the hearing breaks off in front of these bytes, at which these questions wait: this fault of a frame shows, or a value that answers none, or not its own
 abbrev pub Because : NodeName → Bool → (rest : List ℕ) → List Question → LinkFault → Type 0
-Because node listens rest asked links.Frame = (why : FrameFault) × (frame_at rest ≡ Err (Faulty why))
-Because node listens rest asked links.Unasked = (value : Frame) × (later : List ℕ) × (frame_at rest ≡ Ok (value, later)) × (next_asked listens asked ≡ None)
+Because node listens rest asked (links.Unread why) = link_value_at rest ≡ Err (Faulty why)
+Because node listens rest asked links.Unasked = (value : Frame) × (later : List ℕ) × (link_value_at rest ≡ Ok (value, later)) × (next_asked listens asked ≡ None)
 Because node listens rest asked links.Strange =
     (value : Frame) × (later : List ℕ) × (question : Question) × (others : List Question)
-    × (frame_at rest ≡ Ok (value, later)) × (next_asked listens asked ≡ Some (question, others)) × (heard_of node question value ≡ Err links.Strange)
+    × (link_value_at rest ≡ Ok (value, later)) × (next_asked listens asked ≡ Some (question, others)) × (heard_of node question value ≡ Err links.Strange)
 Because node listens rest asked links.NoMemory = Unit {0}
 Because node listens rest asked links.Full = ⊥
+Because node listens rest asked links.Frame = ⊥
 
 -- the first values of the stream told these events, and then it broke off
 pub record IsBroken (node : NodeName) (listens : Bool) (asked : List Question) (stream : List ℕ) (why : LinkFault) (events : List Event) : Type 0 where
   pub values : List Frame
   pub rest : List ℕ
-  pub parts : Parts stream values rest
+  pub parts : LinkParts stream values rest
   pub left : List Question
   pub tells : Tells node listens asked values events left
   pub because : Because node listens rest left why

@@ -3,12 +3,13 @@ use Rattle.std.specs.Prelude.{◌≡◌, ℕ, Bool, true, false, List, ◌++◌,
 use Rattle.ballot_law.specs.declared.events.Event.{Event}
 use Rattle.ballot_law.specs.declared.messages.NodeName.{NodeName}
 use Rattle.resp2_frames.specs.Frame.{Frame}
-use Rattle.resp2_frames.specs.Stream.{Held, reading, Parts}
+use Rattle.resp2_frames.specs.Stream.{Held, reading}
 use Rattle.resp2_frames.specs.declared.fault.FrameFault.{FrameFault}
 use Rattle.resp2_frames.specs.declared.fault.FrameFault.TheVariants as frames
 use Rattle.link_sessions.specs.declared.fault.LinkFault.{LinkFault}
 use Rattle.link_sessions.specs.declared.fault.LinkFault.TheVariants as links
 use Rattle.link_sessions.specs.declared.questions.Question.{Question}
+use Rattle.link_sessions.specs.LongValues.{LinkParts}
 use Rattle.link_sessions.specs.Links.{next_asked, heard_of, listed, Tells, IsHeard, IsBroken}
 
 -- one value told what it tells
@@ -22,6 +23,7 @@ pub record Told (node : NodeName) (listens : Bool) (asked : List Question) (valu
 -- why one value told nothing
 abbrev pub Untold : NodeName → Bool → List Question → Frame → LinkFault → Type 0
 Untold node listens asked value links.Frame = ⊥
+Untold node listens asked value (links.Unread why) = ⊥
 Untold node listens asked value links.Unasked = next_asked listens asked ≡ None
 Untold node listens asked value links.Strange =
     (question : Question) × (others : List Question) × (next_asked listens asked ≡ Some (question, others)) × (heard_of node question value ≡ Err links.Strange)
@@ -31,7 +33,7 @@ Untold node listens asked value links.Full = ⊥
 -- why a link is closed at a fault of a frame
 abbrev pub closed_by : FrameFault → LinkFault
 closed_by frames.NoMemory = links.NoMemory
-closed_by _ = links.Frame
+closed_by fault = links.Unread fault
 
 module _ (node : NodeName) (listens : Bool) (asked : List Question) where
   -- these values of the stream were heard, and the bytes after them are held
@@ -39,7 +41,7 @@ module _ (node : NodeName) (listens : Bool) (asked : List Question) where
     pub values : List Frame
     pub rest : List ℕ
     pub held_is : held ≡ reading rest
-    pub parts : Parts stream values rest
+    pub parts : LinkParts stream values rest
     pub tells : Tells node listens asked values events left
 
   -- all values of the stream were heard

@@ -1,21 +1,23 @@
 //! What was asked over a connection, what came, and what isn't sent yet.
 
-ghost use Rattle.std.specs.Prelude.{◌≡◌, ◌↔◌, ◌≤◌, ◌<◌, ◌++◌, ◌∷◌, ℕ, List, [], map, length, drop, IsTrue, IfOk, IfErr, IfSome, IfNone, None, OnOk, OnErr};
+ghost use Rattle.std.specs.Prelude.{◌≡◌, ◌↔◌, ◌≤◌, ◌<◌, ◌++◌, ◌∷◌, ℕ, List, [], map, length, drop, IsTrue, IsFalse, IfOk, IfErr, IfSome, IfNone, None, OnOk, OnErr};
 ghost use Rattle.ballot_law.specs.declared.events.Event.{Event};
 ghost use Rattle.messages.specs.MessageTexts.{message_bytes, words_frame, IsWritable};
 ghost use Rattle.resp2_frames.specs.Frame.{view, spelling};
 ghost use Rattle.resp2_frames.specs.Stream.{reading, held_size, bytes_in};
 ghost use Rattle.link_sessions.specs.declared.questions.Question.{Question};
+ghost use Rattle.link_sessions.specs.LongHeld.{held_in, memory_in};
 ghost use Rattle.link_sessions.specs.Links.{next_asked, listed, question_of, IsRefused, Receives};
 ghost use Rattle.link_sessions.specs.OnTheWay.{IsOnTheWay, Steps, Drains, Told, Untold, closed_by};
 
 use crate::fault::LinkFault;
+use crate::long_frames::LongFrames;
 use crate::questions::{Question, question_of};
 use crate::replies::heard_of;
 use ballot_law::{Event, Message, NoMemory, NodeName};
 use bytes::BytesMut;
 use messages::message_text;
-use resp2_frames::{FrameFault, Frames, OutText, Value, push_bulk, push_size};
+use resp2_frames::{FrameFault, OutText, Value, push_bulk, push_size};
 use std::alloc::Global;
 use std::collections::VecDeque;
 
@@ -28,7 +30,7 @@ pub(crate) struct Conversation {
     alloc: Global,
     pub(crate) node: NodeName,
     pub(crate) listens: bool,
-    pub(crate) frames: Frames,
+    pub(crate) frames: LongFrames,
     pub(crate) asked: VecDeque<Question>,
     pub(crate) unsent: BytesMut,
 }
@@ -64,7 +66,8 @@ impl Conversation {
     pub(crate) fn new(alloc: Global, node: NodeName, listens: bool) -> Conversation
         ensures node { result.node ≡ node }
         ensures listens { result.listens ≡ listens }
-        ensures frames { result.frames ≡ reading [] }
+        ensures frames { held_in result.frames ≡ reading [] }
+        ensures memory { memory_in result.frames ≡ 0 }
         ensures asked { result.asked.items ≡ [] }
         ensures unsent { result.unsent.items ≡ [] }
     {
@@ -72,7 +75,7 @@ impl Conversation {
             alloc,
             node,
             listens,
-            frames: Frames::new(alloc),
+            frames: LongFrames::new(alloc),
             asked: VecDeque::new(alloc),
             unsent: BytesMut::new(alloc),
         }
@@ -205,14 +208,17 @@ impl Conversation {
 
     /// Hears the first value that is whole, and tells whether there was one.
     fn hear_next(&mut self, events: &mut Vec<Event>) -> Result<bool, LinkFault>
+        requires open { held_in self.old.frames ≡ reading (bytes_in (held_in self.old.frames)) }
         ensures node { self.new.node ≡ self.old.node }
         ensures listens { self.new.listens ≡ self.old.listens }
         ensures unsent { self.new.unsent.items ≡ self.old.unsent.items }
-        ensures smaller { IfOk result (λ more. IsTrue more → held_size self.new.frames < held_size self.old.frames) }
+        ensures open { OnOk result (held_in self.new.frames ≡ reading (bytes_in (held_in self.new.frames))) }
+        ensures smaller { IfOk result (λ more. IsTrue more → held_size (held_in self.new.frames) < held_size (held_in self.old.frames)) }
+        ensures memory { IfOk result (λ more. IsFalse more → memory_in self.new.frames ≤ 65537) }
         ensures heard { (stream : List ℕ) (asked : List Question) (before so_far : List Event) → events.old.items ≡ before ++ so_far
-            → IsOnTheWay self.old.node self.old.listens asked stream self.old.frames so_far self.old.asked.items
+            → IsOnTheWay self.old.node self.old.listens asked stream (held_in self.old.frames) so_far self.old.asked.items
             → (more : List Event) × (events.new.items ≡ before ++ more)
-            × Steps self.old.node self.old.listens asked stream result self.new.frames more self.new.asked.items }
+            × Steps self.old.node self.old.listens asked stream result (held_in self.new.frames) more self.new.asked.items }
     {
         let value = match self.frames.next() {
             Ok(Some(value)) => value,
@@ -227,13 +233,16 @@ impl Conversation {
 
     /// Hears each value that is whole.
     fn hear_whole(&mut self, events: &mut Vec<Event>) -> Result<(), LinkFault>
+        requires open { held_in self.old.frames ≡ reading (bytes_in (held_in self.old.frames)) }
         ensures node { self.new.node ≡ self.old.node }
         ensures listens { self.new.listens ≡ self.old.listens }
         ensures unsent { self.new.unsent.items ≡ self.old.unsent.items }
+        ensures open { OnOk result (held_in self.new.frames ≡ reading (bytes_in (held_in self.new.frames))) }
+        ensures memory { OnOk result (memory_in self.new.frames ≤ 65537) }
         ensures heard { (stream : List ℕ) (asked : List Question) (before so_far : List Event) → events.old.items ≡ before ++ so_far
-            → IsOnTheWay self.old.node self.old.listens asked stream self.old.frames so_far self.old.asked.items
+            → IsOnTheWay self.old.node self.old.listens asked stream (held_in self.old.frames) so_far self.old.asked.items
             → (more : List Event) × (events.new.items ≡ before ++ more)
-            × Drains self.old.node self.old.listens asked stream result self.new.frames more self.new.asked.items }
+            × Drains self.old.node self.old.listens asked stream result (held_in self.new.frames) more self.new.asked.items }
     {
         loop {
             match self.hear_next(events) {
@@ -250,13 +259,14 @@ impl Conversation {
         piece: &[u8],
         events: &mut Vec<Event>,
     ) -> Result<(), LinkFault>
-        requires open { self.old.frames ≡ reading (bytes_in self.old.frames) }
+        requires open { held_in self.old.frames ≡ reading (bytes_in (held_in self.old.frames)) }
         ensures node { self.new.node ≡ self.old.node }
         ensures listens { self.new.listens ≡ self.old.listens }
         ensures unsent { self.new.unsent.items ≡ self.old.unsent.items }
-        ensures open { OnOk result (self.new.frames ≡ reading (bytes_in self.new.frames)) }
+        ensures open { OnOk result (held_in self.new.frames ≡ reading (bytes_in (held_in self.new.frames))) }
+        ensures memory { OnOk result (memory_in self.new.frames ≤ 65537) }
         ensures received { (more : List Event) × (events.new.items ≡ events.old.items ++ more)
-            × Receives self.old.node self.old.listens self.old.asked.items (bytes_in self.old.frames ++ piece.now) result more self.new.asked.items (bytes_in self.new.frames) }
+            × Receives self.old.node self.old.listens self.old.asked.items (bytes_in (held_in self.old.frames) ++ piece.now) result more self.new.asked.items (bytes_in (held_in self.new.frames)) }
     {
         if self.frames.feed(piece).is_err() {
             return Err(LinkFault::NoMemory);
@@ -268,11 +278,12 @@ impl Conversation {
     pub(crate) fn drop_all(&mut self)
         ensures node { self.new.node ≡ self.old.node }
         ensures listens { self.new.listens ≡ self.old.listens }
-        ensures frames { self.new.frames ≡ reading [] }
+        ensures frames { held_in self.new.frames ≡ reading [] }
+        ensures memory { memory_in self.new.frames ≡ 0 }
         ensures asked { self.new.asked.items ≡ [] }
         ensures unsent { self.new.unsent.items ≡ [] }
     {
-        self.frames = Frames::new(self.alloc);
+        self.frames = LongFrames::new(self.alloc);
         self.asked = VecDeque::new(self.alloc);
         self.unsent = BytesMut::new(self.alloc);
     }
@@ -284,6 +295,6 @@ fn fault_of(fault: FrameFault) -> LinkFault
 {
     match fault {
         FrameFault::NoMemory => LinkFault::NoMemory,
-        _ => LinkFault::Frame,
+        fault => LinkFault::Unread(fault),
     }
 }

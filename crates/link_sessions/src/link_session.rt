@@ -9,6 +9,7 @@ ghost use Rattle.link_sessions.specs.Links.{question_of, IsRefused, Receives};
 
 use crate::conversation::{ASKED_MAX, Conversation};
 use crate::fault::LinkFault;
+use crate::long_bulk::HELD_MAX;
 use ballot_law::{Event, Message, NodeName};
 use std::alloc::Global;
 use std::marker::Model;
@@ -24,6 +25,7 @@ pub struct LinkSession {
 impl Model for LinkSession {
     ghost use Rattle.std.specs.Prelude.{◌≡◌};
     ghost use Rattle.resp2_frames.specs.Stream.{reading, bytes_in};
+    ghost use Rattle.link_sessions.specs.LongHeld.{held_in, memory_in};
     ghost use Rattle.link_sessions.specs.Links.{Link};
 
     ghost Value = { Link };
@@ -32,18 +34,19 @@ impl Model for LinkSession {
       node = session.talk.node;
       listens = session.talk.listens;
       asked = session.talk.asked.items;
-      held = bytes_in session.talk.frames;
+      held = bytes_in (held_in session.talk.frames);
+      kept = memory_in session.talk.frames;
       unsent = session.talk.unsent.items;
       ended = session.fault;
     } };
 
-    ghost invariant = { λ session. session.talk.frames ≡ reading (bytes_in session.talk.frames) };
+    ghost invariant = { λ session. held_in session.talk.frames ≡ reading (bytes_in (held_in session.talk.frames)) };
 }
 
 impl LinkSession {
     /// A connection to this node, on which nothing was asked. No memory is taken.
     pub fn new(alloc: Global, node: NodeName) -> LinkSession
-        ensures { result ≡ record { node = node; listens = false; asked = []; held = []; unsent = []; ended = None } }
+        ensures { result ≡ record { node = node; listens = false; asked = []; held = []; kept = 0; unsent = []; ended = None } }
     {
         LinkSession {
             talk: Conversation::new(alloc, node, false),
@@ -53,7 +56,7 @@ impl LinkSession {
 
     /// A connection to this node that listens to hellos, once the caller has ordered its SUBSCRIBE. No memory is taken.
     pub fn listening(alloc: Global, node: NodeName) -> LinkSession
-        ensures { result ≡ record { node = node; listens = true; asked = []; held = []; unsent = []; ended = None } }
+        ensures { result ≡ record { node = node; listens = true; asked = []; held = []; kept = 0; unsent = []; ended = None } }
     {
         LinkSession {
             talk: Conversation::new(alloc, node, true),
@@ -117,7 +120,7 @@ impl LinkSession {
     /// master and the address of that question; the answers to other messages tell nothing, and so does an error in answer to an INFO or to such a question. On a
     /// connection that listens each value after the answers is a hello that a data node passes on.
     ///
-    /// `Frame` where the bytes are no RESP2, `Unasked` and `Strange` where a value answers no question or not its own, and `NoMemory`: what the values before told was
+    /// `Unread` where the bytes are no RESP2, `Unasked` and `Strange` where a value answers no question or not its own, and `NoMemory`: what the values before told was
     /// added, and nothing else. From then on the session answers the same fault for good and has nothing; the caller opens the connection anew.
     pub fn received(&mut self, piece: &[u8], events: &mut Vec<Event>) -> Result<(), LinkFault>
         ensures received { self.old.ended ≡ None → (more : List Event) × (events.new.items ≡ events.old.items ++ more)
@@ -125,6 +128,7 @@ impl LinkSession {
         ensures unsent { OnOk result (self.new.unsent ≡ self.old.unsent) }
         ensures node { self.new.node ≡ self.old.node }
         ensures listens { self.new.listens ≡ self.old.listens }
+        ensures kept { OnOk result (self.new.kept ≤ HELD_MAX) }
         ensures open { OnOk result (self.new.ended ≡ None) }
         ensures closed { IfErr result (λ fault. self.new.ended ≡ Some fault) }
         ensures ended { IfSome self.old.ended (λ fault. (result ≡ Err fault) × (self.new ≡ self.old) × (events.new ≡ events.old)) }

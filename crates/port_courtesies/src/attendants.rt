@@ -88,6 +88,20 @@ impl Attendant {
         self.asker.watch(masters, sentinels);
     }
 
+    /// The Sentinel's current epoch as it was last told; none where none was.
+    pub fn current(&self) -> Option<u64>
+        ensures { result ≡ self.now.asker.current }
+    {
+        self.asker.current()
+    }
+
+    /// Has it know this current epoch of the Sentinel.
+    pub fn note_epoch(&mut self, epoch: u64)
+        ensures { self.new ≡ record self.old { asker = record self.old.asker { current = Some epoch } } }
+    {
+        self.asker.note_epoch(epoch);
+    }
+
     /// Has it want this password of the client, which didn't give it yet.
     pub fn want_password(&mut self, password: Text)
         ensures { self.new ≡ record self.old { asker = record self.old.asker { password = Some password; admitted = false } } }

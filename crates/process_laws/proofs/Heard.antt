@@ -5,7 +5,7 @@ use Rattle.std.proofs.lemmas.List.Elements.{Contains-append_left, Contains-push,
 use Rattle.std.proofs.lemmas.Option.{slice_get-get_or}
 use mathlib.Core.Logic.{dite}
 use native.Mathlib.Decide.{ℕ_discrete}
-use Rattle.ballot_law.specs.declared.events.Event.TheVariants.{HelloRead, Handed}
+use Rattle.ballot_law.specs.declared.events.Event.TheVariants.{Handed}
 use Rattle.ballot_law.specs.declared.events.Input.{Input}
 use Rattle.ballot_law.specs.declared.messages.Body.TheVariants.{HelloText}
 use Rattle.ballot_law.specs.declared.messages.Message.{Message}
@@ -18,15 +18,14 @@ use Rattle.ballot_law.specs.declared.replies.PingReply.TheVariants.{Pong}
 use Rattle.ballot_law.specs.declared.steps.KeptText.TheVariants.{Old}
 use Rattle.ballot_law.specs.declared.steps.Step.{Step}
 use Rattle.ballot_law.specs.declared.steps.Step.TheVariants.{Take, Deliver, Store, Release, Stop, Start}
-use Rattle.ballot_law.specs.Hellos.{hello_text}
-use Rattle.ballot_law.specs.Messages.{published, sent, event_at, Delivers, IsFor, IsForSentinels}
+use Rattle.ballot_law.specs.Messages.{published, sent, event_at, Delivers, IsFor}
 use Rattle.ballot_law.specs.Rosters.{Roster, size}
 use Rattle.ballot_law.specs.Worlds.{World as Group, Sentinel, Other, Ready, Pending, Stored, Stopped, no_sentinel, no_other, other_at, with_other, sentinel_at, IsFree, IsAt, IsPassable, IsDelivered, Takes, Run, Steps}
 use Rattle.sentinel_rules.specs.Plans.{roster_of}
 use Rattle.sentinel_rules.specs.Steps.{IsPartsOf}
 use Rattle.sentinel_cell.specs.EntrySteps.{IsAsLeft, Brings, MovesAlone}
 use Rattle.sentinel_cell.specs.Histories.{World, IsGood}
-use Rattle.process_laws.specs.Actions.{Process, with_process, IsHeard, IsAsProcess}
+use Rattle.process_laws.specs.Actions.{Process, with_process, IsSentTo, IsPublished, IsAsProcess}
 
 -- the processes stand in a world of the model, with all that was sent
 abbrev pub IsOwn : Roster → ℕ → World → Type 0
@@ -170,19 +169,22 @@ IsBrought roster stores all messages i input group =
     (before : List Step) × (g : Group) × (first : Step) × Run roster before group g × Stands roster stores all messages g × Brings i input g first × (g.elected ≡ group.elected) ×
     (g.said ≡ group.said)
 
-pub hears : (roster : Roster) (stores : ℕ) (all : ℕ → Process) (messages : List Message) (i : ℕ) (input : Input) (group : Group) → Stands roster stores all messages group →
-    IsHeard stores messages i input.event
-    → IsBrought roster stores all messages i input group
-hears roster stores all messages i input group h heard = ⊎_elim
-    (λ (free : IsFree input.event). ([], group, Take (SentinelAt i) input, refl, h, inl (refl, free), refl, refl))
-    (λ (other : ((message : Message) × Contains messages message × (message.target ≡ SentinelAt i) × IsForSentinels message.body × Delivers message input.event)
-    ⊎ ((message : Message) × (hello : Hello) × (store : ℕ) × Contains messages message × (message.target ≡ StoreAt store) × (store < stores) ×
-    (published message.body ≡ Some hello) × (input.event ≡ HelloRead (hello_text hello)))). ⊎_elim
-    (λ (came : (message : Message) × Contains messages message × (message.target ≡ SentinelAt i) × IsForSentinels message.body × Delivers message input.event).
+-- an event that no message brings
+pub free_comes : (roster : Roster) (stores : ℕ) (all : ℕ → Process) (messages : List Message) (i : ℕ) (input : Input) (group : Group) →
+    Stands roster stores all messages group → IsFree input.event → IsBrought roster stores all messages i input group
+free_comes roster stores all messages i input group h free = ([], group, Take (SentinelAt i) input, refl, h, inl (refl, free), refl, refl)
+
+-- one that a message brings
+pub sent_comes : (roster : Roster) (stores : ℕ) (all : ℕ → Process) (messages : List Message) (i : ℕ) (input : Input) (group : Group) →
+    Stands roster stores all messages group → IsSentTo messages i input.event → IsBrought roster stores all messages i input group
+sent_comes roster stores all messages i input group h came =
     let k = place_of group.messages came.0 (h.sent_are came.0 came.1) in
-    ([], group, Deliver k.0 input.now, refl, h, inr (k.0, came.0, refl, k.1, came.2, subst (λ (n : NodeName). IsFor n came.0.body) (sym came.2) came.3, came.4), refl, refl))
-    (λ (told : (message : Message) × (hello : Hello) × (store : ℕ) × Contains messages message × (message.target ≡ StoreAt store) × (store < stores) ×
-    (published message.body ≡ Some hello) × (input.event ≡ HelloRead (hello_text hello))).
+    ([], group, Deliver k.0 input.now, refl, h, inr (k.0, came.0, refl, k.1, came.2, subst (λ (n : NodeName). IsFor n came.0.body) (sym came.2) came.3, came.4), refl, refl)
+
+-- a hello
+pub hello_comes : (roster : Roster) (stores : ℕ) (all : ℕ → Process) (messages : List Message) (i : ℕ) (input : Input) (group : Group) →
+    Stands roster stores all messages group → IsPublished stores messages input.event → IsBrought roster stores all messages i input group
+hello_comes roster stores all messages i input group h told =
     let here = h.sent_are told.0 told.3 in
     let low : told.2 < length group.stores = subst (λ (n : ℕ). told.2 < n) (sym h.stores_are) told.5 in
     let p = passes_on roster i told.2 told.0 told.1 group here told.4 low told.6 in
@@ -198,6 +200,10 @@ hears roster stores all messages i input group h heard = ⊎_elim
       inr (k.0, m, refl, k.1, refl, tt, record { reply = Pong; info = []; is_event = told.7 }),
       p.5,
       p.6,
-    ))
-    other)
-    heard
+    )
+
+pub comes : (roster : Roster) (stores : ℕ) (all : ℕ → Process) (messages : List Message) (i : ℕ) (input : Input) (group : Group) →
+    Stands roster stores all messages group → IsSentTo messages i input.event ⊎ IsPublished stores messages input.event
+    → IsBrought roster stores all messages i input group
+comes roster stores all messages i input group h came =
+    ⊎_elim (sent_comes roster stores all messages i input group h) (hello_comes roster stores all messages i input group h) came

@@ -4,7 +4,7 @@ use Rattle.ballot_law.specs.declared.cards.Kept.{Kept}
 use Rattle.ballot_law.specs.declared.cards.TheConstants.{MAX_EPOCH}
 use Rattle.ballot_law.specs.declared.events.Event.TheVariants.{Tick}
 use Rattle.ballot_law.specs.declared.steps.KeptText.TheVariants.{New}
-use Rattle.ballot_law.specs.Ballots.{Ballot, Open, Cast, Win_at, Choose, Enact, Drop}
+use Rattle.ballot_law.specs.Ballots.{Open, Cast, Win_at, Choose, Enact, Drop}
 use Rattle.ballot_law.specs.Worlds.{World, Move, sentinel_at, Choice, IsChoice, after_stop, after_answer, stores_of, Joined}
 use Rattle.ballot_law.specs.Refusals.{addr, own_id, roster, begin}
 use Rattle.ballot_law.proofs.RefusalsRun.{refusals_happen}

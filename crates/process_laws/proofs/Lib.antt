@@ -1,4 +1,6 @@
+pub mod GroupStarts
 pub mod Heard
 pub mod LateRun
 pub mod Merging
 pub mod Safety
+pub mod TwoProcesses

@@ -1,10 +1,13 @@
 -- Each action of a process is steps of the model, and so are all of them.
 use Rattle.std.proofs.Common.{◌≡◌, ℕ, ◌<◌, Bool, true, false, cond, List, [], ◌∷◌, ◌++◌, map, length, append_assoc, refl, sym, ap, ◌∙◌, subst, inl, ⊎_elim, true≢false, arith}
-use Rattle.std.specs.Prelude.{Contains, All}
+use Rattle.std.specs.Prelude.{Contains, All, ◌⊎◌, not, ◌||◌, Some}
 use Rattle.std.proofs.lemmas.List.Elements.{Contains-append_left, Contains-append_right, Contains-append_cases, All-map, All-weaker}
 use mathlib.Core.List.{append-nil}
 use Rattle.ballot_law.specs.declared.cards.Kept.{Kept}
 use Rattle.ballot_law.specs.declared.cards.Shown.{Shown}
+use Rattle.ballot_law.specs.declared.events.Event.{Event}
+use Rattle.ballot_law.specs.declared.events.Event.TheVariants.{Tick, Command, Answered, Pinged, InfoRead, HelloRead, Become, Handed}
+use Rattle.ballot_law.specs.declared.events.Input.{Input}
 use Rattle.ballot_law.specs.declared.messages.Message.{Message}
 use Rattle.ballot_law.specs.declared.messages.NodeName.{NodeName}
 use Rattle.ballot_law.specs.declared.messages.NodeName.TheVariants.{SentinelAt}
@@ -20,24 +23,29 @@ use Rattle.ballot_law.specs.Ballots.{Parts, restored}
 use Rattle.ballot_law.specs.Law.{IsStart}
 use Rattle.ballot_law.specs.Messages.{sent, advertised, advertised_by}
 use Rattle.ballot_law.specs.Rosters.{Roster, size}
-use Rattle.ballot_law.specs.Worlds.{World as Group, Sentinel, State, Ready, Pending, Stored as IsStored, Halted as IsHalted, Stopped, sentinel_at, with_sentinel, ended, started, after_stop, said_by, elected_by, IsRightOutput, Run, Steps}
+use Rattle.ballot_law.specs.Worlds.{World as Group, Sentinel, State, Ready, Pending, Stored as IsStored, Halted as IsHalted, Stopped, sentinel_at, with_sentinel, ended, started, after_stop, said_by, elected_by, IsRightOutput, IsFree, Run, Steps}
 use Rattle.ballot_law.proofs.Runs.{steps_join}
 use Rattle.sentinel_rules.specs.Changes.{IsAhead}
 use Rattle.sentinel_rules.specs.Facts.{IsSound}
-use Rattle.sentinel_rules.specs.Plans.{roster_of}
+use Rattle.sentinel_rules.specs.Plans.{Plan, roster_of}
 use Rattle.sentinel_rules.specs.States.{Core}
 use Rattle.sentinel_rules.specs.Steps.{IsPartsOf, wins_of}
+use Rattle.sentinel_rules.specs.Ignored.{is_noticed}
+use Rattle.sentinel_rules.specs.Takes.{Next}
+use Rattle.sentinel_rules.proofs.Ignoring.{ignored_changes_nothing}
 use Rattle.sentinel_rules.proofs.Opening.{opened_is_sound}
 use Rattle.sentinel_rules.proofs.Rising.{opened_is_ahead}
 use Rattle.sentinel_cell.specs.declared.entry.Entry.{Entry}
 use Rattle.sentinel_cell.specs.declared.entry.Outcome.{Outcome}
 use Rattle.sentinel_cell.specs.declared.entry.Outcome.TheVariants.{Stored, Refused, Halted}
+use Rattle.sentinel_core.specs.Sentinels.{is_flush}
+use Rattle.sentinel_conf.specs.Rewritten.{rewritten}
 use Rattle.sentinel_cell.specs.EntrySteps.{IsAsLeft, Brings, IsSent, MovesAlone, IsDone, told, kept_left}
-use Rattle.sentinel_cell.specs.Histories.{World, IsGood, IsOutcome, after_outcome, next_of}
+use Rattle.sentinel_cell.specs.Histories.{World, IsGood, IsOutcome, IsStep, after_outcome, next_of, same_kept, changed_card}
 use Rattle.sentinel_cell.proofs.Cards.{good_outcome}
 use Rattle.sentinel_cell.proofs.EntrySteps.{at_self, still_inside, still_alone, alone_through, tells_stored, not_stopped, stored_with, refused_steps}
-use Rattle.process_laws.specs.Actions.{Action, Opened, Took, Told, Process, with_process, action_after, actions_after, output_to, to_asker, sent_by, said_in, elected_in, all_sent, all_said, all_elected, IsOpened, IsAction, AreActions, at_first, IsAsProcess, ProcessesAreARun}
-use Rattle.process_laws.proofs.Heard.{IsOwn, Stands, one_moved, same_sentinels, hears}
+use Rattle.process_laws.specs.Actions.{Action, Opened, Took, Told, Process, with_process, action_after, actions_after, output_to, sent_by, said_in, elected_in, all_sent, all_said, all_elected, IsOpened, IsSentTo, IsPublished, IsHeard, IsAction, AreActions, at_first, elected_at, ProcessesAreARun}
+use Rattle.process_laws.proofs.Heard.{IsOwn, IsBrought, Stands, one_moved, same_sentinels, free_comes, comes}
 
 -- what one action does to the model's world
 abbrev Goes : Roster → (stores : ℕ) → (ℕ → Process) → List Message → Action → Group → Type 0
@@ -184,13 +192,12 @@ more_none {A} xs ys e = ap (λ (l : List A). xs ++ l) e ∙ append-nil xs
 
 module _ (roster : Roster) (stores : ℕ) (all : ℕ → Process) (messages : List Message) (i : ℕ) (e : Entry) (asker : NodeName) (left : KeptText) (group : Group)
     (h : Stands roster stores all messages group) (low : i < size roster) (runs : (all i).runs ≡ true)
-    (heard : Rattle.process_laws.specs.Actions.IsHeard stores messages i e.input.event) where
+    (b : IsBrought roster stores all messages i e.input group) where
   abbrev w : World
   w = (all i).world
 
   takes : (o : Outcome) → IsOutcome w e.input e.outputs e.failures o → Goes roster stores all messages (Took i (record e { outcome = o }) asker left) group
   takes Stored is =
-      let b = hears roster stores all messages i e.input group h heard in
       let g : Group = b.1 in
       let stands = b.4 in
       let own = stands.own i low runs in
@@ -208,7 +215,6 @@ module _ (roster : Roster) (stores : ℕ) (all : ℕ → Process) (messages : Li
         s.3.1 ∙ ((λ j. b.7 j ++ said_by i (advertised_to roster asker e.outputs j))),
       )
   takes Refused is =
-      let b = hears roster stores all messages i e.input group h heard in
       let g : Group = b.1 in
       let stands = b.4 in
       let own = stands.own i low runs in
@@ -247,10 +253,116 @@ module _ (roster : Roster) (stores : ℕ) (all : ℕ → Process) (messages : Li
         sym (more_none group.said (said_by i (advertised_by roster e.outputs)) (none_said roster i e.outputs is.1)),
       )
 
+-- An input of which no notice is taken does what one does that no message brings, and of which none is taken either
+
+abbrev instead : Input → Input
+instead input = record { now = input.now; event = Become 0 0 0 }
+
+not_flushed : (plan : Plan) (event : Event) → is_noticed plan event ≡ false → is_flush event ≡ false
+not_flushed plan (Tick m random) h = absurd (true≢false h)
+not_flushed plan (Command sender command) h = absurd (true≢false h)
+not_flushed plan (Answered voter m addr down leader epoch) h = refl
+not_flushed plan (Pinged node reply) h = refl
+not_flushed plan (InfoRead node text) h = refl
+not_flushed plan (HelloRead text) h = refl
+not_flushed plan (Become priority offset link_down) h = refl
+not_flushed plan (Handed message) h = refl
+
+same_next : (w : World) (input : Input) → is_noticed w.plan input.event ≡ false → next_of w input ≡ next_of w (instead input)
+same_next w input h = ignored_changes_nothing w.plan w.core input.now input.event h ∙ sym (ignored_changes_nothing w.plan w.core input.now (Become 0 0 0) refl)
+
+-- what an input gives, and whether it is one that is always stored
+abbrev given : World → Input → Next × Bool
+given w input = (next_of w input, is_flush input.event)
+
+same_given : (w : World) (input : Input) → is_noticed w.plan input.event ≡ false → given w (instead input) ≡ given w input
+same_given w input h = λ j. (sym (same_next w input h) j, sym (not_flushed w.plan input.event h) j)
+
+abbrev must_store_of : World → Next × Bool → Bool
+must_store_of w x = not (same_kept x.0.core.kept w.core.kept) || x.1
+
+same_after : (w : World) (input : Input) (failures : ℕ) (o : Outcome) → is_noticed w.plan input.event ≡ false →
+    after_outcome w (instead input) failures o ≡ after_outcome w input failures o
+same_after w input failures Stored h = ap
+    (λ (x : Next × Bool).
+    let v : World = record {
+      plan = w.plan;
+      core = x.0.core;
+      stored = x.0.core.kept;
+      halted = w.halted;
+      change = changed_card w.core.kept x.0.core.kept;
+      text = cond (must_store_of w x) (Some (rewritten w.plan.conf x.0.core.kept)) w.text;
+      refused = w.refused;
+      failures = failures;
+    } in v)
+    (same_given w input h)
+same_after w input failures Refused h = ap
+    (λ (x : Next × Bool).
+    let v : World = record {
+      plan = w.plan;
+      core = x.0.core;
+      stored = w.stored;
+      halted = true;
+      change = changed_card w.core.kept x.0.core.kept;
+      text = w.text;
+      refused = Some (rewritten w.plan.conf x.0.core.kept);
+      failures = failures;
+    } in v)
+    (same_given w input h)
+same_after w input failures Halted h = refl
+
+same_outcome : (w : World) (input : Input) (outputs : List Output) (failures : ℕ) (o : Outcome) → is_noticed w.plan input.event ≡ false →
+    IsOutcome w input outputs failures o → IsOutcome w (instead input) outputs failures o
+same_outcome w input outputs failures Stored h is = (is.0, is.1 ∙ ap (λ (n : Next). n.outputs) (same_next w input h), is.2, tt)
+same_outcome w input outputs failures Refused h is = (is.0, is.1, is.2, tt, ap (must_store_of w) (same_given w input h) ∙ is.4)
+same_outcome w input outputs failures Halted h is = is
+
+-- what the entry does, by the world after it
+abbrev filed_with : Outcome → KeptText → Process → World → Kept
+filed_with Stored left p v = v.stored
+filed_with Refused left p v = kept_left left p.file v.core.kept
+filed_with Halted left p v = p.file
+
+abbrev GoesTo : Roster → (stores : ℕ) → (ℕ → Process) → List Message → (i : ℕ) → List Output → NodeName → KeptText → Group → Outcome → World → Type 0
+GoesTo roster stores all messages i outputs asker left group o v =
+    (steps : List Step) × (last : Group) × Run roster steps group last
+    × Stands roster stores (with_process all i (record { runs = true; world = v; file = filed_with o left (all i) v }))
+    (messages ++ sent (map (output_to asker) outputs)) last
+    × (last.elected ≡ group.elected ++ elected_at o i v) × (last.said ≡ group.said ++ said_by i (advertised_by roster outputs))
+
+unnoticed : (roster : Roster) (stores : ℕ) (all : ℕ → Process) (messages : List Message) (i : ℕ) (e : Entry) (asker : NodeName) (left : KeptText) (group : Group) (o : Outcome) →
+    is_noticed (all i).world.plan e.input.event ≡ false
+    → Goes roster stores all messages (Took i (record e { input = instead e.input; outcome = o }) asker left) group
+    → Goes roster stores all messages (Took i (record e { outcome = o }) asker left) group
+unnoticed roster stores all messages i e asker left group Stored h g =
+    subst (GoesTo roster stores all messages i e.outputs asker left group Stored) (same_after (all i).world e.input e.failures Stored h) g
+unnoticed roster stores all messages i e asker left group Refused h g =
+    subst (GoesTo roster stores all messages i e.outputs asker left group Refused) (same_after (all i).world e.input e.failures Refused h) g
+unnoticed roster stores all messages i e asker left group Halted h g =
+    subst (GoesTo roster stores all messages i e.outputs asker left group Halted) (same_after (all i).world e.input e.failures Halted h) g
+
+-- an entry, by what its event is heard from
+takes_heard : (roster : Roster) (stores : ℕ) (all : ℕ → Process) (messages : List Message) (i : ℕ) (e : Entry) (asker : NodeName) (left : KeptText) (group : Group) →
+    Stands roster stores all messages group → i < size roster → (all i).runs ≡ true → IsStep (all i).world e
+    → IsHeard (all i).world.plan stores messages i e.input.event → Goes roster stores all messages (Took i e asker left) group
+takes_heard roster stores all messages i e asker left group h low runs is heard = ⊎_elim
+    (λ (alone : IsFree e.input.event ⊎ (is_noticed (all i).world.plan e.input.event ≡ false)). ⊎_elim
+    (λ (free : IsFree e.input.event).
+    takes roster stores all messages i e asker left group h low runs (free_comes roster stores all messages i e.input group h free) e.outcome is)
+    (λ (no : is_noticed (all i).world.plan e.input.event ≡ false).
+    let f : Entry = record e { input = instead e.input } in
+    unnoticed roster stores all messages i e asker left group e.outcome no
+    (takes roster stores all messages i f asker left group h low runs (free_comes roster stores all messages i f.input group h tt) e.outcome
+    (same_outcome (all i).world e.input e.outputs e.failures e.outcome no is)))
+    alone)
+    (λ (came : IsSentTo messages i e.input.event ⊎ IsPublished stores messages e.input.event).
+    takes roster stores all messages i e asker left group h low runs (comes roster stores all messages i e.input group h came) e.outcome is)
+    heard
+
 one_action : (roster : Roster) (stores : ℕ) (all : ℕ → Process) (messages : List Message) (d : Action) (group : Group) → Stands roster stores all messages group →
     IsAction roster stores all messages d → Goes roster stores all messages d group
 one_action roster stores all messages (Opened i w now) group h d = opens roster stores all messages i w now group h d.0 d.1
-one_action roster stores all messages (Took i e asker left) group h d = takes roster stores all messages i e asker left group h d.0 d.1 d.3 e.outcome d.2
+one_action roster stores all messages (Took i e asker left) group h d = takes_heard roster stores all messages i e asker left group h d.0 d.1 d.2 d.3
 one_action roster stores all messages (Told i m) group h d = tells roster stores all messages i m group h d.0 d.1 d.2
 
 -- all actions

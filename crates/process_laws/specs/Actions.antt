@@ -1,5 +1,5 @@
 -- What the processes of a group did, one action after another.
-use Rattle.std.specs.Prelude.{◌≡◌, ℕ, ◌<◌, ◌≤◌, ◌⊎◌, eqb, Bool, true, false, cond, List, [], ◌∷◌, ◌++◌, map, length, Contains, Some}
+use Rattle.std.specs.Prelude.{◌≡◌, ℕ, ◌<◌, ◌≤◌, ◌⊎◌, eqb, Bool, true, false, cond, List, [], ◌∷◌, ◌++◌, map, length, Contains, Some, None}
 use Rattle.ballot_law.specs.declared.cards.Kept.{Kept}
 use Rattle.ballot_law.specs.declared.events.Event.{Event}
 use Rattle.ballot_law.specs.declared.events.Event.TheVariants.{HelloRead}
@@ -25,7 +25,8 @@ use Rattle.sentinel_cell.specs.declared.entry.Outcome.TheVariants.{Stored, Refus
 use Rattle.sentinel_cell.specs.EntrySteps.{IsAsLeft, kept_left}
 use Rattle.sentinel_cell.specs.Histories.{World, no_world, IsStep, after}
 use Rattle.sentinel_rules.specs.Facts.{IsSoundPlan}
-use Rattle.sentinel_rules.specs.Plans.{roster_of}
+use Rattle.sentinel_rules.specs.Ignored.{is_noticed}
+use Rattle.sentinel_rules.specs.Plans.{Plan, roster_of}
 use Rattle.sentinel_rules.specs.States.{opened}
 use Rattle.sentinel_rules.specs.Steps.{wins_of}
 
@@ -96,6 +97,20 @@ elected_in all (Told i m) = []
 
 -- when an action may be done
 
+-- a Sentinel at its start, with what this plan's file holds
+abbrev pub opened_by : Plan → (now : ℕ) → World
+opened_by plan now =
+    record {
+      plan = plan;
+      core = opened plan now;
+      stored = plan.conf.kept;
+      halted = false;
+      change = None;
+      text = None;
+      refused = None;
+      failures = 0;
+    }
+
 -- the file opens the Sentinel so: with what it holds, and nothing else
 pub record IsOpened (roster : Roster) (i : ℕ) (file : Kept) (now : ℕ) (w : World) : Type 0 where
   pub place : w.plan.place ≡ i
@@ -106,18 +121,26 @@ pub record IsOpened (roster : Roster) (i : ℕ) (file : Kept) (now : ℕ) (w : W
   pub stored : w.stored ≡ file
   pub runs : w.halted ≡ false
 
--- An event that no message brings; or one that a message to this Sentinel brings, of those sent before; or a hello, of those that were published
--- at a data node before
-abbrev pub IsHeard : (stores : ℕ) → List Message → (i : ℕ) → Event → Type 0
-IsHeard stores messages i event =
-    IsFree event
-    ⊎ (((message : Message) × Contains messages message × (message.target ≡ SentinelAt i) × IsForSentinels message.body × Delivers message event)
-    ⊎ ((message : Message) × (hello : Hello) × (store : ℕ) × Contains messages message × (message.target ≡ StoreAt store) × (store < stores) ×
-    (published message.body ≡ Some hello) × (event ≡ HelloRead (hello_text hello))))
+-- a message to this Sentinel, of those sent before, brings the event
+abbrev pub IsSentTo : List Message → (i : ℕ) → Event → Type 0
+IsSentTo messages i event =
+    (message : Message) × Contains messages message × (message.target ≡ SentinelAt i) × IsForSentinels message.body × Delivers message event
+
+-- the event is a hello, of those that were published at a data node before
+abbrev pub IsPublished : (stores : ℕ) → List Message → Event → Type 0
+IsPublished stores messages event =
+    (message : Message) × (hello : Hello) × (store : ℕ) × Contains messages message × (message.target ≡ StoreAt store) × (store < stores) ×
+    (published message.body ≡ Some hello) × (event ≡ HelloRead (hello_text hello))
+
+-- What the Sentinel with this plan hears: an event that no message brings, one of which it takes no notice, from whomever it came, an event that
+-- a message to it brings, or a hello that was published. So a hello of no other Sentinel of its roster, or about no master of it, may come from anybody
+abbrev pub IsHeard : Plan → (stores : ℕ) → List Message → (i : ℕ) → Event → Type 0
+IsHeard plan stores messages i event = (IsFree event ⊎ (is_noticed plan event ≡ false)) ⊎ (IsSentTo messages i event ⊎ IsPublished stores messages event)
 
 abbrev pub IsAction : Roster → (stores : ℕ) → (ℕ → Process) → List Message → Action → Type 0
 IsAction roster stores all messages (Opened i w now) = (i < size roster) × IsOpened roster i (all i).file now w
-IsAction roster stores all messages (Took i e asker left) = (i < size roster) × ((all i).runs ≡ true) × IsStep (all i).world e × IsHeard stores messages i e.input.event
+IsAction roster stores all messages (Took i e asker left) =
+    (i < size roster) × ((all i).runs ≡ true) × IsStep (all i).world e × IsHeard (all i).world.plan stores messages i e.input.event
 IsAction roster stores all messages (Told i m) = (i < size roster) × ((all i).runs ≡ true) × (m < length roster.masters)
 
 -- actions in an order in which each process has a legal history of its own, and hears what was sent before
@@ -167,6 +190,11 @@ ProcessesAreARun =
 abbrev pub FilesNeverFall : Roster → (ℕ → Process) → (ℕ → Process) → Type 0
 FilesNeverFall roster before last = (i m : ℕ) → i < size roster → (card_of (before i).file m).epoch ≤ (card_of (last i).file m).epoch
 
+-- the configuration that a process has stored is its file's, while it runs and no store of it was refused
+abbrev pub StoredIsFiled : (ℕ → Process) → Type 0
+StoredIsFiled all = (i : ℕ) → (all i).runs ≡ true → (all i).world.halted ≡ false → (all i).world.stored ≡ (all i).file
+
+-- of any moment, which is the end of the first list of actions, and all that comes after it
 abbrev pub ProcessesAreSafe : Type 0
 ProcessesAreSafe =
     (roster : Roster) (start : Group) (actions more : List Action) →
@@ -176,3 +204,4 @@ ProcessesAreSafe =
     HasOneLeader (all_elected (at_first start) (actions ++ more))
     × HasOneAddress (all_said roster (at_first start) (actions ++ more))
     × FilesNeverFall roster (actions_after (at_first start) actions) (actions_after (at_first start) (actions ++ more))
+    × StoredIsFiled (actions_after (at_first start) actions)

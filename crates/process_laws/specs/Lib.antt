@@ -1,2 +1,4 @@
 pub mod Actions
+pub mod GroupStarts
 pub mod LateAnswers
+pub mod TwoProcesses

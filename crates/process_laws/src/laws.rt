@@ -1,23 +1,45 @@
 //! What holds of all processes of a group together.
 
 ghost use Rattle.process_laws.specs.Actions.{ProcessesAreARun, ProcessesAreSafe};
+ghost use Rattle.process_laws.specs.GroupStarts.{OneGroupIsAStart};
 ghost use Rattle.process_laws.specs.LateAnswers.{LateAnswersHappen};
+ghost use Rattle.process_laws.specs.TwoProcesses.{ActionsHappen};
 
-/// What the processes of a group did, in an order in which each answer and each hello is heard after the release that sent it, is a run of the
-/// model: with the same elections, in which the Sentinels said the same, and which leaves each of them as its own history does.
+/// What the processes of a group did, in an order in which each answer and each hello is heard after the release that
+/// sent it, is a run of the model: with the same elections, in which the Sentinels said the same, and which leaves
+/// each of them as its own history does. What a Sentinel takes no notice of, as a hello of nobody of the group, may
+/// come from anybody.
 pub fn law_processes_are_a_run()
     ensures { ProcessesAreARun }
 {}
 
-/// So at most one of them is elected for a master in an epoch, two configurations of one epoch that any of them showed have one address, and
-/// no epoch of a configuration in a file falls, whichever of them ended and began anew.
+/// So at most one of them is elected for a master in an epoch, two configurations of one epoch that any of them
+/// showed have one address, and no epoch of a configuration in a file falls, whichever of them ended and began anew.
+/// What a process has stored, and so tells a client, is its file's, as long as no store of it was refused.
 pub fn law_processes_are_safe()
     ensures { ProcessesAreSafe }
 {}
 
-/// The model allows the answers that the threads of such a process give while it stores: there is a run in which a client is shown a configuration after
-/// newer ones were stored, others are answered within a take, and the process is then killed within that take, the new text in its file. What was
-/// voted, elected and said in it stands word for word in `specs/LateAnswers.antt`.
+/// The model allows the answers that the threads of such a process give while it stores: there is a run in which a
+/// client is shown a configuration after newer ones were stored, others are answered within a take, and the process
+/// is then killed within that take, the new text in its file. What was voted, elected and said in it stands word for
+/// word in `specs/LateAnswers.antt`.
 pub fn law_late_answers_happen()
     ensures { LateAnswersHappen }
+{}
+
+/// Two processes meet all that these laws ask. One finds the master down, votes for itself, is elected by the other
+/// one's vote, promotes the replica, and publishes that; the other takes it from the hello, and notes it. Then a
+/// store of the first is refused and leaves the new text, another process begins with that, and hears the answer with
+/// the vote a second time. What each of them put out, and all that was elected and said, stands word for word in
+/// `specs/TwoProcesses.antt`.
+pub fn law_actions_happen()
+    ensures { ActionsHappen }
+{}
+
+/// What `check` accepts, files of which `Report::is_refused` is false, is where these laws begin: with the roster of
+/// the files, the data nodes of that, and in each Sentinel's file what its own one of them holds. Each of the files
+/// opens a Sentinel there, and each Sentinel is opened by one of them.
+pub fn law_one_group_is_a_start()
+    ensures { OneGroupIsAStart }
 {}

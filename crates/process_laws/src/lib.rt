@@ -3,4 +3,7 @@
 
 mod laws;
 
-pub use laws::{law_late_answers_happen, law_processes_are_a_run, law_processes_are_safe};
+pub use laws::{
+    law_actions_happen, law_late_answers_happen, law_one_group_is_a_start, law_processes_are_a_run,
+    law_processes_are_safe,
+};

@@ -3,14 +3,16 @@
 ghost use Rattle.std.specs.Prelude.{◌≡◌, ◌<◌, ◌-◌, ◌^◌, IfOk};
 
 use crate::command_line::port_threads_of;
+use crate::conf_paths::ConfPath;
 use crate::failures::{fail, fail_group, refuse_conf, refuse_file, status_of_group};
-use crate::group_files::text_at;
+use crate::group_files::{opened, refuse_unopened_by_reason};
 use crate::locks::{FileLock, lock_file, refuse_lock};
 use crate::noted_store::NotedStore;
 use crate::starting::note_sentinel;
-use crate::telling::tell_faults;
+use crate::telling::{note_watch, tell_faults, tell_watch};
 use ballot_law::{Roster, Text};
 use clap::ArgMatches;
+use conf_store::FileText;
 use group_ports::{Admission, PortAddress};
 use log::{LevelFilter, Log};
 use port_serving::ServeFault;
@@ -38,6 +40,7 @@ pub(crate) enum Unwatched {
 #[derive(Drop)]
 struct WatchFile<'a, R: Log> {
     conf: Conf,
+    text: FileText,
     store: NotedStore<'a, R>,
     settings: WatchSettings,
 }
@@ -51,11 +54,22 @@ pub(crate) fn watch_level(words: &ArgMatches) -> LevelFilter {
     }
 }
 
-/// Tells why a file that can be read isn't one for `watch`.
-fn refuse_watch(rt: HostRuntime, path: &str, fault: WatchFault) -> ExitCode {
+/// Tells why a file that can be read, and says this, isn't one for `watch`: the fault, then each other line that is refused, and the warnings.
+pub(crate) fn refuse_watch(
+    rt: HostRuntime,
+    path: &str,
+    conf: &Conf,
+    text: &[u8],
+    fault: WatchFault,
+) -> ExitCode {
     match fault.kind {
         WatchKind::NoMemory => fail(&rt, ServeFault::NoMemory),
-        kind => refuse_file(&rt, path, fault.line, kind),
+        kind => {
+            let status = refuse_file(&rt, path, fault.line, kind);
+            let sentinels = conf.roster().sentinels().len() as u64;
+            tell_watch(rt, path, sentinels, text, fault.line);
+            status
+        }
     }
 }
 
@@ -144,7 +158,7 @@ fn settings_of(
 ) -> Result<WatchSettings, ExitCode> {
     let watch = match read_watch(rt.alloc(), conf, text) {
         Ok(watch) => watch,
-        Err(fault) => return Err(refuse_watch(rt, path, fault)),
+        Err(fault) => return Err(refuse_watch(rt, path, conf, text, fault)),
     };
     match taken_settings(rt.alloc(), conf, &watch, port) {
         Ok(settings) => Ok(settings),
@@ -157,12 +171,17 @@ fn settings_of(
 fn watch_file<'a, R: Log>(
     rt: HostRuntime,
     noting: &'a R,
-    path: &str,
+    path: &ConfPath<'_>,
     port: PortSettings,
 ) -> Result<WatchFile<'a, R>, ExitCode>
     ensures { IfOk result (λ file. file.store ≡ 0) }
 {
-    let (text, store) = text_at(rt, path)?;
+    let opened = opened(rt, path);
+    let path = path.named();
+    let (text, store) = match opened {
+        Ok(opened) => opened,
+        Err(why) => return Err(refuse_unopened_by_reason(rt, path, why)),
+    };
     let conf = match read(rt.alloc(), text.as_slice()) {
         Ok(conf) => conf,
         Err(fault) => {
@@ -175,6 +194,7 @@ fn watch_file<'a, R: Log>(
     match NotedStore::of(rt, noting, store, conf.port(), path) {
         Ok(store) => Ok(WatchFile {
             conf,
+            text,
             store,
             settings,
         }),
@@ -190,11 +210,16 @@ fn locked_file<'a, R: Log>(
 ) -> Result<(WatchFile<'a, R>, FileLock), ExitCode>
     ensures { IfOk result (λ locked. locked.0.store ≡ 0) }
 {
-    let path = words.get_str("conf").unwrap_or("");
-    let locked = lock_file(rt, path);
-    let file = watch_file(rt, noting, path, port_of(words))?;
+    let Ok(path) = ConfPath::of(rt, words.get_str("conf").unwrap_or("")) else {
+        return Err(fail(&rt, ServeFault::NoMemory));
+    };
+    let locked = lock_file(rt, &path);
+    let file = watch_file(rt, noting, &path, port_of(words))?;
     match locked {
-        Ok(lock) => Ok((file, lock)),
+        Ok(lock) => {
+            lock.note(noting, path.named());
+            Ok((file, lock))
+        }
         Err(fault) => Err(refuse_lock(rt, fault)),
     }
 }
@@ -210,10 +235,14 @@ where
     };
     let WatchFile {
         conf,
+        text,
         store,
         settings,
     } = file;
     note_sentinel(noting, &conf);
+    let path = words.get_str("conf").unwrap_or("");
+    let sentinels = conf.roster().sentinels().len() as u64;
+    note_watch(rt, noting, path, sentinels, text.as_slice());
     let ended = match Watch::open(noting, rt.alloc(), conf, store, settings) {
         Ok(watch) => watch.run(noting),
         Err(fault) => Err(fault),

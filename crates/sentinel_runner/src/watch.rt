@@ -157,7 +157,8 @@ fn port_of<R: Net + Log>(
 }
 
 impl<S: ConfStore + Drop> Watch<S> {
-    /// Opens the Sentinel of this conf at clock 0, and its port; no connection is opened yet. What the conf keeps is stored once before the port is opened.
+    /// Opens the Sentinel of this conf at clock 0, and its port; no connection is opened yet. What the conf keeps is
+    /// stored once its port is had, which is served after that: where the port can't be had the store is as it was.
     ///
     /// `Halted` where the store refuses that, `PortRefused` where a port can't be had, and `NoMemory`; `NotOneRoster` never comes.
     pub fn open<R: Net + Clock + Log>(
@@ -175,13 +176,13 @@ impl<S: ConfStore + Drop> Watch<S> {
             admission,
             logins,
         } = settings;
-        prove_store(alloc, &conf, &mut store)?;
         let (wires, far) = wires_of(rt, alloc, &conf, logins)?;
         let room = room_of(rt, alloc, &conf, port, &admission)?;
         let wanted = admission.limit;
         let admission = admission.within(room);
         let sockets = sockets_of(rt, alloc, addresses.as_slice())?;
         let ports = port_of(rt, alloc, sockets, room, &admission)?;
+        prove_store(alloc, &conf, &mut store)?;
         note_room(rt, conf.port(), wanted, &admission);
         let opened = Opened::with_port(alloc, conf, store, ports, room.threads(), BESIDE, 0)?;
         let state = WatchState {
@@ -242,6 +243,7 @@ where
     let Ok((member, seat)) = made else {
         return end_for_want(&state.run, &state.ending);
     };
+    far.guard(&member);
     let Ok(seated) = Seated::of(alloc, &member, seat, port, others) else {
         return end_for_want(&state.run, &state.ending);
     };

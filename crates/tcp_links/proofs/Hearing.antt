@@ -9,6 +9,7 @@ use Rattle.link_sessions.specs.declared.fault.LinkFault.TheVariants.{Strange}
 use Rattle.link_sessions.specs.declared.questions.Question.{Question}
 use Rattle.link_sessions.specs.declared.questions.Question.TheVariants as asks
 use Rattle.link_sessions.specs.declared.replies.Vote.{Vote}
+use Rattle.link_sessions.specs.LongValues.{told_value}
 use Rattle.link_sessions.specs.Links.{next_asked, heard_of, ping_heard, info_heard, answered, ask_heard, vote_of, hello_in, hello_in_list, hello_of_list, hello_heard, is_confirmed, begins_message, list_of, listed, Tells}
 use Rattle.tcp_links.specs.declared.target.Target.{Target}
 use Rattle.tcp_links.specs.NodeLinks.{IsHeardOn, IsAsked}
@@ -148,7 +149,7 @@ module _ (target : Target) where
   told asked (v ∷ values) events left all t =
       let next = next_on target.listens asked t.0 t.1 refl all t.4 in
       let more = told t.1 values t.3 left next.asked_still t.7 in
-      let one : AllByRecursion (IsHeardOn target) (listed t.2) = subst MayTell t.5 (value_on t.0 v next.awaits) in
+      let one : AllByRecursion (IsHeardOn target) (listed t.2) = subst MayTell t.5 (value_on t.0 (told_value v) next.awaits) in
       let fewer = next.few in
       let fewest = more.few in
       record {

@@ -7,15 +7,11 @@ use Rattle.ballot_law.specs.declared.messages.Body.{Body}
 use Rattle.ballot_law.specs.declared.messages.Body.TheVariants as bodies
 use Rattle.ballot_law.specs.declared.messages.NodeName.{NodeName}
 use Rattle.link_sessions.specs.declared.conversation.TheConstants.{ASKED_MAX}
+use Rattle.link_sessions.specs.declared.long_bulk.TheConstants.{HELD_MAX}
 use Rattle.link_sessions.specs.declared.questions.Question.{Question}
 use Rattle.link_sessions.specs.declared.questions.Question.TheVariants as asks
 use Rattle.link_sessions.specs.declared.fault.LinkFault.{LinkFault}
 use Rattle.link_sessions.specs.Links.{Link, Receives, IsHeard}
-use Rattle.resp2_frames.specs.declared.fault.Unread.TheVariants.{NeedsMore}
-use Rattle.resp2_frames.specs.Frame.{Frame}
-use Rattle.resp2_frames.specs.Reading.{frame_at}
-use Rattle.resp2_frames.specs.Stream.{reading, Splits}
-use Rattle.resp2_frames.proofs.Window.{waits_within}
 use Rattle.tcp_links.specs.declared.schedule.Schedule.{Schedule}
 use Rattle.tcp_links.specs.declared.speaking.Login.{Login}
 use Rattle.tcp_links.specs.declared.speaking.Login.TheVariants.{Without, Pass, User}
@@ -32,7 +28,7 @@ kept_fresh target = record {
   listens = refl;
   going = refl;
   questions = tt;
-  bounded = record { unsent = omega arith; asked = omega arith; held = omega arith };
+  bounded = record { unsent = omega arith; asked = omega arith; kept = omega arith };
 }
 
 -- a session on which nothing was asked
@@ -65,7 +61,7 @@ kept_spoken target login listens short = record {
   listens = refl;
   going = refl;
   questions = all_append IsAsked (login_questions login) (listen_questions listens) (login_asked login) (listen_asked listens);
-  bounded = record { unsent = short; asked = few_first login listens; held = omega arith };
+  bounded = record { unsent = short; asked = few_first login listens; kept = omega arith };
 }
 
 pub kept_first : (target : Target) (login : Login) (listens : Bool) (before talk : Link) → before ≡ fresh target
@@ -105,7 +101,7 @@ kept_more target before bytes questions kept asked short few = record {
   listens = kept.listens;
   going = kept.going;
   questions = all_append IsAsked before.asked questions kept.questions asked;
-  bounded = record { unsent = short; asked = few; held = kept.bounded.held };
+  bounded = record { unsent = short; asked = few; kept = kept.bounded.kept };
 }
 
 pub kept_asked : (target : Target) (body : Body) (before talk : Link) → IsKept target before
@@ -136,19 +132,15 @@ kept_sent target n before talk kept is =
       listens = kept.listens;
       going = kept.going;
       questions = kept.questions;
-      bounded = record { unsent = omega (arith, short, less); asked = kept.bounded.asked; held = kept.bounded.held };
+      bounded = record { unsent = omega (arith, short, less); asked = kept.bounded.asked; kept = kept.bounded.kept };
     })
 
 -- ---- bytes that came
 
--- what is held after a piece is less than a whole value
-held_short : (held : List ℕ) (stream : List ℕ) (values : List Frame) → Splits stream values (reading held) → length held ≤ 65536
-held_short held stream values splits = waits_within held (subst (λ (t : List ℕ). frame_at t ≡ Err NeedsMore) splits.2.0 splits.2.1)
-
 kept_heard : (target : Target) (before talk : Link) (piece : List ℕ) (events : List Event) → IsKept target before
     → IsHeard target.node target.listens before.asked (before.held ++ piece) events talk.asked talk.held
-    → talk.node ≡ before.node → talk.listens ≡ before.listens → talk.ended ≡ None → talk.unsent ≡ before.unsent → IsKept target talk
-kept_heard target before talk piece events kept h node listens going unsent =
+    → talk.node ≡ before.node → talk.listens ≡ before.listens → talk.ended ≡ None → talk.unsent ≡ before.unsent → talk.kept ≤ HELD_MAX → IsKept target talk
+kept_heard target before talk piece events kept h node listens going unsent short =
     let t = told target before.asked h.values events talk.asked kept.questions h.tells in
     let fewer = t.few in
     let few = kept.bounded.asked in
@@ -160,7 +152,7 @@ kept_heard target before talk piece events kept h node listens going unsent =
       bounded = record {
         unsent = subst (λ (u : List ℕ). length u ≤ UNSENT_MAX) (sym unsent) kept.bounded.unsent;
         asked = omega (arith, fewer, few);
-        held = held_short talk.held (before.held ++ piece) h.values h.splits;
+        kept = short;
       };
     }
 
@@ -193,7 +185,7 @@ piece_received target before piece result events all left held kept says =
 
 pub piece_kept : {X : Type 0} (target : Target) (before talk : Link) (piece : List ℕ) (x : X) (events all : List Event) → IsKept target before
     → Says before piece (Ok x) events all talk.asked talk.held
-    → talk.node ≡ before.node → talk.listens ≡ before.listens → talk.ended ≡ None → talk.unsent ≡ before.unsent → IsKept target talk
-piece_kept target before talk piece x events all kept says node listens going unsent =
+    → talk.node ≡ before.node → talk.listens ≡ before.listens → talk.ended ≡ None → talk.unsent ≡ before.unsent → talk.kept ≤ HELD_MAX → IsKept target talk
+piece_kept target before talk piece x events all kept says node listens going unsent short =
     let r = says kept.going in
-    kept_heard target before talk piece r.0 kept (receives_here target before piece (Ok x) r.0 talk.asked talk.held kept r.2) node listens going unsent
+    kept_heard target before talk piece r.0 kept (receives_here target before piece (Ok x) r.0 talk.asked talk.held kept r.2) node listens going unsent short

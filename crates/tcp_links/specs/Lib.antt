@@ -3,3 +3,4 @@ pub mod RecentHellos
 pub mod Schedules
 pub mod Speaking
 pub mod Targets
+pub mod RecentFaults

@@ -5,6 +5,7 @@ use Rattle.ballot_law.specs.declared.events.Event.{Event}
 use Rattle.ballot_law.specs.declared.events.Event.TheVariants.{Answered, Pinged, InfoRead, HelloRead}
 use Rattle.ballot_law.specs.declared.messages.Body.{Body}
 use Rattle.link_sessions.specs.declared.conversation.TheConstants.{ASKED_MAX}
+use Rattle.link_sessions.specs.declared.long_bulk.TheConstants.{HELD_MAX}
 use Rattle.link_sessions.specs.declared.questions.Question.{Question}
 use Rattle.link_sessions.specs.declared.questions.Question.TheVariants as asks
 use Rattle.link_sessions.specs.Links.{Link}
@@ -23,7 +24,7 @@ pub record State : Type 0 where
 
 -- nothing is asked, held or unsent
 abbrev pub fresh : Target → Link
-fresh target = record { node = target.node; listens = target.listens; asked = []; held = []; unsent = []; ended = None }
+fresh target = record { node = target.node; listens = target.listens; asked = []; held = []; kept = 0; unsent = []; ended = None }
 
 -- it is closed from now on, and all that was on it is lost
 abbrev pub closed_at : ℕ → State → State
@@ -65,7 +66,7 @@ IsAsked question = Unit {0}
 pub record IsBounded (talk : Link) : Type 0 where
   pub unsent : length talk.unsent ≤ UNSENT_MAX
   pub asked : length talk.asked ≤ ASKED_MAX
-  pub held : length talk.held ≤ 65536
+  pub kept : talk.kept ≤ HELD_MAX
 
 pub record IsKept (target : Target) (talk : Link) : Type 0 where
   pub node : talk.node ≡ target.node

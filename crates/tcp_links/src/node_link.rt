@@ -81,7 +81,7 @@ impl NodeLink {
         }
     }
 
-    /// How much is held at most: 65,536 bytes that are unsent, 512 questions, and 65,536 bytes that came and are no whole value yet.
+    /// How much is held at most: 65,536 bytes that are unsent, 512 questions, and in memory 65,537 bytes that came and are no whole value yet.
     pub fn is_bounded(&self)
         ensures { IsBounded self.now.talk }
     {

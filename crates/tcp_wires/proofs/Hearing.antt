@@ -5,11 +5,12 @@ use Rattle.std.specs.List.{AllByRecursion}
 use Rattle.std.specs.Io.KnownBytes.{Consumes}
 use Rattle.ballot_law.specs.declared.events.Event.{Event}
 use Rattle.ballot_law.specs.declared.events.Event.TheVariants as events
-use Rattle.link_sessions.specs.Links.{IsHeard}
+use Rattle.link_sessions.specs.declared.fault.LinkFault.{LinkFault}
+use Rattle.link_sessions.specs.Links.{IsHeard, IsBroken}
 use Rattle.sentinel_rules.specs.Facts.{IsWithinEvent}
 use Rattle.tcp_links.specs.declared.target.Target.{Target}
 use Rattle.tcp_links.specs.NodeLinks.{State, IsHeardOn}
-use Rattle.tcp_wires.specs.Traffic.{Hears}
+use Rattle.tcp_wires.specs.Traffic.{Hears, Breaks}
 
 within : (target : Target) (event : Event) → IsHeardOn target event → IsWithinEvent event
 within target (events.Tick master random) h = absurd h
@@ -37,6 +38,12 @@ pub hears_of : (before after : Option (List ℕ)) (s t : State) (piece : List �
     × IsHeard s.target.node s.target.listens s.talk.asked (s.talk.held ++ piece) more t.talk.asked t.talk.held
     → Hears before after s t events told
 hears_of before after s t piece events told read h = record { bytes = piece; read = read; more = h.0; added = h.1; hears = h.3 }
+
+pub breaks_of : (before after : Option (List ℕ)) (s : State) (piece : List ℕ) (events told : List Event) (why : LinkFault) → Consumes before after piece
+    → (more : List Event) × (told ≡ events ++ more) × AllByRecursion (IsHeardOn s.target) more
+    × IsBroken s.target.node s.target.listens s.talk.asked (s.talk.held ++ piece) why more
+    → Breaks before after s events told why
+breaks_of before after s piece events told why read h = record { bytes = piece; read = read; more = h.0; added = h.1; breaks = h.3 }
 
 -- nothing was added
 pub hears_none : (target : Target) (before told : List Event) → told ≡ before → (more : List Event) × (told ≡ before ++ more) × AllByRecursion (IsHeardOn target) more

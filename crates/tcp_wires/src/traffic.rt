@@ -1,18 +1,28 @@
 //! What is read and written on the stream of a connection.
 
-ghost use Rattle.std.specs.Prelude.{◌≡◌, ◌≤◌, ◌++◌, List, IfOk, OnOk, length, take};
+ghost use Rattle.std.specs.Prelude.{◌≡◌, ◌≤◌, ◌++◌, List, IfOk, IfErr, OnOk, length, take};
 ghost use Rattle.std.specs.Io.KnownBytes.{Consumes};
 ghost use Rattle.std.specs.List.{AllByRecursion};
 ghost use Rattle.ballot_law.specs.declared.events.Event.{Event};
 ghost use Rattle.tcp_links.specs.NodeLinks.{IsHeardOn};
-ghost use Rattle.tcp_wires.specs.Traffic.{Sends, Hears};
+ghost use Rattle.tcp_wires.specs.Traffic.{Sends, Hears, IsWhy};
 
 use ballot_law::Event;
+use link_sessions::LinkFault;
 use std::io::{ErrorKind, Read, Write};
 use tcp_links::NodeLink;
 
 /// How many bytes one read asks for.
 pub(crate) const PIECE: usize = 16_384;
+
+/// Why a read took no piece.
+#[derive(Clone, Copy)]
+pub(crate) enum Unheard {
+    /// The stream gave none: `WouldBlock` where nothing is there, `UnexpectedEof` at its end.
+    Stream(ErrorKind),
+    /// One was taken up to this fault, which closed the connection.
+    Fault(LinkFault),
+}
 
 /// Writes once of what is unsent; the error says why nothing was taken.
 #[tactic(auto, using(crate::proofs::Sending::sends_nothing, crate::proofs::Sending::sends_some))]
@@ -59,23 +69,26 @@ fn read<T: Read>(stream: &mut T, room: &mut [u8]) -> Result<usize, ErrorKind>
     }
 }
 
-/// Reads one piece, and adds what the values tell that are whole with it: how long it is. The error says why none was taken: `WouldBlock` where nothing is there, `UnexpectedEof` at the
-/// end of the stream, and `InvalidData` where it was taken up to a fault, which closed the connection; what the values before the fault told was added.
-#[tactic(auto, using(crate::proofs::Hearing::hears_of, crate::proofs::Hearing::hears_none))]
+/// Reads one piece, and adds what the values tell that are whole with it: how long it is. The error says why none was taken; what the values before a fault told was added.
+#[tactic(auto, using(crate::proofs::Hearing::hears_of, crate::proofs::Hearing::breaks_of, crate::proofs::Hearing::hears_none))]
 pub(crate) fn hear<T: Read>(
     link: &mut NodeLink,
     stream: &mut T,
     room: &mut [u8],
     now: u64,
     events: &mut Vec<Event>,
-) -> Result<usize, ErrorKind>
+) -> Result<usize, Unheard>
     ensures hears { OnOk result (Hears (T.remaining stream.old) (T.remaining stream.new) link.old link.new events.old.items events.new.items) }
+    ensures why { IfErr result (IsWhy (T.remaining stream.old) (T.remaining stream.new) link.old events.old.items events.new.items) }
     ensures heard_on { (more : List Event) × (events.new.items ≡ events.old.items ++ more) × AllByRecursion (IsHeardOn link.old.target) more }
     ensures target { link.new.target ≡ link.old.target }
 {
-    let count = read(stream, room)?;
+    let count = match read(stream, room) {
+        Ok(count) => count,
+        Err(kind) => return Err(Unheard::Stream(kind)),
+    };
     match link.received(&room[..count], now, events) {
         Ok(()) => Ok(count),
-        Err(_) => Err(ErrorKind::InvalidData),
+        Err(fault) => Err(Unheard::Fault(fault)),
     }
 }

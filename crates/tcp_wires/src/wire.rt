@@ -6,8 +6,9 @@ ghost use Rattle.messages.specs.MessageTexts.{IsWritable};
 ghost use Rattle.sentinel_rules.specs.Facts.{IsWithinEvent};
 
 use crate::exchange::NearEnd;
-use crate::traffic::{hear, send};
+use crate::traffic::{Unheard, hear, send};
 use ballot_law::{Addr, Body, Event, Message, NodeName};
+use link_sessions::LinkFault;
 use log::{Log, warn};
 use mio::net::TcpStream;
 use mio::{Interest, Registry, Token};
@@ -25,7 +26,7 @@ const READS_MAX: u32 = 16;
 const LOOK_MS: u64 = 100;
 
 /// A connection to a node, with its socket where it is open or being opened. `goes_on` is whether it may have more to read, `is_ending` whether the system told of its end, `is_refused` whether the node refused who asks
-/// when it was heard last, `look_at` when it is to be asked what came of an order, and `shut_until` until when it stays closed, since too much came on it.
+/// when it was heard last, `look_at` when it is to be asked what came of an order, `fault` the fault of what came that closed it last, and `shut_until` until when it stays closed, since too much came on it.
 #[derive(Drop)]
 pub(crate) struct Wire {
     link: NodeLink,
@@ -34,6 +35,7 @@ pub(crate) struct Wire {
     is_ending: bool,
     is_refused: bool,
     look_at: Option<u64>,
+    fault: Option<LinkFault>,
     flow: Flow,
     shut_until: u64,
     alloc: Global,
@@ -84,6 +86,7 @@ impl Wire {
             is_ending: false,
             is_refused: false,
             look_at: None,
+            fault: None,
             flow: Flow::new(),
             shut_until: 0,
             alloc,
@@ -108,6 +111,16 @@ impl Wire {
     /// Whether it is to be opened now.
     pub(crate) fn is_due(&self, now: u64) -> bool {
         self.shut_until <= now && self.link.schedule().is_due(now)
+    }
+
+    /// The fault of what came that closed it since this was asked last.
+    pub(crate) fn take_fault(&mut self) -> Option<LinkFault> {
+        self.fault.take()
+    }
+
+    /// The node that it is to, and at which address.
+    pub(crate) fn target(&self) -> Target {
+        self.link.target()
     }
 
     /// Whether it may have more to read.
@@ -215,14 +228,23 @@ impl Wire {
         self.settle();
     }
 
+    /// With which words of the file a Sentinel logs in to its node.
+    fn login_words(&self) -> (&'static str, &'static str) {
+        match self.link.target().node {
+            NodeName::SentinelAt(_) => ("sentinel sentinel-pass", "sentinel sentinel-user"),
+            _ => ("sentinel auth-pass", "sentinel auth-user"),
+        }
+    }
+
     /// Notes that the node refuses who asks, where it didn't before, by the piece that came.
     fn note_refusal<R: Log>(&mut self, rt: &R, piece: &[u8]) {
         let is_refused = is_refusal(piece);
         if is_refused && !self.is_refused {
             let addr = self.link.target().addr;
             let (ip, port) = (Ipv4Addr::from(addr.ip), addr.port);
+            let (pass, user) = self.login_words();
             warn!(rt;
-                "{ip}:{port} refuses this Sentinel: see its password and user (`sentinel auth-pass`, `sentinel auth-user`), and what that user may do"
+                "{ip}:{port} refuses this Sentinel: see its password and user (`{pass}`, `{user}`), and what that user may do"
             );
         }
         self.is_refused = is_refused;
@@ -249,10 +271,17 @@ impl Wire {
             self.shut_until = now.saturating_add(FLOW_MS);
             return Err(ErrorKind::InvalidData);
         }
-        if heard.is_ok() {
-            self.note_refusal(rt, room);
+        match heard {
+            Ok(count) => {
+                self.note_refusal(rt, room);
+                Ok(count)
+            }
+            Err(Unheard::Stream(kind)) => Err(kind),
+            Err(Unheard::Fault(fault)) => {
+                self.fault = Some(fault);
+                Err(ErrorKind::InvalidData)
+            }
         }
-        heard
     }
 
     /// Reads what came, and hands on what that tells: whether the socket is whole. After many reads the next connection has its turn. A read that gave less than it asked for took all that

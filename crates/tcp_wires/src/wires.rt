@@ -1,6 +1,7 @@
 //! All connections of a Sentinel.
 
 use crate::exchange::{FarEnd, NearEnd, Outgoing, WatchState, exchange};
+use crate::fault_notes::note_fault;
 use crate::logins::Logins;
 use crate::traffic::PIECE;
 use crate::wire::Wire;
@@ -17,7 +18,7 @@ use std::sync::Wait;
 use std::sync::atomic::Ordering;
 use std::thread;
 use std::time::Duration;
-use tcp_links::{Login, Pace, connection_count, ping_each, place_of, target_at};
+use tcp_links::{Login, Pace, RecentFaults, connection_count, ping_each, place_of, target_at};
 
 /// How many connections the system tells of at once.
 const EVENTS: usize = 256;
@@ -40,6 +41,7 @@ pub struct Wires {
     roster: Roster,
     logins: Logins,
     near: NearEnd,
+    faults: RecentFaults,
     room: Vec<u8>,
     alloc: Global,
 }
@@ -97,7 +99,7 @@ impl Wires {
             return Err(io::Error::from(ErrorKind::OutOfMemory));
         };
         let poll = Poll::new(net)?;
-        let (near, far) = exchange(alloc, poll.registry())?;
+        let (near, far) = exchange(alloc, poll.registry(), conf.kept().current)?;
         let wires = Wires {
             poll,
             told: Events::with_capacity(alloc, EVENTS)?,
@@ -105,6 +107,7 @@ impl Wires {
             roster,
             logins,
             near,
+            faults: RecentFaults::new(alloc),
             room: vec![in alloc; 0; PIECE]?,
             alloc,
         };
@@ -165,13 +168,30 @@ impl Wires {
             }
             wire.serve(rt, &mut self.near, self.room.as_mut_slice(), now);
         }
+        self.note_fault(rt, place, now);
+    }
+
+    /// Notes the fault that closed the connection at this place, where none of its node was noted a moment ago.
+    fn note_fault<R: Log>(&mut self, rt: &R, place: usize, now: u64) {
+        let Some(Some(wire)) = self.wires.get_mut(place) else {
+            return;
+        };
+        let Some(fault) = wire.take_fault() else {
+            return;
+        };
+        let target = wire.target();
+        let node = place_of(&self.roster, target.node).unwrap_or(place);
+        if self.faults.takes_note(node, now) {
+            note_fault(rt, target, fault);
+        }
     }
 
     /// Serves the connections that may have more to read.
     fn serve_busy<R: Wait + Log>(&mut self, rt: &R, now: u64) {
-        for wire in self.wires.iter_mut().flatten() {
-            if wire.goes_on() {
-                wire.serve(rt, &mut self.near, self.room.as_mut_slice(), now);
+        for place in 0..self.wires.len() {
+            let goes_on = matches!(self.wires.get(place), Some(Some(wire)) if wire.goes_on());
+            if goes_on {
+                self.serve(rt, place, false, now);
             }
         }
     }

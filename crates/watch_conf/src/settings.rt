@@ -1,7 +1,7 @@
 //! What a line says that counts for `watch` alone.
 
 ghost use Rattle.std.specs.Prelude.{◌≡◌, None, Some, MatchOption};
-ghost use Rattle.watch_conf.specs.WatchLines.{binds_of, node_pass_of, node_user_of, own_pass_of, peer_pass_of, peer_user_of, clients_of, seconds_of, protected_of};
+ghost use Rattle.watch_conf.specs.WatchLines.{binds_of, node_pass_of, node_user_of, own_pass_of, peer_pass_of, peer_user_of, clients_of, seconds_of, protected_of, default_of};
 
 use crate::binds::{Bind, Binds};
 use crate::faults::WatchKind;
@@ -38,6 +38,8 @@ pub enum Setting {
     Timeout(u32),
     /// `protected-mode`.
     ProtectedMode(bool),
+    /// `user default on #<hash> ..`, with all rights: the digits of a hash, as Redis writes it beside `requirepass`.
+    DefaultUser(Text),
 }
 
 /// What a line is to `watch`.
@@ -148,6 +150,16 @@ impl Setting {
     {
         match self {
             Setting::ProtectedMode(yes) => Some(*yes),
+            _ => None,
+        }
+    }
+
+    /// The digits of the hash of the default user's password.
+    pub(crate) fn default_user(&self) -> Option<&[u8]>
+        ensures { MatchOption result (default_of self.now ≡ None) (λ digits. default_of self.now ≡ Some digits.now) }
+    {
+        match self {
+            Setting::DefaultUser(digits) => Some(digits.as_slice()),
             _ => None,
         }
     }

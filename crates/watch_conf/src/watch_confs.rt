@@ -1,11 +1,11 @@
 //! What all lines of a file say that count for `watch` alone.
 
-ghost use Rattle.std.specs.Prelude.{◌≡◌, ◌⊎◌, ◌∷◌, [], true, false, None, Some, Ok, Err, ◌++◌, min, OnOk, MatchResult};
+ghost use Rattle.std.specs.Prelude.{◌≡◌, ◌⊎◌, ◌∷◌, [], true, false, None, Some, Ok, Err, ◌++◌, min, IfOk, OnOk, MatchResult};
 ghost use Rattle.ballot_law.specs.Cuts.{lines};
 ghost use Rattle.sentinel_conf.specs.Meaning.{last};
 ghost use Rattle.watch_conf.specs.WatchLines.{binds_of, node_pass_of, node_user_of, own_pass_of, peer_pass_of, peer_user_of, clients_of, seconds_of, protected_of};
 ghost use Rattle.watch_conf.specs.Binds.{everywhere};
-ghost use Rattle.watch_conf.specs.WatchConfs.{no_memory, sent_pass, sent_user, settings_from, watch_settings};
+ghost use Rattle.watch_conf.specs.WatchConfs.{no_memory, sent_pass, sent_user, says_other_hash, other_hash_line, other_password_line, settings_from, watch_settings};
 ghost use Rattle.watch_conf.specs.declared.settings.TheConstants.{CLIENTS_MAX, IDLE_SECONDS, IDLE_SECONDS_MAX};
 
 use crate::announcing::lacks_announce_ip;
@@ -13,7 +13,8 @@ use crate::binds::{Bind, EVERYWHERE};
 use crate::directives::line_of;
 use crate::faults::{WatchFault, WatchKind};
 use crate::settings::{CLIENTS_MAX, IDLE_SECONDS, IDLE_SECONDS_MAX, Setting, WatchLine};
-use ballot_law::{Name, NoMemory};
+use crate::users::hash_of;
+use ballot_law::{Name, NoMemory, is_same_bytes};
 use sentinel_conf::Conf;
 use std::alloc::Global;
 use std::marker::Model;
@@ -218,9 +219,51 @@ fn settings_of(alloc: Global, bytes: &[u8]) -> Result<Vec<Setting>, WatchFault>
     Ok(list)
 }
 
-/// What the file with these bytes says to `watch`, where `conf` is what it says else; or its first fault. Faults are judged in this order: line
-/// by line `BadQuotes`, `BadDirective`, `BadName`, `BadNumber`, `BadBind`, `BadYesNo` and `NamesOfHosts`; then `NoAnnounceIp`, with line 0.
-/// `NoMemory`, with line 0, may stand in place of any other answer.
+/// Whether the line has a hash of the default user's password, and another one than this.
+fn says_other_hash(alloc: Global, hash: &[u8], text: &[u8]) -> Result<bool, NoMemory>
+    ensures { IfOk result (λ other. other ≡ says_other_hash hash.now text.now) }
+{
+    match line_of(alloc, text)? {
+        WatchLine::Says(Setting::DefaultUser(digits)) => Ok(!is_same_bytes(
+            digits.as_slice(),
+            hash,
+        )),
+        _ => Ok(false),
+    }
+}
+
+/// The number of the first line that has another hash of the default user's password than this.
+fn other_hash_line(alloc: Global, hash: &[u8], bytes: &[u8]) -> Result<Option<u64>, NoMemory>
+    ensures { IfOk result (λ found. found ≡ other_hash_line hash.now 1 (lines bytes.now)) }
+{
+    let mut number: u64 = 1;
+    let mut rest = bytes;
+    while !rest.is_empty() {
+        let (text, more) = split_line(rest);
+        if says_other_hash(alloc, hash, text)? {
+            return Ok(Some(number));
+        }
+        number += 1;
+        rest = more;
+    }
+    Ok(None)
+}
+
+/// The number of the first line that has the hash of another password than that of the last line `requirepass`; an empty one is none.
+fn other_password_line(
+    alloc: Global,
+    conf: &WatchConf,
+    bytes: &[u8],
+) -> Result<Option<u64>, NoMemory>
+    ensures { IfOk result (λ found. found ≡ other_password_line conf.now bytes.now) }
+{
+    let hash = hash_of(alloc, conf.own_pass())?;
+    other_hash_line(alloc, hash.as_bytes(), bytes)
+}
+
+/// What the file with these bytes says to `watch`, where `conf` is what it says else; or its first fault. Faults are judged in this order: that of
+/// each line, by itself; then `OtherPassword`, at its line; then `NoAnnounceIp`, with line 0. `NoMemory`, with line 0, may stand in place of any
+/// other answer.
 pub fn read_watch(alloc: Global, conf: &Conf, bytes: &[u8]) -> Result<WatchConf, WatchFault>
     ensures { MatchResult result (λ read. watch_settings conf.now bytes.now ≡ Ok read)
         (λ fault. (fault ≡ no_memory) ⊎ (watch_settings conf.now bytes.now ≡ Err fault)) }
@@ -229,11 +272,18 @@ pub fn read_watch(alloc: Global, conf: &Conf, bytes: &[u8]) -> Result<WatchConf,
         Ok(settings) => settings,
         Err(fault) => return Err(fault),
     };
+    let read = WatchConf { settings };
+    if let Some(line) = other_password_line(alloc, &read, bytes)? {
+        return Err(WatchFault {
+            line,
+            kind: WatchKind::OtherPassword,
+        });
+    }
     if lacks_announce_ip(conf) {
         return Err(WatchFault {
             line: 0,
             kind: WatchKind::NoAnnounceIp,
         });
     }
-    Ok(WatchConf { settings })
+    Ok(read)
 }

@@ -9,7 +9,7 @@ use Rattle.tcp_links.proofs.node_link.NodeLink.received.Goals as goal
 pub invariant_of-self : goal.invariant_of-self
 invariant_of-self c =
     piece_kept c.self.inside.target c.self.inside.session c.received.new.self c.args.piece.now c.in-Ok.field-0 c.args.events.now.items c.received.new.events.items
-    c.self.invariant c.in-Ok.ensures.received c.in-Ok.ensures.node c.in-Ok.ensures.listens c.in-Ok.ensures.open c.in-Ok.ensures.unsent
+    c.self.invariant c.in-Ok.ensures.received c.in-Ok.ensures.node c.in-Ok.ensures.listens c.in-Ok.ensures.open c.in-Ok.ensures.unsent c.in-Ok.ensures.kept
 
 pub returns-in-Ok-clause-received : goal.returns-in-Ok-clause-received
 returns-in-Ok-clause-received c =

@@ -2,7 +2,7 @@ use Rattle.std.proofs.Common.{◌≡◌, length}
 use Rattle.std.specs.List.{list_any}
 use Rattle.ballot_law.specs.Cuts.{lines}
 use Rattle.ballot_law.specs.Orders.{same_bytes}
-use Rattle.conf_advice.proofs.nearest.is_listed.Given as goal
+use Rattle.watch_conf.proofs.known_directives.is_listed.Given as goal
 
 abbrev pub invariant-loop-rest : goal.invariant-loop-rest
 invariant-loop-rest l = list_any (same_bytes l.word) (lines l.table) ≡ list_any (same_bytes l.word) (lines l.rest)

@@ -1,7 +1,15 @@
 //! The directives that a Redis knows, as data.
 
-ghost use Rattle.std.specs.Prelude.{◌≡◌};
+ghost use Rattle.std.specs.Prelude.{◌≡◌, IfOk};
+ghost use Rattle.std.specs.List.{list_any};
+ghost use Rattle.ballot_law.specs.Cuts.{lines};
+ghost use Rattle.ballot_law.specs.Orders.{same_bytes};
 ghost use Rattle.ballot_law.specs.Words.{lower};
+ghost use Rattle.watch_conf.specs.KnownDirectives.{sentinel_names, is_sentinel_directive};
+
+use ballot_law::{NoMemory, is_same_bytes};
+use std::alloc::{AllocError, Global};
+use words::split_line;
 
 /// Names of directives, in lower case, one a line.
 #[derive(Clone, Copy)]
@@ -18,12 +26,46 @@ impl Directives {
     pub fn of_redis() -> Directives
         ensures first { lower result.first.now ≡ result.first.now }
         ensures sentinel { lower result.sentinel.now ≡ result.sentinel.now }
+        ensures names { lines result.sentinel.now ≡ sentinel_names }
     {
         Directives {
             first: FIRST,
             sentinel: SENTINEL,
         }
     }
+}
+
+/// The word in lower case. AllocError: memory was refused.
+pub fn lowered(alloc: Global, word: &[u8]) -> Result<Vec<u8>, AllocError>
+    ensures { IfOk result (λ low. low.items ≡ lower word.now) }
+{
+    word.iter()
+        .map(|byte| byte.to_ascii_lowercase())
+        .collect(alloc)
+}
+
+/// Whether the word is a line of the table.
+pub fn is_listed(table: &[u8], word: &[u8]) -> bool
+    ensures { result ≡ list_any (same_bytes word.now) (lines table.now) }
+{
+    let mut rest = table;
+    while !rest.is_empty() {
+        let (name, more) = split_line(rest);
+        if is_same_bytes(word, name) {
+            return true;
+        }
+        rest = more;
+    }
+    false
+}
+
+/// Whether a Redis knows this name behind `sentinel`, in whatever case.
+pub(crate) fn is_sentinel_directive(alloc: Global, name: &[u8]) -> Result<bool, NoMemory>
+    ensures { IfOk result (λ known. known ≡ is_sentinel_directive name.now) }
+{
+    let known = Directives::of_redis();
+    let word = lowered(alloc, name)?;
+    Ok(is_listed(known.sentinel, &word))
 }
 
 /// The directives with which a line begins.
