@@ -232,7 +232,7 @@ impl Listener {
             return;
         }
         clients.note_time(state.clock.now(rt));
-        self.note_crowding(log, clients.now());
+        self.note_crowding(log, clients.reading());
         let mut accepts = false;
         for socket in &self.sockets {
             let stopped = self.accept_at(rt, clients, socket);
@@ -242,7 +242,7 @@ impl Listener {
             }
         }
         self.accepts = accepts;
-        self.note_crowding(log, clients.now());
+        self.note_crowding(log, clients.reading());
     }
 }
 
