@@ -27,6 +27,11 @@ arrival_of limit near_only is_near has_own count =
       | false ↦ elim has_own [ true ↦ OnOwnSeat | false ↦ elim (is_full limit count) [ true ↦ MakesRoom | false ↦ Kept ] ]
     ]
 
+-- the seat that a connection takes: one of its own, of which some have this number, or one that is for anybody
+abbrev pub place_of : (own : Option ℕ) → Place
+place_of None = Common
+place_of (Some number) = Own number
+
 -- the seat is kept for the connection's ip
 abbrev pub has_own_seat : Place → Bool
 has_own_seat Common = false

@@ -59,7 +59,7 @@ pub(crate) struct Terms {
 /// listen, are `waiting`. `silent` has all by their last byte, and `strangers` those that owe the password by when
 /// they came. `next_id` is the number of the next connection: no other one of the port has it, since each of its
 /// threads has its own numbers. `unsent` is how many bytes of all of them were unsent as each was looked at last.
-/// `time` is the clock's reading at the last turn, and `next_look` that from which on it is looked who has been silent
+/// `reading` is that of the clock at the last turn, and `next_look` that from which on it is looked who has been silent
 /// for long.
 #[derive(Drop)]
 pub(crate) struct Clients {
@@ -72,7 +72,7 @@ pub(crate) struct Clients {
     unsent: usize,
     silent: Ages,
     strangers: Ages,
-    time: u64,
+    reading: u64,
     next_look: u64,
     next_id: u64,
     terms: Terms,
@@ -112,7 +112,7 @@ impl Clients {
             unsent: 0,
             silent: Ages::new(alloc),
             strangers: Ages::new(alloc),
-            time: 0,
+            reading: 0,
             next_look: 0,
             next_id: u64::from(thread) + 1,
             terms: terms_of(alloc, admission)?,
@@ -193,10 +193,10 @@ impl Clients {
     fn make_room(&mut self, key: usize) -> Result<(), AllocError> {
         self.waiting.make_room(key)?;
         if self.terms.makes_room {
-            self.silent.add(key, self.time)?;
+            self.silent.add(key, self.reading)?;
             let is_open = self.terms.password.as_slice().is_empty();
             if !is_open {
-                self.strangers.add(key, self.time)?;
+                self.strangers.add(key, self.reading)?;
             }
         }
         Ok(())
@@ -230,7 +230,7 @@ impl Clients {
         let origin = Origin {
             place,
             is_peer,
-            came: self.time,
+            came: self.reading,
         };
         self.connections
             .insert(Connection::new(stream, session, origin))?;
@@ -281,7 +281,7 @@ impl Clients {
             return;
         };
         let began = state.clock.now(rt);
-        self.time = began;
+        self.reading = began;
         if !connection.turn(rt, state, member, seat, began) {
             return self.close(key);
         }
@@ -485,7 +485,7 @@ impl Clients {
         ensures goes { result ≡ Goes → IfSome (get self.now.connections key) (λ c. (has_own_seat c.origin.place ≡ false) × (owes_password c.session ≡ true)) }
     {
         match self.connections.get(key) {
-            Some(connection) => connection.standing().among_strangers(since, self.time),
+            Some(connection) => connection.standing().among_strangers(since, self.reading),
             None => Look::Leaves,
         }
     }
@@ -577,7 +577,7 @@ impl Clients {
         let Some(connection) = self.connections.get_mut(key) else {
             return;
         };
-        if self.time.saturating_sub(connection.heard()) >= LOOK_MS {
+        if self.reading.saturating_sub(connection.heard()) >= LOOK_MS {
             connection.rest();
         } else {
             self.waiting.active.join(key);
@@ -609,10 +609,10 @@ impl Clients {
     /// Has those that are silent give back their room, and closes those that are idle for long. It looks at most once
     /// in `LOOK_MS`: whether it looked.
     pub(crate) fn look_at_silent(&mut self) -> bool {
-        if self.time < self.next_look {
+        if self.reading < self.next_look {
             return false;
         }
-        self.next_look = self.time.saturating_add(LOOK_MS);
+        self.next_look = self.reading.saturating_add(LOOK_MS);
         self.rest_silent();
         self.bring_back();
         self.close_idle();
@@ -622,13 +622,13 @@ impl Clients {
     /// What becomes of the connection with this key, as the first of those that are silent, which counts since this
     /// reading, where those are closed that are idle for long.
     fn look_at_idle_one(&self, since: u64, key: usize) -> Look {
-        if self.time.saturating_sub(since) < self.terms.idle_ms {
+        if self.reading.saturating_sub(since) < self.terms.idle_ms {
             return Look::Stays;
         }
         match self.connections.get(key) {
             Some(connection) => {
                 let standing = connection.standing();
-                standing.among_idle(since, self.terms.idle_ms, self.time)
+                standing.among_idle(since, self.terms.idle_ms, self.reading)
             }
             None => Look::Leaves,
         }
@@ -657,11 +657,11 @@ impl Clients {
 
     /// The clock's reading is this by now.
     pub(crate) fn note_time(&mut self, now: u64) {
-        self.time = now;
+        self.reading = now;
     }
 
     /// The clock's reading at the last turn.
-    pub(crate) fn now(&self) -> u64 {
-        self.time
+    pub(crate) fn reading(&self) -> u64 {
+        self.reading
     }
 }

@@ -4,7 +4,7 @@ use crate::admission::{Arrival, refuse_foreign, refuse_further};
 use crate::clients::Clients;
 use crate::crowding::Crowding;
 use crate::desk::Desk;
-use crate::seats::{Newcomer, Place, Seats};
+use crate::seats::{Newcomer, Seats, place_of};
 use group_sentinels::RunState;
 use log::{Log, warn};
 use mio::net::{TcpListener, TcpStream};
@@ -176,7 +176,7 @@ impl Listener {
         let own = self.seats.own_of(ip);
         let newcomer = Newcomer {
             stream,
-            place: own.map_or(Place::Common, Place::Own),
+            place: place_of(own),
             is_peer: self.seats.is_peer(ip),
             clears: false,
         };
@@ -232,7 +232,7 @@ impl Listener {
             return;
         }
         clients.note_time(state.clock.now(rt));
-        self.note_crowding(log, clients.now());
+        self.note_crowding(log, clients.reading());
         let mut accepts = false;
         for socket in &self.sockets {
             let stopped = self.accept_at(rt, clients, socket);
@@ -242,7 +242,7 @@ impl Listener {
             }
         }
         self.accepts = accepts;
-        self.note_crowding(log, clients.now());
+        self.note_crowding(log, clients.reading());
     }
 }
 

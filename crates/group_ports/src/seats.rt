@@ -1,7 +1,7 @@
 //! The seats of a port, which its threads share.
 
 ghost use Rattle.std.specs.Prelude.{◌≡◌};
-ghost use Rattle.group_ports.specs.Admitting.{has_own_seat};
+ghost use Rattle.group_ports.specs.Admitting.{has_own_seat, place_of};
 
 use crate::admission::{Admission, Arrival, arrival_of};
 use mio::net::TcpStream;
@@ -29,6 +29,16 @@ impl Place {
         ensures { result ≡ has_own_seat self }
     {
         matches!(self, Place::Own(_))
+    }
+}
+
+/// The seat that a connection may take, where those of its own with this number are free, or none.
+pub(crate) fn place_of(own: Option<usize>) -> Place
+    ensures { result ≡ place_of own }
+{
+    match own {
+        Some(number) => Place::Own(number),
+        None => Place::Common,
     }
 }
 
