@@ -135,6 +135,14 @@ fn note_unknown_master<R: Log>(rt: &R, hello: &Hello) {
     );
 }
 
+/// Whether a difference of the Sentinel at this place is to be noted now.
+fn takes_note_at(notes: &mut [Seldom], place: usize, now: u64) -> bool {
+    match notes.get_mut(place) {
+        Some(seldom) => seldom.takes_note(now, DIFFERENT_MS),
+        None => false,
+    }
+}
+
 impl HelloNotes {
     /// None was heard yet.
     pub(crate) fn new(now: u64) -> HelloNotes {
@@ -165,19 +173,21 @@ impl HelloNotes {
 
     /// Notes in what the file of the Sentinel at a place differs from the own one, by its hello: once, and each ten minutes while it is so.
     fn hear_difference<R: Log>(&mut self, rt: &R, by: Hearer<'_>, place: usize, hello: &Hello) {
-        let member = by.roster.sentinels()[place];
-        if member.addr != hello.addr && self.moved[place].takes_note(by.now, DIFFERENT_MS) {
-            note_moved(rt, hello, member);
+        let Some(member) = by.roster.sentinels().get(place) else {
+            return;
+        };
+        if member.addr != hello.addr && takes_note_at(&mut self.moved, place, by.now) {
+            note_moved(rt, hello, *member);
         }
         match by.roster.master_named(&hello.master) {
             Some(master) if by.roster.has_node(master, hello.card.addr) => {}
             Some(_) => {
-                if self.unknown_addr[place].takes_note(by.now, DIFFERENT_MS) {
+                if takes_note_at(&mut self.unknown_addr, place, by.now) {
                     note_unknown_addr(rt, hello);
                 }
             }
             None => {
-                if self.unknown_master[place].takes_note(by.now, DIFFERENT_MS) {
+                if takes_note_at(&mut self.unknown_master, place, by.now) {
                     note_unknown_master(rt, hello);
                 }
             }
@@ -195,9 +205,7 @@ impl HelloNotes {
             }
         }
         self.hear_other(rt, by.now);
-        if place < SENTINELS_MAX {
-            self.hear_difference(rt, by, place, hello);
-        }
+        self.hear_difference(rt, by, place, hello);
     }
 
     /// Takes a hello in, as a Sentinel hears it.

@@ -1,6 +1,6 @@
 //! What the thread that ticks a Sentinel does until it ends.
 
-ghost use Rattle.std.specs.Prelude.{◌≡◌, ◌×◌, ℕ, true, false};
+ghost use Rattle.std.specs.Prelude.{◌≡◌, ℕ, true, false};
 ghost use Rattle.group_sentinels.specs.Running.{input_of};
 ghost use Rattle.group_sentinels.specs.Ticking.{Took};
 ghost use Rattle.sentinel_rules.specs.Facts.{IsWithinEvent};
