@@ -190,7 +190,9 @@ impl Clients {
 
     /// Has room for the connection that will have this key in each line, and counts it among those that are silent,
     /// and that owe the password, from now on.
-    fn make_room(&mut self, key: usize) -> Result<(), AllocError> {
+    fn make_room(&mut self, key: usize) -> Result<(), AllocError>
+        ensures kept { (self.new.connections ≡ self.old.connections) × (self.new.room ≡ self.old.room) }
+    {
         self.waiting.make_room(key)?;
         if self.terms.makes_room {
             self.silent.add(key, self.reading)?;

@@ -3,4 +3,4 @@ use Rattle.group_ports.proofs.clients.Clients.next_voter.Given as goal
 
 -- no connection was touched so far
 abbrev pub invariant-loop : goal.invariant-loop
-invariant-loop g l = l.self.connections ≡ l.fn.self.connections
+invariant-loop l = l.self.connections ≡ l.fn.self.connections
