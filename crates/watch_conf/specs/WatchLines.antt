@@ -1,11 +1,11 @@
 -- What a line says that counts for `watch` alone.
-use Rattle.std.specs.Prelude.{ℕ, Bool, true, false, nat_eq, List, [], ◌∷◌, Option, Some, None, bytes_eq, codes}
+use Rattle.std.specs.Prelude.{ℕ, Bool, true, false, nat_eq, ◌||◌, List, [], ◌∷◌, take, Option, Some, None, bytes_eq, codes}
 use Rattle.std.specs.List.{starts_with}
 use Rattle.ballot_law.specs.Orders.{same_bytes}
 use Rattle.ballot_law.specs.Words.{some_if, name, number_within, lower}
 use Rattle.quoted_words.specs.Quotes.{is_comment, redis_words}
 use Rattle.watch_conf.specs.declared.faults.WatchKind.{WatchKind}
-use Rattle.watch_conf.specs.declared.faults.WatchKind.TheVariants.{BadDirective, BadName, BadNumber, BadSeconds, BadBind, BadYesNo, BadQuotes, NamesOfHosts, AclFile, Include, TlsPort, TlsReplication, RenamedCommand, UnknownDirective, ByteOrderMark}
+use Rattle.watch_conf.specs.declared.faults.WatchKind.TheVariants.{BadDirective, BadName, BadNumber, BadSeconds, BadBind, BadYesNo, BadQuotes, NamesOfHosts, AclFile, Include, TlsPort, TlsReplication, TlsSetting, RenamedCommand, UnknownDirective, ByteOrderMark}
 use Rattle.watch_conf.specs.declared.settings.Setting.{Setting}
 use Rattle.watch_conf.specs.declared.settings.Setting.TheVariants.{Bind, NodePass, NodeUser, OwnPass, PeerPass, PeerUser, MaxClients, Timeout, ProtectedMode, DefaultUser}
 use Rattle.watch_conf.specs.declared.binds.Bind.{Bind as BindAt}
@@ -80,9 +80,6 @@ named_or other word [] args = other
 named_or other word (directive ∷ directives) args =
     elim (bytes_eq (lower word) directive.0) [ true ↦ directive.1 args | false ↦ named_or other word directives args ]
 
-abbrev pub first_named : List ℕ → List (List ℕ × (List (List ℕ) → WatchLine)) → List (List ℕ) → WatchLine
-first_named = named_or line.Other
-
 -- the commands of nodes keep their names
 abbrev pub rename_line : List (List ℕ) → WatchLine
 rename_line args = line.Faulty RenamedCommand
@@ -117,6 +114,22 @@ abbrev pub tls_replication_line : List (List ℕ) → WatchLine
 tls_replication_line (word ∷ []) = elim (bytes_eq (lower word) (codes "no")) as (λ _. WatchLine) [ true ↦ line.Other | false ↦ line.Faulty TlsReplication ]
 tls_replication_line _ = line.Faulty TlsReplication
 
+-- a word that turns a setting off, or that names no file
+abbrev pub is_off : List ℕ → Bool
+is_off word = bytes_eq (lower word) (codes "no") || (same_bytes word (codes "0") || same_bytes word [])
+
+abbrev pub tls_line : List (List ℕ) → WatchLine
+tls_line (word ∷ []) = elim (is_off word) as (λ _. WatchLine) [ true ↦ line.Other | false ↦ line.Faulty TlsSetting ]
+tls_line _ = line.Faulty TlsSetting
+
+-- the name of a directive of TLS
+abbrev pub is_of_tls : List ℕ → Bool
+is_of_tls word = bytes_eq (lower (take 4 word)) (codes "tls-")
+
+-- any directive that has no line of its own here
+abbrev pub other_directive : List ℕ → List (List ℕ) → WatchLine
+other_directive word args = elim (is_of_tls word) as (λ _. WatchLine) [ true ↦ tls_line args | false ↦ line.Other ]
+
 abbrev pub acl_file_line : List (List ℕ) → WatchLine
 acl_file_line args = line.Faulty AclFile
 
@@ -145,7 +158,7 @@ first_directives =
 
 abbrev pub line_of_words : List (List ℕ) → WatchLine
 line_of_words [] = line.Other
-line_of_words (word ∷ args) = first_named word first_directives args
+line_of_words (word ∷ args) = named_or (other_directive word args) word first_directives args
 
 -- the byte order mark of UTF-8
 abbrev pub has_mark : List ℕ → Bool

@@ -1,7 +1,7 @@
 //! What a line says, by its directive.
 
 ghost use Rattle.std.specs.Prelude.{◌≡◌, IfOk};
-ghost use Rattle.watch_conf.specs.WatchLines.{yes_or_no, bind_line, node_pass_line, node_user_line, own_pass_line, peer_pass_line, peer_user_line, max_clients_line, timeout_line, protected_line, resolved, resolve_line, other_sentinel, sentinel_named, sentinel_line, first_named, first_directives, has_mark, line_of_words, watch_line};
+ghost use Rattle.watch_conf.specs.WatchLines.{yes_or_no, bind_line, node_pass_line, node_user_line, own_pass_line, peer_pass_line, peer_user_line, max_clients_line, timeout_line, protected_line, resolved, resolve_line, other_sentinel, sentinel_named, sentinel_line, named_or, other_directive, first_directives, has_mark, line_of_words, watch_line};
 
 use crate::binds::bound;
 use crate::faults::WatchKind;
@@ -215,7 +215,7 @@ fn sentinel_line(alloc: Global, words: &[Text]) -> Result<WatchLine, NoMemory>
 
 /// The line of a directive of this name.
 fn first_named(alloc: Global, name: &Text, args: &[Text]) -> Result<WatchLine, NoMemory>
-    ensures { IfOk result (λ line. line ≡ first_named name.now first_directives args.now) }
+    ensures { IfOk result (λ line. line ≡ named_or (other_directive name.now args.now) name.now first_directives args.now) }
 {
     if is_named(name, b"sentinel") {
         return sentinel_line(alloc, args);

@@ -51,6 +51,9 @@ pub enum WatchKind {
     /// A line `tls-replication` with another word than `no`.
     #[error("TlsReplication: no node is spoken to by TLS: write `tls-replication no`, or delete this line, and give the nodes a port without TLS, or a tunnel")]
     TlsReplication,
+    /// A line of another directive of TLS, as `tls-cert-file`, with other words than one that turns it off: `no`, `0` or an empty one.
+    #[error("TlsSetting: no TLS is spoken, neither at the port nor to nodes, so what this line sets would be lost: delete it, and encrypt by a tunnel or a network of their own")]
+    TlsSetting,
     /// A line `sentinel rename-command`.
     #[error("RenamedCommand: nodes are sent the commands' own names: rename none on the nodes, and delete this `sentinel rename-command`")]
     RenamedCommand,
