@@ -1,4 +1,4 @@
-"""The program that the scripts of this folder measure: the proved one alone."""
+"""The program that the scripts of this folder measure: the proved one, or one without an address sanitizer that SENTINEL_GROUP names."""
 import os
 import subprocess
 import sys
@@ -9,7 +9,7 @@ sys.path.insert(0, os.path.join(TOP, "tools"))
 sys.dont_write_bytecode = True
 import kit
 
-PROGRAM = kit.kept("proved") or os.path.join(kit.OUT, "proved", kit.PROGRAM)
+PROGRAM = os.environ.get("SENTINEL_GROUP") or kit.kept("proved") or os.path.join(kit.OUT, "proved", kit.PROGRAM)
 
 
 def reason_against(path):

@@ -24,6 +24,7 @@ NOBODY = "02:00:00:00:00:99"
 CLONE_NEWNET = 0x40000000
 PORT, SENTINEL_PORT = 6379, 26379
 OBSERVER = "obs"
+STANDS = 120  # seconds for a start, which takes one or two where there is no other work
 # Where the logs of each lab are kept, with the time of each line, where that is wanted.
 LOGS = os.environ.get("NETLAB_LOGS")
 
@@ -84,11 +85,15 @@ def ask(address, *words, password=None, timeout=1.0):
 
 class Lab:
     """A master d0 with replicas d1 .., and Sentinels s0 .. of a kind each: `ours` or `redis`. `own` has the quorum and down-after of single Sentinels, by
-    place; replicas know the master by the name `replicaof`, where there is one; `has_fsync` is whether stores can be made slow, which needs `cc`."""
+    place; replicas know the master by the name `replicaof`, where there is one; `has_fsync` is whether stores can be made slow, which needs `cc`. The file of each
+    Sentinel also has `lines`, and the one at a place those of `more`; `port_password` is the one that its port wants."""
 
-    def __init__(self, kinds, nodes=3, after=2000, password=None, quorum=None, timeout=10_000, own=None, replicaof=None, has_fsync=False):
+    def __init__(
+        self, kinds, nodes=3, after=2000, password=None, quorum=None, timeout=10_000, own=None, replicaof=None, has_fsync=False, lines=(), more=None, port_password=None
+    ):
         self.kinds, self.after, self.password, self.timeout = list(kinds), after, password, timeout
         self.quorum, self.own_settings, self.replicaof = quorum or len(kinds) // 2 + 1, own or {}, replicaof
+        self.lines, self.more, self.port_password = list(lines), more or {}, port_password
         self.stores, self.sentinels = [f"d{number}" for number in range(nodes)], [f"s{place}" for place in range(len(kinds))]
         self.names = [*self.stores, *self.sentinels, OBSERVER]
         self.folder = tempfile.mkdtemp(prefix="netlab-")
@@ -211,6 +216,9 @@ class Lab:
         if self.password:
             lines.append(f"sentinel auth-pass mymaster {self.password}")
         lines += [f"sentinel known-replica mymaster {self.address(name)} {PORT}" for name in self.stores[1:]]
+        if self.port_password:
+            lines += [f"requirepass {self.port_password}", f"sentinel sentinel-pass {self.port_password}"]
+        lines += [*self.lines, *self.more.get(place, ())]
         others = [(at, name) for at, name in enumerate(self.sentinels) if at != place]
         return lines + [f"sentinel known-sentinel mymaster {self.address(name)} {SENTINEL_PORT} {common.run_id(at)}" for at, name in others]
 
@@ -249,14 +257,18 @@ class Lab:
             return "d0"
         return next((name for name in self.names if self.address(name) == address), address)
 
+    def asked(self, name, *words, timeout=1.0):
+        """What a Sentinel answers on a connection of its own, after the password where its port wants one; None where it answers nothing."""
+        return ask((self.address(name), SENTINEL_PORT), *words, password=self.port_password, timeout=timeout)
+
     def told(self, name):
         """The node that a Sentinel tells as the master; None where it tells none."""
-        found = ask((self.address(name), SENTINEL_PORT), "SENTINEL", "GET-MASTER-ADDR-BY-NAME", "mymaster")
+        found = self.asked(name, "SENTINEL", "GET-MASTER-ADDR-BY-NAME", "mymaster")
         return self.named(found[0]) if isinstance(found, list) and len(found) == 2 else None
 
     def row(self, name):
         """The fields of the master as a Sentinel tells them; none where it tells nothing."""
-        row = ask((self.address(name), SENTINEL_PORT), "SENTINEL", "MASTER", "mymaster")
+        row = self.asked(name, "SENTINEL", "MASTER", "mymaster")
         return dict(zip(row[::2], row[1::2])) if isinstance(row, list) else {}
 
     def configuration(self, name):
@@ -292,6 +304,15 @@ class Lab:
         with open(f"{self.folder}/{name}.log", encoding="utf-8", errors="replace") as text:
             return text.read()
 
+    def tilted(self):
+        """The Sentinels that are in TILT by what they last said of it, as on a machine that stands still again and again."""
+        last = {name: max(self.log(name).rfind("Sentinel ID is"), self.log(name).rfind("-tilt")) for name in self.sentinels}
+        return [name for name in self.sentinels if self.log(name).rfind("+tilt") > last[name]]
+
+    def calm(self, seconds=150):
+        """Waits until no Sentinel is in TILT, in which none begins anything; whether that came."""
+        return self.wait(lambda: not self.tilted(), seconds) is not None
+
     def wait(self, test, seconds):
         """How long it took until this was so, in seconds; None where it didn't come."""
         began = time.monotonic()
@@ -305,11 +326,11 @@ class Lab:
         """Starts all, and waits until they stand: whether they do."""
         for name in self.stores:
             self.start(name)
-        if self.wait(lambda: all(self.role(name) == ("d0", "connected") for name in self.stores[1:]), 30) is None:
+        if self.wait(lambda: all(self.role(name) == ("d0", "connected") for name in self.stores[1:]), STANDS) is None:
             return False
         for name in self.sentinels:
             self.start(name)
-        return self.wait(lambda: all(self.told(name) == "d0" for name in self.sentinels), 20) is not None
+        return self.wait(lambda: all(self.told(name) == "d0" for name in self.sentinels), STANDS) is not None
 
     def end(self):
         """Ends what it started, and the namespaces."""

@@ -1,7 +1,11 @@
 -- What is told of a file, as lines of text.
-use Rattle.std.specs.Prelude.{◌≡◌, ℕ, ◌-◌, List, [], ◌++◌, Option, Some, None, codes, decimal, slice_index_or}
+use Rattle.std.specs.Prelude.{◌≡◌, ℕ, ◌-◌, Bool, true, false, List, [], ◌++◌, Option, Some, None, codes, decimal, slice_index_or}
 use Rattle.std.specs.List.{flat_map}
 use Rattle.ballot_law.specs.Cuts.{lines}
+use Rattle.watch_conf.specs.declared.faults.WatchKind.{WatchKind}
+use Rattle.watch_conf.specs.declared.faults.WatchKind.TheVariants as watch
+use Rattle.watch_conf.specs.declared.settings.Setting.{Setting}
+use Rattle.watch_conf.specs.declared.settings.Setting.TheVariants.{Timeout, DefaultUser}
 use Rattle.watch_conf.specs.declared.settings.WatchLine.{WatchLine}
 use Rattle.watch_conf.specs.declared.settings.WatchLine.TheVariants.{Other, Says, Faulty}
 use Rattle.watch_conf.specs.WatchLines.{watch_line}
@@ -20,11 +24,33 @@ abbrev pub nearest_words : Option (List ℕ) → List ℕ
 nearest_words None = []
 nearest_words (Some name) = codes "; the nearest is " ++ name
 
+-- what a group in one process tells of what `watch` reads and refuses is as it was before that was more
+abbrev pub tells_setting : Setting → Bool
+tells_setting (Timeout seconds) = false
+tells_setting (DefaultUser digits) = false
+tells_setting _ = true
+
+abbrev pub tells_refusal : WatchKind → Bool
+tells_refusal watch.BadDirective = true
+tells_refusal watch.BadName = true
+tells_refusal watch.BadNumber = true
+tells_refusal watch.BadBind = true
+tells_refusal watch.BadYesNo = true
+tells_refusal watch.BadQuotes = true
+tells_refusal watch.NamesOfHosts = true
+tells_refusal _ = false
+
 -- what is told of a line that has no effect but on `watch`
 abbrev pub effect_words : WatchLine → List ℕ
 effect_words Other = codes "this directive has no effect here"
-effect_words (Says setting) = codes "this directive counts for `watch` alone"
-effect_words (Faulty kind) = codes "`watch` refuses this line"
+effect_words (Says setting) = elim (tells_setting setting) as (λ _. List ℕ) [
+  | true ↦ codes "this directive counts for `watch` alone"
+  | false ↦ codes "this directive has no effect here"
+]
+effect_words (Faulty kind) = elim (tells_refusal kind) as (λ _. List ℕ) [
+  | true ↦ codes "`watch` refuses this line"
+  | false ↦ codes "this directive has no effect here"
+]
 
 -- what is told of this line, in a group of so many Sentinels
 abbrev pub told_words : (first sentinel : List (List ℕ)) → (sentinels : ℕ) → (text : List ℕ) → AdviceKind → List ℕ

@@ -5,12 +5,12 @@ ghost use Rattle.ballot_law.specs.Cuts.{lines};
 ghost use Rattle.ballot_law.specs.Words.{lower};
 ghost use Rattle.conf_advice.specs.Advices.{among, kept_advice, nearest_directive, line_advice, at_line, advices};
 
-use crate::directives::Directives;
-use crate::nearest::{is_listed, lowered, nearest};
+use crate::nearest::nearest;
 use crate::spelled_names::first_name;
 use ballot_law::Name;
 use conf_lines::{Line, Setting, StateLine, line_of};
 use std::alloc::{AllocError, Global};
+use watch_conf::{Directives, is_listed, lowered};
 use words::split_line;
 
 /// The least `down-after-milliseconds` at which a group whose nodes are well fails over to none: each node is asked once a second.

@@ -1,13 +1,10 @@
 //! The name of a table that is nearest to a word.
 
 ghost use Rattle.std.specs.Prelude.{◌≡◌, IfOk, length};
-ghost use Rattle.std.specs.List.{list_any};
 ghost use Rattle.ballot_law.specs.Cuts.{lines};
-ghost use Rattle.ballot_law.specs.Orders.{same_bytes};
-ghost use Rattle.ballot_law.specs.Words.{lower};
 ghost use Rattle.conf_advice.specs.Nearest.{nearer_of, nearer, told, nearest};
 
-use ballot_law::{Name, is_same_bytes};
+use ballot_law::Name;
 use std::alloc::{AllocError, Global};
 use strsim::generic_levenshtein;
 use words::split_line;
@@ -21,30 +18,6 @@ pub struct Near {
     pub name: Name,
     /// The insertions, deletions and substitutions of bytes that lead to it.
     pub edits: usize,
-}
-
-/// The word in lower case.
-pub fn lowered(alloc: Global, word: &[u8]) -> Result<Vec<u8>, AllocError>
-    ensures { IfOk result (λ low. low.items ≡ lower word.now) }
-{
-    word.iter()
-        .map(|byte| byte.to_ascii_lowercase())
-        .collect(alloc)
-}
-
-/// Whether the word is a line of the table.
-pub fn is_listed(table: &[u8], word: &[u8]) -> bool
-    ensures { result ≡ list_any (same_bytes word.now) (lines table.now) }
-{
-    let mut rest = table;
-    while !rest.is_empty() {
-        let (name, more) = split_line(rest);
-        if is_same_bytes(word, name) {
-            return true;
-        }
-        rest = more;
-    }
-    false
 }
 
 /// The one with fewer edits, the first of equals.

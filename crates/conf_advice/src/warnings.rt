@@ -3,18 +3,17 @@
 ghost use Rattle.std.specs.Prelude.{◌≡◌, ◌++◌, [], IfOk, OnOk, OnErr, codes, decimal};
 ghost use Rattle.ballot_law.specs.Cuts.{lines};
 ghost use Rattle.conf_advice.specs.declared.line_advices.AdviceKind.TheVariants.{QuorumOutOfReach, ShortDownAfter};
-ghost use Rattle.conf_advice.specs.Warnings.{line_at, nearest_words, effect_words, told_words, warnings};
+ghost use Rattle.conf_advice.specs.Warnings.{line_at, nearest_words, tells_setting, tells_refusal, effect_words, told_words, warnings};
 ghost use Rattle.watch_conf.specs.WatchLines.{watch_line};
 
-use crate::directives::Directives;
 use crate::line_advices::{Advice, AdviceKind, DOWN_AFTER_MIN, advices, nearest_directive};
 use ballot_law::{Name, NoMemory};
 use std::alloc::Global;
-use watch_conf::{WatchLine, line_of};
+use watch_conf::{Directives, Setting, WatchKind, WatchLine, line_of};
 use words::{add_number, split_line};
 
 /// Adds words.
-fn add(out: &mut Vec<u8>, words: &str) -> Result<(), NoMemory>
+pub(crate) fn add(out: &mut Vec<u8>, words: &str) -> Result<(), NoMemory>
     ensures { OnOk result (out.new.items ≡ out.old.items ++ words.now) }
 {
     out.extend_from_slice(words.as_bytes())?;
@@ -22,7 +21,7 @@ fn add(out: &mut Vec<u8>, words: &str) -> Result<(), NoMemory>
 }
 
 /// The text of the line with this number, the first being 1; an empty one where there is none.
-fn line_at(bytes: &[u8], number: u64) -> &[u8]
+pub(crate) fn line_at(bytes: &[u8], number: u64) -> &[u8]
     ensures { result.now ≡ line_at bytes.now number }
 {
     let mut left = number.saturating_sub(1);
@@ -74,19 +73,47 @@ fn add_short(out: &mut Vec<u8>, ms: u64) -> Result<(), NoMemory>
     add(out, " or more")
 }
 
+/// Whether a group in one process tells that `watch` reads this: its notes are as they were before `watch` read `timeout` and `user`.
+fn tells_setting(setting: &Setting) -> bool
+    ensures { result ≡ tells_setting setting.now }
+{
+    match setting {
+        Setting::Timeout(_) | Setting::DefaultUser(_) => false,
+        _ => true,
+    }
+}
+
+/// Whether a group in one process tells that `watch` refuses a line for this: its notes are as they were before `watch` refused more.
+fn tells_refusal(kind: WatchKind) -> bool
+    ensures { result ≡ tells_refusal kind }
+{
+    match kind {
+        WatchKind::BadDirective
+        | WatchKind::BadName
+        | WatchKind::BadNumber
+        | WatchKind::BadBind
+        | WatchKind::BadYesNo
+        | WatchKind::BadQuotes
+        | WatchKind::NamesOfHosts => true,
+        _ => false,
+    }
+}
+
 /// Adds what is told of a line that has no effect but on `watch`.
 fn add_effect(alloc: Global, out: &mut Vec<u8>, text: &[u8]) -> Result<(), NoMemory>
     ensures { OnOk result (out.new.items ≡ out.old.items ++ effect_words (watch_line text.now)) }
 {
     match line_of(alloc, text)? {
-        WatchLine::Other => add(out, "this directive has no effect here"),
-        WatchLine::Says(_) => add(out, "this directive counts for `watch` alone"),
-        WatchLine::Faulty(_) => add(out, "`watch` refuses this line"),
+        WatchLine::Says(setting) if tells_setting(&setting) => {
+            add(out, "this directive counts for `watch` alone")
+        }
+        WatchLine::Faulty(kind) if tells_refusal(kind) => add(out, "`watch` refuses this line"),
+        _ => add(out, "this directive has no effect here"),
     }
 }
 
 /// Adds what is told of a line.
-fn add_kind(
+pub(crate) fn add_kind(
     alloc: Global,
     out: &mut Vec<u8>,
     known: &Directives,
@@ -109,7 +136,7 @@ fn add_kind(
 }
 
 /// Adds the words with which the warning of a line begins.
-fn begin_warning(out: &mut Vec<u8>, path: &str, line: u64) -> Result<(), NoMemory>
+pub(crate) fn begin_warning(out: &mut Vec<u8>, path: &str, line: u64) -> Result<(), NoMemory>
     ensures { OnOk result (out.new.items ≡ out.old.items
         ++ (codes "warning: " ++ (path.now ++ (codes ":" ++ (decimal line ++ codes ": "))))) }
 {

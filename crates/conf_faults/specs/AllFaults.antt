@@ -13,6 +13,7 @@ use Rattle.conf_lines.specs.Lines.{line_of}
 use Rattle.conf_lines.specs.Values.{my_id_of, name_of}
 use Rattle.sentinel_conf.specs.Meaning.{states}
 use Rattle.sentinel_conf.specs.Reading.{line_fault, unknown_fault, conf_of_bytes}
+use Rattle.conf_faults.specs.RefusedNames.{refused_name}
 
 -- at the line with this number
 abbrev pub at_line : ℕ → Option ConfKind → List ConfFault
@@ -34,10 +35,16 @@ abbrev pub id_faults : List RunId → List ConfFault
 id_faults [] = fault_at 0 NoMyId ∷ []
 id_faults (id ∷ ids) = []
 
--- all faults of lines that say this: each by itself, then the masters that nobody names, then the run id
-abbrev pub faults_in : List Line → List ConfFault
-faults_in said =
-    line_faults 1 [] said ++ (unknown_faults (filter_map name_of (states said)) 1 said ++ id_faults (filter_map my_id_of (states said)))
+-- the masters that lines with these texts name; one whose line is at fault is mended there, so no other line is at fault for it
+abbrev pub names_in : (said : List Line) → (texts : List (List ℕ)) → List (List ℕ)
+names_in said texts = filter_map name_of (states said) ++ filter_map refused_name texts
+
+-- all faults of lines that say this, and have these texts: each by itself, then the masters that nobody names, then the run id
+abbrev pub faults_by : (said : List Line) → (texts : List (List ℕ)) → List ConfFault
+faults_by said texts = line_faults 1 [] said ++ (unknown_faults (names_in said texts) 1 said ++ id_faults (filter_map my_id_of (states said)))
+
+abbrev pub faults_in : (texts : List (List ℕ)) → List ConfFault
+faults_in texts = faults_by (map line_of texts) texts
 
 -- whether a fault is one of those
 abbrev pub is_of_lines : ConfKind → Bool
@@ -51,7 +58,7 @@ is_of_lines _ = true
 abbrev pub all_faults : List ℕ → List ConfFault
 all_faults bytes = elim (conf_of_bytes bytes) as (λ _. List ConfFault) [
   | Ok conf ↦ []
-  | Err fault ↦ elim (is_of_lines fault.kind) [ true ↦ faults_in (map line_of (lines bytes)) | false ↦ fault ∷ [] ]
+  | Err fault ↦ elim (is_of_lines fault.kind) [ true ↦ faults_in (lines bytes) | false ↦ fault ∷ [] ]
 ]
 
 -- a file that is refused has the fault by which it is, and it is the first

@@ -1,3 +1,4 @@
+pub mod RefusedNames
 pub mod AllFaults
 pub mod Claims
 pub mod Notes

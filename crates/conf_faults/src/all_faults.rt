@@ -8,8 +8,10 @@ ghost use Rattle.conf_lines.specs.Lines.{line_of, same_key};
 ghost use Rattle.conf_lines.specs.Values.{my_id_of, name_of};
 ghost use Rattle.sentinel_conf.specs.Meaning.{states};
 ghost use Rattle.sentinel_conf.specs.Reading.{line_fault, unknown_fault};
+ghost use Rattle.conf_faults.specs.RefusedNames.{refused_name};
 ghost use Rattle.conf_faults.specs.AllFaults.{at_line, line_faults, unknown_faults, id_faults, faults_in, all_faults};
 
+use crate::refused_names::add_refused_names;
 use ballot_law::{Name, NoMemory, is_same_bytes};
 use conf_lines::{ConfFault, ConfKind, Line, StateLine, line_of};
 use sentinel_conf::read;
@@ -161,19 +163,29 @@ fn names_given(alloc: Global, states: &[StateLine]) -> Result<Vec<Name>, AllocEr
         .collect(alloc)
 }
 
+/// These names, and then those of the monitor lines that are at fault.
+fn names_in(alloc: Global, states: &[StateLine], bytes: &[u8]) -> Result<Vec<Name>, NoMemory>
+    ensures { IfOk result (λ names. names.items
+        ≡ filter_map name_of states.now ++ filter_map refused_name (lines bytes.now)) }
+{
+    let mut names = names_given(alloc, states)?;
+    add_refused_names(alloc, &mut names, bytes)?;
+    Ok(names)
+}
+
 /// All faults of the lines.
-fn faults_in(alloc: Global, bytes: &[u8]) -> Result<Vec<ConfFault>, AllocError>
-    ensures { IfOk result (λ list. list.items ≡ faults_in (map line_of (lines bytes.now))) }
+fn faults_in(alloc: Global, bytes: &[u8]) -> Result<Vec<ConfFault>, NoMemory>
+    ensures { IfOk result (λ list. list.items ≡ faults_in (lines bytes.now)) }
 {
     let Judged { states, mut faults } = judge_lines(alloc, bytes)?;
-    let names = names_given(alloc, &states)?;
+    let names = names_in(alloc, &states, bytes)?;
     add_unknown(&mut faults, bytes, &names)?;
     add_missing_id(&mut faults, &states)?;
     Ok(faults)
 }
 
 /// All faults of the file with these bytes, in the order in which a file is judged: that of each line by itself, then each line that speaks
-/// of a master that isn't named, then that there is no run id. A fault of the file as a whole stands alone, since then its lines have none
+/// of a master that isn't named, also by no `sentinel monitor` line that is at fault, then that there is no run id. A fault of the file as a whole stands alone, since then its lines have none
 /// or can't be read. A file that is read has none. NoMemory: memory was refused.
 pub fn faults_of(alloc: Global, bytes: &[u8]) -> Result<Vec<ConfFault>, NoMemory>
     ensures { IfOk result (λ list. list.items ≡ all_faults bytes.now) }
@@ -188,6 +200,6 @@ pub fn faults_of(alloc: Global, bytes: &[u8]) -> Result<Vec<ConfFault>, NoMemory
             faults.push(fault)?;
             Ok(faults)
         }
-        _ => Ok(faults_in(alloc, bytes)?),
+        _ => faults_in(alloc, bytes),
     }
 }

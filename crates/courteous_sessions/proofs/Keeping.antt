@@ -1,5 +1,5 @@
 -- What a session with courtesies keeps of the one without.
-use Rattle.std.proofs.Common.{◌≡◌, ◌≢◌, ◌∙◌, ◌⊎◌, inl, inr, ℕ, Bool, true, false, ◌||◌, List, refl, ap, sym, subst, Ok, Err, Result, true≢false}
+use Rattle.std.proofs.Common.{◌≡◌, ◌≢◌, ◌∙◌, ◌⊎◌, inl, inr, ℕ, Bool, true, false, ◌||◌, List, Option, refl, ap, sym, subst, Ok, Err, Result, true≢false}
 use Rattle.std.specs.Prelude.{bytes_eq}
 use Rattle.std.specs.List.{list_any}
 use Rattle.ballot_law.specs.Rosters.{master_at}
@@ -25,7 +25,8 @@ use Rattle.resp2.specs.Commands.{command_of}
 use Rattle.resp2_frames.specs.Frame.{Frame, FrameList, no_frames}
 use Rattle.sentinel_cell.specs.Histories.{World}
 use Rattle.courteous_sessions.specs.Visits.{Guest, guest, switches, channel_turn, Answers, Serves, ServesBy}
-use Rattle.courteous_sessions.specs.Laws.{Tells, AnswersOwnAsBefore, AnswersListeners, TakesNoTurn, IsPassedOver, StrangersTakeNoTurn, NothingElseIsTold, NoOtherNoteIsTold}
+use Rattle.courteous_sessions.specs.Epochs.{heard_as}
+use Rattle.courteous_sessions.specs.Laws.{Tells, AnswersOwnAsBefore, HearsAll, HearsNear, HearsFar, AnswersListeners, TakesNoTurn, IsPassedOver, StrangersTakeNoTurn, NothingElseIsTold, NoOtherNoteIsTold}
 
 -- a command isn't refused
 is_own : (answer own : Answer) (value : Frame) (command : Command) → answer ≡ own → command_of value ≡ Ok command
@@ -37,17 +38,58 @@ is_own answer own value command same is (inr (inl (inr grows))) = inr (sym same 
 is_own answer own value command same is (inr (inr (inl wrong))) = absurd (let none : ⊥ = cc in none)
 is_own answer own value command same is (inr (inr (inr wrong))) = absurd (let none : ⊥ = cc in none)
 
--- what the session answers, and how it is told
-own_told : (start : World) (now : ℕ) (asker : Asker) (becomes : Answer) (p : Party) (value : Frame) (bytes : List ℕ) (q : Party) → (becomes ≡ left) ⊎ (becomes ≡ widens)
-    → Answers start now asker becomes p value bytes q → (answer : List ℕ) × Responds start now p (command_of value) answer q × Tells becomes asker value answer bytes
-own_told start now asker left p value bytes q own h = (bytes, h, refl)
-own_told start now asker widens p value bytes q own h = (h.answer, h.turned, (h.told, h.rest, h.first, h.bytes_are))
-own_told start now asker (said answer) p value bytes q (inl wrong) h = absurd (let none : ⊥ = cc in none)
-own_told start now asker (said answer) p value bytes q (inr wrong) h = absurd (let none : ⊥ = cc in none)
-own_told start now asker asks_masters p value bytes q (inl wrong) h = absurd (let none : ⊥ = cc in none)
-own_told start now asker asks_masters p value bytes q (inr wrong) h = absurd (let none : ⊥ = cc in none)
-own_told start now asker silent p value bytes q (inl wrong) h = absurd (let none : ⊥ = cc in none)
-own_told start now asker silent p value bytes q (inr wrong) h = absurd (let none : ⊥ = cc in none)
+-- what the session answers, and how it is told; a command whose answer is told in other words is heard as it is
+own_told : (start : World) (now : ℕ) (asker : Asker) (becomes : Answer) (p : Party) (value : Frame) (asked kept : Result Command CommandFault) (bytes : List ℕ) (q : Party)
+    → (becomes ≡ left) ⊎ (becomes ≡ widens) → command_of value ≡ asked → (becomes ≡ widens → kept ≡ asked) → heard_as asker.current asked ≡ kept
+    → Answers start now asker becomes p value bytes q → (answer : List ℕ) × Responds start now p kept answer q × Tells becomes asker value answer bytes
+own_told start now asker left p value asked kept bytes q own is same there h =
+    (bytes, subst (λ (k : Result Command CommandFault). Responds start now p k bytes q) (ap (heard_as asker.current) is ∙ there) h, refl)
+own_told start now asker widens p value asked kept bytes q own is same there h = (
+  h.answer,
+  subst (λ (k : Result Command CommandFault). Responds start now p k h.answer q) (is ∙ sym (same refl)) h.turned,
+  (h.told, h.rest, h.first, h.bytes_are),
+)
+own_told start now asker (said answer) p value asked kept bytes q (inl wrong) is same there h = absurd (let none : ⊥ = cc in none)
+own_told start now asker (said answer) p value asked kept bytes q (inr wrong) is same there h = absurd (let none : ⊥ = cc in none)
+own_told start now asker asks_masters p value asked kept bytes q (inl wrong) is same there h = absurd (let none : ⊥ = cc in none)
+own_told start now asker asks_masters p value asked kept bytes q (inr wrong) is same there h = absurd (let none : ⊥ = cc in none)
+own_told start now asker silent p value asked kept bytes q (inl wrong) is same there h = absurd (let none : ⊥ = cc in none)
+own_told start now asker silent p value asked kept bytes q (inr wrong) is same there h = absurd (let none : ⊥ = cc in none)
+
+-- no answer to a question is told in other words
+widened_as_it_is : (current : Option ℕ) (command : Command) → own_answer (wording_of (Ok command)) ≡ widens → heard_as current (Ok command) ≡ Ok command
+widened_as_it_is current (IsMasterDownByAddr addr epoch candidate) wrong = absurd (let none : ⊥ = cc in none)
+widened_as_it_is current Ping h = refl
+widened_as_it_is current (GetMasterAddrByName name) h = refl
+widened_as_it_is current Masters h = refl
+widened_as_it_is current (Master name) h = refl
+widened_as_it_is current (Replicas name) h = refl
+widened_as_it_is current (Sentinels name) h = refl
+widened_as_it_is current MyId h = refl
+widened_as_it_is current (CkQuorum name) h = refl
+widened_as_it_is current FlushConfig h = refl
+widened_as_it_is current Subscribe h = refl
+
+pub hears_all : HearsAll
+hears_all (IsMasterDownByAddr addr epoch candidate) = refl
+hears_all Ping = refl
+hears_all (GetMasterAddrByName name) = refl
+hears_all Masters = refl
+hears_all (Master name) = refl
+hears_all (Replicas name) = refl
+hears_all (Sentinels name) = refl
+hears_all MyId = refl
+hears_all (CkQuorum name) = refl
+hears_all FlushConfig = refl
+hears_all Subscribe = refl
+
+pub hears_near : HearsNear
+hears_near current epoch addr candidate h =
+    ap (λ (far : Bool). IsMasterDownByAddr addr (elim far as (λ _. ℕ) [ true ↦ 0 | false ↦ epoch ]) candidate) h
+
+pub hears_far : HearsFar
+hears_far current epoch addr candidate h =
+    ap (λ (far : Bool). IsMasterDownByAddr addr (elim far as (λ _. ℕ) [ true ↦ 0 | false ↦ epoch ]) candidate) h
 
 -- who gave the password, or of whom none is wanted, has Pub/Sub
 at_home : (asker : Asker) (l : Listening) (value : Frame) → is_stranger asker ≡ false → channel_turn asker l value ≡ channel_answer value l
@@ -74,12 +116,12 @@ common_turn asker l value command common known quiet is =
     at_home asker l value known ∙ own_is_other value command l quiet (common_differs command common) is
 
 pub common_answers : (start : World) (now : ℕ) (asker : Asker) (value : Frame) (command : Command) (p : Party) (bytes : List ℕ) (q : Party) → IsCommon command
-    → is_stranger asker ≡ false → command_of value ≡ Ok command → Responds start now p (Ok command) bytes q
+    → is_stranger asker ≡ false → command_of value ≡ Ok command → Responds start now p (heard_as asker.current (Ok command)) bytes q
     → Answers start now asker (courtesy asker value) p value bytes q
 common_answers start now asker value command p bytes q common known is h =
     let becomes = common_is_left asker value command known is common in
     subst (λ (a : Answer). Answers start now asker a p value bytes q) (sym becomes)
-    (subst (λ (k : Result Command CommandFault). Responds start now p k bytes q) (sym is) h)
+    (subst (λ (k : Result Command CommandFault). Responds start now p (heard_as asker.current k) bytes q) (sym is) h)
 
 -- what a value is answered that is none of Pub/Sub's
 by_others : (start : World) (now : ℕ) (g h : Guest) (value : Frame) (bytes : List ℕ) → channel_turn g.asker g.listening value ≡ other → Serves start now g value bytes h
@@ -96,11 +138,12 @@ own_as_before start now g h value command bytes known quiet differs is serves =
     let becomes = own_is_left g.asker value command known is in
     let kept = subst (λ (a : Answer). Answers start now g.asker a g.party value bytes q) becomes by.1 in
     let one = is_own (courtesy g.asker value) own value command becomes is (refused_or_left g.asker value known) in
-    let told = own_told start now g.asker own g.party value bytes q one kept in
-    let there = subst (λ (k : Result Command CommandFault). Responds start now g.party k told.0 q) is told.1 in
+    let told =
+    own_told start now g.asker own g.party value (Ok command) (heard_as g.asker.current (Ok command)) bytes q one is (widened_as_it_is g.asker.current command) refl kept
+    in
     let after : h ≡ guest q g.listening g.told g.asker = by.2 ∙ ap (λ (a : Asker). guest q g.listening g.told a) (own_is_same g.asker value command is) in (
       told.0,
-      subst (λ (x : Party). Responds start now g.party (Ok command) told.0 x) at there,
+      subst (λ (x : Party). Responds start now g.party (heard_as g.asker.current (Ok command)) told.0 x) at told.1,
       told.2,
       subst (λ (x : Party). h ≡ guest x g.listening g.told g.asker) at after,
     )

@@ -28,6 +28,7 @@ use Rattle.resp2_frames.specs.Frame.{Frame}
 use Rattle.resp2_frames.specs.Stream.{Held, reading, ended, bytes_in, Feeds}
 use Rattle.sentinel_cell.specs.declared.view.View.{View}
 use Rattle.sentinel_cell.specs.Histories.{World}
+use Rattle.courteous_sessions.specs.Epochs.{heard_as}
 use Rattle.courteous_sessions.specs.Visits.{Guest, guest, hears_switches, channel_turn, told_after, TellsInfo, TellsWide, Answers, Serves, ServesBy, ServesAll, IsAnswered, IsRefused, IsCut, Breaks, Receives}
 use Rattle.courteous_sessions.specs.OnTheWay.{IsIdle, IsReady, IsTuned, IsOnTheWay, IsDone, Steps, Drains, Refuses, guest_of}
 
@@ -39,7 +40,8 @@ was_read view (reading bytes) value after is h = h
 was_read view (ended fault) value after is h = absurd (let no : ⊥ = cc in no)
 
 module _ (start : World) (now : ℕ) where
-  pub left_answered : (asker : Asker) (answer : Answer) (p : Party) (value : Frame) (bytes : List ℕ) (q : Party) → Left ≡ kind_of answer → Responds start now p (command_of value) bytes q
+  pub left_answered : (asker : Asker) (answer : Answer) (p : Party) (value : Frame) (bytes : List ℕ) (q : Party) → Left ≡ kind_of answer
+      → Responds start now p (heard_as asker.current (command_of value)) bytes q
       → Answers start now asker answer p value bytes q
   left_answered asker left p value bytes q is h = h
   left_answered asker widens p value bytes q is h = absurd (let no : ⊥ = cc in no)
@@ -94,9 +96,25 @@ module _ (start : World) (now : ℕ) where
     at None (Ok (CkQuorum name)) differs r = r.1
     at None (Ok FlushConfig) differs r = r.1
 
+  -- what isn't SUBSCRIBE is heard as no SUBSCRIBE
+  heard_otherwise : (current : Option ℕ) (asked : Result Command CommandFault) → asked ≢ Ok Subscribe → heard_as current asked ≢ Ok Subscribe
+  heard_otherwise current (Err fault) differs e = let no : ⊥ = cc in no
+  heard_otherwise current (Ok Subscribe) differs e = differs refl
+  heard_otherwise current (Ok Ping) differs e = let no : ⊥ = cc in no
+  heard_otherwise current (Ok (IsMasterDownByAddr addr epoch candidate)) differs e = let no : ⊥ = cc in no
+  heard_otherwise current (Ok (GetMasterAddrByName name)) differs e = let no : ⊥ = cc in no
+  heard_otherwise current (Ok Masters) differs e = let no : ⊥ = cc in no
+  heard_otherwise current (Ok (Master name)) differs e = let no : ⊥ = cc in no
+  heard_otherwise current (Ok (Replicas name)) differs e = let no : ⊥ = cc in no
+  heard_otherwise current (Ok (Sentinels name)) differs e = let no : ⊥ = cc in no
+  heard_otherwise current (Ok MyId) differs e = let no : ⊥ = cc in no
+  heard_otherwise current (Ok (CkQuorum name)) differs e = let no : ⊥ = cc in no
+  heard_otherwise current (Ok FlushConfig) differs e = let no : ⊥ = cc in no
+
   pub answers_alike : (asker : Asker) (answer : Answer) (p : Party) (value : Frame) (bytes : List ℕ) (q : Party) → command_of value ≢ Ok Subscribe → Answers start now asker answer p value bytes q
       → q.listens ≡ p.listens
-  answers_alike asker left p value bytes q not h = responds_alike p (command_of value) bytes q not h
+  answers_alike asker left p value bytes q not h =
+      responds_alike p (heard_as asker.current (command_of value)) bytes q (heard_otherwise asker.current (command_of value) not) h
   answers_alike asker widens p value bytes q not h = responds_alike p (command_of value) h.answer q not h.turned
   answers_alike asker (said answer) p value bytes q not h = ap (λ (x : Party). x.listens) h.1
   answers_alike asker silent p value bytes q not h = ap (λ (x : Party). x.listens) h.1

@@ -26,6 +26,7 @@ use Rattle.sentinel_cell.specs.declared.view.View.{View}
 use Rattle.sentinel_cell.specs.Histories.{World}
 use Rattle.sentinel_rules.specs.Plans.{roster_of}
 use Rattle.ballot_law.specs.Rosters.{size}
+use Rattle.courteous_sessions.specs.Epochs.{heard_as}
 use Rattle.courteous_sessions.specs.Visits.{Guest, guest, masters_of, introduced, TellsInfo, TellsWide, BeginsNotes, Serves, Breaks, Receives}
 use Rattle.courteous_sessions.specs.OnTheWay.{IsIdle, IsReady, IsTuned, BeginsWith, IsOnTheWay, IsDone, Drains, Refuses, guest_of}
 use Rattle.courteous_sessions.proofs.Keeping.{common_turn, common_answers}
@@ -121,7 +122,7 @@ module _ (start : World) (now : ℕ) where
       → TakesCommon before.held after.held command → IsCommon command → (is_stranger before.asker ≡ false) × (is_listening l ≡ false) → after.asker ≡ before.asker → later_l ≡ l
       → later.told ≡ talk.told
       → (more : List ℕ) × (left ≡ unsent ++ more) × IsIdle later
-      × Responds start now (party v talk.listens) (Ok command) more (party w later.listens)
+      × Responds start now (party v talk.listens) (heard_as before.asker.current (Ok command)) more (party w later.listens)
       → (more : List ℕ) × (left ≡ first ++ more) × IsOnTheWay start now stream g after.held more (guest_of after later_l later w)
   step_common command stream first bytes g before after l later_l unsent left talk later v w is a ready taken common plain asker same told got =
       let value = taken.value in

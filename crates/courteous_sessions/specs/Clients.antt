@@ -1,9 +1,11 @@
 -- A client's session, with courtesies or without.
-use Rattle.std.specs.Prelude.{◌≡◌, ℕ, Bool, true, false, None, Some, List, [], ◌++◌, Result, Ok, Err, OnOk, OnErr, IfErr, IfSome, slice_set}
+use Rattle.std.specs.Prelude.{◌≡◌, ℕ, Bool, true, false, None, Some, List, [], ◌++◌, Result, Ok, Err, OnOk, OnErr, IfErr, IfSome, slice_set, Option}
+use Rattle.std.specs.Option.{is_some}
 use Rattle.ballot_law.specs.declared.messages.Note.{Note}
 use Rattle.ballot_law.specs.Rosters.{Roster}
 use Rattle.port_channels.specs.declared.channel.Event.{Event}
-use Rattle.port_courtesies.specs.Courtesies.{Asker}
+use Rattle.port_channels.specs.Listening.{is_listening}
+use Rattle.port_courtesies.specs.Courtesies.{Asker, is_stranger}
 use Rattle.port_serving.specs.declared.fault.ServeFault.{ServeFault}
 use Rattle.port_sessions.specs.Notes.{none_told, is_due, Notifies}
 use Rattle.port_sessions.specs.Talks as talks
@@ -18,7 +20,7 @@ use Rattle.courteous_sessions.specs.declared.client_session.ClientSession.TheVar
 
 -- what is known of a connection at its beginning
 abbrev pub newcomer : (id : ℕ) → Asker
-newcomer id = record { id = id; name = []; listens = false; masters = []; sentinels = 0; password = None; admitted = false }
+newcomer id = record { id = id; name = []; listens = false; masters = []; sentinels = 0; password = None; admitted = false; current = None }
 
 -- a session with courtesies to which no bytes came
 abbrev pub arrived : (id : ℕ) → Visit
@@ -38,6 +40,19 @@ abbrev pub wanting_password : ClientSession → (password : List ℕ) → Client
 wanting_password (Plain talk) password = Plain talk
 wanting_password (Courteous visit) password = Courteous (wanting visit password)
 
+-- one that knows this current epoch of the Sentinel; without courtesies each epoch is heard as it is
+abbrev pub knowing : Visit → (epoch : ℕ) → Visit
+knowing visit epoch = record visit { asker = record visit.asker { current = Some epoch } }
+
+abbrev pub knowing_epoch : ClientSession → (epoch : ℕ) → ClientSession
+knowing_epoch (Plain talk) epoch = Plain talk
+knowing_epoch (Courteous visit) epoch = Courteous (knowing visit epoch)
+
+-- one that was told a current epoch or none
+abbrev pub informed : ClientSession → (current : Option ℕ) → ClientSession
+informed session None = session
+informed session (Some epoch) = knowing_epoch session epoch
+
 -- what isn't sent yet
 abbrev pub unsent_of : ClientSession → List ℕ
 unsent_of (Plain talk) = talk.unsent
@@ -46,6 +61,21 @@ unsent_of (Courteous visit) = visit.unsent
 abbrev pub with_unsent : ClientSession → List ℕ → ClientSession
 with_unsent (Plain talk) bytes = Plain (record talk { unsent = bytes })
 with_unsent (Courteous visit) bytes = Courteous (record visit { unsent = bytes })
+
+-- the bytes that came and are no whole value yet
+abbrev pub held_of : ClientSession → List ℕ
+held_of (Plain talk) = talk.held
+held_of (Courteous visit) = visit.held
+
+-- the client listens
+abbrev pub listens_of : ClientSession → Bool
+listens_of (Plain talk) = is_some talk.listens
+listens_of (Courteous visit) = is_listening visit.listening
+
+-- the client is still to give the password that is wanted
+abbrev pub owes_password : ClientSession → Bool
+owes_password (Plain talk) = false
+owes_password (Courteous visit) = is_stranger visit.asker
 
 -- what the next answer rests on
 abbrev pub guest_of_visit : Visit → View → Guest

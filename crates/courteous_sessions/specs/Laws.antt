@@ -1,7 +1,9 @@
 -- What a session with courtesies keeps of the one without.
-use Rattle.std.specs.Prelude.{◌≡◌, ◌≢◌, ◌++◌, ℕ, true, false, List, [], Ok}
+use Rattle.std.specs.Prelude.{◌≡◌, ◌≢◌, ◌++◌, ℕ, true, false, List, [], Option, None, Some, Ok}
 use Rattle.ballot_law.specs.declared.commands.Command.{Command}
-use Rattle.ballot_law.specs.declared.commands.Command.TheVariants.{Subscribe}
+use Rattle.ballot_law.specs.declared.commands.Command.TheVariants.{IsMasterDownByAddr, Subscribe}
+use Rattle.ballot_law.specs.declared.addresses.Addr.{Addr}
+use Rattle.ballot_law.specs.declared.addresses.RunId.{RunId}
 use Rattle.ballot_law.specs.declared.messages.Note.{Note}
 use Rattle.ballot_law.specs.Rosters.{Roster}
 use Rattle.port_channels.specs.declared.channel.Event.{Event}
@@ -15,6 +17,7 @@ use Rattle.resp2.specs.Commands.{command_of}
 use Rattle.resp2_frames.specs.Frame.{Frame, FrameList, no_frames, spelling, spellings}
 use Rattle.resp2_frames.specs.Reading.{frame_at}
 use Rattle.sentinel_cell.specs.Histories.{World}
+use Rattle.courteous_sessions.specs.Epochs.{is_far, heard}
 use Rattle.courteous_sessions.specs.Events.{told_of, event_told}
 use Rattle.courteous_sessions.specs.Visits.{Guest, guest, hears_switches, channel_turn, Serves, IsAnswered}
 
@@ -24,13 +27,27 @@ Tells widens asker value answer bytes = (told : Frame) × (rest : List ℕ) × (
 Tells becomes asker value answer bytes = bytes ≡ answer
 
 -- Where no password is wanted that the client didn't give, and the connection doesn't listen, a command of the Sentinel's rules but SUBSCRIBE is answered as without
--- courtesies, five of them in other words, and nothing else is known of the connection than before
+-- courtesies, as it is heard, five of them in other words, and nothing else is known of the connection than before
 abbrev pub AnswersOwnAsBefore : Type 0
 AnswersOwnAsBefore =
     (start : World) (now : ℕ) (g h : Guest) (value : Frame) (command : Command) (bytes : List ℕ)
     → is_stranger g.asker ≡ false → is_listening g.listening ≡ false → command ≢ Subscribe → command_of value ≡ Ok command → Serves start now g value bytes h
-    → (answer : List ℕ) × Responds start now g.party (Ok command) answer h.party × Tells (own_answer (wording_of (Ok command))) g.asker value answer bytes
+    → (answer : List ℕ) × Responds start now g.party (Ok (heard g.asker.current command)) answer h.party × Tells (own_answer (wording_of (Ok command))) g.asker value answer bytes
     × (h ≡ guest h.party g.listening g.told g.asker)
+
+-- where no current epoch was told, each command is heard as it is
+abbrev pub HearsAll : Type 0
+HearsAll = (command : Command) → heard None command ≡ command
+
+-- else each one but a question in an epoch that is too far above that
+abbrev pub HearsNear : Type 0
+HearsNear = (current epoch : ℕ) (addr : Addr) (candidate : Option RunId) → is_far epoch current ≡ false
+    → heard (Some current) (IsMasterDownByAddr addr epoch candidate) ≡ IsMasterDownByAddr addr epoch candidate
+
+-- and that one is heard in epoch 0
+abbrev pub HearsFar : Type 0
+HearsFar = (current epoch : ℕ) (addr : Addr) (candidate : Option RunId) → is_far epoch current ≡ true
+    → heard (Some current) (IsMasterDownByAddr addr epoch candidate) ≡ IsMasterDownByAddr addr 0 candidate
 
 -- while it listens, Pub/Sub alone answers the commands of the Sentinel's rules
 abbrev pub AnswersListeners : Type 0

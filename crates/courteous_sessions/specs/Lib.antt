@@ -1,3 +1,4 @@
+pub mod Epochs
 pub mod Visits
 pub mod Events
 pub mod OnTheWay

@@ -22,6 +22,7 @@ use Rattle.resp2_frames.specs.Reading.{frame_at}
 use Rattle.resp2_frames.specs.Stream.{reading, ended}
 use Rattle.sentinel_cell.specs.Histories.{World}
 use Rattle.sentinel_rules.specs.Plans.{roster_of}
+use Rattle.courteous_sessions.specs.Epochs.{heard_as}
 
 -- What a session with courtesies has: what is known of its connection, and whether the names of the Sentinel's masters are among that; the bytes that came and are no
 -- whole value yet, the answers, notes and events that aren't sent yet, and the fault that ended it; to which channels and patterns it listens. Where it hears of new
@@ -102,10 +103,10 @@ module _ (start : World) (now : ℕ) where
     pub first : frame_at answer ≡ Ok (told, rest)
     pub bytes_are : bytes ≡ spelling (wide asker value told)
 
-  -- The answer to a value by what becomes of it. One that is left is answered by the session without courtesies; a courtesy takes no turn, and changes nothing of
-  -- what the seat has seen
+  -- The answer to a value by what becomes of it. One that is left is answered by the session without courtesies, a question as it is heard; a courtesy takes no turn, and
+  -- changes nothing of what the seat has seen
   abbrev pub Answers : Asker → Answer → Party → Frame → List ℕ → Party → Type 0
-  Answers asker left p value bytes q = Responds start now p (command_of value) bytes q
+  Answers asker left p value bytes q = Responds start now p (heard_as asker.current (command_of value)) bytes q
   Answers asker widens p value bytes q = TellsWide asker p value bytes q
   Answers asker (said answer) p value bytes q = (bytes ≡ spelling answer) × (q ≡ p)
   Answers asker asks_masters p value bytes q = TellsInfo p value bytes q

@@ -1,9 +1,10 @@
 //! A session with courtesies or without.
 
-ghost use Rattle.std.specs.Prelude.{◌≡◌, ◌≤◌, ◌<◌, length, drop};
-ghost use Rattle.courteous_sessions.specs.Clients.{begun, unsent_of, wanting_password, with_unsent, Takes, NotifiesClient, TellsClient};
+ghost use Rattle.std.specs.Prelude.{◌≡◌, ◌≤◌, ◌<◌, ◌↔◌, [], IsTrue, length, drop};
+ghost use Rattle.courteous_sessions.specs.Clients.{begun, unsent_of, held_of, listens_of, owes_password, wanting_password, with_unsent, Takes, NotifiesClient, TellsClient, knowing_epoch};
 
 use crate::courteous_session::CourteousSession;
+use crate::epochs::FarRequest;
 use ballot_law::{NoMemory, Note, Roster, Text};
 use conf_store::ConfStore;
 use port_channels::Event;
@@ -44,6 +45,26 @@ impl ClientSession {
         }
     }
 
+    /// Has a session with courtesies know this current epoch of the Sentinel, or an earlier one, as `CourteousSession::note_epoch`; one without hears each epoch as it is.
+    pub fn note_epoch(&mut self, epoch: u64)
+        ensures { self.new ≡ knowing_epoch self.old epoch }
+    {
+        match self {
+            ClientSession::Plain(_) => {}
+            ClientSession::Courteous(session) => session.note_epoch(epoch),
+        }
+    }
+
+    /// The last request for a vote whose epoch was too far above that, where one came since this was asked.
+    pub fn take_far(&mut self) -> Option<FarRequest>
+        ensures { self.new ≡ self.old }
+    {
+        match self {
+            ClientSession::Plain(_) => None,
+            ClientSession::Courteous(session) => session.take_far(),
+        }
+    }
+
     /// Takes the next piece of what the client sends, at a reading of the clock in milliseconds: as `Session::received` without courtesies, and as
     /// `CourteousSession::received` with them.
     pub fn received<S: ConfStore, R: Wait>(
@@ -74,6 +95,36 @@ impl ClientSession {
         }
     }
 
+    /// Whether all that came was whole values: no bytes are held.
+    pub fn holds_nothing(&self) -> bool
+        ensures { IsTrue result ↔ (held_of self.now ≡ []) }
+    {
+        match self {
+            ClientSession::Plain(session) => session.holds_nothing(),
+            ClientSession::Courteous(session) => session.holds_nothing(),
+        }
+    }
+
+    /// Whether its client listens: one that doesn't is told of no note and no event.
+    pub fn listens(&self) -> bool
+        ensures { result ≡ listens_of self.now }
+    {
+        match self {
+            ClientSession::Plain(session) => session.listens(),
+            ClientSession::Courteous(session) => session.listens(),
+        }
+    }
+
+    /// Whether it wants a password of its client, who didn't give it yet.
+    pub fn owes_password(&self) -> bool
+        ensures { result ≡ owes_password self.now }
+    {
+        match self {
+            ClientSession::Plain(_) => false,
+            ClientSession::Courteous(session) => session.owes_password(),
+        }
+    }
+
     /// Takes away the first `n` bytes of what isn't sent yet, which the connection took. No memory is taken.
     pub fn sent(&mut self, n: usize)
         requires { n ≤ length (unsent_of self.old) }
@@ -83,6 +134,17 @@ impl ClientSession {
         match self {
             ClientSession::Plain(session) => session.sent(n),
             ClientSession::Courteous(session) => session.sent(n),
+        }
+    }
+
+    /// Gives back the room in which nothing is held, as where its client is silent for a while; the next answer takes
+    /// it anew.
+    pub fn rest(&mut self)
+        ensures { self.new ≡ self.old }
+    {
+        match self {
+            ClientSession::Plain(session) => session.rest(),
+            ClientSession::Courteous(session) => session.rest(),
         }
     }
 

@@ -1,9 +1,12 @@
 //! A session with courtesies.
 
-ghost use Rattle.std.specs.Prelude.{◌≡◌, ◌≤◌, ◌<◌, ◌++◌, ℕ, List, [], None, Some, Err, true, OnOk, OnErr, IfErr, IfSome, length, drop};
-ghost use Rattle.courteous_sessions.specs.Clients.{arrived, guest_at, guest_of_visit, wanting, NotifiesVisit, TellsVisit};
+ghost use Rattle.std.specs.Prelude.{◌≡◌, ◌≤◌, ◌<◌, ◌↔◌, ◌++◌, ℕ, List, [], None, Some, Err, true, OnOk, OnErr, IfErr, IfSome, IsTrue, length, drop};
+ghost use Rattle.port_channels.specs.Listening.{is_listening};
+ghost use Rattle.port_courtesies.specs.Courtesies.{is_stranger};
+ghost use Rattle.courteous_sessions.specs.Clients.{arrived, guest_at, guest_of_visit, wanting, NotifiesVisit, TellsVisit, knowing};
 ghost use Rattle.courteous_sessions.specs.Visits.{unsubscribed, Receives};
 
+use crate::epochs::FarRequest;
 use crate::exchange::Exchange;
 use ballot_law::{NoMemory, Note, Roster, Text};
 use conf_store::ConfStore;
@@ -67,6 +70,21 @@ impl CourteousSession {
         self.exchange.want_password(password);
     }
 
+    /// Has it know this current epoch of the Sentinel, or an earlier one: from then on a request for a vote in an epoch that is more than `EPOCHS_AHEAD` above it is answered
+    /// as one of epoch 0, for which no vote is given. Before the first such call each epoch is heard as it is.
+    pub fn note_epoch(&mut self, epoch: u64)
+        ensures { self.new ≡ knowing self.old epoch }
+    {
+        self.exchange.note_epoch(epoch);
+    }
+
+    /// The last request for a vote that was answered so, where one was since this was asked.
+    pub fn take_far(&mut self) -> Option<FarRequest>
+        ensures { self.new ≡ self.old }
+    {
+        self.exchange.take_far()
+    }
+
     /// Takes the next piece of what the client sends, of any length, at a reading of the clock in milliseconds, and puts out the answer to each value that is
     /// whole with it, in their order: that of Pub/Sub, where it has one, else that of `Session::received`, or the courtesy of the value where it has one. INFO takes the
     /// turn of SENTINEL MASTERS, and no other courtesy takes one. Where the connection begins to hear of new addresses, by a channel or a pattern, that takes the turn
@@ -119,6 +137,27 @@ impl CourteousSession {
         self.exchange.unsent()
     }
 
+    /// Whether all that came was whole values: no bytes are held.
+    pub fn holds_nothing(&self) -> bool
+        ensures { IsTrue result ↔ (self.now.held ≡ []) }
+    {
+        self.exchange.attendant.holds_nothing()
+    }
+
+    /// Whether it listens to a channel or a pattern.
+    pub fn listens(&self) -> bool
+        ensures { result ≡ is_listening self.now.listening }
+    {
+        self.exchange.subscriptions.is_listening()
+    }
+
+    /// Whether it wants a password of its client, who didn't give it yet.
+    pub fn owes_password(&self) -> bool
+        ensures { result ≡ is_stranger self.now.asker }
+    {
+        self.exchange.attendant.is_stranger()
+    }
+
     /// Takes away the first `n` bytes of what isn't sent yet, which the connection took. No memory is taken. Room that they leave is used
     /// again, and given back where nothing is left and it was more than 16 KiB.
     pub fn sent(&mut self, n: usize)
@@ -126,6 +165,14 @@ impl CourteousSession {
         ensures { self.new ≡ record self.old { unsent = drop n self.old.unsent } }
     {
         self.exchange.sent(n);
+    }
+
+    /// Gives back the room in which nothing is held, as where its client is silent for a while; the next answer takes
+    /// it anew.
+    pub fn rest(&mut self)
+        ensures { self.new ≡ self.old }
+    {
+        self.exchange.rest();
     }
 
     /// Tells the client of a note, where it is due, as `Session::notify` has it: whether it is. It is told on its channel, and for each pattern that matches that, in the

@@ -13,10 +13,12 @@ ghost use Rattle.resp2.specs.Commands.{IsWithin};
 ghost use Rattle.resp2_frames.specs.Frame.{Frame, view, spelling, HasLines, IsFrame};
 ghost use Rattle.resp2_frames.specs.Stream.{reading, held_size, bytes_in};
 ghost use Rattle.courteous_sessions.specs.Clients.{newcomer};
+ghost use Rattle.courteous_sessions.specs.Epochs.{heard_as};
 ghost use Rattle.courteous_sessions.specs.OnTheWay.{IsIdle, IsReady, IsOnTheWay, IsSameAsker, Steps, Drains, Refuses, BeginsWith, guest_of};
 ghost use Rattle.courteous_sessions.specs.Visits.{Guest, guest, unsubscribed, channel_turn, introduced, TellsInfo, TellsWide, Answers, Serves, Receives};
 ghost use Rattle.port_channels.specs.Answering.{other};
 
+use crate::epochs::{FarRequest, far_request, heard_as};
 use crate::questions::{ask, first_value, monitored_by};
 use ballot_law::{Command, NoMemory, Text};
 use bytes::BytesMut;
@@ -40,7 +42,7 @@ const ROOM_KEPT: usize = 16_384;
 /// What tells what becomes of each value, to what the connection listens, the session that answers what is left to it, and the answers that aren't sent yet.
 ///
 /// The session is asked commands alone, so it holds no bytes. It listens to notes where the connection hears of new addresses.
-/// `knows_masters` is whether the attendant was told the names of the Sentinel's masters.
+/// `knows_masters` is whether the attendant was told the names of the Sentinel's masters, and `far` the last request for a vote whose epoch was too far above the Sentinel's.
 #[derive(Drop)]
 pub(crate) struct Exchange {
     pub(crate) alloc: Global,
@@ -49,6 +51,7 @@ pub(crate) struct Exchange {
     pub(crate) session: Session,
     pub(crate) unsent: BytesMut,
     pub(crate) knows_masters: bool,
+    pub(crate) far: Option<FarRequest>,
 }
 
 /// What is known of a connection with this number at its beginning.
@@ -63,6 +66,7 @@ fn newcomer(alloc: Global, id: u64) -> Asker
         sentinels: 0,
         password: None,
         admitted: false,
+        current: None,
     }
 }
 
@@ -94,6 +98,7 @@ impl Exchange {
             session: Session::new(alloc),
             unsent: BytesMut::new(alloc),
             knows_masters: false,
+            far: None,
         }
     }
 
@@ -134,6 +139,20 @@ impl Exchange {
         }
     }
 
+    /// Gives back all room in which nothing is held.
+    pub(crate) fn rest(&mut self)
+        ensures attendant { self.new.attendant ≡ record self.old.attendant { text = [] } }
+        ensures session { self.new.session ≡ self.old.session }
+        ensures unsent { self.new.unsent.items ≡ self.old.unsent.items }
+        ensures kept { (self.new.knows_masters ≡ self.old.knows_masters) × (self.new.subscriptions ≡ self.old.subscriptions) }
+    {
+        self.session.rest();
+        self.attendant.drop_text();
+        if self.unsent.is_empty() {
+            self.unsent = BytesMut::new(self.alloc);
+        }
+    }
+
     /// Has it want this password of its client, who didn't give it yet.
     pub(crate) fn want_password(&mut self, password: Text)
         ensures attendant { self.new.attendant ≡ record self.old.attendant {
@@ -147,6 +166,27 @@ impl Exchange {
         ensures kept { (self.new.knows_masters ≡ self.old.knows_masters) × (self.new.subscriptions ≡ self.old.subscriptions) }
     {
         self.attendant.want_password(password);
+    }
+
+    /// Has it know this current epoch of the Sentinel.
+    pub(crate) fn note_epoch(&mut self, epoch: u64)
+        ensures attendant { self.new.attendant ≡ record self.old.attendant { asker = record self.old.attendant.asker { current = Some epoch } } }
+        ensures session { self.new.session ≡ self.old.session }
+        ensures unsent { self.new.unsent ≡ self.old.unsent }
+        ensures kept { (self.new.knows_masters ≡ self.old.knows_masters) × (self.new.subscriptions ≡ self.old.subscriptions) }
+    {
+        self.attendant.note_epoch(epoch);
+    }
+
+    /// The last request for a vote whose epoch was too far above that epoch, where one came since this was asked.
+    pub(crate) fn take_far(&mut self) -> Option<FarRequest>
+        ensures attendant { self.new.attendant ≡ self.old.attendant }
+        ensures session { self.new.session ≡ self.old.session }
+        ensures unsent { self.new.unsent ≡ self.old.unsent }
+        ensures kept { (self.new.knows_masters ≡ self.old.knows_masters) × (self.new.subscriptions ≡ self.old.subscriptions) }
+        ensures request { result ≡ self.old.far }
+    {
+        self.far.take()
     }
 
     /// The connection ends: what is held is dropped, and it listens to nothing more.
@@ -212,7 +252,24 @@ impl Exchange {
         }
     }
 
-    /// Has the session answer a command, or a value that is none for this reason.
+    /// The command as it is heard, or why the value is none. A request for a vote that isn't heard as it is, is kept.
+    fn hear(&mut self, asked: &Result<Command, CommandFault>) -> Result<Command, CommandFault>
+        requires { IfOk asked.now IsWithin }
+        ensures heard { result ≡ heard_as self.old.attendant.asker.current asked.now }
+        ensures within { IfOk result IsWithin }
+        ensures attendant { self.new.attendant ≡ self.old.attendant }
+        ensures session { self.new.session ≡ self.old.session }
+        ensures unsent { self.new.unsent ≡ self.old.unsent }
+        ensures kept { (self.new.knows_masters ≡ self.old.knows_masters) × (self.new.subscriptions ≡ self.old.subscriptions) }
+    {
+        let current = self.attendant.current();
+        if let Some(request) = far_request(current, asked) {
+            self.far = Some(request);
+        }
+        heard_as(current, asked)
+    }
+
+    /// Has the session answer a command as it is heard, or a value that is none for this reason.
     fn hand_on<S: ConfStore, R: Wait>(
         &mut self,
         rt: &R,
@@ -226,14 +283,16 @@ impl Exchange {
         requires within { IfOk asked.now IsWithin }
         ensures own { seat.new.cell ≡ seat.old.cell }
         ensures answered { OnOk result ((more : List ℕ) × (self.new.unsent.items ≡ self.old.unsent.items ++ more) × IsIdle self.new.session
-            × Responds cell.now.start now (party seat.old.view self.old.session.listens) asked.now more (party seat.new.view self.new.session.listens)) }
+            × Responds cell.now.start now (party seat.old.view self.old.session.listens) (heard_as self.old.attendant.asker.current asked.now) more
+            (party seat.new.view self.new.session.listens)) }
         ensures told { self.new.session.told ≡ self.old.session.told }
         ensures err { OnErr result (self.new.unsent.items ≡ self.old.unsent.items) }
         ensures fault { IfErr result (λ fault. (fault ≡ ServeFault.Halted) ⊎ (fault ≡ ServeFault.NoMemory)) }
         ensures kept { (self.new.attendant ≡ self.old.attendant) × (self.new.knows_masters ≡ self.old.knows_masters)
             × (self.new.subscriptions ≡ self.old.subscriptions) }
     {
-        ask(rt, cell, seat, now, &mut self.session, asked)?;
+        let heard = self.hear(asked);
+        ask(rt, cell, seat, now, &mut self.session, &heard)?;
         self.take_answers()
     }
 

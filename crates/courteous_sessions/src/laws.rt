@@ -1,11 +1,15 @@
 //! What a session with courtesies keeps of the one without.
 
-ghost use Rattle.courteous_sessions.specs.Laws.{AnswersListeners, AnswersOwnAsBefore, IsPassedOver, NoOtherNoteIsTold, NothingElseIsTold, PiecesJoin, StrangersTakeNoTurn, TakesNoTurn};
+ghost use Rattle.courteous_sessions.specs.Laws.{AnswersListeners, AnswersOwnAsBefore, HearsAll, HearsFar, HearsNear, IsPassedOver, NoOtherNoteIsTold, NothingElseIsTold, PiecesJoin, StrangersTakeNoTurn, TakesNoTurn};
 
 /// Where no password is wanted that the client didn't give, and the connection doesn't listen, a command of the Sentinel's rules but SUBSCRIBE is answered as by a
-/// session without courtesies, and changes nothing that is known of the connection.
+/// session without courtesies, and changes nothing that is known of the connection. One exception is there, of a connection that was told the Sentinel's current epoch: a
+/// request for a vote in an epoch that is more than `EPOCHS_AHEAD` above it is answered as one of epoch 0.
 pub fn law_own_commands_are_answered_as_before()
-    ensures { AnswersOwnAsBefore }
+    ensures answered { AnswersOwnAsBefore }
+    ensures untold { HearsAll }
+    ensures near { HearsNear }
+    ensures far { HearsFar }
 {}
 
 /// While a connection listens, Pub/Sub alone answers the commands of the Sentinel's rules.

@@ -3,7 +3,8 @@
 ghost use Rattle.std.specs.Prelude.{◌≡◌, ◌⊎◌, ◌++◌, [], IfOk, OnOk, IsTrue, IsFalse};
 ghost use Rattle.group_checks.specs.declared.report.NamedConf.{NamedConf};
 ghost use Rattle.group_checks.specs.Groups.{IsOneGroup};
-ghost use Rattle.group_checks.specs.Verdicts.{EndsWithVerdict, verdict};
+ghost use Rattle.ballot_law.specs.Rosters.{size};
+ghost use Rattle.group_checks.specs.Verdicts.{EndsWithVerdict, verdict, EndsWithPlace, place_words};
 
 use crate::differences::{Difference, difference_of};
 use crate::one_group::{HoldsConf, is_one_group};
@@ -46,6 +47,19 @@ impl Report {
         let refused = is_refused(files);
         let lines = Lines::of(alloc, files, refused)?;
         Ok(Report { lines, refused })
+    }
+
+    /// What one file by itself makes of its group: as above, each other Sentinel without a file. It isn't refused, and the last line says of how
+    /// many Sentinels its own is one. `NoMemory` leaves nothing.
+    pub fn of_one(alloc: Global, file: &NamedConf) -> Result<Report, NoMemory>
+        ensures taken { IfOk result (λ report. IsFalse report.refused) }
+        ensures place { IfOk result (λ report. EndsWithPlace (size file.now.conf.roster) report.lines.text.items) }
+    {
+        let lines = Lines::of_one(alloc, file)?;
+        Ok(Report {
+            lines,
+            refused: false,
+        })
     }
 
     /// The lines, each ended by LF; the last one says whether the group would be refused.
@@ -98,6 +112,19 @@ impl Lines {
         Ok(lines)
     }
 
+    /// What is told of one file.
+    fn of_one(alloc: Global, file: &NamedConf) -> Result<Lines, NoMemory>
+        ensures { IfOk result (λ lines. EndsWithPlace (size file.now.conf.roster) lines.text.items) }
+    {
+        let mut lines = Lines {
+            text: Vec::new(alloc),
+        };
+        lines.add_members(file)?;
+        lines.add_masters(&file.conf)?;
+        lines.add_place(file.conf.roster().sentinels().len() as u64)?;
+        Ok(lines)
+    }
+
     /// Adds words.
     fn add(&mut self, words: &str) -> Result<(), NoMemory>
         ensures { OnOk result (self.new.text.items ≡ self.old.text.items ++ words.now) }
@@ -132,17 +159,38 @@ impl Lines {
 
     /// Adds each Sentinel with its files.
     fn add_sentinels(&mut self, roster: &Roster, files: &[NamedConf]) -> Result<(), NoMemory> {
-        let members = roster.sentinels();
-        for place in 0..members.len() {
-            self.add("sentinel s")?;
-            self.add_number(place as u64)?;
-            self.add(": ")?;
-            self.add_id(members[place].id)?;
-            self.add(" at ")?;
-            self.add_addr(members[place].addr)?;
+        for place in 0..roster.sentinels().len() {
+            self.add_member(roster, place)?;
             self.add_files(place, files)?;
         }
         Ok(())
+    }
+
+    /// Adds each Sentinel of a file, its own with the file's name.
+    fn add_members(&mut self, file: &NamedConf) -> Result<(), NoMemory> {
+        let roster = file.conf.roster();
+        for place in 0..roster.sentinels().len() {
+            self.add_member(roster, place)?;
+            if file.conf.place() as usize == place {
+                self.add(", file ")?;
+                self.add(file.name.as_str())?;
+            }
+            self.add("\n")?;
+        }
+        Ok(())
+    }
+
+    /// Begins the line of the Sentinel at this place, where there is one.
+    fn add_member(&mut self, roster: &Roster, place: usize) -> Result<(), NoMemory> {
+        let Some(member) = roster.sentinels().get(place) else {
+            return Ok(());
+        };
+        self.add("sentinel s")?;
+        self.add_number(place as u64)?;
+        self.add(": ")?;
+        self.add_id(member.id)?;
+        self.add(" at ")?;
+        self.add_addr(member.addr)
     }
 
     /// Ends the line of a Sentinel with the names of its files; it is to have one.
@@ -267,5 +315,14 @@ impl Lines {
         } else {
             self.add("these files are those of one group\n")
         }
+    }
+
+    /// Adds of how many Sentinels the file's own is one.
+    fn add_place(&mut self, sentinels: u64) -> Result<(), NoMemory>
+        ensures { OnOk result (self.new.text.items ≡ self.old.text.items ++ place_words sentinels) }
+    {
+        self.add("this file is well; it is one of ")?;
+        add_number(&mut self.text, sentinels)?;
+        self.add(" of its group\n")
     }
 }

@@ -27,3 +27,8 @@ module _ {T : Type 0} where
   pub others_left : (s left : Slab T) (key : ℕ) (before after : T) (other : ℕ) → get s key ≡ Some before → Updates (with_value s key after) left key None → other ≢ key →
       get left other ≡ get s other
   others_left s left key before after other found removed differs = removed.others other differs ∙ others_kept s key before after other found differs
+
+  -- also where it is closed, or looked at once more, after that
+  pub others_closed : (s left : Slab T) (key : ℕ) (before after : T) (other : ℕ) → get s key ≡ Some before →
+      ((it : ℕ) → it ≢ key → get left it ≡ get (with_value s key after) it) → other ≢ key → get left other ≡ get s other
+  others_closed s left key before after other found same differs = same other differs ∙ others_kept s key before after other found differs

@@ -3,7 +3,7 @@ use Rattle.std.specs.Prelude.{◌≡◌, ◌++◌, ℕ, List, Option, Result}
 use Rattle.std.specs.Io.KnownBytes.{Appends}
 use Rattle.port_serving.specs.declared.fault.ServeFault.{ServeFault}
 use Rattle.courteous_sessions.specs.declared.client_session.ClientSession.{ClientSession}
-use Rattle.courteous_sessions.specs.Clients.{Takes}
+use Rattle.courteous_sessions.specs.Clients.{informed, Takes}
 use Rattle.sentinel_cell.specs.declared.view.View.{View}
 use Rattle.sentinel_cell.specs.Histories.{World}
 
@@ -11,6 +11,8 @@ use Rattle.sentinel_cell.specs.Histories.{World}
 abbrev pub IsSent : (before after : Option (List ℕ)) → (unsent left : List ℕ) → Type 0
 IsSent before after unsent left = (gone : List ℕ) × (unsent ≡ gone ++ left) × Appends before after gone
 
--- a session is handed these bytes at a seat: it takes them, with one result or another, and the seat has seen what that took
+-- a session is handed these bytes at a seat, once it was told which epoch is known, where one is: it takes them, with one result or another, and the seat has seen what that
+-- took
 abbrev pub IsHanded : World → (now : ℕ) → ClientSession → View → (bytes : List ℕ) → ClientSession → View → Type 0
-IsHanded start now session v bytes left w = (result : Result Unit ServeFault) × Takes start now bytes result v w session left
+IsHanded start now session v bytes left w =
+    (result : Result Unit ServeFault) × (known : Option ℕ) × Takes start now bytes result v w (informed session known) left

@@ -2,7 +2,7 @@
 
 ghost use Rattle.std.specs.Prelude.{◌≡◌, ◌≤◌, ◌<◌, ◌+◌, ◌-◌, ◌*◌, ◌⊎◌, IfOk};
 
-use crate::port_room::{CONNECTIONS_MAX, PortRoom};
+use crate::port_room::{CONNECTIONS_MAX, PortRoom, SEATS_MAX};
 use mio::Poll;
 use std::alloc::Global;
 use std::io::{self, ErrorKind};
@@ -25,16 +25,16 @@ fn beside(threads: u16) -> u64
     FOR_A_PORT + FOR_A_THREAD * u64::from(threads.saturating_sub(1))
 }
 
-/// How many connections each of these ports may keep, where this many descriptors can still be opened: the most, up to `CONNECTIONS_MAX`, with which
-/// those stay free that the ports and the rest of the process need. 0 where these alone are too many.
-fn share_of(descriptors: u64, ports: usize, beside: u64) -> usize
+/// How many connections each of these ports may keep, where this many descriptors can still be opened: up to `most`,
+/// as many as leave those free that the ports and the rest of the process need. 0 where these alone are too many.
+fn share_of(descriptors: u64, ports: usize, beside: u64, most: usize) -> usize
     requires { 0 < ports }
-    ensures few { result ≤ CONNECTIONS_MAX }
+    ensures few { result ≤ most }
     ensures fits { 0 < result → (result + beside) * ports + FOR_THE_REST ≤ descriptors }
-    ensures most { (result ≡ CONNECTIONS_MAX) ⊎ (descriptors < (result + 1 + beside) * ports + FOR_THE_REST) }
+    ensures most { (result ≡ most) ⊎ (descriptors < (result + 1 + beside) * ports + FOR_THE_REST) }
 {
     let each = descriptors.saturating_sub(FOR_THE_REST) / ports as u64;
-    each.saturating_sub(beside).min(CONNECTIONS_MAX as u64) as usize
+    each.saturating_sub(beside).min(most as u64) as usize
 }
 
 /// How many descriptors of those that are wanted the system gives: so many are opened, and closed again.
@@ -59,7 +59,8 @@ pub fn connections_of_each<N: Net>(
     ports: usize,
     threads: u16,
 ) -> io::Result<PortRoom>
-    ensures { IfOk result (λ room. 0 < threads → room.threads ≡ threads) }
+    ensures threads { IfOk result (λ room. 0 < threads → room.threads ≡ threads) }
+    ensures few { IfOk result (λ room. room.each * room.threads ≤ CONNECTIONS_MAX) }
 {
     connections_beside(net, alloc, ports, threads, 0)
 }
@@ -72,14 +73,48 @@ pub fn connections_beside<N: Net>(
     threads: u16,
     own: u64,
 ) -> io::Result<PortRoom>
-    ensures { IfOk result (λ room. 0 < threads → room.threads ≡ threads) }
+    ensures threads { IfOk result (λ room. 0 < threads → room.threads ≡ threads) }
+    ensures few { IfOk result (λ room. room.each * room.threads ≤ CONNECTIONS_MAX) }
+{
+    room_beside(net, alloc, ports, threads, own, CONNECTIONS_MAX)
+}
+
+/// The room of a single port of so many threads that keeps up to `most` connections, where so many descriptors are to
+/// stay free for connections that the process opens itself.
+pub fn seats_beside<N: Net>(
+    net: &N,
+    alloc: Global,
+    threads: u16,
+    own: u64,
+    most: usize,
+) -> io::Result<PortRoom>
+    requires { most ≤ SEATS_MAX }
+    ensures threads { IfOk result (λ room. 0 < threads → room.threads ≡ threads) }
+    ensures few { IfOk result (λ room. room.each * room.threads ≤ most) }
+{
+    room_beside(net, alloc, 1, threads, own, most)
+}
+
+/// The room of each of so many ports that keeps up to `most` connections, where `own` descriptors are to stay free
+/// for others.
+fn room_beside<N: Net>(
+    net: &N,
+    alloc: Global,
+    ports: usize,
+    threads: u16,
+    own: u64,
+    most: usize,
+) -> io::Result<PortRoom>
+    requires { most ≤ SEATS_MAX }
+    ensures threads { IfOk result (λ room. 0 < threads → room.threads ≡ threads) }
+    ensures few { IfOk result (λ room. room.each * room.threads ≤ most) }
 {
     let ports = ports.max(1);
     let beside = beside(threads);
     let wanted = (ports as u64)
-        .saturating_mul(CONNECTIONS_MAX as u64 + beside)
+        .saturating_mul(most as u64 + beside)
         .saturating_add(FOR_THE_REST)
         .saturating_add(own);
     let left = descriptors_of(net, alloc, wanted)?.saturating_sub(own);
-    Ok(PortRoom::of(share_of(left, ports, beside), threads))
+    Ok(PortRoom::of(share_of(left, ports, beside, most), threads))
 }

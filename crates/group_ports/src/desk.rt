@@ -2,9 +2,10 @@
 
 ghost use Rattle.std.specs.Prelude.{◌≡◌, ◌≤◌, ◌<◌, ◌+◌, [], vec_len};
 
-use mio::net::TcpStream;
+use crate::seats::Newcomer;
 use mio::{Registry, Token, Waker};
 use std::alloc::Global;
+use std::sync::atomic::{AtomicU64, Ordering};
 use std::sync::{Mutex, Wait};
 use std::{io, mem};
 
@@ -14,7 +15,7 @@ const HANDED: Token = Token(usize::MAX - 1);
 /// The connections that a thread was handed and hasn't taken yet, and how many it kept when it took the last ones.
 #[derive(Drop)]
 struct Inbox {
-    handed: Vec<TcpStream>,
+    handed: Vec<Newcomer>,
     kept: usize,
     most: usize,
     alloc: Global,
@@ -39,15 +40,14 @@ impl Inbox {
         self.kept + self.handed.len()
     }
 
-    /// Puts a connection there where the thread has room for it, and else drops it, which closes it.
-    fn put(&mut self, stream: TcpStream) {
-        if self.count() < self.most {
-            drop(self.handed.push(stream));
-        }
+    /// Puts a connection there where the thread has room for it, and else drops it, which closes it: whether it is
+    /// there.
+    fn put(&mut self, newcomer: Newcomer) -> bool {
+        self.count() < self.most && self.handed.push(newcomer).is_ok()
     }
 
     /// Takes what was handed, for a thread that keeps so many.
-    fn take(&mut self, kept: usize) -> Vec<TcpStream>
+    fn take(&mut self, kept: usize) -> Vec<Newcomer>
         ensures taken { result ≡ self.old.handed }
         ensures empty { vec_len self.new.handed ≡ 0 }
     {
@@ -63,11 +63,13 @@ impl Inbox {
     }
 }
 
-/// The desk of a thread that accepts no connections itself.
+/// The desk of a thread that accepts no connections itself. `silent_since` is what that thread told last: since when
+/// the one of its connections is silent that has to go first.
 #[derive(Drop)]
 pub(crate) struct Desk {
     inbox: Mutex<Inbox>,
     waker: Waker,
+    silent_since: AtomicU64,
 }
 
 impl Desk {
@@ -76,7 +78,19 @@ impl Desk {
         Ok(Desk {
             inbox: Mutex::new(Inbox::new(alloc, most)),
             waker: Waker::new(registry, HANDED)?,
+            silent_since: AtomicU64::new(u64::MAX),
         })
+    }
+
+    /// Since when the one of its connections is silent that has to go first, as its thread told last: the greatest
+    /// reading where none has to.
+    pub(crate) fn silent_since(&self) -> u64 {
+        self.silent_since.load(Ordering::SeqCst)
+    }
+
+    /// Its thread tells this.
+    pub(crate) fn tell_silent(&self, since: u64) {
+        self.silent_since.store(since, Ordering::SeqCst);
     }
 
     /// How many connections its thread has at most, with those that it hasn't taken yet.
@@ -84,14 +98,15 @@ impl Desk {
         self.inbox.lock(rt).count()
     }
 
-    /// Hands its thread a connection. It is closed where the thread has no room for it.
-    pub(crate) fn hand<R: Wait>(&self, rt: &R, stream: TcpStream) {
-        self.inbox.lock(rt).put(stream);
+    /// Hands its thread a connection: whether the thread has room for it. Else it is closed.
+    pub(crate) fn hand<R: Wait>(&self, rt: &R, newcomer: Newcomer) -> bool {
+        let is_there = self.inbox.lock(rt).put(newcomer);
         drop(self.waker.wake());
+        is_there
     }
 
     /// Takes the connections that were handed to its thread, which keeps so many.
-    pub(crate) fn take<R: Wait>(&self, rt: &R, kept: usize) -> Vec<TcpStream> {
+    pub(crate) fn take<R: Wait>(&self, rt: &R, kept: usize) -> Vec<Newcomer> {
         self.inbox.lock(rt).take(kept)
     }
 

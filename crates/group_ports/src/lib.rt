@@ -5,16 +5,23 @@
 #![tactic(auto)]
 
 mod admission;
+mod ages;
 mod budget;
 mod clients;
 mod connection;
+mod crowding;
 mod desk;
+mod key_queue;
 mod listener;
 mod port;
 mod port_room;
 mod read_buffer;
+mod seats;
+mod standing;
+mod waiting;
 
 pub use admission::Admission;
-pub use budget::{connections_beside, connections_of_each};
+pub use budget::{connections_beside, connections_of_each, seats_beside};
+pub use listener::{PortAddress, Sockets};
 pub use port::Port;
-pub use port_room::{CONNECTIONS_MAX, PortRoom};
+pub use port_room::{CONNECTIONS_MAX, PortRoom, SEATS_MAX};

@@ -5,10 +5,12 @@ ghost use Rattle.std.specs.Prelude.{◌≡◌, ◌+◌, IfOk, length};
 use crate::admission::Admission;
 use crate::clients::Clients;
 use crate::desk::Desk;
-use crate::listener::{Entrance, LISTENER, Listener};
+use crate::listener::{Entrance, LISTENER, Listener, Sockets};
 use crate::port_room::PortRoom;
+use crate::seats::Seats;
 use conf_store::ConfStore;
 use group_sentinels::{RunState, RunningSentinel, ThreadSeat, Which};
+use log::Log;
 use mio::Events;
 use std::alloc::Global;
 use std::io;
@@ -50,39 +52,44 @@ impl Port {
         ensures { IfOk result (λ parts. length parts.1.items + 1 ≡ room.threads) }
     {
         let address = SocketAddr::from((Ipv4Addr::LOCALHOST, port));
-        Port::open_at(net, alloc, &[address], room, &Admission::of_all(alloc))
+        let sockets = Sockets::at(net, alloc, address)?;
+        Port::open_at(net, alloc, sockets, room, &Admission::of_all(alloc))
     }
 
-    /// Listens at these addresses for whom the port lets in, with so much room for all of them: what the first thread serves, and what each further one does, in their order. The
-    /// first one accepts, and each connection goes to the thread that has the fewest; one for which none has room is closed. An error is the system's, as
-    /// where a port is taken; `OutOfMemory` is a refused allocation.
+    /// Lets those in who come to these sockets, with so much room for all of them: what the first thread serves, and
+    /// what each further one does, in their order. The first one accepts, and each connection goes to the thread that
+    /// has the fewest; one for which none has room is closed. An error is the system's; `OutOfMemory` is a refused
+    /// allocation.
     pub fn open_at<N: Net>(
         net: &N,
         alloc: Global,
-        addresses: &[SocketAddr],
+        sockets: Sockets,
         room: PortRoom,
         admission: &Admission,
     ) -> io::Result<(Port, Vec<Port>)>
         ensures { IfOk result (λ parts. length parts.1.items + 1 ≡ room.threads) }
     {
+        let seats = Arc::new(alloc, Seats::open(alloc, admission)?)?;
         let mut desks = Vec::new(alloc);
         let mut others = Vec::new(alloc);
         for thread in 1..room.threads() {
-            let clients = Clients::open(net, alloc, room, thread, &admission.password)?;
+            let own = Arc::try_clone(&seats)?;
+            let clients = Clients::open(net, alloc, room, thread, admission, own)?;
             let desk = Arc::new(alloc, Desk::open(alloc, clients.registry(), room.each())?)?;
             let entrance = Entrance::IsHanded(Arc::try_clone(&desk)?);
             desks.push(desk)?;
             others.push(Port::of(alloc, clients, entrance, thread)?)?;
         }
-        let clients = Clients::open(net, alloc, room, 0, &admission.password)?;
-        let listener = Listener::open(net, alloc, clients.registry(), addresses, desks, admission)?;
+        let own = Arc::try_clone(&seats)?;
+        let clients = Clients::open(net, alloc, room, 0, admission, own)?;
+        let listener = Listener::open(clients.registry(), sockets, desks, seats)?;
         let first = Port::of(alloc, clients, Entrance::Listens(listener), 0)?;
         Ok((first, others))
     }
 
     /// Serves until `ending` isn't 0 or the Sentinel closes its port, and looks at the first of these before each connection. The error is the system's, where it tells of no connection any more. No
     /// memory is taken for that: a connection that has none is closed.
-    pub fn serve<J: Which, S: ConfStore, R: Wait + Clock>(
+    pub fn serve<J: Which, S: ConfStore, R: Wait + Clock + Log>(
         &mut self,
         rt: &R,
         state: &RunState,
@@ -93,11 +100,12 @@ impl Port {
         if self.clients.courteous() {
             member.tell_events();
         }
+        let log = member.noting(rt);
         for _ in rt.forever() {
             if ending.load(Ordering::SeqCst) != 0 || member.is_closed(state) {
                 return Ok(());
             }
-            self.entrance.admit(rt, &mut self.clients);
+            self.entrance.admit(rt, &log, state, &mut self.clients);
             if let Err(error) = self.clients.wait(&mut self.events) {
                 self.entrance.close(rt);
                 return Err(error);
@@ -106,12 +114,21 @@ impl Port {
             self.clients.send_events(&self.events);
             self.clients.serve_busy(rt, state, member, seat, ending);
             self.clients.tell_news(rt, member, self.thread);
+            self.look_at_silent(rt, state);
         }
         unreachable!()
     }
 
+    /// Looks at the connections that are silent. The clock is read for it only where nothing came.
+    fn look_at_silent<R: Clock>(&mut self, rt: &R, state: &RunState) {
+        if self.events.is_empty() {
+            self.clients.note_time(state.clock.now(rt));
+        }
+        self.entrance.look_at_silent(&mut self.clients);
+    }
+
     /// Has the connections of which the system told read and answer, and takes in new ones. It stops where the group ends.
-    fn answer_events<J: Which, S: ConfStore, R: Wait + Clock>(
+    fn answer_events<J: Which, S: ConfStore, R: Wait + Clock + Log>(
         &mut self,
         rt: &R,
         state: &RunState,
@@ -124,7 +141,8 @@ impl Port {
                 return;
             }
             if event.token() == LISTENER {
-                self.entrance.admit_new(rt, &mut self.clients);
+                let log = member.noting(rt);
+                self.entrance.admit_new(rt, &log, state, &mut self.clients);
             } else {
                 self.clients.answer_event(rt, state, member, seat, event);
             }

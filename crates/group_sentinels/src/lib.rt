@@ -7,6 +7,7 @@
 #![tactic(auto)]
 
 mod clock;
+mod known_epoch;
 mod lookout;
 mod named;
 mod news;
@@ -14,6 +15,7 @@ mod notes;
 mod outlet;
 mod run_state;
 mod running_sentinel;
+mod settling;
 mod sight;
 mod switches;
 mod ticking;

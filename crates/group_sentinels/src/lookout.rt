@@ -4,10 +4,11 @@ use crate::named::{NamedId, NamedMaster, NamedNode, NamedSentinel};
 use crate::notes::Announcing;
 use crate::sight::{Flags, Look, Vote};
 use ballot_law::{
-    Addr, Body, Card, Member, Message, NODES_MAX, NodeName, Output, Roster, SENTINELS_MAX,
+    Addr, Body, Card, MAX_EPOCH, Member, Message, NODES_MAX, NodeName, Output, Roster,
+    SENTINELS_MAX,
 };
 use failover_states::FailoverState;
-use log::{Log, warn};
+use log::{Log, info, warn};
 use port_channels::Channel;
 use std::alloc::Global;
 use std::sync::Wait;
@@ -78,7 +79,17 @@ impl Way {
     }
 }
 
-/// What was last seen of one master.
+/// For how long after its last start a Sentinel begins no failover, in timeouts.
+const TIMEOUTS: u64 = 2;
+
+/// By how much a start may count as later than it was, in milliseconds.
+const SPREAD_MS: u64 = 1_000;
+
+/// How long it is between two notes that no epoch is left, in milliseconds.
+const NO_EPOCH_MS: u64 = 60_000;
+
+/// What was last seen of one master. `started` is when the Sentinel last began a failover of it or voted for another one, since its own start, `put_off` after which of these a
+/// start that is put off was noted since the master is objectively down, and `spent` when it was noted that no epoch is left.
 #[derive(Drop)]
 struct Seen {
     addr: Option<Addr>,
@@ -90,6 +101,9 @@ struct Seen {
     begun: u64,
     epoch: u64,
     voted: Option<u64>,
+    started: Option<u64>,
+    put_off: Option<u64>,
+    spent: Option<u64>,
     replicas: [bool; NODES_MAX],
     sentinels: [bool; SENTINELS_MAX],
 }
@@ -111,6 +125,9 @@ impl Seen {
             begun: 0,
             epoch: 0,
             voted: None,
+            started: None,
+            put_off: None,
+            spent: None,
             replicas: [false; NODES_MAX],
             sentinels: [false; SENTINELS_MAX],
         }
@@ -237,6 +254,80 @@ impl Seen {
         self.flags.failing_over = flags.failing_over;
     }
 
+    /// Takes in whether the Sentinel began a failover or voted for another one since the last look.
+    fn see_start(&mut self, look: &Look) {
+        let begins = look.flags.failing_over && !self.flags.failing_over;
+        let votes = match (look.vote.leader, self.voted) {
+            (Some(leader), Some(before)) => look.vote.epoch > before && leader != look.me,
+            _ => false,
+        };
+        if begins || votes {
+            self.started = Some(look.at);
+        }
+    }
+
+    /// Notes what keeps the Sentinel from a failover of a master that is objectively down.
+    fn note_hindrance<R: Log + Wait>(
+        &mut self,
+        to: &Announcing<'_, '_, R>,
+        look: &Look,
+        master: NamedMaster<'_>,
+    ) {
+        if !look.flags.agreed {
+            self.put_off = None;
+        }
+        if !look.flags.agreed || look.flags.failing_over {
+            return;
+        }
+        let pause = look.timeout.saturating_mul(TIMEOUTS);
+        match self.started {
+            Some(start) if look.at < start.saturating_add(pause) => {
+                self.note_put_off(to, look, start, master)
+            }
+            Some(start) if look.at < start.saturating_add(pause).saturating_add(SPREAD_MS) => {}
+            _ => self.note_spent(to, look, master),
+        }
+    }
+
+    /// Notes that a start is put off until two timeouts after this one, once while the master is objectively down.
+    fn note_put_off<R: Log + Wait>(
+        &mut self,
+        to: &Announcing<'_, '_, R>,
+        look: &Look,
+        start: u64,
+        master: NamedMaster<'_>,
+    ) {
+        if self.put_off == Some(start) {
+            return;
+        }
+        self.put_off = Some(start);
+        let timeout = look.timeout;
+        let left = start.saturating_add(timeout.saturating_mul(TIMEOUTS));
+        let seconds = left.saturating_sub(look.at).div_ceil(1_000);
+        info!(to.log();
+            "-failover-put-off master {master}: this Sentinel begins the next failover in {seconds} s at the earliest, twice `failover-timeout` ({timeout}) after its last one or its last vote"
+        );
+    }
+
+    /// Notes that no failover can begin since the current epoch is the greatest one, once a minute.
+    fn note_spent<R: Log + Wait>(
+        &mut self,
+        to: &Announcing<'_, '_, R>,
+        look: &Look,
+        master: NamedMaster<'_>,
+    ) {
+        let is_seldom = match self.spent {
+            Some(noted) => look.at.saturating_sub(noted) >= NO_EPOCH_MS,
+            None => true,
+        };
+        if look.current >= MAX_EPOCH && is_seldom {
+            self.spent = Some(look.at);
+            warn!(to.log();
+                "no epoch is left: the current one is {MAX_EPOCH}, the greatest, so no failover of master {master} can begin. End all Sentinels, give `current-epoch`, `config-epoch` and `leader-epoch` one small number in all files, and start them"
+            );
+        }
+    }
+
     /// Notes how far a failover of the master has come, and for whom the Sentinel voted.
     fn note_failover<R: Log + Wait>(
         &mut self,
@@ -245,6 +336,7 @@ impl Seen {
         promoted: Option<NamedNode>,
         master: NamedMaster<'_>,
     ) {
+        self.see_start(look);
         self.note_start(to, look.flags, master);
         self.note_vote(to, look.vote);
         let way = Way::of(look.stage);
@@ -253,6 +345,7 @@ impl Seen {
             self.note_choice(to, node, master);
         }
         self.note_end(to, look.flags, master);
+        self.note_hindrance(to, look, master);
         self.way = way;
     }
 

@@ -1,17 +1,18 @@
 //! A Sentinel that threads share, with the seats that are known to be of it.
 
-ghost use Rattle.std.specs.Prelude.{◌≡◌, ◌+◌, ◌++◌, ◌<◌, ◌≤◌, [], List, ℕ, Some, None, Ok, Err, OnOk, OnErr, IfOk, IfErr, IfSome, length, false};
+ghost use Rattle.std.specs.Prelude.{◌≡◌, ◌+◌, ◌++◌, ◌<◌, ◌≤◌, [], List, ℕ, Option, Some, None, Ok, Err, OnOk, OnErr, IfOk, IfErr, IfSome, length, false};
 ghost use Rattle.std.specs.List.{AllByRecursion};
 ghost use Rattle.ballot_law.specs.Messages.{sent};
 ghost use Rattle.boxed_nodes.specs.Sendable.{IsSendableOutput};
 ghost use Rattle.group_sentinels.specs.Running.{input_of, phase_of, IsLeftByTurns};
 ghost use Rattle.group_sentinels.specs.declared.news.TheConstants.{EVENTS_MAX, WAITING_MAX};
-ghost use Rattle.courteous_sessions.specs.Clients.{Takes, NotifiesClient};
+ghost use Rattle.courteous_sessions.specs.Clients.{informed, Takes, NotifiesClient};
 ghost use Rattle.sentinel_cell.specs.declared.entry.Outcome.TheVariants.{Stored};
 ghost use Rattle.sentinel_cell.specs.Standing.{Adds, Faulted};
 ghost use Rattle.sentinel_rules.specs.Plans.{group_size, master_count, roster_of};
 ghost use Rattle.sentinel_rules.specs.Facts.{IsWithinEvent};
 
+use crate::known_epoch::KnownEpoch;
 use crate::news::{News, NewsLists};
 use crate::notes::{Announcing, tell_all};
 use crate::outlet::{Outlet, send_all};
@@ -21,7 +22,7 @@ use crate::switches::Switch;
 use crate::ticking::TICK_MS;
 use ballot_law::{Event, Input, NoMemory, Output, Roster};
 use conf_store::ConfStore;
-use courteous_sessions::ClientSession;
+use courteous_sessions::{ClientSession, FarRequest};
 use log::kv::With;
 use log::{Log, Span};
 use port_serving::ServeFault;
@@ -30,8 +31,8 @@ use sentinel_outbox::Outbox;
 use sentinel_rules::law_outputs_are_within;
 use std::alloc::{AllocError, Global};
 use std::marker::{Brand, PhantomData};
-use std::sync::Wait;
 use std::sync::atomic::{AtomicU64, Ordering};
+use std::sync::{Mutex, Wait};
 
 /// Which Sentinel it is. Only proofs read it.
 pub trait Which {
@@ -46,13 +47,15 @@ impl Which for Brand {
     ghost cell = { record { words = 0; slots = 0; views_name = 0; atom = 0; block = 0; offset = 0; slot_names = [] } };
 }
 
-/// A Sentinel of the group, which its threads share.
+/// A Sentinel of the group, which its threads share. `far` is the last request for a vote whose epoch was too far above the one that is `known`, until it is taken.
 #[derive(Drop)]
 pub struct RunningSentinel<J: Which, S: ConfStore> {
     cell: SharedSentinel<S>,
     place: u16,
     port: u16,
     news: NewsLists,
+    known: KnownEpoch,
+    far: Mutex<Option<FarRequest>>,
     halt_noted: AtomicU64,
     of: PhantomData<J>,
     ghost is: { cell.id ≡ J.cell },
@@ -154,6 +157,8 @@ impl<J: Which, S: ConfStore> RunningSentinel<J, S> {
             place,
             port,
             news: NewsLists::new(alloc, port_threads)?,
+            known: KnownEpoch::none(),
+            far: Mutex::new(None),
             halt_noted: AtomicU64::new(0),
             of: PhantomData,
         };
@@ -211,6 +216,8 @@ impl<J: Which, S: ConfStore> RunningSentinel<J, S> {
             place: _,
             port: _,
             news: _,
+            known: _,
+            far: _,
             halt_noted: _,
             of: _,
         } = self;
@@ -261,6 +268,7 @@ impl<J: Which, S: ConfStore> RunningSentinel<J, S> {
     {
         let input = Input { now, event };
         let entry = self.turn(rt, seat, &input)?;
+        self.settle(&mut seat.sight, now);
         let outputs = seat.outbox.outputs();
         send_all(outlet, outputs);
         tell_all(
@@ -271,6 +279,13 @@ impl<J: Which, S: ConfStore> RunningSentinel<J, S> {
             entry,
         );
         Ok(())
+    }
+
+    /// Takes in the current epoch after a turn, by the sight of its seat, where `guard_epochs` was called.
+    fn settle(&self, sight: &mut Sight, now: u64) {
+        if let Some(known) = self.known.current() {
+            self.known.tell(sight.settle(known, now));
+        }
     }
 
     /// Whether it is still to be noted that it is halted; a second time it isn't.
@@ -300,6 +315,28 @@ impl<J: Which, S: ConfStore> RunningSentinel<J, S> {
     /// From now on the threads of its port get other events too than new addresses, as `take_news` has it.
     pub fn tell_events(&self) {
         self.news.tell_events();
+    }
+
+    /// From now on a request for a vote in an epoch that is more than `EPOCHS_AHEAD` above what the current one of the Sentinel was 10 to 20 s ago is answered as one of epoch
+    /// 0. `epoch` is the current one of its file, of which the others have heard. Who asks for votes in ever later epochs so leads it no further than the others follow by its
+    /// hellos. One thread alone, that of its ticks, may call `carry_out` from then on. Sessions without courtesies hear each epoch as it is.
+    pub fn guard_epochs(&self, epoch: u64) {
+        self.known.begin(epoch);
+    }
+
+    /// An epoch that the current one of the Sentinel isn't below: that after the last call of `carry_out`, or of `guard_epochs`; none before that.
+    pub fn known_epoch(&self) -> Option<u64> {
+        self.known.current()
+    }
+
+    /// The epoch from which requests for votes count, 10 to 20 s old; none where `guard_epochs` wasn't called.
+    pub fn settled_epoch(&self) -> Option<u64> {
+        self.known.settled()
+    }
+
+    /// The last request for a vote that was answered as one of epoch 0, where one was since this was asked.
+    pub fn take_far<R: Wait>(&self, rt: &R) -> Option<FarRequest> {
+        self.far.lock(rt).take()
     }
 
     /// The Sentinels and the masters of the group.
@@ -344,7 +381,7 @@ impl<J: Which, S: ConfStore> RunningSentinel<J, S> {
     }
 
     /// Hands a session the next piece of its stream, at a reading of the clock in milliseconds: all that `ClientSession::received` says of it holds of this
-    /// Sentinel.
+    /// Sentinel. Where `guard_epochs` was called, the session is told before that from which epoch requests for votes count.
     pub fn receive<R: Wait>(
         &self,
         rt: &R,
@@ -353,8 +390,22 @@ impl<J: Which, S: ConfStore> RunningSentinel<J, S> {
         now: u64,
         piece: &[u8],
     ) -> Result<(), ServeFault>
-        ensures { Takes self.now.cell.start now piece.now result seat.old.seat.view seat.new.seat.view session.old session.new }
+        ensures { (known : Option ℕ) × Takes self.now.cell.start now piece.now result seat.old.seat.view seat.new.seat.view (informed session.old known) session.new }
     {
-        session.received(rt, &self.cell, &mut seat.seat, now, piece)
+        self.inform(session);
+        let received = session.received(rt, &self.cell, &mut seat.seat, now, piece);
+        if let Some(request) = session.take_far() {
+            *self.far.lock(rt) = Some(request);
+        }
+        received
+    }
+
+    /// Tells a session from which epoch requests for votes count, where one is known.
+    fn inform(&self, session: &mut ClientSession)
+        ensures { (known : Option ℕ) × (session.new ≡ informed session.old known) }
+    {
+        if let Some(epoch) = self.known.settled() {
+            session.note_epoch(epoch);
+        }
     }
 }

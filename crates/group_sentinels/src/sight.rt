@@ -8,6 +8,7 @@ ghost use Rattle.sentinel_rules.specs.Plans.{group_size, master_count, nodes_of}
 ghost use Rattle.sentinel_rules.specs.States.{card_place, failover_of, is_failing_over, is_master_down, is_odown_at, is_tilted};
 ghost use Rattle.sentinel_rules.specs.Ticks.{at_places};
 
+use crate::settling::Settling;
 use ballot_law::{Card, MASTERS_MAX, NODES_MAX, RunId, SENTINELS_MAX};
 use failover_states::FailoverState;
 use sentinel_cell::Observer;
@@ -31,9 +32,14 @@ pub(crate) struct Vote {
 }
 
 /// What a Sentinel shows of a master: whether its clock isn't to be trusted, the configuration, what it finds of the master, how far its own failover has come, its vote,
-/// and which of the master's replicas, by their places among its nodes, and of the other Sentinels, by their places in the roster, are down.
+/// and which of the master's replicas, by their places among its nodes, and of the other Sentinels, by their places in the roster, are down; `at` which reading of its clock
+/// that was, its run id and its current epoch, and the master's `failover-timeout`, in milliseconds.
 #[derive(Clone, Copy)]
 pub(crate) struct Look {
+    pub(crate) at: u64,
+    pub(crate) me: RunId,
+    pub(crate) current: u64,
+    pub(crate) timeout: u64,
     pub(crate) is_tilted: bool,
     pub(crate) card: Card,
     pub(crate) flags: Flags,
@@ -102,6 +108,8 @@ impl Look {
     /// What a Sentinel shows of a master, by what it keeps at a reading of its clock.
     fn at(plan: &Plan, core: &Core, now: u64, m: u16) -> Look
         requires { m < master_count plan.now }
+        ensures now { result.at ≡ now }
+        ensures epoch { result.current ≡ core.now.kept.current }
         ensures tilted { result.is_tilted ≡ is_tilted core.now }
         ensures card { result.card ≡ card_of core.now.kept m }
         ensures flags { result.flags ≡ record {
@@ -116,6 +124,10 @@ impl Look {
         ensures sentinels { take (group_size plan.now) result.sentinels ≡ at_places (is_other_down plan.now core.now (clock now)) 0 (group_size plan.now) }
     {
         Look {
+            at: now,
+            me: plan.me(),
+            current: core.kept().current,
+            timeout: plan.settings(m).timeout,
             is_tilted: core.is_tilted(),
             card: core.card(m),
             flags: flags_of(plan, core, now, m),
@@ -158,9 +170,11 @@ impl Nearness {
 }
 
 /// Who takes down what a Sentinel shows of one master at the end of a turn, at the reading of its clock, and of which masters a campaign comes near. Where no master is
-/// wanted nothing is.
+/// wanted nothing is. `current` is the Sentinel's current epoch after the last turn, and `settling` how far it has come, where that is looked after.
 #[derive(Drop)]
 pub(crate) struct Sight {
+    current: u64,
+    settling: Option<Settling>,
     wanted: Option<(u16, u64)>,
     look: Option<Look>,
     ahead: Option<(u16, u64)>,
@@ -171,6 +185,8 @@ impl Sight {
     /// No master is wanted.
     pub(crate) fn none() -> Sight {
         Sight {
+            current: 0,
+            settling: None,
             wanted: None,
             look: None,
             ahead: None,
@@ -179,6 +195,18 @@ impl Sight {
                 come: None,
             },
         }
+    }
+
+    /// Takes in the current epoch after the last turn, at a reading of the clock: how far it has come. Where this wasn't called before, `known` is an epoch of which the others
+    /// have heard.
+    pub(crate) fn settle(&mut self, known: u64, now: u64) -> Settling {
+        let settling = match self.settling {
+            Some(settling) => settling,
+            None => Settling::begun(known, now),
+        };
+        let settling = settling.see(self.current, now);
+        self.settling = Some(settling);
+        settling
     }
 
     /// This master is wanted of the next turn, at this reading of the clock in milliseconds.
@@ -219,6 +247,7 @@ impl Observer for Sight {
     fn observe(&mut self, sentinel: &Sentinel) {
         self.look = None;
         let (plan, core) = (sentinel.plan(), sentinel.core());
+        self.current = core.kept().current;
         if let Some((master, now)) = self.wanted {
             if master < plan.master_count() {
                 self.look = Some(Look::at(plan, core, now, master));

@@ -13,7 +13,7 @@ use Rattle.port_courtesies.specs.Refusals.{is_called, printed_byte, printed, wro
 use Rattle.resp2.specs.Commands.{command_of}
 use Rattle.port_courtesies.specs.declared.wordings.Wording.{Wording}
 use Rattle.port_courtesies.specs.Courtesies as table
-use Rattle.port_courtesies.specs.Courtesies.{Asker, Answer, left, widens, said, asks_masters, silent, Looked, known, refused, verb_name, Greeted, greeted, expected, taken, is_user, is_password, is_some, admits, is_stranger, lacks_password, is_barred, greeted_by, is_client_name, asks_for_2, is_integer, after_first, first, or_else, hello_map, answered, asks_nothing, reply_to, courtesy, left_over, or_left}
+use Rattle.port_courtesies.specs.Courtesies.{Asker, Answer, left, widens, said, asks_masters, silent, Looked, known, refused, verb_name, Greeted, greeted, expected, taken, is_user, is_password, is_some, admits, is_stranger, lacks_password, greeted_by, is_client_name, asks_for_2, is_integer, after_first, first, or_else, hello_map, answered, asks_nothing, reply_to, courtesy, left_over, or_left}
 use Rattle.port_courtesies.proofs.Silence.{asked_is, unasked_is}
 
 -- ---- lines
@@ -311,7 +311,7 @@ one_answer false one two h k = k
 
 answered_lines : (asker : Asker) (looked : Looked) → AreLines looked → AreAnswerLines (answered asker looked)
 answered_lines asker (known verb words) h =
-    one_answer (is_barred asker verb) _ _ no_auth_line (one_answer asker.listens _ _ (listening_lines verb words) (executed_lines asker verb words))
+    one_answer asker.listens _ _ (listening_lines verb words) (executed_lines asker verb words)
 answered_lines asker (refused refusal) h = h
 
 abbrev AreLinesOrNone : Option Looked → Type 0
@@ -322,9 +322,10 @@ maybe : (test : Bool) (one two : Option Looked) → AreLinesOrNone one → AreLi
 maybe true one two h k = h
 maybe false one two h k = k
 
-in_lines : (miscounted : Bool) (words : List (List ℕ)) → AreLinesOrNone (table.looked_up_in miscounted words)
-in_lines miscounted [] = tt
-in_lines miscounted (name ∷ words) = maybe (table.names_channels (name ∷ words)) _ _ tt (looked_up_lines miscounted name words)
+in_lines : (asker : Asker) (miscounted : Bool) (words : List (List ℕ)) → AreLinesOrNone (table.looked_up_in asker miscounted words)
+in_lines asker miscounted [] = tt
+in_lines asker miscounted (name ∷ words) =
+    maybe (table.names_channels (name ∷ words) || table.is_barred asker name) _ _ tt (looked_up_lines miscounted name words)
 
 own_lines : (own : Option Wording) → AreAnswerLines (table.own_answer own)
 own_lines None = tt
@@ -337,8 +338,8 @@ or_left_lines asker (Some looked) h = answered_lines asker looked h
 reply_lines : (asker : Asker) (value : Frame) → AreAnswerLines (reply_to asker value)
 reply_lines asker value =
     one_answer (table.is_refused (command_of value)) _ _
-    (or_left_lines asker (table.looked_up_in (table.is_miscounted (command_of value)) (table.words_of value))
-    (in_lines (table.is_miscounted (command_of value)) (table.words_of value)))
+    (or_left_lines asker (table.looked_up_in asker (table.is_miscounted (command_of value)) (table.words_of value))
+    (in_lines asker (table.is_miscounted (command_of value)) (table.words_of value)))
     (one_answer (is_stranger asker) _ _ no_auth_line (own_lines (table.wording_of (command_of value))))
 
 said_by : (asker : Asker) (value answer : Frame) (test : Bool) → asks_nothing value ≡ test → courtesy asker value ≡ said answer → HasLines answer

@@ -13,14 +13,14 @@ use Rattle.port_courtesies.proofs.Silence.{command_asks, asked_is}
 use Rattle.port_courtesies.specs.Courtesies.{Asker, Answer, Looked, left, widens, said, asks_nothing, courtesy, asker_after, wording_of, own_answer, unless_stranger, or_left, or_same, or_admitted, is_stranger, is_refused, is_miscounted, looked_up_in, words_of}
 
 -- what is left over of a value that was judged so
-abbrev over : Result Command CommandFault → Frame → Option Looked
-over asked value = elim (is_refused asked) as (λ _. Option Looked) [ true ↦ looked_up_in (is_miscounted asked) (words_of value) | false ↦ None ]
+abbrev over : Asker → Result Command CommandFault → Frame → Option Looked
+over asker asked value = elim (is_refused asked) as (λ _. Option Looked) [ true ↦ looked_up_in asker (is_miscounted asked) (words_of value) | false ↦ None ]
 
 -- the answer to a value that was judged so
 abbrev answer_at : Asker → Result Command CommandFault → Frame → Answer
 answer_at asker asked value =
     elim (is_refused asked) as (λ _. Answer) [
-      | true ↦ or_left asker (looked_up_in (is_miscounted asked) (words_of value))
+      | true ↦ or_left asker (looked_up_in asker (is_miscounted asked) (words_of value))
       | false ↦ unless_stranger asker (own_answer (wording_of asked))
     ]
 
@@ -37,7 +37,7 @@ own_is_left asker value command known is =
 pub own_is_same : (asker : Asker) (value : Frame) (command : Command) → command_of value ≡ Ok command → asker_after asker value ≡ asker
 own_is_same asker value command is =
     ap (λ (asked : Result Command CommandFault).
-    let a : Asker = record asker { name = or_same asker (over asked value); admitted = or_admitted asker (over asked value) } in a) is
+    let a : Asker = record asker { name = or_same asker (over asker asked value); admitted = or_admitted asker (over asker asked value) } in a) is
 
 -- a command that comes nearly always is told in no other words
 common_wording : (command : Command) → IsCommon command → wording_of (Ok command) ≡ None

@@ -19,20 +19,20 @@ nothing_asked (int n) h = absurd (true≢false (sym h))
 nothing_asked (bulk bytes) h = absurd (true≢false (sym h))
 nothing_asked null_bulk h = absurd (true≢false (sym h))
 
-nothing_left : (value : Frame) → asks_nothing value ≡ true → left_over value ≡ None
-nothing_left (items no_frames) h = refl
-nothing_left null_items h = refl
-nothing_left (items (frame f fs)) h = absurd (true≢false (sym h))
-nothing_left (simple text) h = absurd (true≢false (sym h))
-nothing_left (fault text) h = absurd (true≢false (sym h))
-nothing_left (int n) h = absurd (true≢false (sym h))
-nothing_left (bulk bytes) h = absurd (true≢false (sym h))
-nothing_left null_bulk h = absurd (true≢false (sym h))
+nothing_left : (asker : Asker) (value : Frame) → asks_nothing value ≡ true → left_over asker value ≡ None
+nothing_left asker (items no_frames) h = refl
+nothing_left asker null_items h = refl
+nothing_left asker (items (frame f fs)) h = absurd (true≢false (sym h))
+nothing_left asker (simple text) h = absurd (true≢false (sym h))
+nothing_left asker (fault text) h = absurd (true≢false (sym h))
+nothing_left asker (int n) h = absurd (true≢false (sym h))
+nothing_left asker (bulk bytes) h = absurd (true≢false (sym h))
+nothing_left asker null_bulk h = absurd (true≢false (sym h))
 
 -- it changes nothing of the connection
 pub same_after_nothing : (asker : Asker) (value : Frame) → asks_nothing value ≡ true → asker ≡ asker_after asker value
 same_after_nothing asker value h =
-    ap (λ (over : Option Looked). let a : Asker = record asker { name = or_same asker over; admitted = or_admitted asker over } in a) (sym (nothing_left value h))
+    ap (λ (over : Option Looked). let a : Asker = record asker { name = or_same asker over; admitted = or_admitted asker over } in a) (sym (nothing_left asker value h))
 
 -- a command asks for something, and so has its answer
 pub command_asks : (value : Frame) (command : Command) → command_of value ≡ Ok command → asks_nothing value ≡ false

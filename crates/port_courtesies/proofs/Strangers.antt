@@ -1,5 +1,5 @@
 -- A client that didn't give the password which is wanted: each of its values is answered, and no other word than the whole password admits it.
-use Rattle.std.proofs.Common.{◌≡◌, ◌∙◌, ◌&&◌, ◌||◌, ◌==◌, ℕ, List, [], ◌∷◌, length, codes, Option, None, Some, Bool, true, false, refl, sym, ap, true≢false}
+use Rattle.std.proofs.Common.{◌≡◌, ◌∙◌, ◌&&◌, ◌||◌, ◌==◌, not, ℕ, List, [], ◌∷◌, length, codes, Option, None, Some, Bool, true, false, refl, sym, ap, true≢false}
 use Rattle.std.specs.Prelude.{nat_lt, nat_le}
 use Rattle.std.specs.List.{list_any}
 use Rattle.std.proofs.lemmas.Bool.{and_parts}
@@ -12,7 +12,7 @@ use Rattle.port_courtesies.specs.declared.hellos.Expects.TheVariants.{Start, Use
 use Rattle.port_courtesies.specs.declared.courtesies.Courtesy.TheVariants.{Said}
 use Rattle.port_courtesies.specs.Refusals.{is_called, no_auth, no_option, wrong_password, no_name}
 use Rattle.port_courtesies.specs.Courtesies as table
-use Rattle.port_courtesies.specs.Courtesies.{Asker, Answer, left, said, asks_masters, Looked, known, refused, Greeted, greeted, expected, is_user, is_password, is_client_name, is_some, asks_for_2, after_first, lacks_password, is_stranger, is_for_strangers, is_barred, admits, hello_admitted, admitted_by, or_admitted, answered, or_left, left_over, courtesy, asker_after, kind_of, words_of}
+use Rattle.port_courtesies.specs.Courtesies.{Asker, Answer, left, said, asks_masters, Looked, known, refused, Greeted, greeted, expected, is_user, is_password, is_client_name, is_some, asks_for_2, after_first, lacks_password, is_stranger, is_for_strangers, admits, hello_admitted, admitted_by, or_admitted, answered, or_left, left_over, courtesy, asker_after, kind_of, words_of}
 
 -- ---- each value is answered
 
@@ -20,55 +20,91 @@ one_kind : (test : Bool) (one two : Answer) → kind_of one ≡ Said → kind_of
 one_kind true one two h k = h
 one_kind false one two h k = k
 
--- the answer to a command of which `barred` is whether a stranger may not carry it out
-told : (asker : Asker) (verb : Verb) (words : List (List ℕ)) → is_stranger asker ≡ true → kind_of (answered asker (known verb words)) ≡ Said
-told asker Hello words h = one_kind (is_barred asker Hello) _ _ refl (one_kind asker.listens _ _ refl refl)
-told asker Auth words h = one_kind (is_barred asker Auth) _ _ refl (one_kind asker.listens _ _ refl refl)
-told asker Ping words h = one_kind (is_barred asker Ping) _ _ refl (one_kind asker.listens _ _ refl refl)
-told asker SetName words h = one_kind (is_barred asker SetName) _ _ refl (one_kind asker.listens _ _ refl refl)
-told asker SetInfo words h = one_kind (is_barred asker SetInfo) _ _ refl (one_kind asker.listens _ _ refl refl)
-told asker GetName words h = one_kind (is_barred asker GetName) _ _ refl (one_kind asker.listens _ _ refl refl)
-told asker Id words h = one_kind (is_barred asker Id) _ _ refl (one_kind asker.listens _ _ refl refl)
-told asker NoEvict words h = one_kind (is_barred asker NoEvict) _ _ refl (one_kind asker.listens _ _ refl refl)
-told asker Reply words h = one_kind (is_barred asker Reply) _ _ refl (one_kind asker.listens _ _ refl refl)
-told asker Commands words h = one_kind (is_barred asker Commands) _ _ refl (one_kind asker.listens _ _ refl refl)
-told asker Docs words h = one_kind (is_barred asker Docs) _ _ refl (one_kind asker.listens _ _ refl refl)
-told asker Count words h = one_kind (is_barred asker Count) _ _ refl (one_kind asker.listens _ _ refl refl)
-told asker Role words h = one_kind (is_barred asker Role) _ _ refl (one_kind asker.listens _ _ refl refl)
-told asker Publish words h = one_kind (is_barred asker Publish) _ _ refl (one_kind asker.listens _ _ refl refl)
-told asker Info words h =
-    ap (λ (t : Bool). kind_of (elim (t && true) as (λ _. Answer) [
-      | true ↦ said no_auth
-      | false ↦ elim asker.listens as (λ _. Answer) [ true ↦ said (table.while_listening Info words) | false ↦ asks_masters ]
-    ])) h
+-- what was looked up is answered without the Sentinel: it isn't INFO
+abbrev Tells : Looked → Type 0
+Tells (known Info words) = ⊥
+Tells looked = Unit {0}
 
-told_of : (asker : Asker) (looked : Option Looked) → is_stranger asker ≡ true → kind_of (or_left asker looked) ≡ Said
-told_of asker None h = ap (λ (t : Bool). kind_of (elim t as (λ _. Answer) [ true ↦ said no_auth | false ↦ left ])) h
-told_of asker (Some (refused refusal)) h = refl
-told_of asker (Some (known verb words)) h = told asker verb words h
+told : (asker : Asker) (looked : Looked) → Tells looked → kind_of (answered asker looked) ≡ Said
+told asker (refused refusal) h = refl
+told asker (known Hello words) h = one_kind asker.listens _ _ refl refl
+told asker (known Auth words) h = one_kind asker.listens _ _ refl refl
+told asker (known Ping words) h = one_kind asker.listens _ _ refl refl
+told asker (known SetName words) h = one_kind asker.listens _ _ refl refl
+told asker (known SetInfo words) h = one_kind asker.listens _ _ refl refl
+told asker (known GetName words) h = one_kind asker.listens _ _ refl refl
+told asker (known Id words) h = one_kind asker.listens _ _ refl refl
+told asker (known NoEvict words) h = one_kind asker.listens _ _ refl refl
+told asker (known Reply words) h = one_kind asker.listens _ _ refl refl
+told asker (known Commands words) h = one_kind asker.listens _ _ refl refl
+told asker (known Docs words) h = one_kind asker.listens _ _ refl refl
+told asker (known Count words) h = one_kind asker.listens _ _ refl refl
+told asker (known Role words) h = one_kind asker.listens _ _ refl refl
+told asker (known Publish words) h = one_kind asker.listens _ _ refl refl
+told asker (known Info words) h = absurd h
+
+pick : (test : Bool) (one two : Looked) → Tells one → Tells two → Tells (elim test as (λ _. Looked) [ true ↦ one | false ↦ two ])
+pick true one two h k = h
+pick false one two h k = k
+
+-- the first two commands after PING are those by which a client gives its password
+by_name : (is_hello is_auth : Bool) (hello auth rest : Looked) → (is_auth || is_hello) ≡ true → Tells hello → Tells auth
+    → Tells (elim is_hello as (λ _. Looked) [ true ↦ hello | false ↦ elim is_auth as (λ _. Looked) [ true ↦ auth | false ↦ rest ] ])
+by_name true is_auth hello auth rest named h k = h
+by_name false true hello auth rest named h k = k
+by_name false false hello auth rest named h k = absurd (true≢false (sym named))
+
+doors_tell : (miscounted : Bool) (name : List ℕ) (words : List (List ℕ)) → is_for_strangers name ≡ true → Tells (table.looked_up miscounted name words)
+doors_tell miscounted name words named =
+    pick (is_called (codes "ping") name) _ _ (pick (nat_le (length words) 1) _ _ tt tt)
+    (by_name (is_called (codes "hello") name) (is_called (codes "auth") name) _ _ _ named tt (pick (nat_lt 0 (length words)) _ _ tt tt))
+
+none_told : (asker : Asker) → is_stranger asker ≡ true → kind_of (or_left asker None) ≡ Said
+none_told asker h = ap (λ (t : Bool). kind_of (elim t as (λ _. Answer) [ true ↦ said no_auth | false ↦ left ])) h
+
+-- what a stranger asked is looked up only where it gives a password
+told_of : (asker : Asker) (channels stranger door : Bool) (looked : Looked) → is_stranger asker ≡ true → stranger ≡ true → (door ≡ true → Tells looked)
+    → kind_of (or_left asker (elim (channels || (stranger && not door)) as (λ _. Option Looked) [ true ↦ None | false ↦ Some looked ])) ≡ Said
+told_of asker true stranger door looked h is tells = none_told asker h
+told_of asker false true true looked h is tells = told asker looked (tells refl)
+told_of asker false true false looked h is tells = none_told asker h
+told_of asker false false door looked h is tells = absurd (true≢false (sym is))
+
+told_in : (asker : Asker) (miscounted : Bool) (words : List (List ℕ)) → is_stranger asker ≡ true
+    → kind_of (or_left asker (table.looked_up_in asker miscounted words)) ≡ Said
+told_in asker miscounted [] h = none_told asker h
+told_in asker miscounted (name ∷ words) h =
+    told_of asker (table.names_channels (name ∷ words)) (is_stranger asker) (is_for_strangers name) (table.looked_up miscounted name words) h h
+    (doors_tell miscounted name words)
 
 pub strangers_are_answered : (asker : Asker) (value : Frame) → is_stranger asker ≡ true → kind_of (courtesy asker value) ≡ Said
 strangers_are_answered asker value h =
     one_kind (table.asks_nothing value) _ _ refl
     (one_kind (table.is_refused (command_of value)) _ _
-    (told_of asker (table.looked_up_in (table.is_miscounted (command_of value)) (words_of value)) h)
+    (told_in asker (table.is_miscounted (command_of value)) (words_of value) h)
     (ap (λ (t : Bool). kind_of (elim t as (λ _. Answer) [ true ↦ said no_auth | false ↦ table.own_answer (table.wording_of (command_of value)) ])) h))
 
 -- ---- HELLO and AUTH have the words after the name
 
--- a command by which a client gives its password has these words
+-- the commands by which a client gives its password
+abbrev gives : Verb → Bool
+gives Hello = true
+gives Auth = true
+gives verb = false
+
+-- such a command has these words
 abbrev Keeps : (words : List (List ℕ)) → Looked → Type 0
-Keeps words (known verb args) = is_for_strangers verb ≡ true → args ≡ words
+Keeps words (known verb args) = gives verb ≡ true → args ≡ words
 Keeps words (refused refusal) = Unit {0}
 
 both : (words : List (List ℕ)) (test : Bool) (one two : Looked) → Keeps words one → Keeps words two → Keeps words (elim test as (λ _. Looked) [ true ↦ one | false ↦ two ])
 both words true one two h k = h
 both words false one two h k = k
 
-other : (verb : Verb) (args words : List (List ℕ)) → is_for_strangers verb ≡ false → is_for_strangers verb ≡ true → args ≡ words
+other : (verb : Verb) (args words : List (List ℕ)) → gives verb ≡ false → gives verb ≡ true → args ≡ words
 other verb args words h k = absurd (true≢false (sym k ∙ h))
 
-taken_keeps : (words : List (List ℕ)) (verb : Verb) (fits : Bool) (args : List (List ℕ)) → (is_for_strangers verb ≡ true → args ≡ words)
+taken_keeps : (words : List (List ℕ)) (verb : Verb) (fits : Bool) (args : List (List ℕ)) → (gives verb ≡ true → args ≡ words)
     → Keeps words (table.taken verb fits args)
 taken_keeps words verb fits args h = both words fits _ _ h tt
 
@@ -198,28 +234,28 @@ hello_needs asker words h k =
 -- ---- the whole
 
 known_needs : (asker : Asker) (verb : Verb) (words : List (List ℕ)) → asker.admitted ≡ false → admitted_by asker (known verb words) ≡ true →
-    (is_for_strangers verb ≡ true) × Holds asker.password words
+    (gives verb ≡ true) × Holds asker.password words
 known_needs asker Hello words h k =
-    (refl, hello_needs asker words h (else_case (is_barred asker Hello || asker.listens) asker.admitted (hello_admitted asker words) h k))
+    (refl, hello_needs asker words h (else_case asker.listens asker.admitted (hello_admitted asker words) h k))
 known_needs asker Auth words h k = (
   refl,
   admits_holds asker.password words
       (or_case asker.admitted (admits asker.password words) h
-      (else_case (is_barred asker Auth || asker.listens) asker.admitted (asker.admitted || admits asker.password words) h k)),
+      (else_case asker.listens asker.admitted (asker.admitted || admits asker.password words) h k)),
 )
-known_needs asker Ping words h k = never asker.admitted h (else_case (is_barred asker Ping || asker.listens) asker.admitted asker.admitted h k)
-known_needs asker SetName words h k = never asker.admitted h (else_case (is_barred asker SetName || asker.listens) asker.admitted asker.admitted h k)
-known_needs asker SetInfo words h k = never asker.admitted h (else_case (is_barred asker SetInfo || asker.listens) asker.admitted asker.admitted h k)
-known_needs asker GetName words h k = never asker.admitted h (else_case (is_barred asker GetName || asker.listens) asker.admitted asker.admitted h k)
-known_needs asker Id words h k = never asker.admitted h (else_case (is_barred asker Id || asker.listens) asker.admitted asker.admitted h k)
-known_needs asker NoEvict words h k = never asker.admitted h (else_case (is_barred asker NoEvict || asker.listens) asker.admitted asker.admitted h k)
-known_needs asker Reply words h k = never asker.admitted h (else_case (is_barred asker Reply || asker.listens) asker.admitted asker.admitted h k)
-known_needs asker Commands words h k = never asker.admitted h (else_case (is_barred asker Commands || asker.listens) asker.admitted asker.admitted h k)
-known_needs asker Docs words h k = never asker.admitted h (else_case (is_barred asker Docs || asker.listens) asker.admitted asker.admitted h k)
-known_needs asker Count words h k = never asker.admitted h (else_case (is_barred asker Count || asker.listens) asker.admitted asker.admitted h k)
-known_needs asker Role words h k = never asker.admitted h (else_case (is_barred asker Role || asker.listens) asker.admitted asker.admitted h k)
-known_needs asker Publish words h k = never asker.admitted h (else_case (is_barred asker Publish || asker.listens) asker.admitted asker.admitted h k)
-known_needs asker Info words h k = never asker.admitted h (else_case (is_barred asker Info || asker.listens) asker.admitted asker.admitted h k)
+known_needs asker Ping words h k = never asker.admitted h (else_case asker.listens asker.admitted asker.admitted h k)
+known_needs asker SetName words h k = never asker.admitted h (else_case asker.listens asker.admitted asker.admitted h k)
+known_needs asker SetInfo words h k = never asker.admitted h (else_case asker.listens asker.admitted asker.admitted h k)
+known_needs asker GetName words h k = never asker.admitted h (else_case asker.listens asker.admitted asker.admitted h k)
+known_needs asker Id words h k = never asker.admitted h (else_case asker.listens asker.admitted asker.admitted h k)
+known_needs asker NoEvict words h k = never asker.admitted h (else_case asker.listens asker.admitted asker.admitted h k)
+known_needs asker Reply words h k = never asker.admitted h (else_case asker.listens asker.admitted asker.admitted h k)
+known_needs asker Commands words h k = never asker.admitted h (else_case asker.listens asker.admitted asker.admitted h k)
+known_needs asker Docs words h k = never asker.admitted h (else_case asker.listens asker.admitted asker.admitted h k)
+known_needs asker Count words h k = never asker.admitted h (else_case asker.listens asker.admitted asker.admitted h k)
+known_needs asker Role words h k = never asker.admitted h (else_case asker.listens asker.admitted asker.admitted h k)
+known_needs asker Publish words h k = never asker.admitted h (else_case asker.listens asker.admitted asker.admitted h k)
+known_needs asker Info words h k = never asker.admitted h (else_case asker.listens asker.admitted asker.admitted h k)
 
 looked_needs : (asker : Asker) (words : List (List ℕ)) (looked : Looked) → Keeps words looked → asker.admitted ≡ false → admitted_by asker looked ≡ true →
     Holds asker.password words
@@ -233,14 +269,14 @@ maybe_needs : (asker : Asker) (name : List ℕ) (words : List (List ℕ)) (test 
 maybe_needs asker name words true looked keeps h k = never asker.admitted h k
 maybe_needs asker name words false looked keeps h k = further asker.password name words (looked_needs asker words looked keeps h k)
 
-in_needs : (asker : Asker) (miscounted : Bool) (words : List (List ℕ)) → asker.admitted ≡ false → or_admitted asker (table.looked_up_in miscounted words) ≡ true
+in_needs : (asker : Asker) (miscounted : Bool) (words : List (List ℕ)) → asker.admitted ≡ false → or_admitted asker (table.looked_up_in asker miscounted words) ≡ true
     → Holds asker.password words
 in_needs asker miscounted [] h k = never asker.admitted h k
 in_needs asker miscounted (name ∷ words) h k =
-    maybe_needs asker name words (table.names_channels (name ∷ words)) (table.looked_up miscounted name words) (looked_up_keeps miscounted name words) h k
+    maybe_needs asker name words (table.names_channels (name ∷ words) || table.is_barred asker name) (table.looked_up miscounted name words) (looked_up_keeps miscounted name words) h k
 
 over_needs : (asker : Asker) (test : Bool) (miscounted : Bool) (words : List (List ℕ)) → asker.admitted ≡ false
-    → or_admitted asker (elim test as (λ _. Option Looked) [ true ↦ table.looked_up_in miscounted words | false ↦ None ]) ≡ true → Holds asker.password words
+    → or_admitted asker (elim test as (λ _. Option Looked) [ true ↦ table.looked_up_in asker miscounted words | false ↦ None ]) ≡ true → Holds asker.password words
 over_needs asker true miscounted words h k = in_needs asker miscounted words h k
 over_needs asker false miscounted words h k = never asker.admitted h k
 
@@ -254,5 +290,5 @@ lacking (Some password) false false h k = absurd (true≢false k)
 pub admitted_by_the_password : (asker : Asker) (value : Frame) → is_stranger asker ≡ true → is_stranger (asker_after asker value) ≡ false
     → list_any (is_password asker.password) (words_of value) ≡ true
 admitted_by_the_password asker value h k =
-    let given = lacking asker.password asker.admitted (or_admitted asker (left_over value)) h k in
+    let given = lacking asker.password asker.admitted (or_admitted asker (left_over asker value)) h k in
     over_needs asker (table.is_refused (command_of value)) (table.is_miscounted (command_of value)) (words_of value) given.0 given.1

@@ -25,7 +25,7 @@ pub record MonitoredMaster : Type 0 where
   pub quorum : ℕ
 
 -- what is known of a connection: its number, the name that its client gave it, whether it listens to notes, the Sentinel's masters, how many Sentinels watch them, the
--- password that is wanted of its client, where one is, and whether the client gave it
+-- password that is wanted of its client, where one is, and whether the client gave it; and the Sentinel's current epoch as it was last told, where that was
 pub record Asker : Type 0 where
   pub id : ℕ
   pub name : List ℕ
@@ -34,6 +34,7 @@ pub record Asker : Type 0 where
   pub sentinels : ℕ
   pub password : Option (List ℕ)
   pub admitted : Bool
+  pub current : Option ℕ
 
 -- what becomes of a value: the Sentinel's rules answer it, the answer that they give is told in other words, it is answered by this value, or by what is told of the
 -- Sentinel's masters, or it has no answer
@@ -186,14 +187,12 @@ is_password None word = true
 is_password (Some password) word = bytes_eq word password
 
 -- the commands by which a client gives its password
-abbrev pub is_for_strangers : Verb → Bool
-is_for_strangers Hello = true
-is_for_strangers Auth = true
-is_for_strangers verb = false
+abbrev pub is_for_strangers : (name : List ℕ) → Bool
+is_for_strangers name = is_called (codes "auth") name || is_called (codes "hello") name
 
--- a client that didn't give its password may not carry out the command
-abbrev pub is_barred : Asker → Verb → Bool
-is_barred asker verb = is_stranger asker && not (is_for_strangers verb)
+-- a client that didn't give its password has no other command, whether there is one with this name or none
+abbrev pub is_barred : Asker → (name : List ℕ) → Bool
+is_barred asker name = is_stranger asker && not (is_for_strangers name)
 
 -- ---- what each is answered
 
@@ -418,27 +417,25 @@ names_channels (name ∷ word ∷ words) = is_called (codes "subscribe") name
 
 abbrev pub answered : Asker → Looked → Answer
 answered asker (refused refusal) = said refusal
-answered asker (known verb words) =
-    elim (is_barred asker verb) [
-      | true ↦ said no_auth
-      | false ↦ elim asker.listens [ true ↦ said (while_listening verb words) | false ↦ executed asker verb words ]
-    ]
+answered asker (known verb words) = elim asker.listens [ true ↦ said (while_listening verb words) | false ↦ executed asker verb words ]
 
 abbrev pub named : Asker → Looked → List ℕ
 named asker (refused refusal) = asker.name
-named asker (known verb words) = elim (is_barred asker verb || asker.listens) [ true ↦ asker.name | false ↦ name_after asker verb words ]
+named asker (known verb words) = elim asker.listens [ true ↦ asker.name | false ↦ name_after asker verb words ]
 
 abbrev pub admitted_by : Asker → Looked → Bool
 admitted_by asker (refused refusal) = asker.admitted
-admitted_by asker (known verb words) = elim (is_barred asker verb || asker.listens) [ true ↦ asker.admitted | false ↦ admitted_after asker verb words ]
+admitted_by asker (known verb words) = elim asker.listens [ true ↦ asker.admitted | false ↦ admitted_after asker verb words ]
 
-abbrev pub looked_up_in : (miscounted : Bool) → List (List ℕ) → Option Looked
-looked_up_in miscounted [] = None
-looked_up_in miscounted (name ∷ words) = elim (names_channels (name ∷ words)) [ true ↦ None | false ↦ Some (looked_up miscounted name words) ]
+abbrev pub looked_up_in : Asker → (miscounted : Bool) → List (List ℕ) → Option Looked
+looked_up_in asker miscounted [] = None
+looked_up_in asker miscounted (name ∷ words) =
+    elim (names_channels (name ∷ words) || is_barred asker name) [ true ↦ None | false ↦ Some (looked_up miscounted name words) ]
 
 -- the command that the rules of the Sentinel leave to the courtesies, where they do
-abbrev pub left_over : Frame → Option Looked
-left_over value = elim (is_refused (command_of value)) [ true ↦ looked_up_in (is_miscounted (command_of value)) (words_of value) | false ↦ None ]
+abbrev pub left_over : Asker → Frame → Option Looked
+left_over asker value =
+    elim (is_refused (command_of value)) [ true ↦ looked_up_in asker (is_miscounted (command_of value)) (words_of value) | false ↦ None ]
 
 -- the answers of the Sentinel's rules that are told in other words
 abbrev pub wording_of : Result Command CommandFault → Option Wording
@@ -479,7 +476,7 @@ asks_nothing value = false
 abbrev pub reply_to : Asker → Frame → Answer
 reply_to asker value =
     elim (is_refused (command_of value)) [
-      | true ↦ or_left asker (looked_up_in (is_miscounted (command_of value)) (words_of value))
+      | true ↦ or_left asker (looked_up_in asker (is_miscounted (command_of value)) (words_of value))
       | false ↦ unless_stranger asker (own_answer (wording_of (command_of value)))
     ]
 
@@ -489,7 +486,7 @@ courtesy asker value = elim (asks_nothing value) as (λ _. Answer) [ true ↦ si
 
 -- what is known of the connection after it
 abbrev pub asker_after : Asker → Frame → Asker
-asker_after asker value = record asker { name = or_same asker (left_over value); admitted = or_admitted asker (left_over value) }
+asker_after asker value = record asker { name = or_same asker (left_over asker value); admitted = or_admitted asker (left_over asker value) }
 
 -- ---- an answer as it is handed out
 

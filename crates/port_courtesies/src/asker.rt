@@ -57,6 +57,8 @@ pub struct Asker {
     pub password: Option<Text>,
     /// Whether the client gave the password.
     pub admitted: bool,
+    /// The Sentinel's current epoch as it was last told; none where requests for votes of any epoch are heard.
+    pub current: Option<u64>,
 }
 
 impl Model for Asker {
@@ -64,7 +66,7 @@ impl Model for Asker {
 
     ghost Value = { AskerModel };
 
-    ghost view = { λ asker. record { id = asker.id; name = asker.name; listens = asker.listens; masters = asker.masters.items; sentinels = asker.sentinels; password = asker.password; admitted = asker.admitted } };
+    ghost view = { λ asker. record { id = asker.id; name = asker.name; listens = asker.listens; masters = asker.masters.items; sentinels = asker.sentinels; password = asker.password; admitted = asker.admitted; current = asker.current } };
 }
 
 impl Asker {
@@ -169,6 +171,20 @@ impl Asker {
     {
         self.password = Some(password);
         self.admitted = false;
+    }
+
+    /// The Sentinel's current epoch as it was last told.
+    pub(crate) fn current(&self) -> Option<u64>
+        ensures { result ≡ self.now.current }
+    {
+        self.current
+    }
+
+    /// Has it know this current epoch of the Sentinel.
+    pub(crate) fn note_epoch(&mut self, epoch: u64)
+        ensures { self.new ≡ record self.old { current = Some epoch } }
+    {
+        self.current = Some(epoch);
     }
 
     /// Has it know whether its client gave the password.

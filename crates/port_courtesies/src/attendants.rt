@@ -1,10 +1,10 @@
 //! A client's stream with courtesies.
 
-ghost use Rattle.std.specs.Prelude.{◌≡◌, ◌<◌, [], Some, None, false, IfOk, IfSome, OnOk};
+ghost use Rattle.std.specs.Prelude.{◌≡◌, ◌<◌, ◌↔◌, [], Some, None, false, IfOk, IfSome, IsTrue, OnOk};
 ghost use Rattle.resp2.specs.Asked.{IsCommon};
 ghost use Rattle.resp2.specs.Commands.{IsWithin};
 ghost use Rattle.resp2_frames.specs.Frame.{view, spelling, HasLines};
-ghost use Rattle.resp2_frames.specs.Stream.{reading, held_size, Feeds};
+ghost use Rattle.resp2_frames.specs.Stream.{reading, held_size, bytes_in, Feeds};
 ghost use Rattle.port_courtesies.specs.Attendants.{TakesCommon};
 ghost use Rattle.port_courtesies.specs.Courtesies.{courtesy, asker_after, is_stranger, kind_of, text_of};
 ghost use Rattle.port_courtesies.specs.Infos.{info};
@@ -67,6 +67,13 @@ impl Attendant {
         self.asker.is_stranger()
     }
 
+    /// Whether all that came was taken: no bytes are held.
+    pub fn holds_nothing(&self) -> bool
+        ensures { IsTrue result ↔ (bytes_in self.now.held ≡ []) }
+    {
+        self.frames.held().is_empty()
+    }
+
     /// Has it know that the connection listens to notes, or doesn't.
     pub fn note_listening(&mut self, listens: bool)
         ensures { self.new ≡ record self.old { asker = record self.old.asker { listens = listens } } }
@@ -79,6 +86,20 @@ impl Attendant {
         ensures { self.new ≡ record self.old { asker = record self.old.asker { masters = masters.items; sentinels = sentinels } } }
     {
         self.asker.watch(masters, sentinels);
+    }
+
+    /// The Sentinel's current epoch as it was last told; none where none was.
+    pub fn current(&self) -> Option<u64>
+        ensures { result ≡ self.now.asker.current }
+    {
+        self.asker.current()
+    }
+
+    /// Has it know this current epoch of the Sentinel.
+    pub fn note_epoch(&mut self, epoch: u64)
+        ensures { self.new ≡ record self.old { asker = record self.old.asker { current = Some epoch } } }
+    {
+        self.asker.note_epoch(epoch);
     }
 
     /// Has it want this password of the client, which didn't give it yet.
@@ -102,6 +123,13 @@ impl Attendant {
         ensures { self.new ≡ record self.old { held = reading [] } }
     {
         self.frames = Frames::new(self.alloc);
+    }
+
+    /// Gives back the room of the last answer, which is gone.
+    pub fn drop_text(&mut self)
+        ensures { self.new ≡ record self.old { text = [] } }
+    {
+        self.text = OutText::new(self.alloc);
     }
 
     /// Takes the first whole value of the bytes that came; `None` where more bytes are needed. A line that begins with no byte of a kind of RESP2 is the array

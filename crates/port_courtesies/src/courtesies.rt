@@ -4,7 +4,7 @@ ghost use Rattle.std.specs.Prelude.{◌≡◌, ℕ, List, [], None, IfOk, OnOk};
 ghost use Rattle.resp2.specs.Commands as commands;
 ghost use Rattle.resp2_frames.specs.Frame as frames;
 ghost use Rattle.resp2_frames.specs.Frame.{view, frames_view, spelling};
-ghost use Rattle.port_courtesies.specs.Courtesies.{Asker, known, executed, while_listening, name_after, admitted_after, is_barred, admitted_by, or_admitted, words_of, is_miscounted, is_refused, names_channels, answered, named, looked_up_in, own_answer, unless_stranger, or_left, or_same, asks_nothing, reply_to, courtesy, asker_after, kind_of, text_of};
+ghost use Rattle.port_courtesies.specs.Courtesies.{Asker, known, executed, while_listening, name_after, admitted_after, is_for_strangers, is_barred, admitted_by, or_admitted, words_of, is_miscounted, is_refused, names_channels, answered, named, looked_up_in, own_answer, unless_stranger, or_left, or_same, asks_nothing, reply_to, courtesy, asker_after, kind_of, text_of};
 
 use crate::asker::Asker;
 use crate::clients::{
@@ -196,11 +196,18 @@ fn kind_of(verb: Verb) -> Courtesy
     }
 }
 
-/// Whether its client didn't give the password that is wanted, and may not carry out the command without.
-fn is_barred(asker: &Asker, verb: Verb) -> bool
-    ensures { result ≡ is_barred asker.now verb }
+/// Whether a client gives its password by the command with this name.
+fn is_for_strangers(name: &[u8]) -> bool
+    ensures { result ≡ is_for_strangers name.now }
 {
-    asker.is_stranger() && !verb.is_for_strangers()
+    is_called(b"auth", name) || is_called(b"hello", name)
+}
+
+/// Whether its client didn't give the password that is wanted, and has no command with this name before it does.
+fn is_barred(asker: &Asker, name: &[u8]) -> bool
+    ensures { result ≡ is_barred asker.now name.now }
+{
+    asker.is_stranger() && !is_for_strangers(name)
 }
 
 /// What becomes of a command with these words.
@@ -215,10 +222,6 @@ fn answer_known(
     ensures text { OnOk result (out.new ≡ text_of (answered asker.old (known verb words.now))) }
     ensures asker { OnOk result (asker.new ≡ record asker.old { name = named asker.old (known verb words.now); admitted = admitted_by asker.old (known verb words.now) }) }
 {
-    if is_barred(asker, verb) {
-        say(out, NO_AUTH)?;
-        return Ok(Courtesy::Said);
-    }
     if asker.listens() {
         answer_listener(verb, words, out)?;
         return Ok(Courtesy::Said);
@@ -244,7 +247,7 @@ fn leave(asker: &Asker, wording: Option<Wording>, out: &mut OutText) -> Result<C
     }
 }
 
-/// What becomes of these words, which the Sentinel's rules call unknown or refuse for their number.
+/// What becomes of these words, which the Sentinel's rules call unknown or refuse for their number. Before the password that is wanted AUTH and HELLO alone are looked up.
 #[tactic(auto, using(crate::proofs::Lookups::known_is, crate::proofs::Lookups::refused_kind, crate::proofs::Lookups::refused_text, crate::proofs::Lookups::refused_name))]
 fn answer_words(
     alloc: Global,
@@ -254,14 +257,17 @@ fn answer_words(
     out: &mut OutText,
 ) -> Result<Courtesy, NoMemory>
     requires { out.old ≡ [] }
-    ensures kind { IfOk result (λ kind. kind ≡ kind_of (or_left asker.old (looked_up_in miscounted words.now))) }
-    ensures text { OnOk result (out.new ≡ text_of (or_left asker.old (looked_up_in miscounted words.now))) }
-    ensures asker { OnOk result (asker.new ≡ record asker.old { name = or_same asker.old (looked_up_in miscounted words.now); admitted = or_admitted asker.old (looked_up_in miscounted words.now) }) }
+    ensures kind { IfOk result (λ kind. kind ≡ kind_of (or_left asker.old (looked_up_in asker.old miscounted words.now))) }
+    ensures text { OnOk result (out.new ≡ text_of (or_left asker.old (looked_up_in asker.old miscounted words.now))) }
+    ensures asker { OnOk result (asker.new ≡ record asker.old {
+      name = or_same asker.old (looked_up_in asker.old miscounted words.now);
+      admitted = or_admitted asker.old (looked_up_in asker.old miscounted words.now);
+    }) }
 {
     let Some((name, more)) = words.split_first() else {
         return leave(asker, None, out);
     };
-    if names_channels(words) {
+    if names_channels(words) || is_barred(asker, name.as_slice()) {
         return leave(asker, None, out);
     }
     match looked_up(miscounted, name.as_slice(), more, out)? {

@@ -1,7 +1,7 @@
 //! The commands beside a Sentinel's own.
 
 ghost use Rattle.std.specs.Prelude.{◌≡◌};
-ghost use Rattle.port_courtesies.specs.Courtesies.{verb_name, is_for_strangers};
+ghost use Rattle.port_courtesies.specs.Courtesies.{verb_name};
 
 /// A command beside a Sentinel's own.
 #[derive(Clone, Copy)]
@@ -44,16 +44,6 @@ impl Verb {
             Verb::Role => b"role",
             Verb::Publish => b"publish",
             Verb::Info => b"info",
-        }
-    }
-
-    /// Whether a client may carry it out that didn't give the password that is wanted.
-    pub(crate) fn is_for_strangers(self) -> bool
-        ensures { result ≡ is_for_strangers self }
-    {
-        match self {
-            Verb::Hello | Verb::Auth => true,
-            _ => false,
         }
     }
 }

@@ -81,6 +81,18 @@ impl Exchange {
         }
     }
 
+    /// Gives back all room in which nothing is held.
+    pub(crate) fn rest(&mut self)
+        ensures frames { self.new.frames ≡ self.old.frames }
+        ensures unsent { self.new.unsent.items ≡ self.old.unsent.items }
+        ensures listens { self.new.responder.listens ≡ self.old.responder.listens }
+    {
+        self.responder.rest();
+        if self.unsent.is_empty() {
+            self.unsent = BytesMut::new(self.alloc);
+        }
+    }
+
     /// The conversation ends: the bytes that are no whole value are dropped, and the client is told of no more notes.
     pub(crate) fn close(&mut self)
         ensures frames { self.new.frames ≡ reading [] }

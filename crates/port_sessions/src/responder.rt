@@ -294,6 +294,14 @@ impl Responder {
         }
     }
 
+    /// Gives back the room for outputs and for the text.
+    pub(crate) fn rest(&mut self)
+        ensures { self.new.listens ≡ self.old.listens }
+    {
+        self.outbox = Outbox::new(self.alloc);
+        self.text = OutText::new(self.alloc);
+    }
+
     /// The client listens no more.
     pub(crate) fn stop_listening(&mut self)
         ensures { self.new.listens ≡ None }

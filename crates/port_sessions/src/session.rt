@@ -1,6 +1,6 @@
 //! A session as its callers see it.
 
-ghost use Rattle.std.specs.Prelude.{◌≡◌, ◌≤◌, ◌<◌, ◌++◌, ℕ, List, [], None, Some, OnOk, OnErr, IfOk, IfErr, IfSome, MatchResult, length, drop};
+ghost use Rattle.std.specs.Prelude.{◌≡◌, ◌≤◌, ◌<◌, ◌↔◌, ◌++◌, ℕ, List, [], None, Some, OnOk, OnErr, IfOk, IfErr, IfSome, IsTrue, MatchResult, length, drop};
 ghost use Rattle.std.specs.Option.{is_some};
 ghost use Rattle.ballot_law.specs.declared.rosters.TheConstants.{MASTERS_MAX};
 ghost use Rattle.port_sessions.specs.Notes.{none_told, is_due, Notifies};
@@ -158,6 +158,13 @@ impl Session {
         self.exchange.responder.listens.is_some()
     }
 
+    /// Whether all that came was whole values: no bytes are held.
+    pub fn holds_nothing(&self) -> bool
+        ensures { IsTrue result ↔ (self.now.held ≡ []) }
+    {
+        self.exchange.frames.held().is_empty()
+    }
+
     /// Takes away the first `n` bytes of what isn't sent yet, which the connection took. No memory is taken. Room that they leave is used
     /// again, and given back where nothing is left and it was more than 16 KiB.
     pub fn sent(&mut self, n: usize)
@@ -165,6 +172,14 @@ impl Session {
         ensures { self.new ≡ record self.old { unsent = drop n self.old.unsent } }
     {
         self.exchange.sent(n);
+    }
+
+    /// Gives back the room in which nothing is held, as where its client is silent for a while; the next answer takes
+    /// it anew.
+    pub fn rest(&mut self)
+        ensures { self.new ≡ self.old }
+    {
+        self.exchange.rest();
     }
 
     /// Whether a note of this entry is news to the client.

@@ -14,6 +14,7 @@ use sentinel_conf::read;
 use sentinel_core::Sentinel;
 use std::alloc::Global;
 use std::sync::Wait;
+use words::run_id_text;
 
 /// How many bytes have room in a store, so that it takes no memory.
 const ROOM: usize = 65_536;
@@ -161,6 +162,17 @@ impl Talk {
         Ok(())
     }
 
+    /// Tells the last request for a vote of the first client that was too far ahead, if there was one.
+    fn tell_far(&mut self, told: &mut Told) -> Result<(), Unplayed> {
+        match self.first.take_far() {
+            Some(request) => {
+                told.bytes(run_id_text(request.candidate).as_slice())?;
+                told.number(request.epoch)
+            }
+            None => told.word("none"),
+        }
+    }
+
     /// Tells what the first client wasn't sent; where a session lacked memory, that is to begin with what it had put out.
     fn tell_unsent(&self, told: &mut Told) -> Result<(), Unplayed> {
         if !self.first.unsent().starts_with(&self.part) {
@@ -232,6 +244,11 @@ impl Talk {
                 self.want_password(password)?;
                 told.ok()
             }
+            ("knows_epoch", [epoch]) => {
+                self.first.note_epoch(number(epoch)?);
+                told.ok()
+            }
+            ("far", []) => self.tell_far(told),
             ("begins_anew", []) => {
                 self.begin_anew();
                 told.ok()

@@ -30,6 +30,7 @@ fn asker(alloc: Global, name: &[u8], listens: bool) -> Result<Asker, Unplayed> {
         sentinels: 3,
         password: None,
         admitted: false,
+        current: None,
     })
 }
 

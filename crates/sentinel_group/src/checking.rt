@@ -5,7 +5,8 @@ use crate::failures::{fail, fail_group, refuse_conf, refuse_file};
 use crate::group_files::text_at;
 use crate::mending::mend;
 use crate::redis_text::write_for_redis;
-use crate::telling::{tell_faults, tell_files};
+use crate::telling::{tell_faults, tell_file, tell_files};
+use crate::watching::refuse_watch;
 use clap::ArgMatches;
 use conf_store::FileText;
 use group_checks::{NamedConf, Report};
@@ -14,12 +15,12 @@ use sentinel_conf::{Conf, read};
 use sentinel_runner::GroupFault;
 use std::io::Write;
 use std::process::ExitCode;
-use watch_conf::{WatchKind, lacks_announce_ip};
+use watch_conf::{WatchKind, lacks_announce_ip, read_watch};
 
 /// The text of the file at the path, and what it says. A file that is refused is told, with all that is wrong with it, and the status tells
 /// it too.
 fn conf_at(rt: HostRuntime, path: &str) -> Result<(FileText, Conf), ExitCode> {
-    let (text, _) = text_at(rt, path)?;
+    let text = text_at(rt, path)?;
     match read(rt.alloc(), text.as_slice()) {
         Ok(conf) => Ok((text, conf)),
         Err(fault) => {
@@ -77,8 +78,8 @@ fn tell_group(rt: HostRuntime, confs: &[NamedConf], folder: Option<&str>) -> Exi
     let Ok(report) = Report::of(rt.alloc(), confs) else {
         return fail(&rt, ServeFault::NoMemory);
     };
-    if rt.stdout().write_all(report.text()).is_err() {
-        return fail(&rt, ServeFault::Write);
+    if let Err(status) = write_report(rt, &report) {
+        return status;
     }
     tell_files(rt, confs);
     if let Some(status) = refuse_unreached(rt, confs) {
@@ -93,6 +94,37 @@ fn tell_group(rt: HostRuntime, confs: &[NamedConf], folder: Option<&str>) -> Exi
     ExitCode::SUCCESS
 }
 
+/// Writes a report to standard output.
+fn write_report(rt: HostRuntime, report: &Report) -> Result<(), ExitCode> {
+    match rt.stdout().write_all(report.text()) {
+        Ok(()) => Ok(()),
+        Err(_) => Err(fail(&rt, ServeFault::Write)),
+    }
+}
+
+/// Tells of which group the file at the path is one, where `watch` takes it, and with status 3 what is wrong with it.
+fn tell_one(rt: HostRuntime, path: &str) -> Result<(), ExitCode> {
+    let (text, conf) = conf_at(rt, path)?;
+    if let Err(fault) = read_watch(rt.alloc(), &conf, text.as_slice()) {
+        return Err(refuse_watch(rt, path, &conf, text.as_slice(), fault));
+    }
+    let Ok(name) = String::from_str(rt.alloc(), path) else {
+        return Err(fail(&rt, ServeFault::NoMemory));
+    };
+    let file = NamedConf { name, conf };
+    let Ok(report) = Report::of_one(rt.alloc(), &file) else {
+        return Err(fail(&rt, ServeFault::NoMemory));
+    };
+    write_report(rt, &report)?;
+    tell_file(rt, &file);
+    Ok(())
+}
+
+/// Whether the words ask what one file by itself says: one is named, and no folder to mend into, and `--group` isn't there.
+fn asks_of_one(words: &ArgMatches, files: &[&str]) -> bool {
+    files.len() == 1 && !words.get_flag("group") && words.get_str("mend").is_none()
+}
+
 /// Writes the text that redis-sentinel reads of the one file among these to a new file at `path`.
 fn give_to_redis(rt: HostRuntime, files: &[&str], path: &str) -> ExitCode {
     let [file] = files else {
@@ -105,12 +137,18 @@ fn give_to_redis(rt: HostRuntime, files: &[&str], path: &str) -> ExitCode {
     }
 }
 
-/// Tells what group the conf files make that the words name, and with status 3 what is wrong with it. Or it writes one of them for
-/// redis-sentinel.
+/// Tells what group the conf files make that the words name, or of which group the one file is that they name, and with status 3 what is wrong
+/// with it. Or it writes one of them for redis-sentinel.
 pub(crate) fn check(rt: HostRuntime, words: &ArgMatches) -> ExitCode {
     let files = words.get_strs("conf").unwrap_or(&[]);
     if let Some(path) = words.get_str("for-redis") {
         return give_to_redis(rt, files, path);
+    }
+    if let (true, Some(path)) = (asks_of_one(words, files), files.first()) {
+        return match tell_one(rt, path) {
+            Ok(()) => ExitCode::SUCCESS,
+            Err(status) => status,
+        };
     }
     match confs_of(rt, files) {
         Ok(confs) => tell_group(rt, confs.as_slice(), words.get_str("mend")),

@@ -38,8 +38,15 @@ fn check<'a>(alloc: Global) -> Result<Command<'a>, AllocError> {
         .value_name("file")
         .help("Writes the text of the one conf that redis-sentinel reads to this new file")
         .conflicts_with("mend")?;
+    let group = Arg::new(alloc, "group")
+        .long("group")
+        .action(ArgAction::SetTrue)
+        .help("Wants the file of each Sentinel of the group, where one file is named too");
     Command::new(alloc, "check")
-        .about("Tells what group conf files make, and what is wrong with it")
+        .about(
+            "Tells what group conf files make, or of which one file is, and what is wrong with it",
+        )
+        .arg(group)?
         .arg(mend)?
         .arg(for_redis)?
         .arg(conf_files(alloc))
@@ -110,7 +117,7 @@ fn watch<'a>(alloc: Global) -> Result<Command<'a>, AllocError> {
     let quiet = Arg::new(alloc, "quiet")
         .long("quiet")
         .action(ArgAction::SetTrue)
-        .help("Notes nothing on standard error but why it ends");
+        .help("Notes on standard error warnings alone, and why it ends");
     let conf = Arg::new(alloc, "conf")
         .required(true)
         .help("The sentinel.conf of the Sentinel, which is rewritten");
@@ -167,17 +174,30 @@ pub(crate) fn command<'a>(alloc: Global) -> Result<Command<'a>, AllocError> {
         .subcommand(watch(alloc)?)
 }
 
-/// The words that the program was started with, its own name first.
+/// Whether these words ask for the help on `help`, which `clap` takes for a command of that name.
+fn ask_help_on_help(words: &[String]) -> bool {
+    match words {
+        [_, help, flag] => {
+            help.as_str() == "help" && (flag.as_str() == "--help" || flag.as_str() == "-h")
+        }
+        _ => false,
+    }
+}
+
+/// The words that the program was started with, its own name first. `help --help` is `help`.
 pub(crate) fn words<R: Env + Alloc<A = Global>>(rt: &R) -> io::Result<Vec<String>> {
-    Ok(env::args(rt)?.collect(rt.alloc())?)
+    let mut words: Vec<String> = env::args(rt)?.collect(rt.alloc())?;
+    if ask_help_on_help(words.as_slice()) {
+        words.pop();
+    }
+    Ok(words)
 }
 
 /// Tells why the words can't be read: a word that isn't UTF-8 is refused with status 2, and a refused allocation ends in status 6.
-pub(crate) fn refuse_unread<R: Print + Eprint>(
-    rt: &R,
-    command: &mut Command<'_>,
-    error: &io::Error,
-) -> ExitCode {
+pub(crate) fn refuse_unread<R>(rt: &R, command: &mut Command<'_>, error: &io::Error) -> ExitCode
+where
+    R: Print + Eprint + Alloc<A = Global>,
+{
     if error.kind() == io::ErrorKind::OutOfMemory {
         return fail(rt, ServeFault::NoMemory);
     }
@@ -187,18 +207,39 @@ pub(crate) fn refuse_unread<R: Print + Eprint>(
     }
 }
 
+/// What stands before the reason why a number of port threads is refused.
+const PORT_THREADS_REFUSED: &str = "'--port-threads <number>': ";
+
+/// Tells why the words are refused, as `clap` says it; but which numbers of port threads there are, in place of why a word is none of them.
+fn refuse_words<R: Eprint>(rt: &R, said: &str) {
+    let Some((front, reason)) = said.split_once(PORT_THREADS_REFUSED) else {
+        let _ = eprint!(rt; "sentinel_group: {said}");
+        return;
+    };
+    let (_, rest) = reason.split_once("\n").unwrap_or((reason, ""));
+    let _ = eprint!(rt;
+        "sentinel_group: {front}{PORT_THREADS_REFUSED}write a number from 1 to {PORT_THREADS_MAX}\n{rest}"
+    );
+}
+
 /// Tells what `clap` says of the words: the help or the version that was asked for on standard output, with status 0, or why the words
 /// are refused on standard error, with status 2. A refused allocation ends in status 6, and a text that can't be written in status 4.
-pub(crate) fn tell_words<R: Print + Eprint>(rt: &R, error: &Error) -> ExitCode {
+pub(crate) fn tell_words<R>(rt: &R, error: &Error) -> ExitCode
+where
+    R: Print + Eprint + Alloc<A = Global>,
+{
     match error.kind() {
         ErrorKind::OutOfMemory => fail(rt, ServeFault::NoMemory),
         ErrorKind::DisplayHelp | ErrorKind::DisplayVersion => match error.print(rt) {
             Ok(()) => ExitCode::SUCCESS,
             Err(_) => fail(rt, ServeFault::Write),
         },
-        _ => {
-            let _ = eprint!(rt; "sentinel_group: {error}");
-            ExitCode::from(REFUSED_WORDS)
-        }
+        _ => match format!(in rt.alloc(); "{error}") {
+            Ok(said) => {
+                refuse_words(rt, said.as_str());
+                ExitCode::from(REFUSED_WORDS)
+            }
+            Err(_) => fail(rt, ServeFault::NoMemory),
+        },
     }
 }

@@ -9,6 +9,7 @@ use scenario_replay::ReplayFault;
 use scenarios::{ScenarioFault, ScenarioKind};
 use sentinel_runner::{GroupFault, OrderedFault};
 use std::fmt::Display;
+use std::io;
 use std::process::ExitCode;
 
 /// The exit status of a file that is refused or can't be read.
@@ -77,6 +78,19 @@ pub(crate) fn refuse_file<D: Display + Drop>(
 ) -> ExitCode {
     let _ = eprintln!(rt; "sentinel_group: {path}:{line}: {kind}");
     ExitCode::from(REFUSED_FILE)
+}
+
+/// Tells what is wrong with a file as a whole, and in a note the system's reason.
+pub(crate) fn refuse_with_reason(
+    rt: &impl Eprint,
+    path: &str,
+    kind: &str,
+    what: &str,
+    reason: io::Error,
+) -> ExitCode {
+    let status = refuse_file(rt, path, 0, kind);
+    let _ = eprintln!(rt; "note: {path}:0: {kind}: {what}: {reason}");
+    status
 }
 
 /// Tells why a file isn't written.

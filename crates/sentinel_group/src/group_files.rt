@@ -2,12 +2,15 @@
 
 ghost use Rattle.std.specs.Prelude.{◌≡◌, ◌<◌, ◌-◌, ◌^◌, All, IfOk};
 
-use crate::failures::{fail, refuse_conf, refuse_file};
+use crate::conf_paths::ConfPath;
+use crate::failures::{fail, refuse_conf, refuse_file, refuse_with_reason};
 use crate::noted_store::NotedStore;
-use conf_store::{ConfStore, FileStore, FileText, LoadFault};
+use conf_store::{ConfStore, FileFault, FileStep, FileStore, FileText, LoadFault};
 use log::Log;
 use port_serving::ServeFault;
 use sentinel_conf::{Conf, read};
+use std::fs;
+use std::io::ErrorKind;
 use std::process::ExitCode;
 
 /// What each file of a group says, and each file as the store of its Sentinel, in the order of the words.
@@ -17,34 +20,102 @@ pub(crate) struct GroupFiles<'a, R: Log> {
     pub(crate) stores: Vec<NotedStore<'a, R>>,
 }
 
-/// The file at the path as a store, and its text. A file that can't be read is told, and the status tells it too.
-pub(crate) fn text_at(
+/// Why a file isn't opened.
+#[derive(Clone, Copy)]
+pub(crate) enum Unopened {
+    /// Its path can't be followed, it can't be read, or it can't be synced.
+    Failed(FileFault),
+    /// A growth was refused.
+    NoMemory,
+}
+
+/// The text of the file at the path, which is looked at alone. A file that can't be read is told, with the system's
+/// reason, and the status tells it too.
+pub(crate) fn text_at(rt: HostRuntime, path: &str) -> Result<FileText, ExitCode> {
+    match fs::read(&rt, path) {
+        Ok(bytes) => Ok(FileText::from_vec(bytes)),
+        Err(error) => {
+            if error.kind() == ErrorKind::OutOfMemory {
+                return Err(fail(&rt, ServeFault::NoMemory));
+            }
+            Err(refuse_with_reason(&rt, path, "Unreadable", "it can't be read", error))
+        }
+    }
+}
+
+/// The file at the path as a store, and its text, which the disk holds.
+pub(crate) fn opened(
     rt: HostRuntime,
-    path: &str,
-) -> Result<(FileText, FileStore<HostRuntime>), ExitCode>
+    path: &ConfPath<'_>,
+) -> Result<(FileText, FileStore<HostRuntime>), Unopened>
     ensures { IfOk result (λ r. r.1 ≡ 0) }
 {
-    let Ok(mut store) = FileStore::at(rt, rt.alloc(), path) else {
-        return Err(fail(&rt, ServeFault::NoMemory));
+    let own = match path.own() {
+        Ok(own) => own,
+        Err(error) => {
+            let step = FileStep::Read;
+            return Err(Unopened::Failed(FileFault { step, error }));
+        }
+    };
+    let Ok(mut store) = FileStore::at(rt, rt.alloc(), own) else {
+        return Err(Unopened::NoMemory);
     };
     match store.load() {
         Ok(text) => Ok((text, store)),
-        Err(LoadFault::NoMemory) => Err(fail(&rt, ServeFault::NoMemory)),
-        Err(LoadFault::Failed) => Err(refuse_file(&rt, path, 0, "Unreadable")),
+        Err(LoadFault::NoMemory) => Err(Unopened::NoMemory),
+        Err(LoadFault::Failed) => match store.last_fault() {
+            Some(fault) => Err(Unopened::Failed(fault)),
+            None => unreachable!(),
+        },
+    }
+}
+
+/// Tells that a file isn't opened, and the status tells it too. One that can't be synced is told with the system's
+/// reason: what it holds may be gone with the power.
+pub(crate) fn refuse_unopened(rt: HostRuntime, path: &str, why: Unopened) -> ExitCode {
+    let Unopened::Failed(FileFault { step, error }) = why else {
+        return fail(&rt, ServeFault::NoMemory);
+    };
+    match step {
+        FileStep::Sync => refuse_with_reason(&rt, path, "Unsynced", "it can't be synced", error),
+        FileStep::SyncFolder => refuse_with_reason(
+            &rt,
+            path,
+            "Unsynced",
+            "its folder can't be synced",
+            error,
+        ),
+        _ => refuse_file(&rt, path, 0, "Unreadable"),
+    }
+}
+
+/// As `refuse_unopened`, with the system's reason also where the file can't be read.
+pub(crate) fn refuse_unopened_by_reason(rt: HostRuntime, path: &str, why: Unopened) -> ExitCode {
+    match why {
+        Unopened::Failed(
+            FileFault {
+                step: FileStep::Read,
+                error,
+            },
+        ) => refuse_with_reason(&rt, path, "Unreadable", "it can't be read", error),
+        why => refuse_unopened(rt, path, why),
     }
 }
 
 /// The file at the path as a store, and what it says. A file that is refused is told, and the status tells it too.
 pub(crate) fn file_of(
     rt: HostRuntime,
-    path: &str,
+    path: &ConfPath<'_>,
 ) -> Result<(Conf, FileStore<HostRuntime>), ExitCode>
     ensures { IfOk result (λ r. r.1 ≡ 0) }
 {
-    let (text, store) = text_at(rt, path)?;
+    let (text, store) = match opened(rt, path) {
+        Ok(opened) => opened,
+        Err(why) => return Err(refuse_unopened(rt, path.named(), why)),
+    };
     match read(rt.alloc(), text.as_slice()) {
         Ok(conf) => Ok((conf, store)),
-        Err(fault) => Err(refuse_conf(&rt, path, fault)),
+        Err(fault) => Err(refuse_conf(&rt, path.named(), fault)),
     }
 }
 
@@ -53,12 +124,12 @@ pub(crate) fn file_of(
 fn noted_file_of<'a, R: Log>(
     rt: HostRuntime,
     noting: &'a R,
-    path: &str,
+    path: &ConfPath<'_>,
 ) -> Result<(Conf, NotedStore<'a, R>), ExitCode>
     ensures { IfOk result (λ r. r.1 ≡ 0) }
 {
     let (conf, store) = file_of(rt, path)?;
-    match NotedStore::of(rt, noting, store, conf.port(), path) {
+    match NotedStore::of(rt, noting, store, conf.port(), path.named()) {
         Ok(noted) => Ok((conf, noted)),
         Err(_) => Err(fail(&rt, ServeFault::NoMemory)),
     }
@@ -68,7 +139,7 @@ fn noted_file_of<'a, R: Log>(
 pub(crate) fn files_of<'a, R: Log>(
     rt: HostRuntime,
     noting: &'a R,
-    paths: &[&str],
+    paths: &[ConfPath<'_>],
 ) -> Result<GroupFiles<'a, R>, ExitCode>
     ensures { IfOk result (λ files. All (λ store. store < 2 ^ 64 - 1) files.stores.items) }
 {

@@ -1,18 +1,35 @@
 //! Locks of conf files, so that no two programs run on one.
 //!
-//! What is locked is `<path>.lock`, an empty file that is made and stays: the file itself is replaced at each store, and a lock would go with it.
-//! The system lets go of a lock when its program ends, however it does.
+//! What is locked is `<path>.lock`, an empty file that is made and stays: the file itself is replaced at each store,
+//! and a lock would go with it. The file is locked too as it is at the start, since it may have another name (a hard
+//! link), with another file to lock beside it. The system lets go of a lock when its program ends, however it does; a
+//! program that starts waits a second for that.
 
-use crate::failures::{fail, refuse_file};
+use crate::conf_paths::ConfPath;
+use crate::failures::{fail, refuse_file, refuse_with_reason};
+use crate::new_files::make_file;
+use log::{Log, warn};
 use port_serving::ServeFault;
-use std::fs::{self, File, OpenOptions, TryLockError};
+use std::fs::{self, File, Metadata, OpenOptions, TryLockError};
+use std::io::{self, ErrorKind};
+use std::os::unix::fs::{MetadataExt, fchown};
 use std::process::ExitCode;
+use std::thread;
+use std::time::Duration;
 
-/// What a program holds of a file while it runs on it: its lock, or nothing where none can be had, as where no file can be made. It lets go of
-/// the lock when it is dropped.
+/// How often a lock that another program holds is tried again.
+const TRIES: u32 = 20;
+
+/// How long after a try the next one comes, in milliseconds.
+const TRY_MS: u64 = 50;
+
+/// What a program holds of a file while it runs on it: its lock, or the reason why no file to lock can be made beside
+/// it; and the file itself. It lets go of these when it is dropped.
 #[derive(Drop)]
 pub(crate) struct FileLock {
     held: Option<File>,
+    unmade: Option<io::Error>,
+    file: Option<File>,
 }
 
 /// Why a program may not run on these files.
@@ -20,30 +37,62 @@ pub(crate) struct FileLock {
 pub(crate) enum LockFault<'a> {
     /// Another program runs on the file at this path.
     InUse(&'a str),
+    /// The file to lock beside the file at this path is there, and can't be opened or locked: the system's error.
+    Unlockable(&'a str, io::Error),
     /// A growth was refused.
     NoMemory,
 }
 
-/// Opens the file to lock beside a file, which is made where it isn't there, with the permissions of that one: who can't read it can't lock it
-/// either. None where the path is of no file, and where none can be made.
-fn open_lock(rt: HostRuntime, path: &str, lock_path: &str) -> Option<File> {
-    let Ok(metadata) = fs::metadata(&rt, path) else {
-        return None;
+/// The file to lock beside a file.
+#[derive(Drop)]
+enum LockFile {
+    /// It is open.
+    Open(File),
+    /// It isn't there, and can't be made.
+    Unmade(io::Error),
+}
+
+/// Opens a file to lock it; one that may be read alone can be locked too.
+fn open_to_lock(rt: HostRuntime, path: &str) -> io::Result<File> {
+    let mut how = OpenOptions::new();
+    how.read(true).write(true);
+    match how.open(&rt, path) {
+        Ok(file) => Ok(file),
+        Err(_) => File::open(&rt, path),
+    }
+}
+
+/// Opens the file to lock beside a file, which is made where it isn't there, with the owner and the permissions of that
+/// one: who can't read it can't lock it either, and who can does, also where another user ran on it before.
+fn open_lock(rt: HostRuntime, beside: &Metadata, lock_path: &str) -> io::Result<LockFile> {
+    let unmade = match make_file(rt, lock_path) {
+        Ok(file) => {
+            let _ = fchown(&file, Some(beside.uid()), Some(beside.gid()));
+            let _ = file.set_permissions(beside.permissions());
+            return Ok(LockFile::Open(file));
+        }
+        Err(error) => error,
     };
-    if !metadata.is_file() {
-        return None;
+    match open_to_lock(rt, lock_path) {
+        Ok(file) => Ok(LockFile::Open(file)),
+        Err(error) => {
+            if error.kind() == ErrorKind::NotFound && unmade.kind() != ErrorKind::AlreadyExists {
+                return Ok(LockFile::Unmade(unmade));
+            }
+            Err(error)
+        }
     }
-    if let Ok(file) = File::create_new(&rt, lock_path) {
-        let _ = file.set_permissions(metadata.permissions());
-        return Some(file);
+}
+
+/// Locks a file; where another program holds it, it is tried again for a second.
+fn lock_soon(rt: HostRuntime, file: &File) -> Result<(), TryLockError> {
+    for _ in 0..TRIES {
+        match file.try_lock() {
+            Err(TryLockError::WouldBlock) => thread::sleep(&rt, Duration::from_millis(TRY_MS)),
+            tried => return tried,
+        }
     }
-    let mut options = OpenOptions::new();
-    options.read(true).write(true);
-    match options.open(&rt, lock_path) {
-        Ok(file) => Some(file),
-        // (a file that may be read alone can be locked too)
-        Err(_) => File::open(&rt, lock_path).ok(),
-    }
+    file.try_lock()
 }
 
 /// Opens the file three times: where standard input, output or error is closed, that takes its number meanwhile, so that no lock has it, into whose
@@ -55,33 +104,92 @@ fn stand_in(rt: HostRuntime, path: &str) -> (Option<File>, Option<File>, Option<
     (first, second, third)
 }
 
-/// Locks the file at the path for this program alone. It isn't locked where none can be made beside it, since nobody can store there then, nor
-/// where the system has no locks.
-pub(crate) fn lock_file(rt: HostRuntime, path: &str) -> Result<FileLock, LockFault<'_>> {
-    let Ok(lock_path) = format!(in rt.alloc(); "{path}.lock") else {
+impl FileLock {
+    /// Nothing is locked of what can't be opened, or is no file: nobody runs on it.
+    fn of_nothing() -> FileLock {
+        FileLock {
+            held: None,
+            unmade: None,
+            file: None,
+        }
+    }
+
+    /// Notes where no file to lock can be made beside the file at this path.
+    pub(crate) fn note<R: Log>(&self, noting: &R, path: &str) {
+        if let Some(error) = self.unmade {
+            warn!(noting; "no lock file can be made beside {path}, so nothing can be stored there: {error}");
+        }
+    }
+}
+
+/// Locks the file beside the file at this path of its own, and then that one as it is now. The latter isn't locked
+/// where the system has no lock for it: the former is what keeps other programs away.
+fn lock_both<'a>(
+    rt: HostRuntime,
+    named: &'a str,
+    own: &str,
+    lock_file: LockFile,
+) -> Result<FileLock, LockFault<'a>> {
+    let (held, unmade) = match lock_file {
+        LockFile::Open(file) => (Some(file), None),
+        LockFile::Unmade(error) => (None, Some(error)),
+    };
+    if let Some(held) = &held {
+        match lock_soon(rt, held) {
+            Ok(()) => {}
+            Err(TryLockError::WouldBlock) => return Err(LockFault::InUse(named)),
+            Err(TryLockError::Error(error)) => return Err(LockFault::Unlockable(named, error)),
+        }
+    }
+    let mut file = open_to_lock(rt, own).ok();
+    if let Some(opened) = &file {
+        match lock_soon(rt, opened) {
+            Ok(()) => {}
+            Err(TryLockError::WouldBlock) => return Err(LockFault::InUse(named)),
+            Err(TryLockError::Error(_)) => file = None,
+        }
+    }
+    Ok(FileLock { held, unmade, file })
+}
+
+/// Locks the file at the path for this program alone. Nothing is locked where the path leads to no file that can be
+/// read: the program ends there.
+pub(crate) fn lock_file<'a>(
+    rt: HostRuntime,
+    path: &ConfPath<'a>,
+) -> Result<FileLock, LockFault<'a>> {
+    let Ok(own) = path.own() else {
+        return Ok(FileLock::of_nothing());
+    };
+    let Ok(metadata) = fs::metadata(&rt, own) else {
+        return Ok(FileLock::of_nothing());
+    };
+    if !metadata.is_file() {
+        return Ok(FileLock::of_nothing());
+    }
+    let Ok(lock_path) = format!(in rt.alloc(); "{own}.lock") else {
         return Err(LockFault::NoMemory);
     };
-    let standing_in = stand_in(rt, path);
-    let opened = open_lock(rt, path, lock_path.as_str());
-    drop(standing_in);
-    let Some(file) = opened else {
-        return Ok(FileLock { held: None });
-    };
-    match file.try_lock() {
-        Ok(()) => Ok(FileLock { held: Some(file) }),
-        Err(TryLockError::WouldBlock) => Err(LockFault::InUse(path)),
-        Err(TryLockError::Error(_)) => Ok(FileLock { held: None }),
+    let standing_in = stand_in(rt, own);
+    if standing_in.0.is_none() {
+        return Ok(FileLock::of_nothing());
     }
+    let locked = match open_lock(rt, &metadata, lock_path.as_str()) {
+        Ok(lock_file) => lock_both(rt, path.named(), own, lock_file),
+        Err(error) => Err(LockFault::Unlockable(path.named(), error)),
+    };
+    drop(standing_in);
+    locked
 }
 
 /// Locks the file at each path. At a fault none is locked any more.
 pub(crate) fn lock_files<'a>(
     rt: HostRuntime,
-    paths: &[&'a str],
+    paths: &[ConfPath<'a>],
 ) -> Result<Vec<FileLock>, LockFault<'a>> {
     let mut locks = Vec::new(rt.alloc());
     for path in paths {
-        let lock = lock_file(rt, *path)?;
+        let lock = lock_file(rt, path)?;
         if locks.push(lock).is_err() {
             return Err(LockFault::NoMemory);
         }
@@ -93,6 +201,13 @@ pub(crate) fn lock_files<'a>(
 pub(crate) fn refuse_lock(rt: HostRuntime, fault: LockFault<'_>) -> ExitCode {
     match fault {
         LockFault::InUse(path) => refuse_file(&rt, path, 0, "InUse"),
+        LockFault::Unlockable(path, error) => refuse_with_reason(
+            &rt,
+            path,
+            "Unlockable",
+            "the lock file beside it can't be opened or locked",
+            error,
+        ),
         LockFault::NoMemory => fail(&rt, ServeFault::NoMemory),
     }
 }

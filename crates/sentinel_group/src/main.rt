@@ -6,10 +6,12 @@ ghost use Rattle.std.specs.Prelude.{◌<◌, ◌-◌, ◌^◌};
 
 mod checking;
 mod command_line;
+mod conf_paths;
 mod failures;
 mod group_files;
 mod locks;
 mod mending;
+mod new_files;
 mod new_ids;
 mod noted_store;
 mod redis_text;
@@ -21,6 +23,7 @@ mod watching;
 
 use crate::checking::check;
 use crate::command_line::{command, refuse_unread, tell_words, words};
+use crate::conf_paths::ConfPath;
 use crate::failures::fail;
 use crate::group_files::file_of;
 use crate::locks::{lock_file, refuse_lock};
@@ -71,8 +74,11 @@ fn answer_in_memory(rt: HostRuntime) -> ExitCode {
 
 /// Serves with the configuration of the file at the path, which is rewritten as what it holds changes. Nobody else may run on it meanwhile.
 fn answer_from(rt: HostRuntime, path: &str) -> ExitCode {
-    let locked = lock_file(rt, path);
-    let (conf, mut store) = match file_of(rt, path) {
+    let Ok(path) = ConfPath::of(rt, path) else {
+        return fail(&rt, ServeFault::NoMemory);
+    };
+    let locked = lock_file(rt, &path);
+    let (conf, mut store) = match file_of(rt, &path) {
         Ok(file) => file,
         Err(status) => return status,
     };

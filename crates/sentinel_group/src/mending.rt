@@ -1,11 +1,11 @@
 //! `check --mend`: the files of a group that differ in their configurations alone, written anew.
 
 use crate::failures::{fail, fail_group, refuse_file_to_write};
+use crate::new_files::make_file_as;
 use conf_mending::{MendFault, are_one_group, mended_texts};
 use group_checks::NamedConf;
 use port_serving::ServeFault;
 use sentinel_runner::GroupFault;
-use std::fs;
 use std::io::{self, Write};
 use std::process::ExitCode;
 
@@ -17,9 +17,10 @@ fn name_of(path: &str) -> &str {
     }
 }
 
-/// Writes a text to a file that isn't there yet, and has the disk hold it.
-fn write_new(rt: HostRuntime, path: &str, text: &[u8]) -> io::Result<()> {
-    let mut file = fs::File::create_new(&rt, path)?;
+/// Writes a text to a file that isn't there yet, with the permissions of the conf, since passwords can be in both, and
+/// has the disk hold it.
+fn write_new(rt: HostRuntime, conf_path: &str, path: &str, text: &[u8]) -> io::Result<()> {
+    let mut file = make_file_as(rt, path, conf_path)?;
     file.write_all(text)?;
     file.sync_all()
 }
@@ -35,7 +36,7 @@ fn write_mended(
     let Ok(path) = format!(in rt.alloc(); "{folder}/{name}") else {
         return Err(fail(&rt, ServeFault::NoMemory));
     };
-    if write_new(rt, path.as_str(), text).is_err() {
+    if write_new(rt, file.name.as_str(), path.as_str(), text).is_err() {
         return Err(refuse_file_to_write(&rt, path.as_str(), "Unwritable"));
     }
     let _ = eprintln!(rt; "note: {path} is written");

@@ -1,6 +1,7 @@
 //! `check --for-redis`: the text of a conf that redis-sentinel reads.
 
 use crate::failures::{fail, refuse_file_to_write};
+use crate::new_files::make_file_as;
 use port_serving::ServeFault;
 use std::fs;
 use std::io::{self, ErrorKind, Write};
@@ -27,12 +28,8 @@ fn write_named(
     path: &str,
     text: &[u8],
 ) -> io::Result<()> {
-    let permissions = fs::metadata(&rt, conf_path)?.permissions();
-    let mut file = fs::File::create_new(&rt, beside)?;
-    let written = file
-        .set_permissions(permissions)
-        .and_then(|()| file.write_all(text))
-        .and_then(|()| file.sync_all());
+    let mut file = make_file_as(rt, beside, conf_path)?;
+    let written = file.write_all(text).and_then(|()| file.sync_all());
     drop(file);
     let named = written.and_then(|()| fs::rename(&rt, beside, path));
     if named.is_err() {

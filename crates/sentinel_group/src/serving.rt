@@ -3,7 +3,8 @@
 ghost use Rattle.std.specs.Prelude.{◌<◌, ◌-◌, ◌^◌, All, IfOk};
 
 use crate::command_line::port_threads_of;
-use crate::failures::{fail_ordered, status_of_ordered};
+use crate::conf_paths::conf_paths;
+use crate::failures::{fail, fail_ordered, status_of_ordered};
 use crate::group_files::{GroupFiles, files_of};
 use crate::locks::{FileLock, lock_files, refuse_lock};
 use crate::starting::note_start;
@@ -12,6 +13,7 @@ use conf_store::ConfStore;
 use group_checks::is_one_group;
 use log::Log;
 use node_ports::descriptors_of;
+use port_serving::ServeFault;
 use sentinel_runner::{Group, OrderedFault, PortSettings, ServesNodes, WithPorts, WithoutPorts};
 use std::io::{Input, IsTerminal};
 use std::net::Net;
@@ -98,11 +100,18 @@ fn locked_files_of<'a, R: Log>(
 ) -> Result<(GroupFiles<'a, R>, Vec<FileLock>), ExitCode>
     ensures { IfOk result (λ files. All (λ store. store < 2 ^ 64 - 1) files.0.stores.items) }
 {
-    let paths = words.get_strs("conf").unwrap_or(&[]);
-    let locked = lock_files(rt, paths);
-    let files = files_of(rt, noting, paths)?;
+    let Ok(paths) = conf_paths(rt, words.get_strs("conf").unwrap_or(&[])) else {
+        return Err(fail(&rt, ServeFault::NoMemory));
+    };
+    let locked = lock_files(rt, paths.as_slice());
+    let files = files_of(rt, noting, paths.as_slice())?;
     match locked {
-        Ok(locks) => Ok((files, locks)),
+        Ok(locks) => {
+            for (lock, path) in locks.iter().zip(paths.iter()) {
+                lock.note(noting, path.named());
+            }
+            Ok((files, locks))
+        }
         Err(fault) => {
             if is_one_group(files.confs.as_slice()) {
                 return Err(refuse_lock(rt, fault));

@@ -1,32 +1,95 @@
-//! What is told of files on standard error beside the line of a fault: all that is wrong with them, and warnings.
+//! What is told of files beside the line of a fault: all that is wrong with them, and warnings; on standard error, or as notes.
 
-use conf_advice::{Directives, add_warnings};
+use crate::new_files::make_file;
+use conf_advice::{Directives, add_watch_warnings};
 use conf_faults::add_notes;
 use conf_mending::add_sides;
 use group_checks::NamedConf;
+use log::{Log, info, warn};
+use sentinel_conf::Conf;
 use std::fs;
 use std::io::{self, Write};
+use std::str::from_utf8;
+use watch_conf::{WatchKind, WatchLine, line_of, read_watch};
+use words::split_line;
 
 /// Writes these lines to standard error. Where they can't be written, nothing tells it.
 fn tell(rt: HostRuntime, lines: &[u8]) {
     let _ = rt.stderr().write_all(lines);
 }
 
-/// Tells all that is wrong with a file, and the warnings of its lines. Where memory is refused, nothing is told.
-pub(crate) fn tell_faults(rt: HostRuntime, path: &str, text: &[u8]) {
+/// Tells each line of a file that `watch` refuses, and why, but the line with the number `told`.
+fn tell_refused(rt: HostRuntime, path: &str, text: &[u8], told: u64) {
+    let mut number: u64 = 1;
+    let mut rest = text;
+    while !rest.is_empty() {
+        let (line, more) = split_line(rest);
+        match line_of(rt.alloc(), line) {
+            Ok(WatchLine::Faulty(kind)) if number != told => {
+                let _ = eprintln!(rt; "note: {path}:{number}: {kind}");
+            }
+            _ => {}
+        }
+        number = number.saturating_add(1);
+        rest = more;
+    }
+}
+
+/// Tells the line that has the hash of another password than `requirepass`, where nothing else refuses the file.
+fn tell_other_password(rt: HostRuntime, path: &str, conf: &Conf, text: &[u8]) {
+    if let Err(fault) = read_watch(rt.alloc(), conf, text) {
+        if fault.kind == WatchKind::OtherPassword {
+            let _ = eprintln!(rt; "note: {path}:{}: {fault}", fault.line);
+        }
+    }
+}
+
+/// Tells each line that `watch` refuses, but the one with the number `told`, and the warnings of a file that is to be one for `watch`, in a group of so
+/// many Sentinels. Where memory is refused, less is told.
+pub(crate) fn tell_watch(rt: HostRuntime, path: &str, sentinels: u64, text: &[u8], told: u64) {
+    tell_refused(rt, path, text, told);
     let alloc = rt.alloc();
     let known = Directives::of_redis();
     let mut lines = Vec::new(alloc);
-    let told = add_notes(alloc, &mut lines, path, text);
-    if told.is_ok() && add_warnings(alloc, &mut lines, &known, u64::MAX, path, text).is_ok() {
+    if add_watch_warnings(alloc, &mut lines, &known, sentinels, path, text).is_ok() {
         tell(rt, &lines);
+    }
+}
+
+/// Tells all that is wrong with a file that is to be one for `watch`, and the warnings of its lines. Where memory is refused, less is told.
+pub(crate) fn tell_faults(rt: HostRuntime, path: &str, text: &[u8]) {
+    let mut lines = Vec::new(rt.alloc());
+    if add_notes(rt.alloc(), &mut lines, path, text).is_ok() {
+        tell(rt, &lines);
+    }
+    tell_watch(rt, path, u64::MAX, text, 0);
+}
+
+/// Notes the warnings of the file of a `watch` that starts, and which of its lines have no effect. Where memory is refused, nothing is noted.
+pub(crate) fn note_watch<R: Log>(
+    rt: HostRuntime,
+    noting: &R,
+    path: &str,
+    sentinels: u64,
+    text: &[u8],
+) {
+    let mut lines = Vec::new(rt.alloc());
+    let known = Directives::of_redis();
+    if add_watch_warnings(rt.alloc(), &mut lines, &known, sentinels, path, text).is_err() {
+        return;
+    }
+    for line in from_utf8(&lines).unwrap_or("").lines() {
+        match line.strip_prefix("warning: ") {
+            Some(told) => warn!(noting; "{told}"),
+            None => info!(noting; "{}", line.strip_prefix("note: ").unwrap_or(line)),
+        }
     }
 }
 
 /// Writes the text to a new file beside that at the path, and removes it: so a file can be replaced there.
 fn try_beside(rt: HostRuntime, path: &str, text: &[u8]) -> io::Result<()> {
     let trial = format!(in rt.alloc(); "{path}.check")?;
-    let mut file = fs::File::create_new(&rt, trial.as_str())?;
+    let mut file = make_file(rt, trial.as_str())?;
     let written = file.write_all(text).and_then(|()| file.sync_all());
     drop(file);
     fs::remove_file(&rt, trial.as_str())?;
@@ -43,17 +106,14 @@ fn tell_unwritable(rt: HostRuntime, path: &str, text: &[u8]) {
 }
 
 /// Tells the warnings of a file of a group of so many Sentinels, and where it can't be replaced.
-fn tell_file(rt: HostRuntime, file: &NamedConf) {
+pub(crate) fn tell_file(rt: HostRuntime, file: &NamedConf) {
     let path = file.name.as_str();
     let sentinels = file.conf.roster().sentinels().len() as u64;
-    let known = Directives::of_redis();
     let Ok(text) = fs::read(&rt, path) else {
         return;
     };
-    let mut lines = Vec::new(rt.alloc());
-    if add_warnings(rt.alloc(), &mut lines, &known, sentinels, path, &text).is_ok() {
-        tell(rt, &lines);
-    }
+    tell_watch(rt, path, sentinels, &text, 0);
+    tell_other_password(rt, path, &file.conf, &text);
     tell_unwritable(rt, path, &text);
 }
 

@@ -3,27 +3,29 @@
 ghost use Rattle.std.specs.Prelude.{◌≡◌, ◌<◌, ◌-◌, ◌^◌, IfOk};
 
 use crate::command_line::port_threads_of;
+use crate::conf_paths::ConfPath;
 use crate::failures::{fail, fail_group, refuse_conf, refuse_file, status_of_group};
-use crate::group_files::text_at;
+use crate::group_files::{opened, refuse_unopened_by_reason};
 use crate::locks::{FileLock, lock_file, refuse_lock};
 use crate::noted_store::NotedStore;
 use crate::starting::note_sentinel;
-use crate::telling::tell_faults;
+use crate::telling::{note_watch, tell_faults, tell_watch};
 use ballot_law::{Roster, Text};
 use clap::ArgMatches;
-use group_ports::Admission;
+use conf_store::FileText;
+use group_ports::{Admission, PortAddress};
 use log::{LevelFilter, Log};
 use port_serving::ServeFault;
 use sentinel_conf::{Conf, read};
 use sentinel_runner::{GroupFault, PortSettings, Watch, WatchSettings};
 use std::alloc::{AllocError, Global};
-use std::net::Net;
+use std::net::{Ipv4Addr, Net, SocketAddr};
 use std::process::ExitCode;
 use std::rt::Clock;
 use std::sync::Wait;
 use std::thread::Threads;
 use tcp_wires::Logins;
-use watch_conf::{EVERYWHERE, WatchConf, WatchFault, WatchKind, read_watch};
+use watch_conf::{WatchConf, WatchFault, WatchKind, read_watch};
 
 /// Why a Sentinel didn't run, or ended.
 #[derive(Drop)]
@@ -38,6 +40,7 @@ pub(crate) enum Unwatched {
 #[derive(Drop)]
 struct WatchFile<'a, R: Log> {
     conf: Conf,
+    text: FileText,
     store: NotedStore<'a, R>,
     settings: WatchSettings,
 }
@@ -51,11 +54,22 @@ pub(crate) fn watch_level(words: &ArgMatches) -> LevelFilter {
     }
 }
 
-/// Tells why a file that can be read isn't one for `watch`.
-fn refuse_watch(rt: HostRuntime, path: &str, fault: WatchFault) -> ExitCode {
+/// Tells why a file that can be read, and says this, isn't one for `watch`: the fault, then each other line that is refused, and the warnings.
+pub(crate) fn refuse_watch(
+    rt: HostRuntime,
+    path: &str,
+    conf: &Conf,
+    text: &[u8],
+    fault: WatchFault,
+) -> ExitCode {
     match fault.kind {
         WatchKind::NoMemory => fail(&rt, ServeFault::NoMemory),
-        kind => refuse_file(&rt, path, fault.line, kind),
+        kind => {
+            let status = refuse_file(&rt, path, fault.line, kind);
+            let sentinels = conf.roster().sentinels().len() as u64;
+            tell_watch(rt, path, sentinels, text, fault.line);
+            status
+        }
     }
 }
 
@@ -70,30 +84,59 @@ fn logins_of(alloc: Global, roster: &Roster, watch: &WatchConf) -> Result<Logins
     Ok(logins)
 }
 
-/// Whom its port lets in: in the protected mode, where no line says at which ips it listens and no password is wanted, the clients of this machine alone.
-/// The client of a connection beyond the most that it keeps is told so.
-fn admission_of(alloc: Global, watch: &WatchConf) -> Result<Admission, AllocError> {
+/// The ip of each other Sentinel of the group.
+fn peers_of(alloc: Global, conf: &Conf) -> Result<Vec<u32>, AllocError> {
+    let mut peers = Vec::new(alloc);
+    for (place, member) in conf.roster().sentinels().iter().enumerate() {
+        if place != usize::from(conf.place()) {
+            peers.push(member.addr.ip)?;
+        }
+    }
+    Ok(peers)
+}
+
+/// Whom its port lets in: in the protected mode, where no password is wanted, the clients of this machine alone, at
+/// whichever ips it listens. Where as many clients are there as may be, the client goes that has been silent for
+/// longest; seats for the other Sentinels are kept.
+fn admission_of(alloc: Global, conf: &Conf, watch: &WatchConf) -> Result<Admission, AllocError> {
     let password = Vec::from_slice(alloc, watch.own_pass())?;
-    let listens_everywhere = watch.ips() == [EVERYWHERE].as_slice();
     Ok(Admission {
-        near_only: watch.protected_mode() && listens_everywhere && password.is_empty(),
+        near_only: watch.protected_mode() && password.is_empty(),
         limit: Some(watch.max_clients()),
         password: Text::from_vec(password),
+        peers: peers_of(alloc, conf)?,
+        idle_seconds: watch.idle_seconds(),
     })
+}
+
+/// At which addresses its port listens.
+fn addresses_of(
+    alloc: Global,
+    conf: &Conf,
+    watch: &WatchConf,
+) -> Result<Vec<PortAddress>, AllocError> {
+    let mut addresses = Vec::new(alloc);
+    for bind in watch.binds() {
+        addresses.push(PortAddress {
+            address: SocketAddr::from((Ipv4Addr::from(bind.ip), conf.port())),
+            may_lack: bind.may_lack,
+        })?;
+    }
+    Ok(addresses)
 }
 
 /// What the lines say that count for `watch` alone, as its Sentinel takes it.
 fn taken_settings(
     alloc: Global,
-    roster: &Roster,
+    conf: &Conf,
     watch: &WatchConf,
     port: PortSettings,
 ) -> Result<WatchSettings, AllocError> {
     Ok(WatchSettings {
-        ips: Vec::from_slice(alloc, watch.ips())?,
+        addresses: addresses_of(alloc, conf, watch)?,
         port,
-        admission: admission_of(alloc, watch)?,
-        logins: logins_of(alloc, roster, watch)?,
+        admission: admission_of(alloc, conf, watch)?,
+        logins: logins_of(alloc, conf.roster(), watch)?,
     })
 }
 
@@ -115,9 +158,9 @@ fn settings_of(
 ) -> Result<WatchSettings, ExitCode> {
     let watch = match read_watch(rt.alloc(), conf, text) {
         Ok(watch) => watch,
-        Err(fault) => return Err(refuse_watch(rt, path, fault)),
+        Err(fault) => return Err(refuse_watch(rt, path, conf, text, fault)),
     };
-    match taken_settings(rt.alloc(), conf.roster(), &watch, port) {
+    match taken_settings(rt.alloc(), conf, &watch, port) {
         Ok(settings) => Ok(settings),
         Err(_) => Err(fail(&rt, ServeFault::NoMemory)),
     }
@@ -128,12 +171,17 @@ fn settings_of(
 fn watch_file<'a, R: Log>(
     rt: HostRuntime,
     noting: &'a R,
-    path: &str,
+    path: &ConfPath<'_>,
     port: PortSettings,
 ) -> Result<WatchFile<'a, R>, ExitCode>
     ensures { IfOk result (λ file. file.store ≡ 0) }
 {
-    let (text, store) = text_at(rt, path)?;
+    let opened = opened(rt, path);
+    let path = path.named();
+    let (text, store) = match opened {
+        Ok(opened) => opened,
+        Err(why) => return Err(refuse_unopened_by_reason(rt, path, why)),
+    };
     let conf = match read(rt.alloc(), text.as_slice()) {
         Ok(conf) => conf,
         Err(fault) => {
@@ -146,6 +194,7 @@ fn watch_file<'a, R: Log>(
     match NotedStore::of(rt, noting, store, conf.port(), path) {
         Ok(store) => Ok(WatchFile {
             conf,
+            text,
             store,
             settings,
         }),
@@ -161,11 +210,16 @@ fn locked_file<'a, R: Log>(
 ) -> Result<(WatchFile<'a, R>, FileLock), ExitCode>
     ensures { IfOk result (λ locked. locked.0.store ≡ 0) }
 {
-    let path = words.get_str("conf").unwrap_or("");
-    let locked = lock_file(rt, path);
-    let file = watch_file(rt, noting, path, port_of(words))?;
+    let Ok(path) = ConfPath::of(rt, words.get_str("conf").unwrap_or("")) else {
+        return Err(fail(&rt, ServeFault::NoMemory));
+    };
+    let locked = lock_file(rt, &path);
+    let file = watch_file(rt, noting, &path, port_of(words))?;
     match locked {
-        Ok(lock) => Ok((file, lock)),
+        Ok(lock) => {
+            lock.note(noting, path.named());
+            Ok((file, lock))
+        }
         Err(fault) => Err(refuse_lock(rt, fault)),
     }
 }
@@ -181,10 +235,14 @@ where
     };
     let WatchFile {
         conf,
+        text,
         store,
         settings,
     } = file;
     note_sentinel(noting, &conf);
+    let path = words.get_str("conf").unwrap_or("");
+    let sentinels = conf.roster().sentinels().len() as u64;
+    note_watch(rt, noting, path, sentinels, text.as_slice());
     let ended = match Watch::open(noting, rt.alloc(), conf, store, settings) {
         Ok(watch) => watch.run(noting),
         Err(fault) => Err(fault),

@@ -9,6 +9,7 @@ use crossbeam_channel::{Receiver, Sender};
 use group_links::Delivery;
 use group_ports::Port;
 use group_sentinels::{RunFault, RunState, RunningSentinel, ThreadSeat, Which};
+use log::Log;
 use std::alloc::{AllocError, Global};
 use std::io;
 use std::rt::Clock;
@@ -36,11 +37,11 @@ pub(crate) struct PortPart<J: Which> {
 /// What a thread of a port of such a Sentinel does. By this trait `serve_parts` knows of a part no more than that it may be sent.
 pub(crate) trait ServesPort<M> {
     /// Serves the port until `ending` isn't 0. Then it is closed.
-    fn serve<R: Wait + Clock>(self, rt: &R, state: &RunState, member: &M, ending: &AtomicU64);
+    fn serve<R: Wait + Clock + Log>(self, rt: &R, state: &RunState, member: &M, ending: &AtomicU64);
 }
 
 impl<J: Which, S: ConfStore> ServesPort<RunningSentinel<J, S>> for PortPart<J> {
-    fn serve<R: Wait + Clock>(
+    fn serve<R: Wait + Clock + Log>(
         self,
         rt: &R,
         state: &RunState,
@@ -103,7 +104,7 @@ pub(crate) fn serve_parts<'a, M: Sync, P: ServesPort<M> + Drop + Send, R>(
     ending: &'a AtomicU64,
 )
 where
-    R: Threads + Wait + Clock + Sync,
+    R: Threads + Wait + Clock + Log + Sync,
 {
     thread::scope(thread::scope_env(), rt, |scope| {
         let mut refused = false;

@@ -1,6 +1,7 @@
 //! One Sentinel of its own, which watches Redis servers and speaks to the other Sentinels over TCP.
 
-ghost use Rattle.std.specs.Prelude.{◌≡◌, ◌<◌, ◌≤◌, ◌+◌, ◌-◌, ◌^◌, IfOk, OnOk, length};
+ghost use Rattle.std.specs.Prelude.{◌≡◌, ◌≢◌, ◌<◌, ◌≤◌, ◌+◌, ◌-◌, ◌^◌, IfErr, IfOk, OnOk, length};
+ghost use Rattle.sentinel_runner.specs.declared.group_fault.GroupFault.TheVariants.{NotOneRoster};
 ghost use Rattle.sentinel_runner.specs.declared.opened.TheConstants.{PORT_THREADS_MAX};
 ghost use Rattle.sentinel_runner.specs.declared.watch.TheConstants.{BESIDE};
 
@@ -9,14 +10,14 @@ use crate::group_fault::GroupFault;
 use crate::opened::{Opened, PortSettings, fault_of};
 use crate::port_parts::{PortPart, ServesPort, end_for_want, note_lost, parts_of, serve_parts};
 use conf_store::ConfStore;
-use group_ports::{Admission, Port, PortRoom, connections_beside};
+use group_ports::{Admission, Port, PortAddress, PortRoom, Sockets, seats_beside};
 use group_sentinels::{GroupClock, RunState, RunningSentinel, ThreadSeat, Which};
-use log::{Log, warn};
+use log::{Log, info, warn};
 use sentinel_conf::{Conf, ConfText, rewrite_into};
 use std::alloc::{AllocError, Global};
 use std::io::ErrorKind;
 use std::marker::Brand;
-use std::net::{Ipv4Addr, Net, SocketAddr};
+use std::net::Net;
 use std::rt::Clock;
 use std::sync::Wait;
 use std::sync::atomic::{AtomicU64, Ordering};
@@ -30,8 +31,8 @@ const BESIDE: u16 = 1;
 /// What a Sentinel of its own is told beside its conf.
 #[derive(Drop)]
 pub struct WatchSettings {
-    /// The ips at which its port listens.
-    pub ips: Vec<u32>,
+    /// At which addresses its port listens.
+    pub addresses: Vec<PortAddress>,
     /// How the port is served.
     pub port: PortSettings,
     /// Whom the port lets in.
@@ -61,6 +62,7 @@ pub struct Watch<S: ConfStore> {
 fn prove_store<S: ConfStore>(alloc: Global, conf: &Conf, store: &mut S) -> Result<(), GroupFault>
     requires { S.failure_count store.old < 2 ^ 64 - 1 }
     ensures ok { OnOk result (S.failure_count store.new ≡ S.failure_count store.old) }
+    ensures roster { IfErr result (λ fault. fault ≢ NotOneRoster) }
 {
     let Ok(mut text) = ConfText::room_for(alloc, conf) else {
         return Err(GroupFault::NoMemory);
@@ -78,25 +80,31 @@ fn wires_of<R: Net>(
     alloc: Global,
     conf: &Conf,
     logins: Logins,
-) -> Result<(Wires, FarEnd), GroupFault> {
+) -> Result<(Wires, FarEnd), GroupFault>
+    ensures roster { IfErr result (λ fault. fault ≢ NotOneRoster) }
+{
     match Wires::new(rt, alloc, conf, logins) {
         Ok(both) => Ok(both),
         Err(error) => Err(fault_of(&error)),
     }
 }
 
-/// How many connections each thread of its port keeps, which is served so, beside those that the Sentinel of this conf opens itself.
+/// How many connections each thread of its port keeps, which is served so and wants so many, beside those that the
+/// Sentinel of this conf opens itself.
 fn room_of<R: Net>(
     rt: &R,
     alloc: Global,
     conf: &Conf,
     port: PortSettings,
+    admission: &Admission,
 ) -> Result<PortRoom, GroupFault>
     ensures threads { IfOk result (λ room. 0 < port.threads → port.threads ≤ PORT_THREADS_MAX → room.threads ≡ port.threads) }
     ensures courtesies { IfOk result (λ room. room.courteous ≡ port.courtesies) }
+    ensures roster { IfErr result (λ fault. fault ≢ NotOneRoster) }
 {
     let own = connection_count(conf.roster()) as u64;
-    let room = match connections_beside(rt, alloc, 1, port.threads_of_each(), own) {
+    let threads = port.threads_of_each();
+    let room = match seats_beside(rt, alloc, threads, own, admission.wanted(threads)) {
         Ok(room) => room,
         Err(error) => return Err(fault_of(&error)),
     };
@@ -106,32 +114,50 @@ fn room_of<R: Net>(
     Ok(room.with_courtesies(port.courtesies))
 }
 
-/// The sockets' addresses of a port of this number at these ips.
-fn addresses_of(alloc: Global, ips: &[u32], number: u16) -> Result<Vec<SocketAddr>, AllocError> {
-    let mut addresses = Vec::new(alloc);
-    for ip in ips {
-        addresses.push(SocketAddr::from((Ipv4Addr::from(*ip), number)))?;
+/// Notes how many clients the port has room for, where a file lets so many in.
+fn note_room<R: Log>(rt: &R, number: u16, wanted: Option<u16>, admission: &Admission) {
+    let (Some(wanted), Some(most)) = (wanted, admission.limit) else {
+        return;
+    };
+    let kept = admission.kept_seats();
+    let noting = rt.span("sentinel").with("port", number);
+    info!(noting; "room for {most} connections of clients (maxclients), and {kept} seats kept for the other Sentinels");
+    if most < wanted {
+        warn!(noting; "maxclients is {wanted}, and the system gives descriptors for {most}: raise the limit of open files (LimitNOFILE, ulimit -n)");
     }
-    Ok(addresses)
 }
 
-/// The port of this number at these ips, for whom it lets in, with so much room: what its first thread serves, and what each further one does.
+/// The sockets of its port, at these addresses.
+fn sockets_of<R: Net + Log>(
+    rt: &R,
+    alloc: Global,
+    addresses: &[PortAddress],
+) -> Result<Sockets, GroupFault>
+    ensures roster { IfErr result (λ fault. fault ≢ NotOneRoster) }
+{
+    match Sockets::listen(rt, alloc, addresses) {
+        Ok(sockets) => Ok(sockets),
+        Err(error) => Err(fault_of(&error)),
+    }
+}
+
+/// The port with these sockets, for whom it lets in, with so much room: what its first thread serves, and what each
+/// further one does.
 fn port_of<R: Net + Log>(
     rt: &R,
     alloc: Global,
-    number: u16,
-    ips: &[u32],
+    sockets: Sockets,
     room: PortRoom,
     admission: &Admission,
 ) -> Result<(Port, Vec<Port>), GroupFault>
-    ensures { IfOk result (λ parts. length parts.1.items + 1 ≡ room.threads) }
+    ensures threads { IfOk result (λ parts. length parts.1.items + 1 ≡ room.threads) }
+    ensures roster { IfErr result (λ fault. fault ≢ NotOneRoster) }
 {
-    let addresses = addresses_of(alloc, ips, number)?;
-    match Port::open_at(rt, alloc, addresses.as_slice(), room, admission) {
+    match Port::open_at(rt, alloc, sockets, room, admission) {
         Ok(parts) => Ok(parts),
         Err(error) => {
             if error.kind() != ErrorKind::OutOfMemory {
-                warn!(rt; "port {number} can't be had: {error}");
+                warn!(rt; "the port can't be served: {error}");
             }
             Err(fault_of(&error))
         }
@@ -139,9 +165,10 @@ fn port_of<R: Net + Log>(
 }
 
 impl<S: ConfStore + Drop> Watch<S> {
-    /// Opens the Sentinel of this conf at clock 0, and its port; no connection is opened yet. What the conf keeps is stored once before the port is opened.
+    /// Opens the Sentinel of this conf at clock 0, and its port; no connection is opened yet. What the conf keeps is
+    /// stored once its port is had, which is served after that: where the port can't be had the store is as it was.
     ///
-    /// `Halted` where the store refuses that, `PortRefused` where a port can't be had, and `NoMemory`; `NotOneRoster` never comes.
+    /// `Halted` where the store refuses that, `PortRefused` where a port can't be had, and `NoMemory`: `NotOneRoster` never comes.
     pub fn open<R: Net + Clock + Log>(
         rt: &R,
         alloc: Global,
@@ -150,17 +177,22 @@ impl<S: ConfStore + Drop> Watch<S> {
         settings: WatchSettings,
     ) -> Result<Watch<S>, GroupFault>
         requires { S.failure_count store < 2 ^ 64 - 1 }
+        ensures roster { IfErr result (λ fault. fault ≢ NotOneRoster) }
     {
         let WatchSettings {
-            ips,
+            addresses,
             port,
             admission,
             logins,
         } = settings;
-        prove_store(alloc, &conf, &mut store)?;
         let (wires, far) = wires_of(rt, alloc, &conf, logins)?;
-        let room = room_of(rt, alloc, &conf, port)?;
-        let ports = port_of(rt, alloc, conf.port(), ips.as_slice(), room, &admission)?;
+        let room = room_of(rt, alloc, &conf, port, &admission)?;
+        let wanted = admission.limit;
+        let admission = admission.within(room);
+        let sockets = sockets_of(rt, alloc, addresses.as_slice())?;
+        let ports = port_of(rt, alloc, sockets, room, &admission)?;
+        prove_store(alloc, &conf, &mut store)?;
+        note_room(rt, conf.port(), wanted, &admission);
         let opened = Opened::with_port(alloc, conf, store, ports, room.threads(), BESIDE, 0)?;
         let state = WatchState {
             run: RunState::new(GroupClock::start(rt)),
@@ -177,11 +209,12 @@ impl<S: ConfStore + Drop> Watch<S> {
 
     /// Runs its threads until the Sentinel is halted; this thread has the connections. The store is gone then.
     ///
-    /// `Halted` where the store refused a text, whichever thread met that; `PortRefused` where the system no longer tells of the connections, and `NoMemory` where a thread
-    /// couldn't be made.
+    /// `Halted` where the store refused a text, whichever thread met that; `PortRefused` where the system no longer tells
+    /// of the connections, and `NoMemory` where a thread couldn't be made: `NotOneRoster` never comes.
     pub fn run<R: Threads + Wait + Net + Clock + Log + Sync>(self, rt: &R) -> Result<(), GroupFault>
     where
         S: Send,
+        ensures roster { IfErr result (λ fault. fault ≢ NotOneRoster) }
     {
         let Watch {
             watching,
@@ -220,6 +253,7 @@ where
     let Ok((member, seat)) = made else {
         return end_for_want(&state.run, &state.ending);
     };
+    far.guard(&member);
     let Ok(seated) = Seated::of(alloc, &member, seat, port, others) else {
         return end_for_want(&state.run, &state.ending);
     };

@@ -6,8 +6,9 @@ ghost use Rattle.messages.specs.MessageTexts.{IsWritable};
 ghost use Rattle.sentinel_rules.specs.Facts.{IsWithinEvent};
 
 use ballot_law::{Event, Message};
+use conf_store::ConfStore;
 use crossbeam_channel::{Receiver, Sender, unbounded};
-use group_sentinels::{Outlet, RunState};
+use group_sentinels::{Outlet, RunState, RunningSentinel, Which};
 use messages::copy_of;
 use mio::{Registry, Token, Waker};
 use std::alloc::Global;
@@ -111,9 +112,10 @@ pub(crate) struct NearEnd {
     hellos: RecentHellos,
 }
 
-/// The end of the Sentinel: what the connections hear, and where its messages go.
+/// The end of the Sentinel: what the connections hear, and where its messages go. `epoch` is the current one of the Sentinel's file at its start.
 #[derive(Drop)]
 pub struct FarEnd {
+    epoch: u64,
     heard: Receiver<Hearing>,
     messages: Sender<Outgoing>,
     waker: Waker,
@@ -123,8 +125,12 @@ pub struct FarEnd {
 /// The token of the Sentinel's waker, beside those of the connections.
 const WAKER: Token = Token(usize::MAX);
 
-/// Both ends, between which nothing is under way; a message that goes out ends the wait of this registry's poll. The error is the system's, or a refused allocation.
-pub(crate) fn exchange(alloc: Global, registry: &Registry) -> io::Result<(NearEnd, FarEnd)> {
+/// Both ends, between which nothing is under way, of a Sentinel whose current epoch at its start is this one; a message that goes out ends the wait of this registry's poll. The error is the system's, or a refused allocation.
+pub(crate) fn exchange(
+    alloc: Global,
+    registry: &Registry,
+    epoch: u64,
+) -> io::Result<(NearEnd, FarEnd)> {
     let waker = Waker::new(registry, WAKER)?;
     let (to_wires, messages) = unbounded(alloc)?;
     let (to_sentinel, heard) = unbounded(alloc)?;
@@ -134,6 +140,7 @@ pub(crate) fn exchange(alloc: Global, registry: &Registry) -> io::Result<(NearEn
         hellos: RecentHellos::new(alloc),
     };
     let far = FarEnd {
+        epoch,
         heard,
         messages: to_wires,
         waker,
@@ -165,6 +172,12 @@ impl NearEnd {
 }
 
 impl FarEnd {
+    /// Has this Sentinel, of whose start this end is, take requests for votes in epochs that are too far above its own one as those of epoch 0: `RunningSentinel::guard_epochs`.
+    /// Hellos with such epochs are lost from then on.
+    pub fn guard<J: Which, S: ConfStore>(&self, member: &RunningSentinel<J, S>) {
+        member.guard_epochs(self.epoch);
+    }
+
     /// Waits for the next event so many milliseconds at most; none where nothing came.
     pub(crate) fn next<R: Wait + Clock>(&self, rt: &R, millis: u64) -> Option<Event>
         ensures { IfSome result IsWithinEvent }

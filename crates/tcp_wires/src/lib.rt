@@ -5,9 +5,11 @@
 #![tactic(auto)]
 
 mod exchange;
+mod far_hellos;
 mod fault_notes;
 mod hello_notes;
 mod logins;
+mod replica_notes;
 mod rounds;
 mod traffic;
 mod wire;

@@ -1,12 +1,18 @@
 //! What the thread that ticks a Sentinel does until it ends.
 
+ghost use Rattle.std.specs.Prelude.{◌≡◌, ℕ, true, false};
+ghost use Rattle.group_sentinels.specs.Running.{input_of};
+ghost use Rattle.group_sentinels.specs.Ticking.{Took};
 ghost use Rattle.sentinel_rules.specs.Facts.{IsWithinEvent};
+ghost use Rattle.tcp_wires.specs.Hearing.{is_lost};
 
 use crate::exchange::{FarEnd, Hearing, WatchState};
-use crate::hello_notes::HelloNotes;
+use crate::far_hellos::is_lost;
+use crate::hello_notes::{Hearer, HelloNotes};
+use crate::replica_notes::ReplicaNotes;
 use ballot_law::{Event, Text};
 use conf_store::ConfStore;
-use group_sentinels::{RunFault, RunningSentinel, ThreadSeat, Ticker, Which, hear};
+use group_sentinels::{Outlet, RunFault, RunningSentinel, ThreadSeat, Ticker, Which, hear};
 use log::Log;
 use std::alloc::Global;
 use std::rt::Clock;
@@ -35,6 +41,7 @@ pub struct Rounds {
     pace: Pace,
     stood_still: bool,
     hellos: HelloNotes,
+    replicas: ReplicaNotes,
     later: Vec<Hearing>,
     has_ticked: bool,
 }
@@ -73,6 +80,37 @@ fn without_name(alloc: Global, event: Event) -> Event
     }
 }
 
+/// Has the Sentinel take an event, which comes with the epoch that is known, unless it is lost before the Sentinel hears it: whether it goes on.
+fn hear_near<J: Which, S: ConfStore, O: Outlet, R: Wait + Clock + Log>(
+    rt: &R,
+    state: &WatchState,
+    member: &RunningSentinel<J, S>,
+    seat: &mut ThreadSeat<J>,
+    outlet: &mut O,
+    came: (Option<u64>, Event),
+) -> bool
+    requires { IsWithinEvent came.1 }
+    ensures lost { is_lost came.0 came.1 ≡ true → (result ≡ true) × (seat.new ≡ seat.old) × (outlet.new ≡ outlet.old) }
+    ensures heard { is_lost came.0 came.1 ≡ false
+        → (now : ℕ) × Took member.now.cell.start seat.old.seat.view (input_of now came.1) seat.new.outbox.shown seat.new.seat.view result }
+{
+    let (known, event) = came;
+    if is_lost(known, &event) {
+        return true;
+    }
+    hear(rt, &state.run, member, seat, outlet, event)
+}
+
+/// Who hears a hello now.
+fn hearer<'a, J: Which, S: ConfStore>(member: &'a RunningSentinel<J, S>, now: u64) -> Hearer<'a> {
+    Hearer {
+        roster: member.roster(),
+        own: member.place(),
+        now,
+        known: member.known_epoch(),
+    }
+}
+
 /// A number by lot: the part of a second that the clock shows, in nanoseconds.
 fn lot<R: Clock>(rt: &R, state: &WatchState) -> u64 {
     u64::from(state.run.clock.elapsed(rt).subsec_nanos())
@@ -92,6 +130,7 @@ impl Rounds {
             pace: Pace::new(now),
             stood_still: false,
             hellos: HelloNotes::new(now),
+            replicas: ReplicaNotes::new(alloc),
             later: Vec::new(alloc),
             has_ticked: false,
         }
@@ -115,6 +154,17 @@ impl Rounds {
         }
     }
 
+    /// Notes what an event shows that the Sentinel's file doesn't have.
+    fn note_heard<R: Log>(&mut self, rt: &R, by: Hearer<'_>, event: &Event) {
+        match event {
+            Event::HelloRead { text } => self.hellos.hear(rt, by, text),
+            Event::InfoRead { node, text } => {
+                self.replicas.hear(rt, by.roster, *node, by.now, text)
+            }
+            _ => {}
+        }
+    }
+
     /// Has the Sentinel take an event: whether it goes on. An answer may bring a campaign near.
     fn hear_one<J: Which, S: ConfStore, R: Wait + Clock + Log>(
         &mut self,
@@ -129,19 +179,11 @@ impl Rounds {
         if let Some(master) = found_down(&event) {
             seat.look_ahead(master, self.pace.tick_due);
         }
-        if let Event::HelloRead { text } = &event {
-            let now = state.run.clock.now(rt);
-            self.hellos.hear(
-                &member.noting(rt),
-                member.roster(),
-                member.place(),
-                now,
-                text,
-            );
-        }
+        let by = hearer(member, state.run.clock.now(rt));
+        self.note_heard(&member.noting(rt), by, &event);
         let event = without_name(self.far.alloc(), event);
         let mut outlet = self.far.outlet(rt);
-        let goes_on = hear(rt, &state.run, member, seat, &mut outlet, event);
+        let goes_on = hear_near(rt, state, member, seat, &mut outlet, (by.known, event));
         self.hold(rt, state, member, seat);
         goes_on
     }
@@ -267,6 +309,10 @@ impl Rounds {
         let now = state.run.clock.now(rt);
         self.pace.turn(now);
         self.hellos.look(&member.noting(rt), member.roster(), now);
+        if let Some(request) = member.take_far(rt) {
+            self.hellos
+                .hear_far_request(&member.noting(rt), request, member.settled_epoch(), now);
+        }
         goes_on
     }
 

@@ -228,14 +228,23 @@ impl Wire {
         self.settle();
     }
 
+    /// With which words of the file a Sentinel logs in to its node.
+    fn login_words(&self) -> (&'static str, &'static str) {
+        match self.link.target().node {
+            NodeName::SentinelAt(_) => ("sentinel sentinel-pass", "sentinel sentinel-user"),
+            _ => ("sentinel auth-pass", "sentinel auth-user"),
+        }
+    }
+
     /// Notes that the node refuses who asks, where it didn't before, by the piece that came.
     fn note_refusal<R: Log>(&mut self, rt: &R, piece: &[u8]) {
         let is_refused = is_refusal(piece);
         if is_refused && !self.is_refused {
             let addr = self.link.target().addr;
             let (ip, port) = (Ipv4Addr::from(addr.ip), addr.port);
+            let (pass, user) = self.login_words();
             warn!(rt;
-                "{ip}:{port} refuses this Sentinel: see its password and user (`sentinel auth-pass`, `sentinel auth-user`), and what that user may do"
+                "{ip}:{port} refuses this Sentinel: see its password and user (`{pass}`, `{user}`), and what that user may do"
             );
         }
         self.is_refused = is_refused;

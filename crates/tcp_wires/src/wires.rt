@@ -99,7 +99,7 @@ impl Wires {
             return Err(io::Error::from(ErrorKind::OutOfMemory));
         };
         let poll = Poll::new(net)?;
-        let (near, far) = exchange(alloc, poll.registry())?;
+        let (near, far) = exchange(alloc, poll.registry(), conf.kept().current)?;
         let wires = Wires {
             poll,
             told: Events::with_capacity(alloc, EVENTS)?,

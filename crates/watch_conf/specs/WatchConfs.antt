@@ -1,18 +1,20 @@
 -- What all lines of a file say that count for `watch` alone.
-use Rattle.std.specs.Prelude.{ℕ, ◌+◌, ◌/◌, Bool, true, false, not, ◌||◌, ◌&&◌, ◌==◌, List, [], ◌∷◌, ◌++◌, Result, Ok, Err}
+use Rattle.std.specs.Prelude.{ℕ, ◌+◌, ◌/◌, Bool, true, false, not, ◌||◌, ◌&&◌, ◌==◌, List, [], ◌∷◌, ◌++◌, Option, Some, None, Result, Ok, Err}
 use Rattle.std.specs.List.{list_any}
 use Rattle.ballot_law.specs.Cuts.{lines}
-use Rattle.ballot_law.specs.Orders.{same_id}
+use Rattle.ballot_law.specs.Orders.{same_bytes, same_id}
 use Rattle.ballot_law.specs.declared.addresses.Addr.{Addr}
 use Rattle.ballot_law.specs.declared.addresses.RunId.{RunId}
 use Rattle.ballot_law.specs.Rosters.{Roster, MasterPlan}
 use Rattle.sentinel_conf.specs.Meaning.{ConfPlan, last}
 use Rattle.watch_conf.specs.declared.faults.WatchKind.{WatchKind}
-use Rattle.watch_conf.specs.declared.faults.WatchKind.TheVariants.{NoAnnounceIp, NoMemory}
+use Rattle.watch_conf.specs.declared.faults.WatchKind.TheVariants.{OtherPassword, NoAnnounceIp, NoMemory}
 use Rattle.watch_conf.specs.declared.faults.WatchFault.{WatchFault}
 use Rattle.watch_conf.specs.declared.settings.Setting.{Setting}
+use Rattle.watch_conf.specs.declared.settings.Setting.TheVariants.{DefaultUser}
 use Rattle.watch_conf.specs.declared.settings.WatchLine.{WatchLine}
 use Rattle.watch_conf.specs.declared.settings.WatchLine.TheVariants.{Other, Says, Faulty}
+use Rattle.watch_conf.specs.Users.{hash_of}
 use Rattle.watch_conf.specs.WatchLines.{own_pass_of, peer_pass_of, peer_user_of, watch_line}
 
 abbrev pub fault_at : ℕ → WatchKind → WatchFault
@@ -54,6 +56,24 @@ user_beside (b ∷ bs) user = user
 abbrev pub sent_user : List Setting → List ℕ
 sent_user settings = user_beside (last peer_pass_of [] settings) (last peer_user_of [] settings)
 
+-- a line has another hash of the default user's password than this
+abbrev pub is_other_hash : (hash : List ℕ) → WatchLine → Bool
+is_other_hash hash (Says (DefaultUser digits)) = not (same_bytes digits hash)
+is_other_hash hash _ = false
+
+abbrev pub says_other_hash : (hash text : List ℕ) → Bool
+says_other_hash hash text = is_other_hash hash (watch_line text)
+
+-- the number of the first of these lines that has another hash than this; the first line has this number
+abbrev pub other_hash_line : (hash : List ℕ) → ℕ → List (List ℕ) → Option ℕ
+other_hash_line hash number [] = None
+other_hash_line hash number (text ∷ texts) =
+    elim (says_other_hash hash text) as (λ _. Option ℕ) [ true ↦ Some number | false ↦ other_hash_line hash (number + 1) texts ]
+
+-- the hash is to be that of the own password
+abbrev pub other_password_line : List Setting → List ℕ → Option ℕ
+other_password_line settings bytes = other_hash_line (hash_of (last own_pass_of [] settings)) 1 (lines bytes)
+
 -- an address is on the loopback of its machine
 abbrev pub is_loopback : Addr → Bool
 is_loopback addr = addr.ip / 16777216 == 127
@@ -79,10 +99,14 @@ lacks_announce_ip conf = is_known_by_loopback conf.id conf.roster && (has_foreig
 abbrev pub reached : Bool → List Setting → Result (List Setting) WatchFault
 reached lacking settings = elim lacking as (λ _. Result (List Setting) WatchFault) [ true ↦ Err (fault_at 0 NoAnnounceIp) | false ↦ Ok settings ]
 
-abbrev pub with_reach : Bool → Result (List Setting) WatchFault → Result (List Setting) WatchFault
-with_reach lacking (Ok settings) = reached lacking settings
-with_reach lacking (Err fault) = Err fault
+abbrev pub with_password : Option ℕ → (lacking : Bool) → List Setting → Result (List Setting) WatchFault
+with_password (Some number) lacking settings = Err (fault_at number OtherPassword)
+with_password None lacking settings = reached lacking settings
+
+abbrev pub judged : (lacking : Bool) → List ℕ → Result (List Setting) WatchFault → Result (List Setting) WatchFault
+judged lacking bytes (Ok settings) = with_password (other_password_line settings bytes) lacking settings
+judged lacking bytes (Err fault) = Err fault
 
 -- the settings of a file that says this, or its first fault
 abbrev pub watch_settings : ConfPlan → List ℕ → Result (List Setting) WatchFault
-watch_settings conf bytes = with_reach (lacks_announce_ip conf) (settings_from 1 (lines bytes))
+watch_settings conf bytes = judged (lacks_announce_ip conf) bytes (settings_from 1 (lines bytes))

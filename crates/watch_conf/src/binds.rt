@@ -2,43 +2,57 @@
 
 ghost use Rattle.std.specs.Prelude.{◌≡◌, None, Some, IfOk, MatchOption};
 ghost use Rattle.std.specs.List.{list_any};
-ghost use Rattle.watch_conf.specs.Binds.{after_dash, has_dash, has_colon, no_ip, ip_or_none, bind_word, ips_of, is_everywhere, without_rest, one_or_more, bound};
+ghost use Rattle.watch_conf.specs.declared.binds.Bind.{Bind};
+ghost use Rattle.watch_conf.specs.Binds.{after_dash, has_dash, has_colon, no_ip, bind_at, ip_or_none, bind_word, binds_in, is_everywhere, without_rest, one_or_more, bound};
 
 use ballot_law::{NoMemory, Text, is_same_bytes};
 use std::alloc::Global;
 use std::marker::Model;
 use words::ip_of;
 
-/// All ips of the machine.
-pub const EVERYWHERE: u32 = 0;
-
 /// How many ips a line `bind` names at most.
 pub const IPS_MAX: usize = 16;
 
-/// Ips in order. Contracts see their list.
+/// An ip at which a port listens.
+#[derive(Clone, Copy, Debug, PartialEq, Eq)]
+pub struct Bind {
+    /// Its four numbers; 0.0.0.0 is all of the machine.
+    pub ip: [u8; 4],
+    /// Whether the machine may lack it, as Redis' `-` before an ip says: then the port listens at the others alone.
+    pub may_lack: bool,
+}
+
+/// All ips of the machine.
+pub const EVERYWHERE: Bind = Bind {
+    ip: [0, 0, 0, 0],
+    may_lack: false,
+};
+
+/// The ips at which a port listens, in order. Contracts see their list.
 #[derive(Drop)]
-pub struct Ips {
-    list: Vec<u32>,
+pub struct Binds {
+    list: Vec<Bind>,
 }
 
-impl Model for Ips {
-    ghost use Rattle.std.specs.Prelude.{List, ℕ};
+impl Model for Binds {
+    ghost use Rattle.std.specs.Prelude.{List};
+    ghost use Rattle.watch_conf.specs.declared.binds.Bind.{Bind};
 
-    ghost Value = { List ℕ };
+    ghost Value = { List Bind };
 
-    ghost view = { λ ips. ips.list.items };
+    ghost view = { λ binds. binds.list.items };
 }
 
-impl Ips {
+impl Binds {
     /// These ips.
-    fn of(list: Vec<u32>) -> Ips
+    fn of(list: Vec<Bind>) -> Binds
         ensures { result ≡ list.items }
     {
-        Ips { list }
+        Binds { list }
     }
 
     /// The ips.
-    pub fn as_slice(&self) -> &[u32]
+    pub fn as_slice(&self) -> &[Bind]
         ensures { result.now ≡ self.now }
     {
         self.list.as_slice()
@@ -48,8 +62,8 @@ impl Ips {
 /// What a word of a line `bind` says.
 #[derive(Clone, Copy, PartialEq, Eq)]
 pub enum BindWord {
-    /// An ip; `EVERYWHERE` is all of the machine.
-    Ip(u32),
+    /// An ip; `*` is all of the machine.
+    Ip(Bind),
     /// An IPv6 address that needn't be there: it counts as none.
     Absent,
     /// Neither.
@@ -93,68 +107,85 @@ fn no_ip(dash: bool, word: &[u8]) -> BindWord
     BindWord::Bad
 }
 
+/// The ip with this number, which the machine may lack where a `-` stands before it.
+fn bind_at(dash: bool, ip: u32) -> Bind
+    ensures { result ≡ bind_at dash ip }
+{
+    Bind {
+        ip: ip.to_be_bytes(),
+        may_lack: dash,
+    }
+}
+
 /// What a word of a line `bind` says.
 fn bind_word(word: &[u8]) -> BindWord
     ensures { result ≡ bind_word word.now }
 {
-    let address = after_dash(word);
+    let (dash, address) = (has_dash(word), after_dash(word));
     if is_same_bytes(address, b"*") {
         return BindWord::Ip(EVERYWHERE);
     }
     match ip_of(address) {
-        Some(ip) => BindWord::Ip(ip),
-        None => no_ip(has_dash(word), address),
+        Some(ip) => BindWord::Ip(bind_at(dash, ip)),
+        None => no_ip(dash, address),
     }
 }
 
 /// The ips of these words; none where one is bad.
 #[tactic(auto, using(quoted_words::proofs::QuoteLemmas::one_joined))]
-fn ips_of(alloc: Global, words: &[Text]) -> Result<Option<Vec<u32>>, NoMemory>
-    ensures { IfOk result (λ found. MatchOption found (ips_of words.now ≡ None) (λ ips. ips_of words.now ≡ Some ips.items)) }
+fn binds_in(alloc: Global, words: &[Text]) -> Result<Option<Vec<Bind>>, NoMemory>
+    ensures { IfOk result (λ found. MatchOption found (binds_in words.now ≡ None) (λ binds. binds_in words.now ≡ Some binds.items)) }
 {
-    let mut ips = Vec::new(alloc);
+    let mut binds = Vec::new(alloc);
     let mut rest = words;
     while let [word, more @ ..] = rest {
         match bind_word(word.as_slice()) {
-            BindWord::Ip(ip) => ips.push(ip)?,
+            BindWord::Ip(bind) => binds.push(bind)?,
             BindWord::Absent => {}
             BindWord::Bad => return Ok(None),
         }
         rest = more;
     }
-    Ok(Some(ips))
+    Ok(Some(binds))
+}
+
+/// Whether it is all of the machine.
+fn is_everywhere(bind: &Bind) -> bool
+    ensures { result ≡ is_everywhere bind.now }
+{
+    is_same_bytes(bind.ip.as_slice(), EVERYWHERE.ip.as_slice())
 }
 
 /// Whether all ips of the machine are among these.
-fn has_everywhere(ips: &[u32]) -> bool
-    ensures { result ≡ list_any is_everywhere ips.now }
+fn has_everywhere(binds: &[Bind]) -> bool
+    ensures { result ≡ list_any is_everywhere binds.now }
 {
-    ips.iter().any(|ip| *ip == EVERYWHERE)
+    binds.iter().any(|bind| is_everywhere(bind))
 }
 
 /// These ips; all of the machine by itself, where it is among them.
-fn without_rest(alloc: Global, ips: Vec<u32>) -> Result<Ips, NoMemory>
-    ensures { IfOk result (λ all. all ≡ without_rest ips.items) }
+fn without_rest(alloc: Global, binds: Vec<Bind>) -> Result<Binds, NoMemory>
+    ensures { IfOk result (λ all. all ≡ without_rest binds.items) }
 {
-    if has_everywhere(ips.as_slice()) {
-        return Ok(Ips::of(Vec::from_slice(alloc, &[EVERYWHERE])?));
+    if has_everywhere(binds.as_slice()) {
+        return Ok(Binds::of(Vec::from_slice(alloc, &[EVERYWHERE])?));
     }
-    Ok(Ips::of(ips))
+    Ok(Binds::of(binds))
 }
 
 /// The ips that a line `bind` with these words names. None where there are no words or more than `IPS_MAX`, where one of them is none, and
 /// where they name no ip.
-pub(crate) fn bound(alloc: Global, words: &[Text]) -> Result<Option<Ips>, NoMemory>
+pub(crate) fn bound(alloc: Global, words: &[Text]) -> Result<Option<Binds>, NoMemory>
     ensures { IfOk result (λ found. found ≡ bound words.now) }
 {
     if words.len() > IPS_MAX {
         return Ok(None);
     }
-    let Some(ips) = ips_of(alloc, words)? else {
+    let Some(binds) = binds_in(alloc, words)? else {
         return Ok(None);
     };
-    if ips.is_empty() {
+    if binds.is_empty() {
         return Ok(None);
     }
-    Ok(Some(without_rest(alloc, ips)?))
+    Ok(Some(without_rest(alloc, binds)?))
 }

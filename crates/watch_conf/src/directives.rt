@@ -1,12 +1,13 @@
 //! What a line says, by its directive.
 
-ghost use Rattle.std.specs.Prelude.{◌≡◌, IfOk, bytes_eq};
-ghost use Rattle.ballot_law.specs.Words.{lower};
-ghost use Rattle.watch_conf.specs.WatchLines.{yes_or_no, bind_line, node_pass_line, node_user_line, own_pass_line, peer_pass_line, peer_user_line, max_clients_line, protected_line, resolved, resolve_line, first_named, sentinel_directives, sentinel_line, first_directives, line_of_words, watch_line};
+ghost use Rattle.std.specs.Prelude.{◌≡◌, IfOk};
+ghost use Rattle.watch_conf.specs.WatchLines.{yes_or_no, bind_line, node_pass_line, node_user_line, own_pass_line, peer_pass_line, peer_user_line, max_clients_line, timeout_line, protected_line, resolved, resolve_line, other_sentinel, sentinel_named, sentinel_line, named_or, other_directive, first_directives, has_mark, line_of_words, watch_line};
 
 use crate::binds::bound;
 use crate::faults::WatchKind;
-use crate::settings::{CLIENTS_MAX, Setting, WatchLine};
+use crate::guards::{guard_named, is_named};
+use crate::known_directives::is_sentinel_directive;
+use crate::settings::{Setting, WatchLine};
 use ballot_law::{Name, NoMemory, Text};
 use quoted_words::{is_comment, redis_words};
 use std::alloc::Global;
@@ -15,12 +16,11 @@ use words::number_of;
 /// The greatest number of clients that a Redis takes.
 const COUNT_MAX: u64 = 4_294_967_295;
 
-/// Whether the word is this name, but for the case of its ASCII letters.
-fn is_named(word: &Text, name: &[u8]) -> bool
-    ensures { result ≡ bytes_eq (lower word.now) (lower name.now) }
-{
-    word.as_slice().eq_ignore_ascii_case(name)
-}
+/// The greatest number of seconds that a Redis takes.
+const SECONDS_MAX: u64 = 2_147_483_647;
+
+/// The byte order mark, with which some editors begin a file.
+const MARK: &[u8] = b"\xEF\xBB\xBF";
 
 /// A copy of a word.
 fn copy_of(alloc: Global, word: &Text) -> Result<Text, NoMemory>
@@ -47,7 +47,7 @@ fn bind_line(alloc: Global, args: &[Text]) -> Result<WatchLine, NoMemory>
     ensures { IfOk result (λ line. line ≡ bind_line args.now) }
 {
     match bound(alloc, args)? {
-        Some(ips) => Ok(WatchLine::Says(Setting::Bind(ips))),
+        Some(binds) => Ok(WatchLine::Says(Setting::Bind(binds))),
         None => Ok(WatchLine::Faulty(WatchKind::BadBind)),
     }
 }
@@ -123,11 +123,21 @@ fn max_clients_line(args: &[Text]) -> WatchLine
         return WatchLine::Faulty(WatchKind::BadDirective);
     };
     match number_of(count.as_slice(), 1, COUNT_MAX) {
-        Some(count) => {
-            let count = count.min(u64::from(CLIENTS_MAX));
-            WatchLine::Says(Setting::MaxClients(count as u16))
-        }
+        Some(count) => WatchLine::Says(Setting::MaxClients(count as u32)),
         None => WatchLine::Faulty(WatchKind::BadNumber),
+    }
+}
+
+/// `timeout <seconds>`.
+fn timeout_line(args: &[Text]) -> WatchLine
+    ensures { result ≡ timeout_line args.now }
+{
+    let [seconds] = args else {
+        return WatchLine::Faulty(WatchKind::BadSeconds);
+    };
+    match number_of(seconds.as_slice(), 0, SECONDS_MAX) {
+        Some(seconds) => WatchLine::Says(Setting::Timeout(seconds as u32)),
+        None => WatchLine::Faulty(WatchKind::BadSeconds),
     }
 }
 
@@ -158,9 +168,19 @@ fn resolve_line(args: &[Text]) -> WatchLine
     }
 }
 
+/// The line of a `sentinel` directive of this name that says nothing to `watch` alone: it is faulty, where no Redis knows the name.
+fn other_sentinel(alloc: Global, name: &Text) -> Result<WatchLine, NoMemory>
+    ensures { IfOk result (λ line. line ≡ other_sentinel name.now) }
+{
+    if is_sentinel_directive(alloc, name.as_slice())? {
+        return Ok(WatchLine::Other);
+    }
+    Ok(WatchLine::Faulty(WatchKind::UnknownDirective))
+}
+
 /// The line of a `sentinel` directive of this name.
 fn sentinel_named(alloc: Global, name: &Text, args: &[Text]) -> Result<WatchLine, NoMemory>
-    ensures { IfOk result (λ line. line ≡ first_named name.now sentinel_directives args.now) }
+    ensures { IfOk result (λ line. line ≡ sentinel_named name.now args.now) }
 {
     if is_named(name, b"auth-pass") {
         return node_pass_line(alloc, args);
@@ -177,7 +197,10 @@ fn sentinel_named(alloc: Global, name: &Text, args: &[Text]) -> Result<WatchLine
     if is_named(name, b"resolve-hostnames") {
         return Ok(resolve_line(args));
     }
-    Ok(WatchLine::Other)
+    if is_named(name, b"rename-command") {
+        return Ok(WatchLine::Faulty(WatchKind::RenamedCommand));
+    }
+    other_sentinel(alloc, name)
 }
 
 /// The line whose first word is `sentinel`, by the words after it.
@@ -186,13 +209,13 @@ fn sentinel_line(alloc: Global, words: &[Text]) -> Result<WatchLine, NoMemory>
 {
     match words.split_first() {
         Some((name, args)) => sentinel_named(alloc, name, args),
-        None => Ok(WatchLine::Other),
+        None => Ok(WatchLine::Faulty(WatchKind::UnknownDirective)),
     }
 }
 
 /// The line of a directive of this name.
 fn first_named(alloc: Global, name: &Text, args: &[Text]) -> Result<WatchLine, NoMemory>
-    ensures { IfOk result (λ line. line ≡ first_named name.now first_directives args.now) }
+    ensures { IfOk result (λ line. line ≡ named_or (other_directive name.now args.now) name.now first_directives args.now) }
 {
     if is_named(name, b"sentinel") {
         return sentinel_line(alloc, args);
@@ -206,10 +229,13 @@ fn first_named(alloc: Global, name: &Text, args: &[Text]) -> Result<WatchLine, N
     if is_named(name, b"maxclients") {
         return Ok(max_clients_line(args));
     }
+    if is_named(name, b"timeout") {
+        return Ok(timeout_line(args));
+    }
     if is_named(name, b"protected-mode") {
         return Ok(protected_line(args));
     }
-    Ok(WatchLine::Other)
+    guard_named(alloc, name, args)
 }
 
 /// The line with these words.
@@ -222,6 +248,13 @@ fn line_of_words(alloc: Global, words: &[Text]) -> Result<WatchLine, NoMemory>
     }
 }
 
+/// Whether the text begins with a byte order mark.
+fn has_mark(text: &[u8]) -> bool
+    ensures { result ≡ has_mark text.now }
+{
+    text.starts_with(MARK)
+}
+
 /// What a line says to `watch`. The name of a directive may be quoted, and the case of its ASCII letters doesn't matter. NoMemory: memory was
 /// refused.
 pub fn line_of(alloc: Global, text: &[u8]) -> Result<WatchLine, NoMemory>
@@ -229,6 +262,9 @@ pub fn line_of(alloc: Global, text: &[u8]) -> Result<WatchLine, NoMemory>
 {
     if is_comment(text) {
         return Ok(WatchLine::Other);
+    }
+    if has_mark(text) {
+        return Ok(WatchLine::Faulty(WatchKind::ByteOrderMark));
     }
     match redis_words(alloc, text)? {
         Some(words) => line_of_words(alloc, words.as_slice()),

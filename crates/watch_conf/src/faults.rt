@@ -18,6 +18,9 @@ pub enum WatchKind {
     /// A number of clients isn't a number from 1 to 4,294,967,295.
     #[error("BadNumber: write how many clients are served, 1 or more")]
     BadNumber,
+    /// The words of a line `timeout` aren't one number from 0 to 2,147,483,647.
+    #[error("BadSeconds: write after how many seconds `timeout` closes a silent connection, one number from 0, which is never, to 2147483647")]
+    BadSeconds,
     /// A line `bind` has no word, more than `IPS_MAX` words, one that is no ip, or no ip at all.
     #[error("BadBind: write the ips at which this Sentinel listens, as `bind 10.0.0.1 127.0.0.1`, or no such line")]
     BadBind,
@@ -30,6 +33,36 @@ pub enum WatchKind {
     /// The line `sentinel resolve-hostnames yes`.
     #[error("NamesOfHosts: names aren't resolved: write the ip of each node and Sentinel, and delete this line")]
     NamesOfHosts,
+    /// A line `user` that isn't that of the default user with all rights, and with no password or one that is hashed.
+    #[error("AclUser: a `user` line has no effect here, and its passwords and rights would be lost: write `requirepass <password>`, the one password of the port, and delete this line")]
+    AclUser,
+    /// The line `user default` has the hash of another password than that of `requirepass`.
+    #[error("OtherPassword: the hash of this `user default` isn't that of the password of `requirepass`: write that password as `requirepass <password>`, and delete this line")]
+    OtherPassword,
+    /// A line `aclfile`.
+    #[error("AclFile: `aclfile` isn't read, and the passwords and rights of its users would be lost: write `requirepass <password>`, the one password of the port, and delete this line")]
+    AclFile,
+    /// A line `include`.
+    #[error("Include: `include` isn't followed: write the lines of that file in place of this one")]
+    Include,
+    /// A line `tls-port` with another number than 0.
+    #[error("TlsPort: the port doesn't speak TLS: write `tls-port 0`, or delete this line, and encrypt what others send by a tunnel or a network of their own")]
+    TlsPort,
+    /// A line `tls-replication` with another word than `no`.
+    #[error("TlsReplication: no node is spoken to by TLS: write `tls-replication no`, or delete this line, and give the nodes a port without TLS, or a tunnel")]
+    TlsReplication,
+    /// A line of another directive of TLS, as `tls-cert-file`, with other words than one that turns it off: `no`, `0` or an empty one.
+    #[error("TlsSetting: no TLS is spoken, neither at the port nor to nodes, so what this line sets would be lost: delete it, and encrypt by a tunnel or a network of their own")]
+    TlsSetting,
+    /// A line `sentinel rename-command`.
+    #[error("RenamedCommand: nodes are sent the commands' own names: rename none on the nodes, and delete this `sentinel rename-command`")]
+    RenamedCommand,
+    /// A line `sentinel` with no directive that a Redis knows.
+    #[error("UnknownDirective: no Redis knows this `sentinel` directive, and what it is to set would be left as it is without it: correct its name, or delete this line")]
+    UnknownDirective,
+    /// A line begins with a byte order mark.
+    #[error("ByteOrderMark: this line begins with a byte order mark, and says nothing: save the file without it, as UTF-8")]
+    ByteOrderMark,
     /// Another Sentinel or a data node isn't on the loopback, and this Sentinel is known to them by an ip of it.
     #[error("NoAnnounceIp: others aren't on this machine: add `sentinel announce-ip <ip>`, the ip at which they reach this Sentinel")]
     NoAnnounceIp,

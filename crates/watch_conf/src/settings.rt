@@ -1,20 +1,26 @@
 //! What a line says that counts for `watch` alone.
 
 ghost use Rattle.std.specs.Prelude.{◌≡◌, None, Some, MatchOption};
-ghost use Rattle.watch_conf.specs.WatchLines.{ips_of, node_pass_of, node_user_of, own_pass_of, peer_pass_of, peer_user_of, clients_of, protected_of};
+ghost use Rattle.watch_conf.specs.WatchLines.{binds_of, node_pass_of, node_user_of, own_pass_of, peer_pass_of, peer_user_of, clients_of, seconds_of, protected_of, default_of};
 
-use crate::binds::Ips;
+use crate::binds::{Bind, Binds};
 use crate::faults::WatchKind;
 use ballot_law::{Name, Text, is_same_bytes};
 
-/// How many connections a port keeps at most.
-pub const CLIENTS_MAX: u16 = 256;
+/// How many connections of clients a port keeps at most, and where no line says how many.
+pub const CLIENTS_MAX: u16 = 10_000;
+
+/// The most seconds after which a silent connection is closed: 49 days.
+pub const IDLE_SECONDS_MAX: u32 = 4_294_967;
+
+/// After how many seconds a silent connection is closed where no line says it: an hour.
+pub const IDLE_SECONDS: u32 = 3_600;
 
 /// What a line sets. It can't be printed, since it can hold a password.
 #[derive(Drop)]
 pub enum Setting {
     /// `bind`: the ips at which the port listens.
-    Bind(Ips),
+    Bind(Binds),
     /// `sentinel auth-pass`: the password for the data nodes of a master.
     NodePass { name: Name, pass: Text },
     /// `sentinel auth-user`: the user at the data nodes of a master.
@@ -25,10 +31,15 @@ pub enum Setting {
     PeerPass(Text),
     /// `sentinel sentinel-user`: the user at the ports of the other Sentinels.
     PeerUser(Text),
-    /// `maxclients`: how many connections the port keeps, 1 to `CLIENTS_MAX`.
-    MaxClients(u16),
+    /// `maxclients`: how many connections of clients are asked for, 1 to 4,294,967,295; the port keeps `CLIENTS_MAX` of them at most.
+    MaxClients(u32),
+    /// `timeout`: after how many seconds a silent connection is to be closed, 0 to 2,147,483,647; 0 is never, and more than
+    /// `IDLE_SECONDS_MAX` are that.
+    Timeout(u32),
     /// `protected-mode`.
     ProtectedMode(bool),
+    /// `user default on #<hash> ..`, with all rights: the digits of a hash, as Redis writes it beside `requirepass`.
+    DefaultUser(Text),
 }
 
 /// What a line is to `watch`.
@@ -42,11 +53,11 @@ pub enum WatchLine {
 
 impl Setting {
     /// The ips at which the port listens.
-    pub(crate) fn ips(&self) -> Option<&[u32]>
-        ensures { MatchOption result (ips_of self.now ≡ None) (λ ips. ips_of self.now ≡ Some ips.now) }
+    pub(crate) fn binds(&self) -> Option<&[Bind]>
+        ensures { MatchOption result (binds_of self.now ≡ None) (λ binds. binds_of self.now ≡ Some binds.now) }
     {
         match self {
-            Setting::Bind(ips) => Some(ips.as_slice()),
+            Setting::Bind(binds) => Some(binds.as_slice()),
             _ => None,
         }
     }
@@ -113,12 +124,22 @@ impl Setting {
         }
     }
 
-    /// How many connections the port keeps.
-    pub(crate) fn max_clients(&self) -> Option<u16>
+    /// How many connections of clients are asked for.
+    pub(crate) fn max_clients(&self) -> Option<u32>
         ensures { result ≡ clients_of self.now }
     {
         match self {
             Setting::MaxClients(count) => Some(*count),
+            _ => None,
+        }
+    }
+
+    /// After how many seconds a silent connection is to be closed.
+    pub(crate) fn idle_seconds(&self) -> Option<u32>
+        ensures { result ≡ seconds_of self.now }
+    {
+        match self {
+            Setting::Timeout(seconds) => Some(*seconds),
             _ => None,
         }
     }
@@ -129,6 +150,16 @@ impl Setting {
     {
         match self {
             Setting::ProtectedMode(yes) => Some(*yes),
+            _ => None,
+        }
+    }
+
+    /// The digits of the hash of the default user's password.
+    pub(crate) fn default_user(&self) -> Option<&[u8]>
+        ensures { MatchOption result (default_of self.now ≡ None) (λ digits. default_of self.now ≡ Some digits.now) }
+    {
+        match self {
+            Setting::DefaultUser(digits) => Some(digits.as_slice()),
             _ => None,
         }
     }

@@ -1,18 +1,20 @@
 //! What all lines of a file say that count for `watch` alone.
 
-ghost use Rattle.std.specs.Prelude.{◌≡◌, ◌⊎◌, ◌∷◌, [], true, false, None, Some, Ok, Err, ◌++◌, OnOk, MatchResult};
+ghost use Rattle.std.specs.Prelude.{◌≡◌, ◌⊎◌, ◌∷◌, [], true, false, None, Some, Ok, Err, ◌++◌, min, IfOk, OnOk, MatchResult};
 ghost use Rattle.ballot_law.specs.Cuts.{lines};
 ghost use Rattle.sentinel_conf.specs.Meaning.{last};
-ghost use Rattle.watch_conf.specs.WatchLines.{ips_of, node_pass_of, node_user_of, own_pass_of, peer_pass_of, peer_user_of, clients_of, protected_of};
-ghost use Rattle.watch_conf.specs.WatchConfs.{no_memory, sent_pass, sent_user, settings_from, watch_settings};
-ghost use Rattle.watch_conf.specs.declared.settings.TheConstants.{CLIENTS_MAX};
+ghost use Rattle.watch_conf.specs.WatchLines.{binds_of, node_pass_of, node_user_of, own_pass_of, peer_pass_of, peer_user_of, clients_of, seconds_of, protected_of};
+ghost use Rattle.watch_conf.specs.Binds.{everywhere};
+ghost use Rattle.watch_conf.specs.WatchConfs.{no_memory, sent_pass, sent_user, says_other_hash, other_hash_line, other_password_line, settings_from, watch_settings};
+ghost use Rattle.watch_conf.specs.declared.settings.TheConstants.{CLIENTS_MAX, IDLE_SECONDS, IDLE_SECONDS_MAX};
 
 use crate::announcing::lacks_announce_ip;
-use crate::binds::EVERYWHERE;
+use crate::binds::{Bind, EVERYWHERE};
 use crate::directives::line_of;
 use crate::faults::{WatchFault, WatchKind};
-use crate::settings::{CLIENTS_MAX, Setting, WatchLine};
-use ballot_law::{Name, NoMemory};
+use crate::settings::{CLIENTS_MAX, IDLE_SECONDS, IDLE_SECONDS_MAX, Setting, WatchLine};
+use crate::users::hash_of;
+use ballot_law::{Name, NoMemory, is_same_bytes};
 use sentinel_conf::Conf;
 use std::alloc::Global;
 use std::marker::Model;
@@ -35,18 +37,19 @@ impl Model for WatchConf {
 }
 
 /// At which ips the port listens where no line says it: at all of the machine.
-const ALL_IPS: &[u32] = &[EVERYWHERE];
+const ALL_IPS: &[Bind] = &[EVERYWHERE];
 
 impl WatchConf {
-    /// At which ips the port listens, in order: those of the last line `bind`, from 1 to `IPS_MAX` of them, or `EVERYWHERE` alone.
-    pub fn ips(&self) -> &[u32]
-        ensures { result.now ≡ last ips_of (0 ∷ []) self.now }
+    /// At which ips the port listens, in order: those of the last line `bind`, from 1 to `IPS_MAX` of them, or `EVERYWHERE` alone. The machine
+    /// may lack all of them, where each is one that it may lack.
+    pub fn binds(&self) -> &[Bind]
+        ensures { result.now ≡ last binds_of (everywhere ∷ []) self.now }
     {
         let mut found = ALL_IPS;
         let mut rest = self.settings.as_slice();
         while let [setting, more @ ..] = rest {
-            if let Some(ips) = setting.ips() {
-                found = ips;
+            if let Some(binds) = setting.binds() {
+                found = binds;
             }
             rest = more;
         }
@@ -151,14 +154,29 @@ impl WatchConf {
         self.peer_user()
     }
 
-    /// How many connections the port keeps: what the last line `maxclients` says, or `CLIENTS_MAX`, which is also the most.
+    /// How many connections of clients the port keeps, 1 to `CLIENTS_MAX`: what the last line `maxclients` says. More than `CLIENTS_MAX`, and no
+    /// line, are `CLIENTS_MAX`.
     pub fn max_clients(&self) -> u16
-        ensures { result ≡ last clients_of CLIENTS_MAX self.now }
+        ensures { result ≡ min (last clients_of CLIENTS_MAX self.now) CLIENTS_MAX }
     {
-        self.settings.iter().fold(
-            CLIENTS_MAX,
+        let most = u32::from(CLIENTS_MAX);
+        let asked = self.settings.iter().fold(
+            most,
             |count, setting| setting.max_clients().unwrap_or(count),
-        )
+        );
+        asked.min(most) as u16
+    }
+
+    /// After how many seconds a connection is closed that is silent, 0 to `IDLE_SECONDS_MAX`, where 0 is never: what the last line `timeout`
+    /// says. More than `IDLE_SECONDS_MAX` are `IDLE_SECONDS_MAX`, and no line is `IDLE_SECONDS`.
+    pub fn idle_seconds(&self) -> u32
+        ensures { result ≡ min (last seconds_of IDLE_SECONDS self.now) IDLE_SECONDS_MAX }
+    {
+        let asked = self.settings.iter().fold(
+            IDLE_SECONDS,
+            |seconds, setting| setting.idle_seconds().unwrap_or(seconds),
+        );
+        asked.min(IDLE_SECONDS_MAX)
     }
 
     /// Whether the protected mode is on: what the last line `protected-mode` says, or no, as redis-sentinel has it.
@@ -201,9 +219,51 @@ fn settings_of(alloc: Global, bytes: &[u8]) -> Result<Vec<Setting>, WatchFault>
     Ok(list)
 }
 
-/// What the file with these bytes says to `watch`, where `conf` is what it says else; or its first fault. Faults are judged in this order: line
-/// by line `BadQuotes`, `BadDirective`, `BadName`, `BadNumber`, `BadBind`, `BadYesNo` and `NamesOfHosts`; then `NoAnnounceIp`, with line 0.
-/// `NoMemory`, with line 0, may stand in place of any other answer.
+/// Whether the line has a hash of the default user's password, and another one than this.
+fn says_other_hash(alloc: Global, hash: &[u8], text: &[u8]) -> Result<bool, NoMemory>
+    ensures { IfOk result (λ other. other ≡ says_other_hash hash.now text.now) }
+{
+    match line_of(alloc, text)? {
+        WatchLine::Says(Setting::DefaultUser(digits)) => Ok(!is_same_bytes(
+            digits.as_slice(),
+            hash,
+        )),
+        _ => Ok(false),
+    }
+}
+
+/// The number of the first line that has another hash of the default user's password than this.
+fn other_hash_line(alloc: Global, hash: &[u8], bytes: &[u8]) -> Result<Option<u64>, NoMemory>
+    ensures { IfOk result (λ found. found ≡ other_hash_line hash.now 1 (lines bytes.now)) }
+{
+    let mut number: u64 = 1;
+    let mut rest = bytes;
+    while !rest.is_empty() {
+        let (text, more) = split_line(rest);
+        if says_other_hash(alloc, hash, text)? {
+            return Ok(Some(number));
+        }
+        number += 1;
+        rest = more;
+    }
+    Ok(None)
+}
+
+/// The number of the first line that has the hash of another password than that of the last line `requirepass`; an empty one is none.
+fn other_password_line(
+    alloc: Global,
+    conf: &WatchConf,
+    bytes: &[u8],
+) -> Result<Option<u64>, NoMemory>
+    ensures { IfOk result (λ found. found ≡ other_password_line conf.now bytes.now) }
+{
+    let hash = hash_of(alloc, conf.own_pass())?;
+    other_hash_line(alloc, hash.as_bytes(), bytes)
+}
+
+/// What the file with these bytes says to `watch`, where `conf` is what it says else; or its first fault. Faults are judged in this order: that of
+/// each line, by itself; then `OtherPassword`, at its line; then `NoAnnounceIp`, with line 0. `NoMemory`, with line 0, may stand in place of any
+/// other answer.
 pub fn read_watch(alloc: Global, conf: &Conf, bytes: &[u8]) -> Result<WatchConf, WatchFault>
     ensures { MatchResult result (λ read. watch_settings conf.now bytes.now ≡ Ok read)
         (λ fault. (fault ≡ no_memory) ⊎ (watch_settings conf.now bytes.now ≡ Err fault)) }
@@ -212,11 +272,18 @@ pub fn read_watch(alloc: Global, conf: &Conf, bytes: &[u8]) -> Result<WatchConf,
         Ok(settings) => settings,
         Err(fault) => return Err(fault),
     };
+    let read = WatchConf { settings };
+    if let Some(line) = other_password_line(alloc, &read, bytes)? {
+        return Err(WatchFault {
+            line,
+            kind: WatchKind::OtherPassword,
+        });
+    }
     if lacks_announce_ip(conf) {
         return Err(WatchFault {
             line: 0,
             kind: WatchKind::NoAnnounceIp,
         });
     }
-    Ok(WatchConf { settings })
+    Ok(read)
 }

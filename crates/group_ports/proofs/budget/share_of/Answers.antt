@@ -27,5 +27,5 @@ most_or_too_many descriptors rest ports beside most left share kept some left_is
     ]
 
 pub returns-clause-most : goal.returns-clause-most
-returns-clause-most c = most_or_too_many c.args.descriptors 8 c.args.ports c.args.beside 256 c.saturating_sub.result c.saturating_sub-2.result c.min.result c.requires
+returns-clause-most c = most_or_too_many c.args.descriptors 8 c.args.ports c.args.beside c.args.most c.saturating_sub.result c.saturating_sub-2.result c.min.result c.requires
     c.saturating_sub.ensures c.saturating_sub-2.ensures c.min.ensures

@@ -15,7 +15,7 @@ returns-in-Ok-clause-answered g c = λ stream first bytes visitor is a.
     after.unsent.items before.session after.session c.args.seat.now.view c.hand_on.new.seat.view is a c.requires.ready taken c.in-Some.ensures.common.0 c.in-Some.ensures.plain
     (ap (λ (x : Attendance). x.asker) kept ∙ c.next_common.ensures.asker) (c.hand_on.ensures.kept.2 ∙ c.next_common.ensures.kept.1)
     (c.hand_on.ensures.told ∙ ap (λ (t : Talk). t.told) c.next_common.ensures.session)
-    (rw (c.next_common.ensures.session, c.next_common.ensures.unsent) at c.in-Ok.ensures.answered)
+    (rw (c.next_common.ensures.session, c.next_common.ensures.unsent, c.next_common.ensures.asker) at c.in-Ok.ensures.answered)
 
 pub returns-in-None-clause-answered : goal.returns-in-None-clause-answered
 returns-in-None-clause-answered g c =

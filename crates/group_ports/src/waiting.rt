@@ -1,0 +1,101 @@
+//! Which connections of a thread have something to do, though the system doesn't tell of them, and which listen.
+
+ghost use Rattle.std.specs.Prelude.{◌≡◌, ◌<◌, true, false};
+
+use crate::key_queue::KeyQueue;
+use std::alloc::{AllocError, Global};
+
+/// Where a connection that has something to do waits for its turn.
+#[derive(Clone, Copy, PartialEq, Eq)]
+pub(crate) enum Line {
+    /// It may not have asked for a vote.
+    Plain,
+    /// It may have, and comes from an address of another Sentinel.
+    PeerVoter,
+    /// It may have, and comes from elsewhere.
+    OtherVoter,
+}
+
+/// The lines of those that have something to do, those that listen, those that had a turn or were told something
+/// since they gave back their room last, and those that might not go when they were looked at last. Of the voters'
+/// turns every second one is that of a peer, where one waits; `peer_was_last` is whether the last one was.
+#[derive(Drop)]
+pub(crate) struct Waiting {
+    plain: KeyQueue,
+    peers: KeyQueue,
+    voters: KeyQueue,
+    pub(crate) listeners: KeyQueue,
+    pub(crate) active: KeyQueue,
+    pub(crate) aside: KeyQueue,
+    peer_was_last: bool,
+}
+
+/// Whether the next voter's turn is a peer's, where so many peers wait and so many others.
+fn is_peers_turn(peer_was_last: bool, peers: usize, others: usize) -> bool
+    ensures peers { 0 < peers → peer_was_last ≡ false → result ≡ true }
+    ensures others { 0 < others → peer_was_last ≡ true → result ≡ false }
+    ensures alone { 0 < peers → others ≡ 0 → result ≡ true }
+{
+    others == 0 || (peers > 0 && !peer_was_last)
+}
+
+impl Waiting {
+    /// None waits. No memory is taken.
+    pub(crate) fn new(alloc: Global) -> Waiting {
+        Waiting {
+            plain: KeyQueue::new(alloc),
+            peers: KeyQueue::new(alloc),
+            voters: KeyQueue::new(alloc),
+            listeners: KeyQueue::new(alloc),
+            active: KeyQueue::new(alloc),
+            aside: KeyQueue::new(alloc),
+            peer_was_last: false,
+        }
+    }
+
+    /// Has room for the connection with this key.
+    pub(crate) fn make_room(&mut self, key: usize) -> Result<(), AllocError> {
+        self.plain.make_room(key)?;
+        self.peers.make_room(key)?;
+        self.voters.make_room(key)?;
+        self.listeners.make_room(key)?;
+        self.active.make_room(key)?;
+        self.aside.make_room(key)
+    }
+
+    /// A connection waits in this line, where it doesn't yet.
+    pub(crate) fn join(&mut self, line: Line, key: usize) {
+        match line {
+            Line::Plain => self.plain.join(key),
+            Line::PeerVoter => self.peers.join(key),
+            Line::OtherVoter => self.voters.join(key),
+        }
+    }
+
+    /// How many wait that may not have asked for a vote.
+    pub(crate) fn plain_count(&self) -> usize {
+        self.plain.len()
+    }
+
+    /// The first of these.
+    pub(crate) fn next_plain(&mut self) -> Option<usize> {
+        self.plain.next()
+    }
+
+    /// How many wait that may have asked for a vote.
+    pub(crate) fn voter_count(&self) -> usize {
+        self.peers.len().saturating_add(self.voters.len())
+    }
+
+    /// The one of these whose turn it is: a peer's after that of another one, and another one's after a peer's, where
+    /// there are both.
+    pub(crate) fn next_voter(&mut self) -> Option<usize> {
+        let is_peers = is_peers_turn(self.peer_was_last, self.peers.len(), self.voters.len());
+        self.peer_was_last = is_peers;
+        if is_peers {
+            self.peers.next()
+        } else {
+            self.voters.next()
+        }
+    }
+}
