@@ -21,6 +21,7 @@ import socket
 import statistics
 import sys
 import tempfile
+import threading
 import time
 
 TOP = os.path.dirname(os.path.dirname(os.path.realpath(__file__)))
@@ -189,6 +190,31 @@ def wait_for(holds, seconds=LONG, pause=0.05):
 def middle(measure, times=3):
     """The median of what is measured so many times: one of them that the machine held up doesn't count."""
     return statistics.median(measure() for _ in range(times))
+
+
+class Standing(threading.Thread):
+    """A bare loop that sleeps for ten milliseconds again and again, and keeps for how many seconds it stood still at most: so late is who waits for something
+    on this machine. It begins at once."""
+
+    def __init__(self):
+        super().__init__(daemon=True)
+        self.longest, self.is_over, self.asleep = 0.0, False, time.monotonic()
+        self.start()
+
+    def run(self):
+        while not self.is_over:
+            self.asleep = time.monotonic()
+            time.sleep(0.01)
+            self.longest = max(self.longest, time.monotonic() - self.asleep - 0.01)
+
+    def so_far(self):
+        return max(self.longest, time.monotonic() - self.asleep - 0.01)
+
+    def end(self):
+        """Ends the loop, and gives for how long it stood still."""
+        self.is_over = True
+        self.join()
+        return self.longest
 
 
 # --- clients ---
