@@ -10,13 +10,18 @@ A check begins with comments that `checks/all` and `common.need()` read:
 `rt` (the toolchain). `quick` has the words that `checks/all --quick` adds, or `no` where it leaves the check out; it leaves out what needs `rt` too,
 unless there are such words.
 """
+import contextlib
+import fcntl
 import functools
 import os
 import random
 import re
 import shutil
 import socket
+import statistics
 import sys
+import tempfile
+import threading
 import time
 
 TOP = os.path.dirname(os.path.dirname(os.path.realpath(__file__)))
@@ -37,6 +42,7 @@ PACKAGES = {
     "strace": "apt-get install strace",
 }
 FIRST_PORT, LAST_PORT = 10_000, 32_000  # below the ports that a system gives to connections
+LONG = 300  # seconds after which what doesn't come is given up: only a run that fails waits so long
 
 
 # --- needs ---
@@ -132,29 +138,105 @@ def is_free(port):
         return True
 
 
+def taken(port):
+    """A file that is locked while this process has the port, so that no other check takes it before somebody listens there; None where another one has it."""
+    folder = os.path.join(tempfile.gettempdir(), "sentinel-group-ports")
+    with contextlib.suppress(FileExistsError):
+        os.mkdir(folder)
+        os.chmod(folder, 0o1777)
+    path = os.path.join(folder, str(port))
+    try:
+        # (in such a folder a file of another user may be opened, but not with O_CREAT)
+        lock = os.open(path, os.O_RDONLY if os.path.exists(path) else os.O_RDONLY | os.O_CREAT, 0o644)
+    except OSError:
+        return None
+    try:
+        fcntl.flock(lock, fcntl.LOCK_EX | fcntl.LOCK_NB)
+    except OSError:
+        os.close(lock)
+        return None
+    return lock
+
+
 def free_ports(count):
-    """This many ports in a row at which nobody listens."""
+    """This many ports in a row at which nobody listens, and that no other check has."""
     for _ in range(1000):
         first = random.randrange(FIRST_PORT, LAST_PORT - count)
         ports = list(range(first, first + count))
-        if all(map(is_free, ports)):
-            return ports
+        locks = [taken(port) for port in ports]
+        if None not in locks and all(map(is_free, ports)):
+            return ports  # (the locks end with this process)
+        for lock in locks:
+            if lock is not None:
+                os.close(lock)
     raise RuntimeError(f"no {count} ports in a row are free")
 
 
+# --- time ---
+
+
+def wait_for(holds, seconds=LONG, pause=0.05):
+    """Whether it holds, looked at until it does. What can't be had or read yet doesn't hold yet."""
+    until = time.monotonic() + seconds
+    while True:
+        with contextlib.suppress(OSError, EOFError, IndexError, KeyError, TypeError, ValueError):
+            if holds():
+                return True
+        if time.monotonic() > until:
+            return False
+        time.sleep(pause)
+
+
+def middle(measure, times=3):
+    """The median of what is measured so many times: one of them that the machine held up doesn't count."""
+    return statistics.median(measure() for _ in range(times))
+
+
+class Standing(threading.Thread):
+    """A bare loop that sleeps for ten milliseconds again and again, and keeps for how many seconds it stood still at most: so late is who waits for something
+    on this machine. It begins at once."""
+
+    def __init__(self):
+        super().__init__(daemon=True)
+        self.longest, self.is_over, self.asleep = 0.0, False, time.monotonic()
+        self.start()
+
+    def run(self):
+        while not self.is_over:
+            self.asleep = time.monotonic()
+            time.sleep(0.01)
+            self.longest = max(self.longest, time.monotonic() - self.asleep - 0.01)
+
+    def so_far(self):
+        return max(self.longest, time.monotonic() - self.asleep - 0.01)
+
+    def end(self):
+        """Ends the loop, and gives for how long it stood still."""
+        self.is_over = True
+        self.join()
+        return self.longest
+
+
 # --- clients ---
+
+
+def connected(port, ip="127.0.0.1"):
+    """A connection to a port at which somebody listens, or will."""
+    until = time.monotonic() + LONG
+    while True:
+        try:
+            return socket.create_connection((ip, port), timeout=LONG)
+        except ConnectionRefusedError:
+            if time.monotonic() > until:
+                raise
+        time.sleep(0.02)
 
 
 class Client:
     """A connection to a port, whose answers are read one by one."""
 
     def __init__(self, port, ip="127.0.0.1"):
-        for _ in range(200):
-            try:
-                self.socket = socket.create_connection((ip, port), timeout=20)
-                break
-            except ConnectionRefusedError:
-                time.sleep(0.05)
+        self.socket = connected(port, ip)
         self.reader = self.socket.makefile("rb")
 
     def answer(self):

@@ -4,23 +4,50 @@ import subprocess
 import sys
 
 INSIDE = "CHECK_INSIDE"
+HELD = 3_600_000  # milliseconds of an fsync that goes on once `set_fsync` says 0
 SLOW_FSYNC = r"""
 #define _GNU_SOURCE
 #include <dlfcn.h>
+#include <fcntl.h>
 #include <stdio.h>
 #include <stdlib.h>
+#include <time.h>
 #include <unistd.h>
 
-/* fsync, after as many milliseconds as stand in the file that FSYNC_MS names */
-int fsync(int file) {
-    int millis = 0;
+static long told_millis(void) {
+    long millis = 0;
     FILE *told = fopen(getenv("FSYNC_MS"), "r");
     if (told) {
-        if (fscanf(told, "%d", &millis) != 1) millis = 0;
+        if (fscanf(told, "%ld", &millis) != 1) millis = 0;
         fclose(told);
     }
-    usleep(1000u * millis);
-    return ((int (*)(int))dlsym(RTLD_NEXT, "fsync"))(file);
+    return millis;
+}
+
+static long now_millis(void) {
+    struct timespec now;
+    clock_gettime(CLOCK_MONOTONIC, &now);
+    return now.tv_sec * 1000 + now.tv_nsec / 1000000;
+}
+
+/* adds a byte to the file beside the one that FSYNC_MS names */
+static void count(void) {
+    char path[4096];
+    snprintf(path, sizeof path, "%s.done", getenv("FSYNC_MS"));
+    int done = open(path, O_WRONLY | O_APPEND | O_CREAT, 0600);
+    if (done >= 0) {
+        if (write(done, "x", 1) < 0) abort();
+        close(done);
+    }
+}
+
+/* fsync, after as many milliseconds as stand in the file that FSYNC_MS names, which is looked at meanwhile: with 0 it goes on at once */
+int fsync(int file) {
+    long began = now_millis(), left;
+    while ((left = began + told_millis() - now_millis()) > 0) usleep(1000 * (left < 20 ? left : 20));
+    int result = ((int (*)(int))dlsym(RTLD_NEXT, "fsync"))(file);
+    count();
+    return result;
 }
 """
 
@@ -97,8 +124,13 @@ def with_fsync(library, told):
     return {**os.environ, "LD_PRELOAD": library, "FSYNC_MS": told, "ASAN_OPTIONS": "verify_asan_link_order=0"}
 
 
+def stores_done(told):
+    """How many stores were done, by their fsyncs."""
+    return os.path.getsize(told + ".done") / 2 if os.path.exists(told + ".done") else 0
+
+
 def set_fsync(told, millis):
-    """Each fsync takes this many milliseconds from now on. A store makes two."""
+    """Each fsync takes this many milliseconds from now on, also one that waits. A store makes two."""
     with open(told + ".new", "w", encoding="utf-8") as out:
         out.write(str(millis))
     os.rename(told + ".new", told)
