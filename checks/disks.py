@@ -30,13 +30,13 @@ static long now_millis(void) {
     return now.tv_sec * 1000 + now.tv_nsec / 1000000;
 }
 
-/* adds a byte to the file beside the one that FSYNC_MS names */
-static void count(void) {
+/* adds a line with how long an fsync took to the file beside the one that FSYNC_MS names */
+static void note(long millis) {
     char path[4096];
     snprintf(path, sizeof path, "%s.done", getenv("FSYNC_MS"));
     int done = open(path, O_WRONLY | O_APPEND | O_CREAT, 0600);
     if (done >= 0) {
-        if (write(done, "x", 1) < 0) abort();
+        if (dprintf(done, "%ld\n", millis) < 0) abort();
         close(done);
     }
 }
@@ -46,7 +46,7 @@ int fsync(int file) {
     long began = now_millis(), left;
     while ((left = began + told_millis() - now_millis()) > 0) usleep(1000 * (left < 20 ? left : 20));
     int result = ((int (*)(int))dlsym(RTLD_NEXT, "fsync"))(file);
-    count();
+    note(now_millis() - began);
     return result;
 }
 """
@@ -124,9 +124,12 @@ def with_fsync(library, told):
     return {**os.environ, "LD_PRELOAD": library, "FSYNC_MS": told, "ASAN_OPTIONS": "verify_asan_link_order=0"}
 
 
-def stores_done(told):
-    """How many stores were done, by their fsyncs."""
-    return os.path.getsize(told + ".done") / 2 if os.path.exists(told + ".done") else 0
+def fsyncs_done(told):
+    """How many milliseconds each fsync took that is done."""
+    if not os.path.exists(told + ".done"):
+        return []
+    with open(told + ".done", encoding="ascii") as text:
+        return [int(line) for line in text if line.endswith("\n")]
 
 
 def set_fsync(told, millis):
