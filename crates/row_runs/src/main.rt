@@ -11,6 +11,7 @@ mod bodies;
 mod bounded_lists;
 mod broken_streams;
 mod channels;
+mod checked_files;
 mod client_searches;
 mod commands;
 mod conf_files;
@@ -24,8 +25,10 @@ mod frames;
 mod given;
 mod hellos;
 mod infos;
+mod link_talks;
 mod message_rows;
 mod names_and_texts;
+mod node_talks;
 mod nodes;
 mod outboxes;
 mod plans;
@@ -39,6 +42,7 @@ mod stages;
 mod stores;
 mod told;
 mod votes_and_elections;
+mod watch_confs;
 mod words_and_numbers;
 mod writable;
 
@@ -63,20 +67,24 @@ fn play(
         "channels" => channels::play(rt.alloc(), call, words, told),
         "conf_files" => conf_files::play(rt.alloc(), call, words, told),
         "commands" => commands::play(rt.alloc(), call, words, told),
+        "checked_files" => checked_files::play(rt.alloc(), call, words, told),
         "courtesies" => courtesies::play(rt.alloc(), call, words, told),
         "frames" | "long_frames" => frames::play(rt.alloc(), call, words, told),
         "hellos" => hellos::play(rt.alloc(), call, words, told),
         "infos" => infos::play(rt.alloc(), call, words, told),
+        "link_talks" => link_talks::play(rt.alloc(), call, words, told),
         "message_bytes" | "message_lines" | "comments" | "deliveries_to_nodes" => {
             message_rows::play(rt.alloc(), call, words, told)
         }
         "names_and_texts" => names_and_texts::play(rt.alloc(), call, words, told),
+        "node_talks" => node_talks::play(rt.alloc(), call, words, told),
         "reports" => reports::play(rt.alloc(), call, words, told),
         "scenario_lines" => scenario_lines::play(rt.alloc(), call, words, told),
         "memory_stores" | "file_stores" | "refused_stores" => {
             stores::play(rt, call, words, told)
         }
         "roles" => roles::play(rt.alloc(), call, words, told),
+        "watch_confs" => watch_confs::play(rt.alloc(), call, words, told),
         "words_and_numbers" => words_and_numbers::play(rt.alloc(), call, words, told),
         _ => Err(Unplayed::NoSuchFamily),
     }

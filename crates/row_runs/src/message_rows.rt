@@ -117,7 +117,7 @@ fn tell_comments(alloc: Global, words: &[Vec<u8>], told: &mut Told) -> Result<()
 }
 
 /// The message of a sender to a target that says this.
-fn message(
+pub(crate) fn message(
     alloc: Global,
     sender: &[u8],
     target: &[u8],
@@ -143,8 +143,30 @@ fn reply_name(reply: PingReply) -> &'static str {
     }
 }
 
+/// Tells what a voter says of a master, if the event is that.
+fn tell_answered(event: &Event, told: &mut Told) -> Result<(), Unplayed> {
+    let Event::Answered {
+        voter,
+        master,
+        addr,
+        down,
+        leader,
+        epoch,
+    } = event
+    else {
+        return Err(Unplayed::WrongWords);
+    };
+    told.word("Answered")?;
+    tell_node(*voter, told)?;
+    told.number(u64::from(*master))?;
+    told.address(*addr)?;
+    told.word(if *down { "down" } else { "up" })?;
+    told.maybe_id(*leader)?;
+    told.number(*epoch)
+}
+
 /// Tells an event that a message becomes.
-fn tell_event(alloc: Global, event: &Event, told: &mut Told) -> Result<(), Unplayed> {
+pub(crate) fn tell_event(alloc: Global, event: &Event, told: &mut Told) -> Result<(), Unplayed> {
     match event {
         Event::Command { sender, command } => {
             told.word("Command")?;
@@ -156,6 +178,7 @@ fn tell_event(alloc: Global, event: &Event, told: &mut Told) -> Result<(), Unpla
             tell_node(*node, told)?;
             told.word(reply_name(*reply))
         }
+        Event::Answered { .. } => tell_answered(event, told),
         Event::InfoRead { node, text } => {
             told.word("InfoRead")?;
             tell_node(*node, told)?;
