@@ -11,45 +11,38 @@ const OWNER_ALONE: u32 = 0o700;
 
 /// A file that is to be written.
 #[derive(Drop)]
-pub(crate) struct NewFile {
+pub(crate) struct NewFile<'a> {
     pub(crate) name: String,
-    pub(crate) text: Text,
+    pub(crate) text: &'a Text,
 }
 
-/// Where memory was refused.
-fn no_memory<E>(_error: E) -> io::Error {
-    io::Error::from(ErrorKind::OutOfMemory)
+/// The path of a file in a folder.
+fn path_in(rt: HostRuntime, folder: &str, name: &str) -> io::Result<String> {
+    match format!(in rt.alloc(); "{folder}/{name}") {
+        Ok(path) => Ok(path),
+        Err(_) => Err(io::Error::from(ErrorKind::OutOfMemory)),
+    }
 }
 
 /// Writes each file into the folder, and has the disk hold them.
-fn write_files(rt: HostRuntime, folder: &str, files: &[NewFile]) -> io::Result<()> {
+fn write_files(rt: HostRuntime, folder: &str, files: &[NewFile<'_>]) -> io::Result<()> {
     for file in files {
-        let name = file.name.as_str();
-        let path = format!(in rt.alloc(); "{folder}/{name}").map_err(no_memory)?;
+        let path = path_in(rt, folder, file.name.as_str())?;
         let mut made = make_file(rt, path.as_str())?;
         made.write_all(file.text.as_slice())?;
         made.sync_all()?;
     }
-    File::open(&rt, folder)?.sync_all()
-}
-
-/// A path without the slashes at its end.
-fn without_slashes(path: &str) -> &str {
-    let mut rest = path;
-    while let Some(less) = rest.strip_suffix('/') {
-        if less.is_empty() {
-            return rest;
-        }
-        rest = less;
-    }
-    rest
+    let opened = File::open(&rt, folder)?;
+    opened.sync_all()
 }
 
 /// Writes the files into a folder that isn't there, or is empty. They are written into one beside it, `<folder>.new`, which then gets its
 /// name: so a kill leaves the folder as it was or with all files, and so does an error.
-pub(crate) fn write_folder(rt: HostRuntime, folder: &str, files: &[NewFile]) -> io::Result<()> {
-    let folder = without_slashes(folder);
-    let beside = format!(in rt.alloc(); "{folder}.new").map_err(no_memory)?;
+pub(crate) fn write_folder(rt: HostRuntime, folder: &str, files: &[NewFile<'_>]) -> io::Result<()> {
+    let folder = folder.trim_end_matches('/');
+    let Ok(beside) = format!(in rt.alloc(); "{folder}.new") else {
+        return Err(io::Error::from(ErrorKind::OutOfMemory));
+    };
     let beside = beside.as_str();
     let mut how = DirBuilder::new();
     how.mode(OWNER_ALONE);

@@ -4,7 +4,7 @@ use crate::command_line::REFUSED_WORDS;
 use crate::failures::{fail, fail_group, refuse_file, refuse_file_to_write};
 use crate::group_files::text_at;
 use crate::new_folders::{NewFile, write_folder};
-use ballot_law::{Addr, Member, Name, RunId};
+use ballot_law::{Addr, Member, Name, RunId, Text};
 use clap::ArgMatches;
 use conf_check::{
     ID_BYTES, NewGroup, NewGroupFault, id_line, is_password, new_group_texts, node_address,
@@ -20,6 +20,9 @@ use tokens::{ip_text, run_id_of};
 /// After how many milliseconds a node is down where no word says it.
 const DOWN_AFTER_MS: u32 = 5_000;
 
+/// What the name of a master is to be.
+const NAMES: &str = "write 1 to 64 letters, digits, '.', '-' and '_'";
+
 /// The bytes of a run id as a text.
 const RUN_ID_LENGTH: usize = 40;
 
@@ -34,17 +37,37 @@ fn want_memory(rt: HostRuntime) -> ExitCode {
     fail(&rt, ServeFault::NoMemory)
 }
 
+/// Whose address a word is to be.
+#[derive(Clone, Copy)]
+enum Named {
+    Node,
+    Sentinel,
+}
+
+impl Named {
+    /// The address that the word spells.
+    fn address(self, word: &str) -> Option<Addr> {
+        match self {
+            Named::Node => node_address(word.as_bytes()),
+            Named::Sentinel => sentinel_address(word.as_bytes()),
+        }
+    }
+
+    /// What to write in place of a word that spells none.
+    fn remedy(self) -> &'static str {
+        match self {
+            Named::Node => "write an ip and a port, as 10.0.0.1:6379",
+            Named::Sentinel => "write an ip, or an ip and a port, as 10.0.0.1:26379",
+        }
+    }
+}
+
 /// The addresses that these words spell.
-fn addresses_of(
-    rt: HostRuntime,
-    words: &[&str],
-    remedy: &str,
-    address: fn(&[u8]) -> Option<Addr>,
-) -> Result<Vec<Addr>, ExitCode> {
+fn addresses_of(rt: HostRuntime, words: &[&str], whose: Named) -> Result<Vec<Addr>, ExitCode> {
     let mut addrs = Vec::new(rt.alloc());
     for word in words {
-        let Some(addr) = address(word.as_bytes()) else {
-            return Err(refuse_word(rt, "BadAddress", word, remedy));
+        let Some(addr) = whose.address(word) else {
+            return Err(refuse_word(rt, "BadAddress", word, whose.remedy()));
         };
         if addrs.push(addr).is_err() {
             return Err(want_memory(rt));
@@ -63,7 +86,10 @@ fn random_id(rt: HostRuntime) -> Result<RunId, ExitCode> {
         return Err(want_memory(rt));
     };
     let digits = line.as_bytes().get(..RUN_ID_LENGTH).unwrap_or(&[]);
-    run_id_of(digits).ok_or_else(|| fail(&rt, ServeFault::Read))
+    match run_id_of(digits) {
+        Some(id) => Ok(id),
+        None => Err(fail(&rt, ServeFault::Read)),
+    }
 }
 
 /// Sentinels at these addresses, with new run ids.
@@ -105,7 +131,7 @@ fn password_of(rt: HostRuntime, words: &ArgMatches) -> Result<Vec<u8>, ExitCode>
 fn quorum_of(rt: HostRuntime, words: &ArgMatches, sentinels: usize) -> Result<u32, ExitCode> {
     let quorum = match words.get_one::<u32>("quorum") {
         Some(quorum) => quorum as usize,
-        None => sentinels / 2 + 1,
+        None => (sentinels / 2).saturating_add(1),
     };
     if quorum == 0 || quorum > sentinels {
         let _ = eprintln!(rt;
@@ -136,18 +162,16 @@ fn refuse_shared(rt: HostRuntime, nodes: &[Addr], sentinels: &[Addr]) -> Result<
 
 /// The master's name, and its data nodes: itself first.
 fn master_of(rt: HostRuntime, words: &ArgMatches) -> Result<(Name, Vec<Addr>), ExitCode> {
-    const REMEDY: &str = "write an ip and a port, as 10.0.0.1:6379";
-    let (name, at) = match words.get_strs("master") {
-        Some([name, at]) => (*name, *at),
-        _ => ("", ""),
+    let master = words.get_strs("master").unwrap_or(&[]);
+    let [name, at] = master else {
+        return Err(refuse_word(rt, "BadName", "", NAMES));
     };
     let Some(named) = Name::from_slice(name.as_bytes()) else {
-        let remedy = "write 1 to 64 letters, digits, '.', '-' and '_'";
-        return Err(refuse_word(rt, "BadName", name, remedy));
+        return Err(refuse_word(rt, "BadName", name, NAMES));
     };
-    let mut nodes = addresses_of(rt, &[at], REMEDY, node_address)?;
+    let mut nodes = addresses_of(rt, &[*at], Named::Node)?;
     let replicas = words.get_strs("replica").unwrap_or(&[]);
-    let replicas = addresses_of(rt, replicas, REMEDY, node_address)?;
+    let replicas = addresses_of(rt, replicas, Named::Node)?;
     match nodes.extend_from_slice(&replicas) {
         Ok(()) => Ok((named, nodes)),
         Err(_) => Err(want_memory(rt)),
@@ -157,9 +181,8 @@ fn master_of(rt: HostRuntime, words: &ArgMatches) -> Result<(Name, Vec<Addr>), E
 /// The group that the words ask for.
 fn group_of(rt: HostRuntime, words: &ArgMatches) -> Result<NewGroup, ExitCode> {
     let (name, nodes) = master_of(rt, words)?;
-    let remedy = "write an ip, or an ip and a port, as 10.0.0.1:26379";
     let sentinels = words.get_strs("sentinel").unwrap_or(&[]);
-    let sentinels = addresses_of(rt, sentinels, remedy, sentinel_address)?;
+    let sentinels = addresses_of(rt, sentinels, Named::Sentinel)?;
     refuse_shared(rt, nodes.as_slice(), sentinels.as_slice())?;
     let quorum = quorum_of(rt, words, sentinels.len())?;
     Ok(NewGroup {
@@ -177,18 +200,29 @@ fn file_name(rt: HostRuntime, addr: Addr) -> Result<String, ExitCode> {
     let ip = ip_text(addr.ip);
     let ip = str::from_utf8(ip.as_slice()).unwrap_or("");
     let port = addr.port;
-    format!(in rt.alloc(); "{ip}-{port}.conf").map_err(|_| want_memory(rt))
+    match format!(in rt.alloc(); "{ip}-{port}.conf") {
+        Ok(name) => Ok(name),
+        Err(_) => Err(want_memory(rt)),
+    }
 }
 
-/// The files of a group, by name.
-fn files_of(rt: HostRuntime, group: &NewGroup) -> Result<Vec<NewFile>, ExitCode> {
-    let texts = match new_group_texts(rt.alloc(), group) {
-        Ok(texts) => texts,
-        Err(NewGroupFault::NotOneRoster) => return Err(fail_group(&rt, GroupFault::NotOneRoster)),
-        Err(NewGroupFault::NoMemory) => return Err(want_memory(rt)),
-    };
+/// The texts of a group's files.
+fn texts_of(rt: HostRuntime, group: &NewGroup) -> Result<Vec<Text>, ExitCode> {
+    match new_group_texts(rt.alloc(), group) {
+        Ok(texts) => Ok(texts),
+        Err(NewGroupFault::NotOneRoster) => Err(fail_group(&rt, GroupFault::NotOneRoster)),
+        Err(NewGroupFault::NoMemory) => Err(want_memory(rt)),
+    }
+}
+
+/// The files of a group, by name, with these texts.
+fn files_of<'a>(
+    rt: HostRuntime,
+    group: &NewGroup,
+    texts: &'a [Text],
+) -> Result<Vec<NewFile<'a>>, ExitCode> {
     let mut files = Vec::new(rt.alloc());
-    for (member, text) in group.sentinels.iter().zip(texts.into_iter()) {
+    for (member, text) in group.sentinels.iter().zip(texts.iter()) {
         let name = file_name(rt, member.addr)?;
         if files.push(NewFile { name, text }).is_err() {
             return Err(want_memory(rt));
@@ -214,7 +248,8 @@ fn refuse_folder(rt: HostRuntime, folder: &str, error: io::Error) -> ExitCode {
 fn made(rt: HostRuntime, words: &ArgMatches) -> Result<(), ExitCode> {
     let folder = words.get_str("folder").unwrap_or("");
     let group = group_of(rt, words)?;
-    let files = files_of(rt, &group)?;
+    let texts = texts_of(rt, &group)?;
+    let files = files_of(rt, &group, texts.as_slice())?;
     if let Err(error) = write_folder(rt, folder, files.as_slice()) {
         return Err(refuse_folder(rt, folder, error));
     }

@@ -37,14 +37,12 @@ pub fn sentinel_address(word: &[u8]) -> Option<Addr>
     }
 }
 
-/// The first of these addresses that stands among those behind it too.
+/// The first of these addresses that stands there twice.
 pub fn shared_address(addrs: &[Addr]) -> Option<Addr> {
-    let mut rest = addrs;
-    while let [addr, more @ ..] = rest {
-        if more.iter().any(|it| it.is_same(addr)) {
+    for addr in addrs {
+        if addrs.iter().filter(|it| it.is_same(addr)).count() > 1 {
             return Some(*addr);
         }
-        rest = more;
     }
     None
 }
