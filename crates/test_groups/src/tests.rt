@@ -9,3 +9,6 @@ mod ports;
 mod stores_held;
 mod talks;
 mod told_files;
+mod vote_files;
+mod watchers;
+mod watching;
