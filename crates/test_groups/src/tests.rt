@@ -2,9 +2,11 @@
 
 mod clients;
 mod confs;
+mod failing_over;
 mod groups;
 mod orders;
 mod outlets;
+mod played_replica;
 mod ports;
 mod stores_held;
 mod talks;

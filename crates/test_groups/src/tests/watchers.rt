@@ -32,13 +32,15 @@ const SECOND_ID: RunId = RunId {
     lo: 0xbbbb_bbbb,
 };
 
-/// At which ports of this machine a pair of Sentinels and what they watch are.
+/// A pair of Sentinels and what they watch: at which ports of this machine they are, and how long a failover may take.
 #[derive(Clone, Copy)]
-pub(crate) struct Ports {
+pub(crate) struct Watched {
     pub(crate) first: u16,
     pub(crate) second: u16,
     pub(crate) master: u16,
     pub(crate) replica: u16,
+    /// In milliseconds.
+    pub(crate) timeout_ms: u64,
 }
 
 /// One Sentinel of a pair with quorum 2.
@@ -53,48 +55,53 @@ struct Watcher {
 }
 
 /// The first Sentinel.
-fn first_of(ports: Ports) -> Watcher {
+fn first_of(watched: Watched) -> Watcher {
     Watcher {
         id: FIRST,
-        port: ports.first,
+        port: watched.first,
         other: SECOND,
         other_id: SECOND_ID,
-        other_port: ports.second,
+        other_port: watched.second,
         after_ms: 300,
     }
 }
 
 /// The second one, which finds a node down later than the first one.
-fn second_of(ports: Ports) -> Watcher {
+fn second_of(watched: Watched) -> Watcher {
     Watcher {
         id: SECOND,
-        port: ports.second,
+        port: watched.second,
         other: FIRST,
         other_id: FIRST_ID,
-        other_port: ports.first,
+        other_port: watched.first,
         after_ms: 400,
     }
 }
 
 impl Watcher {
     /// Its file.
-    fn text(&self, alloc: Global, ports: Ports) -> Result<String, NoMemory> {
+    fn text(&self, alloc: Global, watched: Watched) -> Result<String, NoMemory> {
         let (id, other) = (self.id, self.other);
         Ok(format!(in alloc;
             "port {}\n\
 sentinel myid {id}\n\
 sentinel monitor mymaster 127.0.0.1 {} 2\n\
 sentinel down-after-milliseconds mymaster {}\n\
-sentinel failover-timeout mymaster 1000\n\
+sentinel failover-timeout mymaster {}\n\
 sentinel known-replica mymaster 127.0.0.1 {}\n\
 sentinel known-sentinel mymaster 127.0.0.1 {} {other}\n",
-            self.port, ports.master, self.after_ms, ports.replica, self.other_port
+            self.port,
+            watched.master,
+            self.after_ms,
+            watched.timeout_ms,
+            watched.replica,
+            self.other_port
         )?)
     }
 
     /// Its conf.
-    fn conf(&self, alloc: Global, ports: Ports) -> Result<Conf, Fail> {
-        let text = self.text(alloc, ports)?;
+    fn conf(&self, alloc: Global, watched: Watched) -> Result<Conf, Fail> {
+        let text = self.text(alloc, watched)?;
         Ok(read(alloc, text.as_bytes()).map_err(|_| "no conf")?)
     }
 
@@ -121,10 +128,10 @@ sentinel known-sentinel mymaster 127.0.0.1 {} {other}\n",
         &self,
         rt: &R,
         alloc: Global,
-        ports: Ports,
+        watched: Watched,
         votes: &'a Votes,
     ) -> Result<Watch<VoteFile<'a>>, Fail> {
-        let conf = self.conf(alloc, ports)?;
+        let conf = self.conf(alloc, watched)?;
         let file = VoteFile::new(alloc, votes, self.other_id)?;
         let settings = self.settings(alloc)?;
         match Watch::open(rt, alloc, conf, file, settings) {
@@ -138,10 +145,10 @@ sentinel known-sentinel mymaster 127.0.0.1 {} {other}\n",
 pub(crate) fn both_open<'a, R: Net + Clock + Log>(
     rt: &R,
     alloc: Global,
-    ports: Ports,
+    watched: Watched,
     votes: (&'a Votes, &'a Votes),
 ) -> Result<(Watch<VoteFile<'a>>, Watch<VoteFile<'a>>), Fail> {
-    let first = first_of(ports).open(rt, alloc, ports, votes.0)?;
-    let second = second_of(ports).open(rt, alloc, ports, votes.1)?;
+    let first = first_of(watched).open(rt, alloc, watched, votes.0)?;
+    let second = second_of(watched).open(rt, alloc, watched, votes.1)?;
     Ok((first, second))
 }

@@ -4,7 +4,8 @@ use crate::tests::clients::{MASTER, SENTINELS, connected};
 use crate::tests::confs::free_port;
 use crate::tests::told_files::MOST_LOOKS;
 use crate::tests::vote_files::{VoteFile, Votes};
-use crate::tests::watchers::{FIRST, Ports, SECOND, both_open};
+use crate::tests::watchers::{FIRST, SECOND, Watched, both_open};
+use ballot_law::NoMemory;
 use log::Log;
 use sentinel_runner::{GroupFault, Watch};
 use std::alloc::Global;
@@ -20,15 +21,22 @@ use std::time::Duration;
 const EPOCHS: (u64, u64) = (900, 1_400);
 
 /// How two Sentinels ended.
-type Ended = (Result<(), GroupFault>, Result<(), GroupFault>);
+pub(crate) type Ended = (Result<(), GroupFault>, Result<(), GroupFault>);
 
 /// Runs both Sentinels until both are halted.
-fn run_both<'a, R: Threads + Wait + Net + Clock + Log + Sync>(
+pub(crate) fn run_both<'a, R: Threads + Wait + Net + Clock + Log + Sync>(
     rt: &R,
     first: Watch<VoteFile<'a>>,
     second: Watch<VoteFile<'a>>,
 ) -> Ended {
     thread::join(rt, || first.run(rt), || second.run(rt))
+}
+
+/// The request for a vote of this epoch for the master at this port, as a line.
+fn vote_at(alloc: Global, port: u16, epoch: u64) -> Result<String, NoMemory> {
+    Ok(format!(in alloc;
+        "SENTINEL IS-MASTER-DOWN-BY-ADDR 127.0.0.1 {port} {epoch} dddddddddddddddddddddddddddddddddddddddd\r\n"
+    )?)
 }
 
 /// A client of a Sentinel, which knows what its file tells.
@@ -66,17 +74,17 @@ impl<T: Read + Write + Drop> Client<'_, T> {
     }
 
     /// Has the file refuse each text, and asks for votes of later and later epochs until it has refused one; whether it has.
-    fn end<R: Clock>(&mut self, rt: &R, alloc: Global, master: u16) -> Result<bool, Fail> {
+    fn end<R: Clock>(&mut self, rt: &R, alloc: Global, watched: Watched) -> Result<bool, Fail> {
         self.votes.end();
         for epoch in EPOCHS.0..EPOCHS.1 {
             if self.votes.has_refused() {
                 return Ok(true);
             }
-            let ask = format!(in alloc;
-                "SENTINEL IS-MASTER-DOWN-BY-ADDR 127.0.0.1 {master} {epoch} dddddddddddddddddddddddddddddddddddddddd\r\n"
-            )?;
             // (one that is halted closes its connections)
-            drop(self.stream.write_all(ask.as_bytes()));
+            for port in [watched.master, watched.replica] {
+                let ask = vote_at(alloc, port, epoch)?;
+                drop(self.stream.write_all(ask.as_bytes()));
+            }
             thread::sleep(rt, Duration::from_millis(20));
         }
         Ok(false)
@@ -107,17 +115,22 @@ struct Seen {
 
 /// The clients of two Sentinels.
 #[derive(Drop)]
-struct Clients<'a, T: Read + Write + Drop> {
+pub(crate) struct Clients<'a, T: Read + Write + Drop> {
     first: Client<'a, T>,
     second: Client<'a, T>,
 }
 
 impl<T: Read + Write + Drop> Clients<'_, T> {
     /// Ends both Sentinels.
-    fn end<R: Clock>(&mut self, rt: &R, alloc: Global, master: u16) -> Result<(bool, bool), Fail> {
+    pub(crate) fn end<R: Clock>(
+        &mut self,
+        rt: &R,
+        alloc: Global,
+        watched: Watched,
+    ) -> Result<(bool, bool), Fail> {
         Ok((
-            self.first.end(rt, alloc, master)?,
-            self.second.end(rt, alloc, master)?,
+            self.first.end(rt, alloc, watched)?,
+            self.second.end(rt, alloc, watched)?,
         ))
     }
 
@@ -130,10 +143,10 @@ impl<T: Read + Write + Drop> Clients<'_, T> {
     }
 
     /// Looks at both Sentinels, and ends them.
-    fn look<R: Clock>(&mut self, rt: &R, alloc: Global, master: u16) -> Result<Seen, Fail> {
+    fn look<R: Clock>(&mut self, rt: &R, alloc: Global, watched: Watched) -> Result<Seen, Fail> {
         let voted = waits_for_vote(rt, (self.first.votes, self.second.votes));
         let up = self.sees_both_up(rt);
-        let refused = self.end(rt, alloc, master)?;
+        let refused = self.end(rt, alloc, watched)?;
         Ok(Seen {
             voted,
             up: up?,
@@ -148,38 +161,48 @@ fn look_beside<'a, R: Threads + Wait + Net + Clock + Log + Sync, T: Read + Write
     alloc: Global,
     watches: (Watch<VoteFile<'a>>, Watch<VoteFile<'a>>),
     mut clients: Clients<'a, T>,
-    master: u16,
+    watched: Watched,
 ) -> (Result<Seen, Fail>, Ended) {
     let (first, second) = watches;
     thread::join(
         rt,
-        || clients.look(rt, alloc, master),
+        || clients.look(rt, alloc, watched),
         || run_both(rt, first, second),
     )
+}
+
+/// The clients of both Sentinels.
+pub(crate) fn clients_of<'a, R: Net>(
+    rt: &R,
+    watched: Watched,
+    votes: (&'a Votes, &'a Votes),
+) -> io::Result<Clients<'a, R::Stream>> {
+    Ok(Clients {
+        first: Client {
+            stream: connected(rt, watched.first)?,
+            votes: votes.0,
+        },
+        second: Client {
+            stream: connected(rt, watched.second)?,
+            votes: votes.1,
+        },
+    })
 }
 
 #[test]
 fn watches_see_each_other_and_vote(rt: HostRuntime) -> Result<(), Fail> {
     let alloc = rt.alloc();
-    let ports = Ports {
+    let watched = Watched {
         first: free_port(&rt)?,
         second: free_port(&rt)?,
         master: free_port(&rt)?,
         replica: free_port(&rt)?,
+        timeout_ms: 1_000,
     };
     let (first, second) = (Votes::new(), Votes::new());
-    let watches = both_open(&rt, alloc, ports, (&first, &second))?;
-    let clients = Clients {
-        first: Client {
-            stream: connected(&rt, ports.first)?,
-            votes: &first,
-        },
-        second: Client {
-            stream: connected(&rt, ports.second)?,
-            votes: &second,
-        },
-    };
-    let (seen, ended) = look_beside(&rt, alloc, watches, clients, ports.master);
+    let watches = both_open(&rt, alloc, watched, (&first, &second))?;
+    let clients = clients_of(&rt, watched, (&first, &second))?;
+    let (seen, ended) = look_beside(&rt, alloc, watches, clients, watched);
     let wanted = Seen {
         voted: true,
         up: (true, true),
