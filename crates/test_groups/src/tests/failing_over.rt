@@ -19,8 +19,8 @@ use std::test::Fail;
 use std::thread::{self, Threads};
 use std::time::Duration;
 
-/// For how long a subscriber waits for a byte at most.
-const SILENCE: Duration = Duration::from_secs(20);
+/// For how long a subscriber waits for a byte at most, in seconds.
+const SILENCE_SECONDS: u64 = 20;
 
 /// The command that asks to be told of new addresses.
 const SUBSCRIBE: &[u8] = b"*2\r\n$9\r\nSUBSCRIBE\r\n$14\r\n+switch-master\r\n";
@@ -113,7 +113,7 @@ fn look_beside<'a, R: Threads + Wait + Net + Clock + Log + Sync, T: Read + Write
 /// A connection to a Sentinel whose reads end after a silence.
 fn subscriber(rt: HostRuntime, port: u16) -> io::Result<TcpStream> {
     let stream = connected(&rt, port)?;
-    stream.set_read_timeout(Some(SILENCE))?;
+    stream.set_read_timeout(Some(Duration::from_secs(SILENCE_SECONDS)))?;
     Ok(stream)
 }
 
