@@ -38,9 +38,8 @@ fn told_at(alloc: Global, watched: Watched) -> Result<String, NoMemory> {
     )?)
 }
 
-/// Subscribes, and reads so many bytes.
-fn listen<T: Read + Write>(alloc: Global, stream: &mut T, count: usize) -> io::Result<Vec<u8>> {
-    stream.write_all(SUBSCRIBE)?;
+/// Reads so many bytes.
+fn read_all<T: Read>(alloc: Global, stream: &mut T, count: usize) -> io::Result<Vec<u8>> {
     let mut got = Vec::new(alloc);
     for _ in 0..count {
         let mut byte = [0u8; 1];
@@ -67,8 +66,8 @@ impl<T: Read + Write + Drop> Lookers<'_, T> {
         alloc: Global,
         count: usize,
     ) -> Result<(Vec<u8>, Vec<u8>), Fail> {
-        let first = listen(alloc, &mut self.first, count);
-        let second = listen(alloc, &mut self.second, count);
+        let first = read_all(alloc, &mut self.first, count);
+        let second = read_all(alloc, &mut self.second, count);
         self.clients.end(rt, alloc, self.watched)?;
         Ok((first?, second?))
     }
@@ -110,10 +109,11 @@ fn look_beside<'a, R: Threads + Wait + Net + Clock + Log + Sync, T: Read + Write
     )
 }
 
-/// A connection to a Sentinel whose reads end after a silence.
+/// A connection to a Sentinel over which a subscription was sent, and whose reads end after a silence.
 fn subscriber(rt: HostRuntime, port: u16) -> io::Result<TcpStream> {
-    let stream = connected(&rt, port)?;
+    let mut stream = connected(&rt, port)?;
     stream.set_read_timeout(Some(Duration::from_secs(SILENCE_SECONDS)))?;
+    stream.write_all(SUBSCRIBE)?;
     Ok(stream)
 }
 
