@@ -1,1 +1,4 @@
 pub mod Sending
+pub mod Sentinels
+pub mod Data
+pub mod Clients

@@ -12,14 +12,14 @@
 //! than `now` is no time ago. Nothing wraps, whatever the settings. Only [`Failover::new`] takes memory.
 #![tactic(auto)]
 
-pub use failovers::Failover;
-pub use periods::{ELECTION_MS, ORDER_MS, SPREAD_MS, law_periods};
-pub use replicas::{Progress, Replica};
-pub use states::{Choice, FailoverState, Row};
-pub use turns::{Act, Facts};
-
 mod failovers;
 mod periods;
 mod replicas;
 mod states;
 mod turns;
+
+pub use failovers::Failover;
+pub use periods::{ELECTION_MS, ORDER_MS, SPREAD_MS, law_periods};
+pub use replicas::{Progress, Replica};
+pub use states::{Choice, FailoverState, Row};
+pub use turns::{Act, Facts};

@@ -6,7 +6,7 @@
 ghost use Rattle.std.specs.Prelude.{◌≡◌, ◌≤◌, ◌+◌, ◌⊎◌, ◌∷◌, ◌++◌, ℕ, length, drop, decimal, codes, IfOk, IfSome};
 ghost use Rattle.resp2.specs.Asked.{Found, IsBehindPing, IsBehindNames, IsCommon};
 ghost use Rattle.resp2.specs.Commands as commands;
-ghost use Rattle.resp2_frames.specs.Frame.{bulk, spelling, line_end};
+ghost use Rattle.resp2.specs.Framing.Frame.{bulk, spelling, line_end};
 
 use crate::command::{CommandFault, name_of, question_of};
 use ballot_law::Command;

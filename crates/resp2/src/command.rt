@@ -3,13 +3,13 @@ ghost use Rattle.std.specs.Prelude.{◌≡◌, ◌∷◌, [], IfOk};
 ghost use Rattle.ballot_law.specs.Words.{name, lower};
 ghost use Rattle.resp2.specs.Asked.{IsCommon};
 ghost use Rattle.resp2.specs.Commands as commands;
-ghost use Rattle.resp2_frames.specs.Frame as frames;
-ghost use Rattle.resp2_frames.specs.Frame.{view, frames_view};
+ghost use Rattle.resp2.specs.Framing.Frame as frames;
+ghost use Rattle.resp2.specs.Framing.Frame.{view, frames_view};
 
+use crate::framing::Value;
 use ballot_law::{Command, MAX_EPOCH, Name, RunId};
-use resp2_frames::Value;
 use thiserror::Error;
-use words::{canonical_address_of, canonical_number_of, run_id_of};
+use tokens::{canonical_address_of, canonical_number_of, run_id_of};
 
 /// Why a value is no command of a Sentinel's port. The text of each is the variant's name.
 ///
