@@ -28,6 +28,7 @@ use Rattle.node_texts.specs.declared.faults.TextFault.TheVariants.{FieldCount, E
 use Rattle.node_texts.specs.Hellos.{hello_of}
 use Rattle.sentinel_conf.specs.declared.settings.Settings.{Settings}
 use Rattle.sentinel_conf.specs.declared.settings.TheConstants.{DEFAULT_SETTINGS}
+use Rattle.sentinel_rules.specs.declared.profiles.Profile.TheVariants.{Strict}
 use Rattle.sentinel_rules.specs.Plans.{Plan, roster_of}
 use Rattle.sentinel_rules.specs.States.{Core, opened, master_of, failover_of}
 use Rattle.sentinel_rules.specs.Votes.{book_of}
@@ -88,6 +89,7 @@ plan_of digit others ports settings kept =
             kept = kept;
           };
       place = 0;
+      profile = Strict;
     }
 
 -- four Sentinels and a master without replicas, as without a file
