@@ -13,7 +13,7 @@ use Rattle.failover_states.specs.declared.states.Row.{Row}
 use Rattle.failover_states.specs.declared.states.Row.TheVariants.{ElectionTimeout, NoReplica, ChoiceTimeout, PromotionTimeout}
 use Rattle.failover_states.specs.Calls.{choice_of}
 use Rattle.failover_states.specs.Failovers.{Failover}
-use Rattle.sentinel_rules.specs.declared.periods.TheConstants.{LINK_MAX_S}
+use Rattle.sentinel_rules.specs.declared.periods.TheConstants.{HOLD_MS, LINK_MAX_S}
 use Rattle.sentinel_rules.specs.declared.profiles.Profile.{Profile}
 use Rattle.sentinel_rules.specs.declared.profiles.Profile.TheVariants.{Strict, Redis}
 use Rattle.sentinel_rules.specs.Plans.{Plan, roster_of, group_size, settings_at, nodes_of}
@@ -59,7 +59,7 @@ marked moment f = record f { last_start = Some (clock moment) }
 -- the moment is yet to come, and no later than any that is kept: a later one is of a clock that was set back
 abbrev pub is_held : Option ℕ → (now : ℕ) → Bool
 is_held None now = false
-is_held (Some from) now = nat_lt now from && nat_le from (now + ELECTION_MS + SPREAD_MS)
+is_held (Some from) now = nat_lt now from && nat_le (age now from) HOLD_MS
 
 abbrev pub is_down_for : Option ℕ → (pause now : ℕ) → Bool
 is_down_for None pause now = false

@@ -96,7 +96,7 @@ fn opened_kept(alloc: Global, plan: &Plan) -> Result<Kept, AllocError>
 }
 
 /// Whether no failover is under way.
-fn is_idle(stage: FailoverState) -> bool
+pub(crate) fn is_idle(stage: FailoverState) -> bool
     ensures { result ≡ is_idle stage }
 {
     match stage {
