@@ -19,6 +19,10 @@ use Rattle.sentinel_rules.specs.declared.profiles.Profile.TheVariants.{Strict, R
 use Rattle.sentinel_rules.specs.Plans.{Plan, roster_of, group_size, settings_at, nodes_of}
 use Rattle.sentinel_rules.specs.States.{Core, NodeState, node_of, peer_of, failover_of, with_failover, card_place, is_idle, node_down_since, is_node_down}
 
+abbrev pub is_redis : Profile → Bool
+is_redis Strict = false
+is_redis Redis = true
+
 -- the strict rule, or Redis's
 abbrev pub by_profile : {X : Type 0} → Profile → (strict redis : X) → X
 by_profile Strict strict redis = strict

@@ -47,13 +47,6 @@ fn position_of(nodes: &[Addr], addr: Addr) -> Option<usize>
     nodes.iter().position(|node| addr.is_same(node))
 }
 
-/// The first place of a run id among these Sentinels.
-fn place_of(sentinels: &[Member], id: RunId) -> Option<usize>
-    ensures { result ≡ position (λ member. same_id id member.id) sentinels.now }
-{
-    sentinels.iter().position(|member| id.is_same(&member.id))
-}
-
 impl Plan {
     /// The plan of this conf, by the rules of this profile, with no memory taken.
     pub fn new(conf: Conf, profile: Profile) -> Plan
@@ -243,12 +236,20 @@ impl Plan {
         sentinels.iter().any(|member| id.is_same(&member.id))
     }
 
+    /// The first place of a run id among the Sentinels.
+    fn place_of(&self, id: RunId) -> Option<usize>
+        ensures { result ≡ position (λ member. same_id id member.id) (roster_of self.now).sentinels }
+    {
+        let sentinels = self.roster().sentinels();
+        sentinels.iter().position(|member| id.is_same(&member.id))
+    }
+
     /// The place of the candidate of a vote among the Sentinels; none where it is unknown, or none of them.
     pub fn candidate_place(&self, candidate: Option<RunId>) -> Option<usize>
         ensures { result ≡ candidate_place self.now candidate }
     {
         match candidate {
-            Some(id) => place_of(self.roster().sentinels(), id),
+            Some(id) => self.place_of(id),
             None => None,
         }
     }
