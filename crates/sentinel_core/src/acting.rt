@@ -19,7 +19,7 @@ ghost use Rattle.sentinel_rules.specs.Takes.{next, next_at, part_of, answer_to};
 ghost use Rattle.sentinel_state.specs.Parts.{with_part};
 
 use crate::inputs::{
-    answer_by_text, answer_plainly, hear_answer, hear_pong, take_hello, take_info, tick,
+    answer_by_text, answer_plainly, hear_answer, hear_loss, hear_pong, take_hello, take_info, tick,
 };
 use crate::undo::Undo;
 use ballot_law::{Body, Command, Event, Hello, Input, Message, NodeName, Note, Output};
@@ -187,6 +187,10 @@ fn hear(state: &mut State, now: u64, event: &Event, former: &mut Undo)
         Event::Pinged { node, reply } => {
             former.begin(kept, None);
             hear_pong(state, *node, now, *reply);
+        }
+        Event::Disconnected { node } => {
+            former.begin(kept, None);
+            hear_loss(state, *node);
         }
         // Not reached: `act_on` answers commands itself.
         Event::Command { command, .. } => {

@@ -9,7 +9,7 @@ use Rattle.ballot_law.specs.declared.cards.Kept.{Kept}
 use Rattle.ballot_law.specs.declared.commands.Command.{Command}
 use Rattle.ballot_law.specs.declared.commands.Command.TheVariants.{Ping, IsMasterDownByAddr, GetMasterAddrByName, Masters, Master, Replicas, Sentinels, MyId, CkQuorum, FlushConfig, Subscribe}
 use Rattle.ballot_law.specs.declared.events.Event.{Event}
-use Rattle.ballot_law.specs.declared.events.Event.TheVariants.{Tick, Command as Commanded, Answered as AnswerCame, Pinged, InfoRead, HelloRead, Become, Handed}
+use Rattle.ballot_law.specs.declared.events.Event.TheVariants.{Tick, Command as Commanded, Answered as AnswerCame, Pinged, InfoRead, HelloRead, Disconnected, Become, Handed}
 use Rattle.ballot_law.specs.declared.messages.NodeName.{NodeName}
 use Rattle.ballot_law.specs.declared.messages.NodeName.TheVariants.{SentinelAt, StoreAt, ClientAt, PortAt}
 use Rattle.ballot_law.specs.declared.replies.Hello.{Hello}
@@ -34,10 +34,10 @@ use Rattle.ballot_law.specs.declared.node_places.NodePlace.{NodePlace}
 use Rattle.sentinel_rules.specs.Plans.{Plan, roster_of, me, group_size, master_count, node_named}
 use Rattle.sentinel_rules.specs.States.{Core, master_of, node_of, failover_of, card_place, is_failing_over, is_tilted, is_master_down, with_master, with_failover, with_current, with_card}
 use Rattle.sentinel_rules.specs.Parts.{Part, quiet, part_if}
-use Rattle.sentinel_rules.specs.Profiles.{election_ms, marked_at, marked, rest_of, rested}
+use Rattle.sentinel_rules.specs.Profiles.{is_redis, election_ms, marked_at, marked, rest_of, rested}
 use Rattle.sentinel_rules.specs.Votes.{book_of, with_book, mark_for, requested}
 use Rattle.sentinel_rules.specs.Ticks.{peers_part, nodes_part, odown_part, ask_part, ask_candidate, ask_frames, is_ask_due, with_vote, with_win, turn_of, campaign_epoch, row_part, after_start, start_turn, starts_now, start_part, failover_part, judging_part, master_part, with_reading, tick}
-use Rattle.sentinel_rules.specs.News.{at_same_address, at_new_address, card_taken, is_heeded, is_newer, raised_to, adopted, hello_of_known, hello_heeded, hello_read, reported, vote_heard, answer_of, answered, pinged_at, pinged, info_kept, is_master_role, promotion, has_followed, reconfiguration, correction, is_reconfiguring, judged, info_at_node, info_of_node, info_read}
+use Rattle.sentinel_rules.specs.News.{at_same_address, at_new_address, card_taken, is_heeded, is_newer, raised_to, adopted, hello_of_known, hello_heeded, hello_read, reported, vote_heard, answer_of, answered, pinged_at, peer_lost, lost_at, connection_lost, disconnected, pinged, info_kept, is_master_role, promotion, has_followed, reconfiguration, correction, is_reconfiguring, judged, info_at_node, info_of_node, info_read}
 use Rattle.sentinel_rules.specs.Answers.{asked_of, master_with_card, commanded}
 use Rattle.sentinel_rules.specs.Takes.{next, next_at, cleared}
 use Rattle.sentinel_rules.specs.Changes.{ChangesAt, ChangesOne, InputsChangeAt, InputsChangeOne, asked_about, concerned, listed_by, told_of}
@@ -254,6 +254,22 @@ ping_at plan (StoreAt number) now reply core = node_at now reply (node_named pla
 ping_at plan (ClientAt number) now reply core = same None core
 ping_at plan (PortAt number) now reply core = same None core
 
+no_at : (at : Option NodePlace) (core : Core) → At None core (lost_at at core)
+no_at None core = same None core
+no_at (Some at) core = λ k apart. refl
+
+lost_at_none : (plan : Plan) (node : NodeName) (core : Core) → At None core (connection_lost plan node core)
+lost_at_none plan (SentinelAt place) core =
+    at_by_test None core (nat_lt place (group_size plan) && not (place == plan.place))
+    (record core { peers = Rattle.std.specs.Prelude.slice_set core.peers place (peer_lost (Rattle.sentinel_rules.specs.States.peer_of core place)) }) core (λ k apart. refl)
+    (same None core)
+lost_at_none plan (StoreAt number) core = no_at (node_named plan (StoreAt number)) core
+lost_at_none plan (ClientAt number) core = same None core
+lost_at_none plan (PortAt number) core = same None core
+
+loss_at : (plan : Plan) (node : NodeName) (core : Core) → At None core (disconnected plan node core)
+loss_at plan node core = at_by_test None core (is_redis plan.profile) (connection_lost plan node core) core (lost_at_none plan node core) (same None core)
+
 promotion_touches : (plan : Plan) (m k now : ℕ) (info : Info) (state : FailoverState) (core : Core) → Touches m core (promotion plan m k now info state core).core
 promotion_touches plan m k now info (WaitPromotion epoch choice former) core =
     let first : Core = with_failover core m (promoted (WaitPromotion epoch choice former) (record (failover_of core m) { moment = now })) in
@@ -322,6 +338,7 @@ input_at plan now (AnswerCame voter m addr down leader epoch) core = answer_at p
 input_at plan now (Pinged node reply) core = ping_at plan node now reply core
 input_at plan now (InfoRead node text) core = read_at plan node now (info_of text) core
 input_at plan now (HelloRead text) core = hello_at plan now (hello_of text) core
+input_at plan now (Disconnected node) core = loss_at plan node core
 input_at plan now (Become priority offset link_down) core = same None core
 input_at plan now (Handed message) core = same None core
 

@@ -3,7 +3,7 @@ use Rattle.std.proofs.Common.{◌≡◌, ℕ, zero, suc, ◌<◌, refl, Bool, tr
 use Rattle.std.specs.Prelude.{Result, Ok, Err, not, nat_lt, ◌==◌, ◌&&◌, if◌then◌else◌}
 use Rattle.std.proofs.lemmas.Bool.{ltb-true}
 use Rattle.ballot_law.specs.declared.cards.Card.{Card}
-use Rattle.ballot_law.specs.declared.events.Event.TheVariants.{Tick, Command, Answered, Pinged, InfoRead, HelloRead, Become, Handed}
+use Rattle.ballot_law.specs.declared.events.Event.TheVariants.{Tick, Command, Answered, Pinged, InfoRead, HelloRead, Disconnected, Become, Handed}
 use Rattle.ballot_law.specs.declared.messages.NodeName.{NodeName}
 use Rattle.ballot_law.specs.declared.messages.NodeName.TheVariants.{SentinelAt}
 use Rattle.ballot_law.specs.declared.replies.Hello.{Hello}
@@ -175,5 +175,6 @@ hellos_name_masters plan now (Answered voter m addr down leader epoch) core = tt
 hellos_name_masters plan now (Pinged node reply) core = tt
 hellos_name_masters plan now (InfoRead node text) core = info_frames plan node now (info_of text) core
 hellos_name_masters plan now (HelloRead text) core = hello_frames plan now (hello_of text) core
+hellos_name_masters plan now (Disconnected node) core = tt
 hellos_name_masters plan now (Become priority offset link_down) core = tt
 hellos_name_masters plan now (Handed message) core = tt

@@ -36,8 +36,9 @@ use Rattle.ballot_law.specs.declared.node_places.NodePlace.{NodePlace}
 use Rattle.sentinel_rules.specs.Plans.{Plan, roster_of, group_size, master_count, settings_at, nodes_of, node_name, node_named}
 use Rattle.sentinel_rules.specs.States.{Core, MasterState, NodeState, master_of, node_of, peer_of, failover_of, card_place, is_failing_over, is_tilted, with_master, with_node, with_failover, with_card}
 use Rattle.sentinel_rules.specs.Parts.{Part, quiet, puts, part_if}
-use Rattle.sentinel_rules.specs.News.{hello_soon, moved, at_same_address, at_new_address, card_taken, is_heeded, is_newer, raised_to, adopted, hello_of_known, hello_heeded, hello_read, reported, vote_heard, answer_of, answered, node_pinged, peer_pinged, pinged_at, pinged, with_info, is_master_role, promotion, has_followed, reconfiguration, Wrong, wrong_of, can_be_followed, is_role_overdue, is_address_overdue, anew, correction, is_reconfiguring, judged, info_kept, info_at_node, info_of_node, info_read}
+use Rattle.sentinel_rules.specs.News.{hello_soon, moved, at_same_address, at_new_address, card_taken, is_heeded, is_newer, raised_to, adopted, hello_of_known, hello_heeded, hello_read, reported, vote_heard, answer_of, answered, node_pinged, peer_pinged, pinged_at, pinged, node_lost, peer_lost, lost_at, connection_lost, disconnected, with_info, is_master_role, promotion, has_followed, reconfiguration, Wrong, wrong_of, can_be_followed, is_role_overdue, is_address_overdue, anew, correction, is_reconfiguring, judged, info_kept, info_at_node, info_of_node, info_read}
 use Rattle.sentinel_rules.specs.Facts.{IsSound, IsAwaited, awaited}
+use Rattle.sentinel_rules.specs.Profiles.{is_redis}
 use Rattle.sentinel_rules.proofs.KeptParts.{kept_at, kept_with, kept_raised, other_entry}
 use Rattle.sentinel_rules.proofs.Framing.{sound_at, sound_master, sound_current, sound_alike, nodes_with, master_same}
 use Rattle.sentinel_rules.proofs.Turns.{IsSoundFailover, ended_sound}
@@ -247,6 +248,27 @@ pinged_sound plan (SentinelAt place) now reply core s =
 pinged_sound plan (StoreAt number) now reply core s = pinged_at_sound plan now reply (node_named plan (StoreAt number)) core s
 pinged_sound plan (ClientAt number) now reply core s = s
 pinged_sound plan (PortAt number) now reply core s = s
+
+-- Connections that were lost
+
+lost_at_sound : (plan : Plan) (at : Option NodePlace) (core : Core) → IsSound plan core → IsSound plan (lost_at at core)
+lost_at_sound plan None core s = s
+lost_at_sound plan (Some at) core s = node_sound plan core at.master at.place (node_lost (node_of core at.master at.place)) s
+
+lost_sound : (plan : Plan) (node : NodeName) (core : Core) → IsSound plan core → IsSound plan (connection_lost plan node core)
+lost_sound plan (SentinelAt place) core s =
+    sound_cond plan (nat_lt place (group_size plan) && not (place == plan.place)) (record core { peers = slice_set core.peers place (peer_lost (peer_of core place)) })
+    core
+    (λ h. sound_alike plan core (record core { peers = slice_set core.peers place (peer_lost (peer_of core place)) }) refl refl
+    (length-set core.peers place (peer_lost (peer_of core place))) s)
+    (λ h. s)
+lost_sound plan (StoreAt number) core s = lost_at_sound plan (node_named plan (StoreAt number)) core s
+lost_sound plan (ClientAt number) core s = s
+lost_sound plan (PortAt number) core s = s
+
+pub disconnected_sound : (plan : Plan) (node : NodeName) (core : Core) → IsSound plan core → IsSound plan (disconnected plan node core)
+disconnected_sound plan node core s =
+    sound_cond plan (is_redis plan.profile) (connection_lost plan node core) core (λ h. lost_sound plan node core s) (λ h. s)
 
 -- INFO
 

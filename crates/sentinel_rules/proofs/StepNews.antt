@@ -36,9 +36,9 @@ use Rattle.ballot_law.specs.NodePlaces.{node_numbered}
 use Rattle.sentinel_rules.specs.Plans.{Plan, roster_of, me, group_size, master_count, settings_at, nodes_of, node_named}
 use Rattle.sentinel_rules.specs.States.{Core, MasterState, NodeState, master_of, node_of, peer_of, failover_of, card_place, is_failing_over, is_tilted, with_master, with_node, with_failover, with_current, with_card}
 use Rattle.sentinel_rules.specs.Parts.{Part, quiet, puts, part_if}
-use Rattle.sentinel_rules.specs.Profiles.{marked_at, marked, rested_at, rested}
+use Rattle.sentinel_rules.specs.Profiles.{is_redis, marked_at, marked, rested_at, rested}
 use Rattle.sentinel_rules.specs.Votes.{book_of, with_book, mark_for, requested}
-use Rattle.sentinel_rules.specs.News.{at_same_address, at_new_address, card_taken, is_heeded, is_newer, raised_to, adopted, hello_of_known, hello_heeded, hello_read, reported, vote_heard, answer_of, answered, node_pinged, peer_pinged, pinged_at, pinged, with_info, is_master_role, promotion, has_followed, reconfiguration, Wrong, wrong_of, can_be_followed, is_role_overdue, is_address_overdue, anew, correction, is_reconfiguring, judged, info_kept, info_at_node, info_of_node, info_read}
+use Rattle.sentinel_rules.specs.News.{at_same_address, at_new_address, card_taken, is_heeded, is_newer, raised_to, adopted, hello_of_known, hello_heeded, hello_read, reported, vote_heard, answer_of, answered, node_pinged, peer_pinged, pinged_at, pinged, node_lost, peer_lost, lost_at, connection_lost, disconnected, with_info, is_master_role, promotion, has_followed, reconfiguration, Wrong, wrong_of, can_be_followed, is_role_overdue, is_address_overdue, anew, correction, is_reconfiguring, judged, info_kept, info_at_node, info_of_node, info_read}
 use Rattle.sentinel_rules.specs.Facts.{IsSound}
 use Rattle.sentinel_rules.specs.Steps.{campaign_in, IsOpenOf}
 use Rattle.sentinel_rules.proofs.Framing.{master_same, master_other}
@@ -390,6 +390,27 @@ pinged_at_steps : (plan : Plan) (event : Event) (now : ℕ) (reply : PingReply) 
 pinged_at_steps plan event now reply None core f s = stay_steps plan event 0 core
 pinged_at_steps plan event now reply (Some at) core f s = node_steps plan event at.master at.place (node_pinged now reply (node_of core at.master at.place)) core
     (within_core plan core at.master s (f at refl))
+
+lost_at_steps : (plan : Plan) (event : Event) (at : Option NodePlace) (core : Core) → ((a : NodePlace) → at ≡ Some a → a.master < master_count plan) → IsSound plan core →
+    StepsTo plan event 0 core (lost_at at core)
+lost_at_steps plan event None core f s = stay_steps plan event 0 core
+lost_at_steps plan event (Some at) core f s = node_steps plan event at.master at.place (node_lost (node_of core at.master at.place)) core
+    (within_core plan core at.master s (f at refl))
+
+lost_steps : (plan : Plan) (event : Event) (node : NodeName) (core : Core) → IsSound plan core → StepsTo plan event 0 core (connection_lost plan node core)
+lost_steps plan event (SentinelAt place) core s =
+    steps_cond plan event 0 core (nat_lt place (group_size plan) && not (place == plan.place))
+    (record core { peers = slice_set core.peers place (peer_lost (peer_of core place)) }) core
+    (λ h. same_steps plan event 0 core (record core { peers = slice_set core.peers place (peer_lost (peer_of core place)) }) refl refl refl)
+    (λ h. stay_steps plan event 0 core)
+lost_steps plan event (StoreAt number) core s = lost_at_steps plan event (node_named plan (StoreAt number)) core (λ at e. named_within plan (StoreAt number) at e) s
+lost_steps plan event (ClientAt number) core s = stay_steps plan event 0 core
+lost_steps plan event (PortAt number) core s = stay_steps plan event 0 core
+
+-- a connection that was lost is nothing to the model
+pub disconnected_steps : (plan : Plan) (event : Event) (node : NodeName) (core : Core) → IsSound plan core → StepsTo plan event 0 core (disconnected plan node core)
+disconnected_steps plan event node core s =
+    steps_cond plan event 0 core (is_redis plan.profile) (connection_lost plan node core) core (λ h. lost_steps plan event node core s) (λ h. stay_steps plan event 0 core)
 
 pub pinged_steps : (plan : Plan) (event : Event) (node : NodeName) (now : ℕ) (reply : PingReply) (core : Core) → IsSound plan core →
     StepsTo plan event 0 core (pinged plan node now reply core)

@@ -31,7 +31,7 @@ use Rattle.ballot_law.specs.declared.node_places.NodePlace.{NodePlace}
 use Rattle.sentinel_rules.specs.Plans.{Plan, roster_of, me, group_size, master_count, settings_at, nodes_of, node_name, node_named}
 use Rattle.sentinel_rules.specs.States.{Core, MasterState, NodeState, PeerState, master_of, node_of, peer_of, failover_of, card_place, is_failing_over, is_tilted, is_master_down, with_master, with_node, with_failover, with_current, with_card}
 use Rattle.sentinel_rules.specs.Parts.{Part, quiet, puts, part_if, frame_if}
-use Rattle.sentinel_rules.specs.Profiles.{start_at_new_address}
+use Rattle.sentinel_rules.specs.Profiles.{is_redis, start_at_new_address}
 
 -- A configuration is taken
 
@@ -131,10 +131,11 @@ node_pinged now reply node =
     record node {
       watch = after_reply now reply node.watch;
       last_ping = if is_valid reply then Some now else node.last_ping;
+      lost = false;
     }
 
 abbrev pub peer_pinged : (now : ℕ) → PingReply → PeerState → PeerState
-peer_pinged now reply peer = record peer { watch = after_reply now reply peer.watch }
+peer_pinged now reply peer = record peer { watch = after_reply now reply peer.watch; lost = false }
 
 abbrev pub pinged_at : (now : ℕ) → PingReply → Option NodePlace → Core → Core
 pinged_at now reply None core = core
@@ -150,6 +151,32 @@ pinged plan (StoreAt number) now reply core = pinged_at now reply (node_named pl
 pinged plan (ClientAt number) now reply core = core
 pinged plan (PortAt number) now reply core = core
 
+-- Connections that were lost
+
+abbrev pub node_lost : NodeState → NodeState
+node_lost node = record node { lost = true }
+
+abbrev pub peer_lost : PeerState → PeerState
+peer_lost peer = record peer { lost = true }
+
+abbrev pub lost_at : Option NodePlace → Core → Core
+lost_at None core = core
+lost_at (Some at) core = with_node core at.master at.place (node_lost (node_of core at.master at.place))
+
+-- one to a data node, or to another Sentinel
+abbrev pub connection_lost : Plan → (node : NodeName) → Core → Core
+connection_lost plan (SentinelAt place) core =
+    if nat_lt place (group_size plan) && not (place == plan.place)
+    then record core { peers = slice_set core.peers place (peer_lost (peer_of core place)) }
+    else core
+connection_lost plan (StoreAt number) core = lost_at (node_named plan (StoreAt number)) core
+connection_lost plan (ClientAt number) core = core
+connection_lost plan (PortAt number) core = core
+
+-- Redis knows of each node whether it has a connection to it: it promotes none without, and shows it. A strict Sentinel knows what nodes say, and nothing of connections
+abbrev pub disconnected : Plan → (node : NodeName) → Core → Core
+disconnected plan node core = if is_redis plan.profile then connection_lost plan node core else core
+
 -- INFO
 
 abbrev pub is_master_role : DataRole → Bool
@@ -158,7 +185,7 @@ is_master_role Replica = false
 
 -- the INFO, its moment and its role are kept
 abbrev pub with_info : (now : ℕ) → Info → NodeState → NodeState
-with_info now info node = record node { info = Some info; info_at = Some now; watch = after_role now info.role node.watch }
+with_info now info node = record node { info = Some info; info_at = Some now; watch = after_role now info.role node.watch; lost = false }
 
 -- the chosen replica says that it is the master: the campaign's epoch and its address are the configuration
 abbrev pub promotion : Plan → (m k now : ℕ) → Info → FailoverState → Core → Part

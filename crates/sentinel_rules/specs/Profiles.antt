@@ -13,7 +13,7 @@ use Rattle.failover_states.specs.declared.states.Row.{Row}
 use Rattle.failover_states.specs.declared.states.Row.TheVariants.{ElectionTimeout, NoReplica, ChoiceTimeout, PromotionTimeout}
 use Rattle.failover_states.specs.Calls.{choice_of}
 use Rattle.failover_states.specs.Failovers.{Failover}
-use Rattle.sentinel_rules.specs.declared.periods.TheConstants.{HOLD_MS, LINK_MAX_S}
+use Rattle.sentinel_rules.specs.declared.periods.TheConstants.{HOLD_MS, LINK_MAX_S, QUIET_MS}
 use Rattle.sentinel_rules.specs.declared.profiles.Profile.{Profile}
 use Rattle.sentinel_rules.specs.declared.profiles.Profile.TheVariants.{Strict, Redis}
 use Rattle.sentinel_rules.specs.Plans.{Plan, roster_of, group_size, settings_at, nodes_of}
@@ -92,10 +92,19 @@ may_begin plan core m now =
 
 -- How long a failover waits
 
--- the replica that a failover chose is down
+-- the last reply to a PING came longer ago than a PING and its reply take
+abbrev pub is_quiet : Option ℕ → (now : ℕ) → Bool
+is_quiet None now = true
+is_quiet (Some at) now = nat_lt QUIET_MS (age at now)
+
+-- the connection to a node was lost, and nothing has been heard of the node for a while
+abbrev pub is_gone : (now : ℕ) → NodeState → Bool
+is_gone now node = node.lost && is_quiet node.last_ping now
+
+-- the replica that a failover chose is down, or gone
 abbrev pub is_choice_lost : Plan → Core → (m now : ℕ) → Option ℕ → Bool
 is_choice_lost plan core m now None = false
-is_choice_lost plan core m now (Some k) = is_node_down plan core m now k
+is_choice_lost plan core m now (Some k) = is_node_down plan core m now k || is_gone now (node_of core m k)
 
 -- the failover-timeout that the rows of the table go by. By the strict rule, as in Redis, a failover whose choice is lost waits for it until the timeout. In the
 -- other profile it waits no longer, and what is kept as the last start is looked at as above and not by the table

@@ -118,13 +118,13 @@ nodes_part plan m now core =
 
 -- The failover
 
--- the node of the configuration is no candidate
+-- the node of the configuration is no candidate; one that is down, or to which the connection was lost, may not be chosen
 abbrev pub candidate_of : Plan → Core → (m now k : ℕ) → Candidate
 candidate_of plan core m now k =
     let node = node_of core m k in
     let info = unwrap_or node.info ASSUMED_INFO in
     record {
-      sdown = (k == card_place plan core m) || is_node_down plan core m now k;
+      sdown = ((k == card_place plan core m) || is_node_down plan core m now k) || node.lost;
       priority = info.priority;
       link_down_s = info.link_down_s;
       last_ping = node.last_ping;

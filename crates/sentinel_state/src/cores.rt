@@ -308,6 +308,16 @@ impl Core {
         }
     }
 
+    /// Whether of a connection to a data node was last heard that it was lost.
+    pub fn is_lost(&self, m: u16, k: usize) -> bool
+        ensures { result ≡ (node_of self.now m k).lost }
+    {
+        match self.kept_node(m, k) {
+            Some(node) => node.lost,
+            None => false,
+        }
+    }
+
     /// A copy of what is kept of a data node; of what is kept of a new one at 0 where there is no such node.
     pub fn node(&self, m: u16, k: usize) -> Node
         ensures { result ≡ node_of self.now m k }

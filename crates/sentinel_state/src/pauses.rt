@@ -5,14 +5,14 @@ ghost use Rattle.ballot_law.specs.declared.rosters.TheConstants.{SENTINELS_MAX};
 ghost use Rattle.ballot_law.specs.Clocks.{clock};
 ghost use Rattle.failover_states.specs.declared.periods.TheConstants.{ELECTION_MS};
 ghost use Rattle.failover_states.specs.Calls.{choice_of};
-ghost use Rattle.sentinel_rules.specs.Profiles.{election_ms, turn_place, pause_of, is_held, is_down_for, is_peer_lost, is_leader_lost, may_begin, is_choice_lost, patience, rest_after, rest_of, rested_at, with_pause};
-ghost use Rattle.sentinel_rules.specs.States.{failover_of};
+ghost use Rattle.sentinel_rules.specs.Profiles.{election_ms, turn_place, pause_of, is_held, is_down_for, is_peer_lost, is_leader_lost, may_begin, is_quiet, is_gone, is_choice_lost, patience, rest_after, rest_of, rested_at, with_pause};
+ghost use Rattle.sentinel_rules.specs.States.{failover_of, node_of};
 
 use crate::cores::{Core, is_idle};
 use crate::nodes::Plan;
 use ballot_law::clock_of;
 use failover_states::{ELECTION_MS, Row, SPREAD_MS};
-use sentinel_rules::{HOLD_MS, Profile};
+use sentinel_rules::{HOLD_MS, Profile, QUIET_MS};
 
 /// How long an election for a master may last.
 pub(crate) fn election_ms(plan: &Plan, m: u16) -> u64
@@ -39,6 +39,16 @@ fn is_down_for(since: Option<u64>, pause: u64, now: u64) -> bool
     match since {
         Some(since) => now.saturating_sub(since) >= pause,
         None => false,
+    }
+}
+
+/// Whether the last reply to a PING came longer ago than a PING and its reply take.
+fn is_quiet(at: Option<u64>, now: u64) -> bool
+    ensures { result ≡ is_quiet at now }
+{
+    match at {
+        Some(at) => now.saturating_sub(at) > QUIET_MS,
+        None => true,
     }
 }
 
@@ -130,7 +140,15 @@ impl Core {
         }
     }
 
-    /// Whether the replica that a master's failover chose is down.
+    /// Whether the connection to a data node was lost, and nothing has been heard of the node for a while.
+    fn is_gone(&self, m: u16, now: u64, k: usize) -> bool
+        ensures { result ≡ is_gone (clock now) (node_of self.now m k) }
+    {
+        let node = self.node(m, k);
+        node.lost && is_quiet(node.last_ping, clock_of(now))
+    }
+
+    /// Whether the replica that a master's failover chose is down, or gone.
     fn is_choice_lost(&self, plan: &Plan, m: u16, now: u64) -> bool
         ensures { result ≡ is_choice_lost plan.now self.now m (clock now) (choice_of (failover_of self.now m).state) }
     {
@@ -138,6 +156,7 @@ impl Core {
             Some(k) => {
                 let card_at = self.card_place(plan, m);
                 self.is_node_down(plan, m, now, card_at, k as usize)
+                    || self.is_gone(m, now, k as usize)
             }
             None => false,
         }

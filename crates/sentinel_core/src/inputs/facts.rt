@@ -13,7 +13,7 @@ use ballot_law::{Addr, NODES_MAX, RunId, clock_of};
 use failover_states::FailoverState;
 use replica_choice::{Candidate, Limits, choose};
 use sentinel_rules::{LINK_MAX_S, Profile};
-use sentinel_state::{Node, State};
+use sentinel_state::State;
 use std::marker::Model;
 
 /// For how long something has been down, in milliseconds.
@@ -92,11 +92,9 @@ fn candidate(state: &State, m: u16, now: u64, card_at: usize, k: usize) -> Candi
     requires { card_at ≡ card_place state.now.plan state.now.core m }
     ensures { result ≡ candidate_of state.now.plan state.now.core m (clock now) k }
 {
-    let sdown = k == card_at || state.core.is_node_down(&state.plan, m, now, card_at, k);
-    match state.core.kept_node(m, k) {
-        Some(node) => node.candidate(sdown),
-        None => Node::new(0).candidate(sdown),
-    }
+    let node = state.core.node(m, k);
+    let is_out = k == card_at || state.core.is_node_down(&state.plan, m, now, card_at, k) || node.lost;
+    node.candidate(is_out)
 }
 
 /// Each node of a master as a replica to choose, by its place.
