@@ -21,7 +21,9 @@ ghost use Rattle.sentinel_rules.specs.Worked.{
   AFormerMasterFollows,
   AReplicaOfAnotherFollows,
   ShownInAFailover,
-, ASwitchForgetsTheStart, ALostCandidateHoldsNobodyBack};
+  ASwitchForgetsTheStart,
+  ALostCandidateHoldsNobodyBack,
+};
 
 /// Votes: one in an epoch, to the first that asks; a question without a candidate raises no epoch; after a restart the vote is known as
 /// the file holds it, with its candidate, unless it wasn't stored, and then it is free; a vote for another candidate delays the own
