@@ -41,12 +41,7 @@ pub(crate) struct Lone {
 }
 
 /// A Sentinel of this profile that opens with this file, at this reading of its clock.
-fn opened(
-    alloc: Global,
-    file: &[u8],
-    profile: Profile,
-    now: u64,
-) -> Result<Box<Sentinel>, Unplayed>
+fn opened(alloc: Global, file: &[u8], profile: Profile, now: u64) -> Result<Box<Sentinel>, Unplayed>
     ensures { IfOk result (λ sentinel. sentinel.value.phase ≡ Ready) }
 {
     let conf = match read(alloc, file) {
@@ -62,12 +57,7 @@ fn opened(
 
 impl Lone {
     /// Opens it with this file, at this reading of its clock, with an outbox without room.
-    fn open(
-        alloc: Global,
-        file: &[u8],
-        profile: Profile,
-        now: u64,
-    ) -> Result<Lone, Unplayed> {
+    fn open(alloc: Global, file: &[u8], profile: Profile, now: u64) -> Result<Lone, Unplayed> {
         let store = CountedFile::holding(alloc, file)?;
         let sentinel = opened(alloc, file, profile, now)?;
         let card = sentinel.address_now(0);

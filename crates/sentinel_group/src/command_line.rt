@@ -1,8 +1,8 @@
 //! The words of the command line, by `clap`.
 
 use crate::failures::fail;
-use clap::error::ErrorKind;
 use clap::builder::ValueParser;
+use clap::error::ErrorKind;
 use clap::{Arg, ArgAction, ArgMatches, Command, Error, value_parser};
 use sentinel_core::ServeFault;
 use sentinel_runner::PORT_THREADS_MAX;
@@ -156,7 +156,9 @@ fn replay<'a>(alloc: Global) -> Result<Command<'a>, AllocError> {
         .long("profile")
         .value_name("name")
         .value_parser(ValueParser::Names(&PROFILES))
-        .help("By which rules the Sentinels work: strict, or redis as for watch; strict where it isn't said");
+        .help(
+            "By which rules the Sentinels work: strict, or redis as for watch; strict where it isn't said",
+        );
     let scenario = Arg::new(alloc, "scenario")
         .required(true)
         .help("The steps of the story, one a line");

@@ -93,7 +93,9 @@ fn candidate(state: &State, m: u16, now: u64, card_at: usize, k: usize) -> Candi
     ensures { result ≡ candidate_of state.now.plan state.now.core m (clock now) k }
 {
     let node = state.core.node(m, k);
-    let is_out = k == card_at || state.core.is_node_down(&state.plan, m, now, card_at, k) || node.lost;
+    let is_out = k == card_at
+        || state.core.is_node_down(&state.plan, m, now, card_at, k)
+        || node.lost;
     node.candidate(is_out)
 }
 
