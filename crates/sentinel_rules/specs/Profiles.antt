@@ -8,7 +8,6 @@ use Rattle.ballot_law.specs.Clocks.{age, clock}
 use Rattle.ballot_law.specs.Orders.{same_id}
 use Rattle.ballot_law.specs.Watches.{down_since_of}
 use Rattle.failover_states.specs.declared.periods.TheConstants.{ELECTION_MS, SPREAD_MS}
-use Rattle.failover_states.specs.declared.states.FailoverState.{FailoverState}
 use Rattle.failover_states.specs.declared.states.Row.{Row}
 use Rattle.failover_states.specs.declared.states.Row.TheVariants.{ElectionTimeout, NoReplica, ChoiceTimeout, PromotionTimeout}
 use Rattle.failover_states.specs.Calls.{choice_of}
