@@ -42,7 +42,8 @@ pub enum Event {
     HelloRead {
         text: Text,
     },
-    /// A connection to this node was refused, reset, or given up since nothing came on it. Strict Sentinels take no notice of it.
+    /// A connection to this node was refused, reset, or given up since nothing came on it. Strict Sentinels take no
+    /// notice of it.
     Disconnected {
         node: NodeName,
     },

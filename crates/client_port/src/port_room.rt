@@ -27,7 +27,8 @@ pub struct PortRoom {
 }
 
 impl PortRoom {
-    /// Equal parts of the connections of a port of a strict Sentinel for so many threads; for one where there are to be none.
+    /// Equal parts of the connections of a port of a strict Sentinel for so many threads; for one where there are to be
+    /// none.
     pub(crate) fn of(most: usize, threads: u16) -> PortRoom
         requires { most ≤ SEATS_MAX }
         ensures within { result.each * result.threads ≤ most }
@@ -61,7 +62,8 @@ impl PortRoom {
         self.profile
     }
 
-    /// Whether the connections have courtesies, as `courteous_sessions` has them: those of a Sentinel of Redis's profile do.
+    /// Whether the connections have courtesies, as `courteous_sessions` has them: those of a Sentinel of Redis's
+    /// profile do.
     pub(crate) fn courteous(&self) -> bool
         ensures { result ≡ is_redis self.now.profile }
     {

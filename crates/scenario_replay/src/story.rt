@@ -77,7 +77,8 @@ fn add(nodes: &mut Vec<Box<dyn Node>>, node: Box<dyn Node>) -> Result<(), NoMemo
     Ok(())
 }
 
-/// A Sentinel of this profile that is ready at clock 0 with what this file holds. A file of a story was read before: only a refused allocation can refuse it.
+/// A Sentinel of this profile that is ready at clock 0 with what this file holds. A file of a story was read before:
+/// only a refused allocation can refuse it.
 fn sentinel_of(alloc: Global, file: &[u8], profile: Profile) -> Result<Box<SentinelNode>, NoMemory>
     ensures fresh { IfOk result (λ node. IsFresh (⟦<SentinelNode as Node>⟧.is_known node.value) (⟦<SentinelNode as Node>⟧.shows node.value)) }
     ensures begins { IfOk result (λ node. BeginsWith file.now (⟦<SentinelNode as Node>⟧.name node.value) (⟦<SentinelNode as Node>⟧.shows node.value)) }
@@ -127,7 +128,8 @@ fn tell_stopped(
 }
 
 impl Story {
-    /// The story of a scenario, with no Sentinel yet, which is to be played by strict ones, or the scenario's first fault.
+    /// The story of a scenario, with no Sentinel yet, which is to be played by strict ones, or the scenario's first
+    /// fault.
     pub fn new(alloc: Global, text: Vec<u8>) -> Result<Story, ScenarioFault>
         ensures story { IfOk result (λ story. story.text ≡ text) }
         ensures fault { IfErr result (IsScenarioFault text.items) }

@@ -153,7 +153,8 @@ fn told_of(plan: &Plan, hello: &Result<Hello, TextFault>) -> Option<u16>
     }
 }
 
-/// Has the state take an event that is no command, and takes down what it may overwrite of what is kept.
+/// Has the state take an event that is no command (`act_on` answers these itself), and takes down what it may overwrite
+/// of what is kept.
 fn hear(state: &mut State, now: u64, event: &Event, former: &mut Undo)
     ensures former { former.new ≡ former_of state.old.core.kept (concerned state.old.plan event.now state.old.core.kept) }
     ensures state { state.new ≡ with_part state.old (part_of state.old.plan (clock now) event.now state.old.core) }
@@ -192,7 +193,6 @@ fn hear(state: &mut State, now: u64, event: &Event, former: &mut Undo)
             former.begin(kept, None);
             hear_loss(state, *node);
         }
-        // Not reached: `act_on` answers commands itself.
         Event::Command { command, .. } => {
             former.begin(kept, asked_about(command, &state.core));
         }

@@ -85,8 +85,8 @@ fn is_flush(event: &Event) -> bool
 }
 
 impl Sentinel {
-    /// Opens a Sentinel of the strict profile with what its file says, at a reading of its clock in milliseconds: what the file holds is
-    /// kept, the last votes among it, and nothing else. `NoMemory` drops the conf.
+    /// Opens a Sentinel of the strict profile with what its file says, at a reading of its clock in milliseconds: what
+    /// the file holds is kept, the last votes among it, and nothing else. `NoMemory` drops the conf.
     pub fn open(alloc: Global, conf: Conf, now: u64) -> Result<Sentinel, OpenFault>
         ensures plan { IfOk result (λ sentinel. sentinel.plan.conf ≡ conf) }
         ensures profile { IfOk result (λ sentinel. sentinel.plan.profile ≡ Profile.Strict) }

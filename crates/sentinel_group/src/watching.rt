@@ -139,7 +139,8 @@ fn taken_settings(
     })
 }
 
-/// How its port is served: by as many threads as the words say, and by Redis's rules, since whoever comes to it may be a client library of any kind.
+/// How its port is served: by as many threads as the words say, and by Redis's rules, since whoever comes to it may be
+/// a client library of any kind.
 fn port_of(words: &ArgMatches) -> PortSettings {
     PortSettings {
         threads: port_threads_of(words),

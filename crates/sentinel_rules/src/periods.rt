@@ -23,7 +23,8 @@ pub const ASK_MS: u64 = 1_000;
 /// How long a node may say that it is a master though it isn't.
 pub const WRONG_ROLE_MS: u64 = 8_000;
 
-/// The greatest time for which the link of a replica counts as having been down where the master hasn't replied since the start, in seconds.
+/// The greatest time for which the link of a replica counts as having been down where the master hasn't replied since
+/// the start, in seconds.
 pub const LINK_MAX_S: u64 = 4_294_967_295;
 
 /// The longest time for which a campaign is put off in the profile of Redis: an election's and a pause.

@@ -79,8 +79,8 @@ fn are_one_group<S>(confs: &[Conf], stores: &[S]) -> bool
 }
 
 impl<S: ConfStore + Drop> Group<S> {
-    /// Opens each Sentinel with the store at its place in the list, and its port for one thread, strict, and makes the data nodes of the
-    /// roster and the links.
+    /// Opens each Sentinel with the store at its place in the list, and its port for one thread, strict, and makes the
+    /// data nodes of the roster and the links.
     ///
     /// `NotOneRoster` comes exactly where the confs aren't those of one group, or there is another number of stores.
     pub fn open<R: Net + Clock + Log>(

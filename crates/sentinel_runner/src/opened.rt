@@ -24,8 +24,8 @@ pub const PORT_THREADS_MAX: u16 = 16;
 pub struct PortSettings {
     /// How many threads serve each port: what is below 1 counts as 1, and what is above `PORT_THREADS_MAX` as that.
     pub threads: u16,
-    /// By which rules the Sentinels work. Those of Redis's profile also answer clients what client libraries send beside a Sentinel's commands, as
-    /// `courteous_sessions` has it; strict ones answer what `port_sessions` answers.
+    /// By which rules the Sentinels work. Those of Redis's profile also answer clients what client libraries send
+    /// beside a Sentinel's commands, as `courteous_sessions` has it; strict ones answer what `port_sessions` answers.
     pub profile: Profile,
 }
 
@@ -116,8 +116,9 @@ impl<S: ConfStore + Drop> Opened<S> {
         }
     }
 
-    /// Opens the Sentinel of this conf, of the profile of its port's room, at this reading of the clock, with what each thread of the port serves, and a seat
-    /// for each of them and for the `beside` other threads. Many parameters: each is what the Sentinel begins with.
+    /// Opens the Sentinel of this conf, of the profile of its port's room, at this reading of the clock, with what each
+    /// thread of the port serves, and a seat for each of them and for the `beside` other threads. Many parameters: each
+    /// is what the Sentinel begins with.
     pub(crate) fn with_port(
         alloc: Global,
         conf: Conf,

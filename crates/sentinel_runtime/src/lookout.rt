@@ -266,7 +266,8 @@ impl Seen {
         }
     }
 
-    /// Notes what keeps the Sentinel from a failover of a master that is objectively down. One of Redis's profile waits for some seconds at most, of which nothing is noted.
+    /// Notes what keeps the Sentinel from a failover of a master that is objectively down. One of Redis's profile waits
+    /// for some seconds at most, of which nothing is noted.
     fn note_hindrance<R: Log + Wait>(
         &mut self,
         to: &Announcing<'_, '_, R>,

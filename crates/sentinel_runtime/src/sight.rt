@@ -32,7 +32,8 @@ pub(crate) struct Vote {
 
 /// What a Sentinel shows of a master: whether its clock isn't to be trusted, the configuration, what it finds of the master, how far its own failover has come, its vote,
 /// and which of the master's replicas, by their places among its nodes, and of the other Sentinels, by their places in the roster, are down; `at` which reading of its clock
-/// that was, its run id and its current epoch, the master's `failover-timeout`, in milliseconds, and whether it is strict.
+/// that was, its run id and its current epoch, the master's `failover-timeout`, in milliseconds, and whether it is
+/// strict.
 #[derive(Clone, Copy)]
 pub(crate) struct Look {
     pub(crate) at: u64,

@@ -1,10 +1,10 @@
 //! Plays the stories that its words name, and says of each whether it prints the lines that are beside it, and whether its trace, played
 //! as a story, prints them too. Where a trace is beside it, its own trace has to be that one.
 //!
-//! A word is the path of a story's files without their endings. The Sentinels of a story are the conf files of its folder, of Redis's profile where the folder's name begins
-//! with it. After the word
-//! `stops:` each story is run again and again, with each Sentinel stopped and started after each of its steps, and leaving the old text of
-//! its file and the new one. It says how many runs these were, and how often they broke the laws of a group.
+//! A word is the path of a story's files without their endings. The Sentinels of a story are the conf files of its
+//! folder, of Redis's profile where the folder's name begins with it. After the word `stops:` each story is run again
+//! and again, with each Sentinel stopped and started after each of its steps, and leaving the old text of its file and
+//! the new one. It says how many runs these were, and how often they broke the laws of a group.
 //!
 //! After the word `calls:` each story is played by the public calls of a world, once step by step and once by one call with a stop at its end;
 //! a call that lacked memory is made once more on what it left. After the word `refused:` a word is a folder whose conf files make no group: it

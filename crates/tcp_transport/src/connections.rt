@@ -114,7 +114,8 @@ impl Connections {
         Ok((wires, far))
     }
 
-    /// Closes connections of no use, opens those that are due, asks what they ask by themselves, and tells the Sentinel which were lost, at this reading of the clock.
+    /// Closes connections of no use, opens those that are due, asks what they ask by themselves, and tells the Sentinel
+    /// which were lost, at this reading of the clock.
     fn keep_all<R: Wait, N: Net>(&mut self, rt: &R, net: &N, now: u64) {
         for place in 0..self.wires.len() {
             if let Some(Some(wire)) = self.wires.get_mut(place) {

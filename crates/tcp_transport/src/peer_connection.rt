@@ -25,8 +25,9 @@ const READS_MAX: u32 = 16;
 const LOOK_MS: u64 = 100;
 
 /// A connection to a node, with its socket where it is open or being opened. `goes_on` is whether it may have more to read, `is_ending` whether the system told of its end, `is_refused` whether the node refused who asks
-/// when it was heard last, `look_at` when it is to be asked what came of an order, `fault` the fault of what came that closed it last, and `shut_until` until when it stays closed, since too much came on it,
-/// `is_lost` whether it was told to be lost since it was open last.
+/// when it was heard last, `look_at` when it is to be asked what came of an order, `fault` the fault of what came that
+/// closed it last, and `shut_until` until when it stays closed, since too much came on it, `is_lost` whether it was
+/// told to be lost since it was open last.
 #[derive(Drop)]
 pub(crate) struct PeerConnection {
     link: NodeLink,
@@ -115,7 +116,8 @@ impl PeerConnection {
         self.shut_until <= now && self.link.schedule().is_due(now)
     }
 
-    /// Whether it is lost, which wasn't told since it was open last: it was refused, reset or given up, and isn't opened again at once. One that hears hellos tells nothing.
+    /// Whether it is lost, which wasn't told since it was open last: it was refused, reset or given up, and isn't
+    /// opened again at once. One that hears hellos tells nothing.
     pub(crate) fn take_loss(&mut self, now: u64) -> bool {
         let schedule = self.link.schedule();
         if schedule.is_open() {

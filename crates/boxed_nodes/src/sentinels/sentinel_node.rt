@@ -41,7 +41,8 @@ pub struct SentinelNode {
 impl SentinelNode {
     ghost use Rattle.sentinel_core.specs.Sentinels.{IsWhole};
 
-    /// A strict Sentinel with this file, ready at this reading of its clock with what the file holds, or the first fault of the file.
+    /// A strict Sentinel with this file, ready at this reading of its clock with what the file holds, or the first
+    /// fault of the file.
     pub fn new(alloc: Global, bytes: &[u8], now: u64) -> Result<SentinelNode, ConfFault>
         ensures text { IfOk result (λ node. node.file.text ≡ bytes.now) }
         ensures read { IfOk result (λ node. conf_of_bytes bytes.now ≡ Ok node.sentinel.plan.conf) }

@@ -131,8 +131,8 @@ fn lesser(one: Option<u64>, other: Option<u64>) -> Option<u64>
     }
 }
 
-/// For how many seconds the link of the replica at a place has been down, where it has told; `card_at` is the place of the node that the
-/// configuration names.
+/// For how many seconds the link of the replica at a place has been down, where it has told; `card_at` is the place of
+/// the node that the configuration names.
 fn link_at(state: &State, m: u16, card_at: usize, k: usize) -> Option<u64>
     requires { card_at ≡ card_place state.now.plan state.now.core m }
     ensures { result ≡ link_at state.now.plan state.now.core m k }

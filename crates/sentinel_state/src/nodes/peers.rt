@@ -9,8 +9,8 @@ use ballot_law::PingReply;
 use down_detector::Watch;
 use std::marker::Model;
 
-/// What is kept of a Sentinel of the roster: its watch, when it was last sent a PING, and whether of a connection to it was last heard that it
-/// was lost.
+/// What is kept of a Sentinel of the roster: its watch, when it was last sent a PING, and whether of a connection to it
+/// was last heard that it was lost.
 #[derive(Clone, Copy)]
 pub struct Peer {
     pub watch: Watch,
