@@ -44,8 +44,12 @@ abbrev pub no_kept_part : Kept
 no_kept_part = record { current = 0; masters = [] }
 
 abbrev pub no_plan : Plan
-no_plan = record { conf = record { kept_lines = []; roster = record { sentinels = []; masters = [] }; id = no_id; port = 0; settings = []; kept = no_kept_part };
-    place = 0; profile = Strict }
+no_plan =
+    record {
+      conf = record { kept_lines = []; roster = record { sentinels = []; masters = [] }; id = no_id; port = 0; settings = []; kept = no_kept_part };
+      place = 0;
+      profile = Strict;
+    }
 
 abbrev pub no_core : Core
 no_core = record { kept = no_kept_part; masters = []; peers = []; clock = record { last = 0; entered = None }; random = 0; won = None }
