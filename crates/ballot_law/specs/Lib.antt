@@ -28,3 +28,4 @@ pub mod Watches
 pub mod Wins
 pub mod Words
 pub mod Worlds
+pub mod Limits

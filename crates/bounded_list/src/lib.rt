@@ -18,7 +18,7 @@
 //!
 //! The facts stand in `proofs::Bounded` and take the limit first. `bounded_more` and `added_both` join two parts,
 //! `two_adds` two calls that add, `bounded_all` says that what has room is whole. A function that adds twice is proved by
-//! `#[tactic(auto, using(bounded_list::proofs::Bounded::added_both))]`.
+//! `#[tactic(auto, using(crate::proofs::Bounded::added_both))]`.
 #![tactic(auto)]
 
 mod lists;

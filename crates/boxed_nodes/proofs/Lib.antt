@@ -1,1 +1,4 @@
 pub mod Sending
+pub mod SentinelsLemmas
+pub mod DataLemmas
+pub mod ClientsLemmas

@@ -8,9 +8,9 @@ use Rattle.ballot_law.specs.declared.events.Event.TheVariants.{Tick, Command as 
 use Rattle.ballot_law.specs.declared.messages.Output.{Output}
 use Rattle.ballot_law.specs.declared.messages.Output.TheVariants.{Send, Tell}
 use Rattle.boxed_nodes.specs.Sendable.{IsSendableOutput, IsTakeable}
-use Rattle.messages.specs.MessageTexts.{IsWritableOutput}
-use Rattle.sentinel_rules.specs.Facts.{IsWithinEvent}
-use Rattle.sentinel_rules.specs.Limits.{IsWithinOutput, ShowsWithin}
+use Rattle.node_texts.specs.Messages.MessageTexts.{IsWritableOutput}
+use Rattle.ballot_law.specs.Limits.{IsWithinEvent}
+use Rattle.ballot_law.specs.Limits.{IsWithinOutput, ShowsWithin}
 
 -- What is taken
 

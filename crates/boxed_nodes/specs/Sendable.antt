@@ -14,10 +14,10 @@ use Rattle.ballot_law.specs.declared.messages.Output.{Output}
 use Rattle.ballot_law.specs.declared.messages.Output.TheVariants.{Send, Tell}
 use Rattle.ballot_law.specs.Messages.{advertised}
 use Rattle.ballot_law.specs.Rosters.{Roster}
-use Rattle.messages.specs.MessageTexts.{IsWritable}
+use Rattle.node_texts.specs.Messages.MessageTexts.{IsWritable}
 use Rattle.sentinel_outbox.specs.Outboxes.{IsOfOther}
-use Rattle.sentinel_rules.specs.Facts.{IsWithinEvent}
-use Rattle.sentinel_rules.specs.Limits.{IsWithinBody, AnswersWithin, ShowsWithin}
+use Rattle.ballot_law.specs.Limits.{IsWithinEvent}
+use Rattle.ballot_law.specs.Limits.{IsWithinBody, AnswersWithin, ShowsWithin}
 
 -- its numbers are within the limits, the epochs of the votes and configurations that it shows among them, and it has a spelling
 pub record IsSendable (message : Message) : Type 0 where

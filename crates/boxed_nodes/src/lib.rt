@@ -10,9 +10,15 @@
 #![tactic(auto)]
 
 mod calls;
+mod clients;
+mod data;
 mod node;
+mod sentinels;
 mod turn;
 
 pub use calls::HowStored;
+pub use clients::ClientNode;
+pub use data::DataNode;
 pub use node::Node;
+pub use sentinels::SentinelNode;
 pub use turn::Turn;

@@ -9,7 +9,7 @@ ghost use Rattle.conf_lines.specs.declared.faults.ConfKind.TheVariants.{BadDirec
 use crate::faults::ConfKind;
 use crate::line_words::next_word;
 use ballot_law::{Addr, Name, RunId};
-use words::{address_of, ip_of, number_of, port_of, run_id_of};
+use tokens::{address_of, ip_of, number_of, port_of, run_id_of};
 
 /// The one word of this text.
 pub fn one_word(text: &[u8]) -> Result<&[u8], ConfKind>

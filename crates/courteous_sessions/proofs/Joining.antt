@@ -1,8 +1,8 @@
 -- Two pieces in a row.
 use Rattle.std.proofs.Common.{ℕ, List, [], ◌∷◌, ◌++◌, sym, ap, ◌∙◌, subst, append_assoc}
-use Rattle.port_courtesies.specs.Lines.{Reads}
-use Rattle.port_courtesies.proofs.LineStreams.{reads_join}
-use Rattle.resp2_frames.specs.Frame.{Frame}
+use Rattle.client_commands.specs.Lines.{Reads}
+use Rattle.client_commands.proofs.LineStreams.{reads_join}
+use Rattle.resp2.specs.Framing.Frame.{Frame}
 use Rattle.sentinel_cell.specs.Histories.{World}
 use Rattle.courteous_sessions.specs.Visits.{Guest, ServesAll}
 use Rattle.courteous_sessions.specs.Laws.{PiecesJoin}

@@ -3,26 +3,26 @@ use Rattle.std.proofs.Common.{◌≡◌, ◌≢◌, ◌∙◌, ◌⊎◌, inl, i
 use Rattle.std.specs.Prelude.{bytes_eq}
 use Rattle.std.specs.List.{list_any}
 use Rattle.ballot_law.specs.Rosters.{master_at}
-use Rattle.port_channels.specs.Answering.{Answer as ChannelAnswer, other, answer as channel_answer}
-use Rattle.port_channels.specs.Globs.{matches}
-use Rattle.port_channels.specs.Listening.{Listening, holds, is_listening}
-use Rattle.port_channels.specs.Telling.{channel_name, hears, told}
-use Rattle.port_channels.proofs.OwnCommands.{own_is_other, own_is_said}
-use Rattle.port_channels.proofs.Sounding.{untold}
+use Rattle.pubsub.specs.Answering.{Answer as ChannelAnswer, other, answer as channel_answer}
+use Rattle.pubsub.specs.Globs.{matches}
+use Rattle.pubsub.specs.Listening.{Listening, holds, is_listening}
+use Rattle.pubsub.specs.Telling.{channel_name, hears, told}
+use Rattle.pubsub.proofs.OwnCommands.{own_is_other, own_is_said}
+use Rattle.pubsub.proofs.Sounding.{untold}
 use Rattle.port_sessions.specs.Listening.{note_text}
 use Rattle.ballot_law.specs.declared.commands.Command.{Command}
 use Rattle.ballot_law.specs.declared.commands.Command.TheVariants.{Ping, IsMasterDownByAddr, GetMasterAddrByName, Masters, Master, Replicas, Sentinels, MyId, CkQuorum, FlushConfig, Subscribe}
-use Rattle.port_courtesies.specs.Courtesies.{is_stranger, Asker, Answer, left, widens, said, asks_masters, silent, asks_nothing, courtesy, own_answer, wording_of, kind_of}
-use Rattle.port_courtesies.specs.declared.courtesies.Courtesy.TheVariants.{Said}
-use Rattle.port_courtesies.proofs.Strangers.{strangers_are_answered}
-use Rattle.port_courtesies.proofs.OwnValues.{own_is_left, own_is_same, common_is_left, refused_or_left}
-use Rattle.port_courtesies.proofs.Silence.{command_asks}
+use Rattle.client_commands.specs.Courtesies.{is_stranger, ClientInfo, Answer, left, widens, said, asks_masters, silent, asks_nothing, courtesy, own_answer, wording_of, kind_of}
+use Rattle.client_commands.specs.declared.courtesies.Courtesy.TheVariants.{Said}
+use Rattle.client_commands.proofs.Strangers.{strangers_are_answered}
+use Rattle.client_commands.proofs.OwnValues.{own_is_left, own_is_same, common_is_left, refused_or_left}
+use Rattle.client_commands.proofs.Silence.{command_asks}
 use Rattle.port_sessions.specs.Talks.{Party, Responds}
 use Rattle.resp2.specs.declared.command.CommandFault.{CommandFault}
 use Rattle.resp2.specs.declared.command.CommandFault.TheVariants.{UnknownCommand, WrongArguments}
 use Rattle.resp2.specs.Asked.{IsCommon}
 use Rattle.resp2.specs.Commands.{command_of}
-use Rattle.resp2_frames.specs.Frame.{Frame, FrameList, no_frames}
+use Rattle.resp2.specs.Framing.Frame.{Frame, FrameList, no_frames}
 use Rattle.sentinel_cell.specs.Histories.{World}
 use Rattle.courteous_sessions.specs.Visits.{Guest, guest, switches, channel_turn, Answers, Serves, ServesBy}
 use Rattle.courteous_sessions.specs.Epochs.{heard_as}
@@ -39,7 +39,7 @@ is_own answer own value command same is (inr (inr (inl wrong))) = absurd (let no
 is_own answer own value command same is (inr (inr (inr wrong))) = absurd (let none : ⊥ = cc in none)
 
 -- what the session answers, and how it is told; a command whose answer is told in other words is heard as it is
-own_told : (start : World) (now : ℕ) (asker : Asker) (becomes : Answer) (p : Party) (value : Frame) (asked kept : Result Command CommandFault) (bytes : List ℕ) (q : Party)
+own_told : (start : World) (now : ℕ) (asker : ClientInfo) (becomes : Answer) (p : Party) (value : Frame) (asked kept : Result Command CommandFault) (bytes : List ℕ) (q : Party)
     → (becomes ≡ left) ⊎ (becomes ≡ widens) → command_of value ≡ asked → (becomes ≡ widens → kept ≡ asked) → heard_as asker.current asked ≡ kept
     → Answers start now asker becomes p value bytes q → (answer : List ℕ) × Responds start now p kept answer q × Tells becomes asker value answer bytes
 own_told start now asker left p value asked kept bytes q own is same there h =
@@ -92,7 +92,7 @@ hears_far current epoch addr candidate h =
     ap (λ (far : Bool). IsMasterDownByAddr addr (elim far as (λ _. ℕ) [ true ↦ 0 | false ↦ epoch ]) candidate) h
 
 -- who gave the password, or of whom none is wanted, has Pub/Sub
-at_home : (asker : Asker) (l : Listening) (value : Frame) → is_stranger asker ≡ false → channel_turn asker l value ≡ channel_answer value l
+at_home : (asker : ClientInfo) (l : Listening) (value : Frame) → is_stranger asker ≡ false → channel_turn asker l value ≡ channel_answer value l
 at_home asker l value known = ap (λ (b : Bool). elim b as (λ _. ChannelAnswer) [ true ↦ other | false ↦ channel_answer value l ]) known
 
 -- a command that comes nearly always is another one
@@ -110,12 +110,12 @@ common_differs (CkQuorum name) h e = absurd h
 common_differs FlushConfig h e = absurd h
 
 -- such a command of a connection that listens to nothing, whose client gave the password or of whom none is wanted
-pub common_turn : (asker : Asker) (l : Listening) (value : Frame) (command : Command) → IsCommon command → is_stranger asker ≡ false → is_listening l ≡ false
+pub common_turn : (asker : ClientInfo) (l : Listening) (value : Frame) (command : Command) → IsCommon command → is_stranger asker ≡ false → is_listening l ≡ false
     → command_of value ≡ Ok command → channel_turn asker l value ≡ other
 common_turn asker l value command common known quiet is =
     at_home asker l value known ∙ own_is_other value command l quiet (common_differs command common) is
 
-pub common_answers : (start : World) (now : ℕ) (asker : Asker) (value : Frame) (command : Command) (p : Party) (bytes : List ℕ) (q : Party) → IsCommon command
+pub common_answers : (start : World) (now : ℕ) (asker : ClientInfo) (value : Frame) (command : Command) (p : Party) (bytes : List ℕ) (q : Party) → IsCommon command
     → is_stranger asker ≡ false → command_of value ≡ Ok command → Responds start now p (heard_as asker.current (Ok command)) bytes q
     → Answers start now asker (courtesy asker value) p value bytes q
 common_answers start now asker value command p bytes q common known is h =
@@ -141,7 +141,7 @@ own_as_before start now g h value command bytes known quiet differs is serves =
     let told =
     own_told start now g.asker own g.party value (Ok command) (heard_as g.asker.current (Ok command)) bytes q one is (widened_as_it_is g.asker.current command) refl kept
     in
-    let after : h ≡ guest q g.listening g.told g.asker = by.2 ∙ ap (λ (a : Asker). guest q g.listening g.told a) (own_is_same g.asker value command is) in (
+    let after : h ≡ guest q g.listening g.told g.asker = by.2 ∙ ap (λ (a : ClientInfo). guest q g.listening g.told a) (own_is_same g.asker value command is) in (
       told.0,
       subst (λ (x : Party). Responds start now g.party (heard_as g.asker.current (Ok command)) told.0 x) at told.1,
       told.2,
@@ -168,7 +168,7 @@ passed_over start now g h value bytes none is serves =
     (told.0, ap (λ (x : Guest). x.party) by.2 ∙ told.1)
 
 -- what is said takes no turn
-said_is_seen : (start : World) (now : ℕ) (asker : Asker) (answer : Answer) (p : Party) (value : Frame) (bytes : List ℕ) (q : Party) → kind_of answer ≡ Said
+said_is_seen : (start : World) (now : ℕ) (asker : ClientInfo) (answer : Answer) (p : Party) (value : Frame) (bytes : List ℕ) (q : Party) → kind_of answer ≡ Said
     → Answers start now asker answer p value bytes q → q ≡ p
 said_is_seen start now asker left p value bytes q is h = absurd (let no : ⊥ = cc in no)
 said_is_seen start now asker widens p value bytes q is h = absurd (let no : ⊥ = cc in no)

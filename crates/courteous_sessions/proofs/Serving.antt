@@ -4,28 +4,28 @@ use Rattle.std.specs.Option.{is_some}
 use Rattle.std.specs.Prelude.{is_err}
 use Rattle.ballot_law.specs.declared.commands.Command.{Command}
 use Rattle.ballot_law.specs.declared.commands.Command.TheVariants.{Ping, IsMasterDownByAddr, GetMasterAddrByName, Masters, Master, Replicas, Sentinels, MyId, CkQuorum, FlushConfig, Subscribe}
-use Rattle.port_channels.specs.declared.answers.Turn.{Turn}
-use Rattle.port_channels.specs.declared.answers.Turn.TheVariants.{Other as Untouched, Said as Turned}
-use Rattle.port_channels.specs.Answering.{Answer as ChannelAnswer, other, said as confirmed, answer as channel_answer, turn_of, text_of as text_of_turn, listening_after}
-use Rattle.port_channels.specs.Listening.{Listening, is_listening}
-use Rattle.port_channels.proofs.OwnCommands.{subscribe_is_said}
-use Rattle.port_courtesies.specs.Attendants.{Attendance}
-use Rattle.port_courtesies.proofs.Strangers.{strangers_are_answered}
-use Rattle.port_courtesies.specs.Courtesies.{is_stranger, Asker, Answer, left, widens, said, asks_masters, silent, courtesy, asker_after, kind_of, text_of}
-use Rattle.port_courtesies.specs.declared.courtesies.Courtesy.TheVariants.{Left, Widens, Said, AsksMasters}
-use Rattle.port_courtesies.specs.Lines.{value_at, Answers as Reads}
-use Rattle.port_courtesies.proofs.LineStreams.{reads_next}
-use Rattle.port_serving.specs.declared.fault.ServeFault.{ServeFault}
-use Rattle.port_serving.specs.declared.fault.ServeFault.TheVariants.{Halted, NoMemory as OutOfMemory}
-use Rattle.port_serving.specs.Serving.{last_line}
+use Rattle.pubsub.specs.declared.answers.Turn.{Turn}
+use Rattle.pubsub.specs.declared.answers.Turn.TheVariants.{Other as Untouched, Said as Turned}
+use Rattle.pubsub.specs.Answering.{Answer as ChannelAnswer, other, said as confirmed, answer as channel_answer, turn_of, text_of as text_of_turn, listening_after}
+use Rattle.pubsub.specs.Listening.{Listening, is_listening}
+use Rattle.pubsub.proofs.OwnCommands.{subscribe_is_said}
+use Rattle.client_commands.specs.Attendants.{Attendance}
+use Rattle.client_commands.proofs.Strangers.{strangers_are_answered}
+use Rattle.client_commands.specs.Courtesies.{is_stranger, ClientInfo, Answer, left, widens, said, asks_masters, silent, courtesy, asker_after, kind_of, text_of}
+use Rattle.client_commands.specs.declared.courtesies.Courtesy.TheVariants.{Left, Widens, Said, AsksMasters}
+use Rattle.client_commands.specs.Lines.{value_at, Answers as Reads}
+use Rattle.client_commands.proofs.LineStreams.{reads_next}
+use Rattle.sentinel_core.specs.declared.serving.fault.ServeFault.{ServeFault}
+use Rattle.sentinel_core.specs.declared.serving.fault.ServeFault.TheVariants.{Halted, NoMemory as OutOfMemory}
+use Rattle.sentinel_core.specs.Serving.Serving.{last_line}
 use Rattle.port_sessions.specs.Talks.{Talk, Party, party, Responds, RespondsAt}
 use Rattle.resp2.specs.declared.command.CommandFault.{CommandFault}
 use Rattle.resp2.specs.Commands.{command_of}
-use Rattle.resp2_frames.specs.declared.fault.FrameFault.{FrameFault}
-use Rattle.resp2_frames.specs.declared.fault.FrameFault.TheVariants.{BadKind, BadLength, BadNumber, MissingEnd, TooLong, TooDeep, TooMany, NoMemory}
-use Rattle.resp2_frames.specs.declared.fault.Unread.TheVariants.{Faulty}
-use Rattle.resp2_frames.specs.Frame.{Frame}
-use Rattle.resp2_frames.specs.Stream.{Held, reading, ended, bytes_in, Feeds}
+use Rattle.resp2.specs.declared.framing.fault.FrameFault.{FrameFault}
+use Rattle.resp2.specs.declared.framing.fault.FrameFault.TheVariants.{BadKind, BadLength, BadNumber, MissingEnd, TooLong, TooDeep, TooMany, NoMemory}
+use Rattle.resp2.specs.declared.framing.fault.Unread.TheVariants.{Faulty}
+use Rattle.resp2.specs.Framing.Frame.{Frame}
+use Rattle.resp2.specs.Framing.Stream.{Held, reading, ended, bytes_in, Feeds}
 use Rattle.sentinel_cell.specs.declared.view.View.{View}
 use Rattle.sentinel_cell.specs.Histories.{World}
 use Rattle.courteous_sessions.specs.Epochs.{heard_as}
@@ -40,7 +40,7 @@ was_read view (reading bytes) value after is h = h
 was_read view (ended fault) value after is h = absurd (let no : ⊥ = cc in no)
 
 module _ (start : World) (now : ℕ) where
-  pub left_answered : (asker : Asker) (answer : Answer) (p : Party) (value : Frame) (bytes : List ℕ) (q : Party) → Left ≡ kind_of answer
+  pub left_answered : (asker : ClientInfo) (answer : Answer) (p : Party) (value : Frame) (bytes : List ℕ) (q : Party) → Left ≡ kind_of answer
       → Responds start now p (heard_as asker.current (command_of value)) bytes q
       → Answers start now asker answer p value bytes q
   left_answered asker left p value bytes q is h = h
@@ -49,7 +49,7 @@ module _ (start : World) (now : ℕ) where
   left_answered asker silent p value bytes q is h = absurd (let no : ⊥ = cc in no)
   left_answered asker asks_masters p value bytes q is h = absurd (let no : ⊥ = cc in no)
 
-  pub said_answered : (asker : Asker) (answer : Answer) (p : Party) (value : Frame) (bytes : List ℕ) → Said ≡ kind_of answer → bytes ≡ text_of answer
+  pub said_answered : (asker : ClientInfo) (answer : Answer) (p : Party) (value : Frame) (bytes : List ℕ) → Said ≡ kind_of answer → bytes ≡ text_of answer
       → Answers start now asker answer p value bytes p
   said_answered asker left p value bytes is text = absurd (let no : ⊥ = cc in no)
   said_answered asker widens p value bytes is text = absurd (let no : ⊥ = cc in no)
@@ -57,7 +57,7 @@ module _ (start : World) (now : ℕ) where
   said_answered asker silent p value bytes is text = (text, refl)
   said_answered asker asks_masters p value bytes is text = absurd (let no : ⊥ = cc in no)
 
-  pub wide_answered : (asker : Asker) (answer : Answer) (p : Party) (value : Frame) (bytes : List ℕ) (q : Party) → Widens ≡ kind_of answer → TellsWide start now asker p value bytes q
+  pub wide_answered : (asker : ClientInfo) (answer : Answer) (p : Party) (value : Frame) (bytes : List ℕ) (q : Party) → Widens ≡ kind_of answer → TellsWide start now asker p value bytes q
       → Answers start now asker answer p value bytes q
   wide_answered asker left p value bytes q is h = absurd (let no : ⊥ = cc in no)
   wide_answered asker widens p value bytes q is h = h
@@ -65,7 +65,7 @@ module _ (start : World) (now : ℕ) where
   wide_answered asker silent p value bytes q is h = absurd (let no : ⊥ = cc in no)
   wide_answered asker asks_masters p value bytes q is h = absurd (let no : ⊥ = cc in no)
 
-  pub asked_answered : (asker : Asker) (answer : Answer) (p : Party) (value : Frame) (bytes : List ℕ) (q : Party) → AsksMasters ≡ kind_of answer → TellsInfo start now p value bytes q
+  pub asked_answered : (asker : ClientInfo) (answer : Answer) (p : Party) (value : Frame) (bytes : List ℕ) (q : Party) → AsksMasters ≡ kind_of answer → TellsInfo start now p value bytes q
       → Answers start now asker answer p value bytes q
   asked_answered asker left p value bytes q is h = absurd (let no : ⊥ = cc in no)
   asked_answered asker widens p value bytes q is h = absurd (let no : ⊥ = cc in no)
@@ -74,7 +74,7 @@ module _ (start : World) (now : ℕ) where
   asked_answered asker asks_masters p value bytes q is h = h
 
 asker_is : (attended : Attendance) (l : Listening) (talk : Talk) (v : View) → attended.asker.listens ≡ is_listening l → attended.asker ≡ (guest_of attended l talk v).asker
-asker_is attended l talk v h = ap (λ (b : Bool). let a : Asker = record attended.asker { listens = b } in a) h
+asker_is attended l talk v h = ap (λ (b : Bool). let a : ClientInfo = record attended.asker { listens = b } in a) h
 
 module _ (start : World) (now : ℕ) where
   -- the session below answers any command but SUBSCRIBE, and then it listens to notes as before
@@ -111,7 +111,7 @@ module _ (start : World) (now : ℕ) where
   heard_otherwise current (Ok (CkQuorum name)) differs e = let no : ⊥ = cc in no
   heard_otherwise current (Ok FlushConfig) differs e = let no : ⊥ = cc in no
 
-  pub answers_alike : (asker : Asker) (answer : Answer) (p : Party) (value : Frame) (bytes : List ℕ) (q : Party) → command_of value ≢ Ok Subscribe → Answers start now asker answer p value bytes q
+  pub answers_alike : (asker : ClientInfo) (answer : Answer) (p : Party) (value : Frame) (bytes : List ℕ) (q : Party) → command_of value ≢ Ok Subscribe → Answers start now asker answer p value bytes q
       → q.listens ≡ p.listens
   answers_alike asker left p value bytes q not h =
       responds_alike p (heard_as asker.current (command_of value)) bytes q (heard_otherwise asker.current (command_of value) not) h
@@ -133,7 +133,7 @@ not_subscribe value l is asks =
 
 module _ (start : World) (now : ℕ) where
   -- what a courtesy says takes no turn
-  said_alike : (asker : Asker) (answer : Answer) (p : Party) (value : Frame) (bytes : List ℕ) (q : Party) → kind_of answer ≡ Said → Answers start now asker answer p value bytes q → q.listens ≡ p.listens
+  said_alike : (asker : ClientInfo) (answer : Answer) (p : Party) (value : Frame) (bytes : List ℕ) (q : Party) → kind_of answer ≡ Said → Answers start now asker answer p value bytes q → q.listens ≡ p.listens
   said_alike asker left p value bytes q is h = absurd (let no : ⊥ = cc in no)
   said_alike asker widens p value bytes q is h = absurd (let no : ⊥ = cc in no)
   said_alike asker (said answer) p value bytes q is h = ap (λ (x : Party). x.listens) h.1
@@ -141,14 +141,14 @@ module _ (start : World) (now : ℕ) where
   said_alike asker asks_masters p value bytes q is h = absurd (let no : ⊥ = cc in no)
 
   -- where Pub/Sub doesn't answer a value, the session below listens to notes after it as before
-  pub listens_alike : (asker : Asker) (l : Listening) (p : Party) (value : Frame) (bytes : List ℕ) (q : Party) → channel_turn asker l value ≡ other
+  pub listens_alike : (asker : ClientInfo) (l : Listening) (p : Party) (value : Frame) (bytes : List ℕ) (q : Party) → channel_turn asker l value ≡ other
       → Answers start now asker (courtesy asker value) p value bytes q → q.listens ≡ p.listens
   listens_alike asker l p value bytes q none h = at (stranger_or_not (is_stranger asker) (channel_answer value l) none) where
     at : (is_stranger asker ≡ true) ⊎ (channel_answer value l ≡ other) → q.listens ≡ p.listens
     at (inl stranger) = said_alike asker (courtesy asker value) p value bytes q (strangers_are_answered asker value stranger) h
     at (inr is) = answers_alike start now asker (courtesy asker value) p value bytes q (not_subscribe value l is) h
 
-  same_words : (asker : Asker) (value : Frame) (becomes : Answer) (p : Party) (bytes : List ℕ) (q : Party)
+  same_words : (asker : ClientInfo) (value : Frame) (becomes : Answer) (p : Party) (bytes : List ℕ) (q : Party)
       → Answers start now (asker_after asker value) becomes p value bytes q → Answers start now asker becomes p value bytes q
   same_words asker value left p bytes q h = h
   same_words asker value widens p bytes q h =
@@ -164,15 +164,15 @@ module _ (start : World) (now : ℕ) where
       → Serves start now (guest_of before l talk v) value more (guest_of after l later w)
   served_by_others before after l talk later v w value more ready none is told a =
       let q = party w later.listens in
-      let at = λ (x : Asker). let g : Guest = record { party = party v talk.listens; asker = x; listening = l; told = talk.told } in g in
+      let at = λ (x : ClientInfo). let g : Guest = record { party = party v talk.listens; asker = x; listening = l; told = talk.told } in g in
       let known : guest q l later.told after.asker ≡ guest q l talk.told (asker_after before.asker value) =
-      ap (λ (t : List (Option ℕ)). guest q l t after.asker) told ∙ ap (λ (x : Asker). guest q l talk.told x) is
+      ap (λ (t : List (Option ℕ)). guest q l t after.asker) told ∙ ap (λ (x : ClientInfo). guest q l talk.told x) is
       in
       let by : ServesBy start now other (at before.asker) value more (guest_of after l later w) = (q, a, known) in
       let here : ServesBy start now (channel_turn before.asker l value) (at before.asker) value more (guest_of after l later w) =
       subst (λ (t : ChannelAnswer). ServesBy start now t (at before.asker) value more (guest_of after l later w)) (sym none) by
       in
-      subst (λ (x : Asker). ServesBy start now (channel_turn x l value) (at x) value more (guest_of after l later w)) (asker_is before l talk v ready.listens) here
+      subst (λ (x : ClientInfo). ServesBy start now (channel_turn x l value) (at x) value more (guest_of after l later w)) (asker_is before l talk v ready.listens) here
 
   -- it is ready for the next one then
   pub ready_by_others : (before after : Attendance) (l : Listening) (talk later : Talk) (v w : View) (value : Frame) (more : List ℕ) → IsReady before l talk
@@ -182,12 +182,12 @@ module _ (start : World) (now : ℕ) where
       record {
         reads = held ∙ ready.reads ∙ ap (λ (h : Held). reading (bytes_in h)) (sym held);
         idle = idle;
-        listens = ap (λ (x : Asker). x.listens) is ∙ ready.listens;
+        listens = ap (λ (x : ClientInfo). x.listens) is ∙ ready.listens;
         hears = ap (λ (since : Option ℕ). is_some since) (listens_alike before.asker l (party v talk.listens) value more (party w later.listens) none a) ∙ ready.hears;
       }
 
   -- what a connection's own words change of it makes no difference to how an answer is told
-  pub asked_before : (asker after : Asker) (value : Frame) (becomes : Answer) (unsent given : List ℕ) (v : View) (talk later : Talk) (w : View)
+  pub asked_before : (asker after : ClientInfo) (value : Frame) (becomes : Answer) (unsent given : List ℕ) (v : View) (talk later : Talk) (w : View)
       → after ≡ asker_after asker value → (more : List ℕ) × (given ≡ unsent ++ more) × IsIdle later
       × Answers start now after becomes (party v talk.listens) value more (party w later.listens)
       → (more : List ℕ) × (given ≡ unsent ++ more) × IsIdle later
@@ -197,7 +197,7 @@ module _ (start : World) (now : ℕ) where
     got.1,
     got.2,
     same_words asker value becomes (party v talk.listens) got.0 (party w later.listens)
-        (subst (λ (x : Asker). Answers start now x becomes (party v talk.listens) value got.0 (party w later.listens)) is got.3),
+        (subst (λ (x : ClientInfo). Answers start now x becomes (party v talk.listens) value got.0 (party w later.listens)) is got.3),
   )
 
   pub answered_by_others : (before after : Attendance) (l later_l : Listening) (talk later : Talk) (v w : View) (value : Frame) (unsent given : List ℕ) → IsReady before l talk
@@ -223,11 +223,11 @@ module _ (start : World) (now : ℕ) where
   served_by_channels before after l later_l talk later v w value more other ready turn is now_l text tuned asker = absurd (let no : ⊥ = cc in no)
   served_by_channels before after l later_l talk later v w value more (confirmed answers m) ready turn is now_l text tuned asker =
       let q = party w later.listens in
-      let at = λ (x : Asker). let g : Guest = record { party = party v talk.listens; asker = x; listening = l; told = talk.told } in g in
+      let at = λ (x : ClientInfo). let g : Guest = record { party = party v talk.listens; asker = x; listening = l; told = talk.told } in g in
       let h = guest_of after later_l later w in
       let known : h ≡ guest q later_l (told_after (hears_switches later_l) talk.told) before.asker =
       ap (λ (t : List (Option ℕ)). guest q later_l t after.asker) tuned.told
-      ∙ ap (λ (x : Asker). guest q later_l (told_after (hears_switches later_l) talk.told) x) asker
+      ∙ ap (λ (x : ClientInfo). guest q later_l (told_after (hears_switches later_l) talk.told) x) asker
       in
       let by : ServesBy start now (confirmed answers later_l) (at before.asker) value more h = (q, tuned.tunes, text, known) in
       let there : ServesBy start now (confirmed answers m) (at before.asker) value more h =
@@ -236,7 +236,7 @@ module _ (start : World) (now : ℕ) where
       let here : ServesBy start now (channel_turn before.asker l value) (at before.asker) value more h =
       subst (λ (t : ChannelAnswer). ServesBy start now t (at before.asker) value more h) (sym turn) there
       in
-      subst (λ (x : Asker). ServesBy start now (channel_turn x l value) (at x) value more h) (asker_is before l talk v ready.listens) here
+      subst (λ (x : ClientInfo). ServesBy start now (channel_turn x l value) (at x) value more h) (asker_is before l talk v ready.listens) here
 
   pub ready_by_channels : (before after : Attendance) (l later_l : Listening) (talk later : Talk) (v w : View) → IsReady before l talk
       → IsTuned start now (hears_switches later_l) talk v later w → after.asker ≡ record before.asker { listens = is_listening later_l } → after.held ≡ before.held
@@ -245,7 +245,7 @@ module _ (start : World) (now : ℕ) where
       record {
         reads = held ∙ ready.reads ∙ ap (λ (h : Held). reading (bytes_in h)) (sym held);
         idle = tuned.idle;
-        listens = ap (λ (x : Asker). x.listens) asker;
+        listens = ap (λ (x : ClientInfo). x.listens) asker;
         hears = tuned.listens;
       }
 

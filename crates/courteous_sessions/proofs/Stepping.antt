@@ -2,26 +2,26 @@
 use Rattle.std.proofs.Common.{◌≡◌, ◌⊎◌, ℕ, Bool, true, false, List, [], ◌++◌, Option, Some, None, Result, Ok, Err, refl, sym, ap, ◌∙◌, subst, append_assoc, append-nil, true≢false}
 use Rattle.std.specs.Option.{is_some}
 use Rattle.std.specs.Prelude.{OnOk, is_err}
-use Rattle.port_channels.specs.Listening.{Listening, is_listening}
-use Rattle.port_courtesies.specs.Attendants.{Attendance, TakesCommon}
-use Rattle.port_courtesies.specs.Courtesies.{Asker, MonitoredMaster, is_stranger}
-use Rattle.port_courtesies.proofs.OwnValues.{own_is_same}
-use Rattle.port_courtesies.specs.Infos.{info}
-use Rattle.port_courtesies.specs.Wordings.{wide}
+use Rattle.pubsub.specs.Listening.{Listening, is_listening}
+use Rattle.client_commands.specs.Attendants.{Attendance, TakesCommon}
+use Rattle.client_commands.specs.Courtesies.{ClientInfo, MonitoredMaster, is_stranger}
+use Rattle.client_commands.proofs.OwnValues.{own_is_same}
+use Rattle.client_commands.specs.Infos.{info}
+use Rattle.client_commands.specs.Wordings.{wide}
 use Rattle.resp2.specs.Asked.{IsCommon}
 use Rattle.resp2.specs.Commands.{command_of}
-use Rattle.port_serving.specs.declared.fault.ServeFault.{ServeFault}
-use Rattle.port_serving.specs.declared.fault.ServeFault.TheVariants.{Halted, NoMemory as OutOfMemory}
+use Rattle.sentinel_core.specs.declared.serving.fault.ServeFault.{ServeFault}
+use Rattle.sentinel_core.specs.declared.serving.fault.ServeFault.TheVariants.{Halted, NoMemory as OutOfMemory}
 use Rattle.port_sessions.specs.Notes.{none_told}
 use Rattle.port_sessions.specs.Talks.{Talk, Party, party, Responds, RespondsAt}
 use Rattle.ballot_law.specs.declared.commands.Command.{Command}
 use Rattle.ballot_law.specs.declared.commands.Command.TheVariants.{Masters, Subscribe}
 use Rattle.resp2.specs.declared.command.CommandFault.{CommandFault}
-use Rattle.resp2_frames.specs.declared.fault.FrameFault.{FrameFault}
-use Rattle.resp2_frames.specs.Frame.{Frame, spelling, IsFrame}
-use Rattle.resp2_frames.specs.Stream.{Held, reading, ended, bytes_in, Feeds}
-use Rattle.port_courtesies.specs.Lines.{value_at, Answers as Reads}
-use Rattle.port_courtesies.proofs.LineStreams.{value_is_frame}
+use Rattle.resp2.specs.declared.framing.fault.FrameFault.{FrameFault}
+use Rattle.resp2.specs.Framing.Frame.{Frame, spelling, IsFrame}
+use Rattle.resp2.specs.Framing.Stream.{Held, reading, ended, bytes_in, Feeds}
+use Rattle.client_commands.specs.Lines.{value_at, Answers as Reads}
+use Rattle.client_commands.proofs.LineStreams.{value_is_frame}
 use Rattle.sentinel_cell.specs.declared.view.View.{View}
 use Rattle.sentinel_cell.specs.Histories.{World}
 use Rattle.sentinel_rules.specs.Plans.{roster_of}
@@ -67,7 +67,7 @@ still_ready view before after l talk ready given asker =
     record {
       reads = still_reads before.held after.held ready.reads (reads_none view before.held after.held ready.reads given);
       idle = ready.idle;
-      listens = ap (λ (a : Asker). a.listens) asker ∙ ready.listens;
+      listens = ap (λ (a : ClientInfo). a.listens) asker ∙ ready.listens;
       hears = ready.hears;
     }
 
@@ -79,7 +79,7 @@ ready_to_answer view value before after l talk ready given asker =
     record {
       reads = now_reads at.0 after.held at.2;
       idle = ready.idle;
-      listens = ap (λ (a : Asker). a.listens) asker ∙ ready.listens;
+      listens = ap (λ (a : ClientInfo). a.listens) asker ∙ ready.listens;
       hears = ready.hears;
     }
 
@@ -108,7 +108,7 @@ module _ (start : World) (now : ℕ) where
       → (more : List ℕ) × (left ≡ first ++ more) × IsOnTheWay start now stream g after.held more (guest_of after later_l later w)
   step_answered view value stream first bytes g before between after l later_l unsent left talk later v w is a ready given asker held got =
       let at = was_read view before.held value between.held ready.reads given in
-      let same : guest_of between l talk v ≡ guest_of before l talk v = ap (λ (x : Asker). guest (party v talk.listens) l talk.told x) asker in
+      let same : guest_of between l talk v ≡ guest_of before l talk v = ap (λ (x : ClientInfo). guest (party v talk.listens) l talk.told x) asker in
       let serves = subst (λ (x : Guest). Serves start now x (view value) got.0 (guest_of after later_l later w)) same got.3 in (
         bytes ++ got.0,
         got.1 ∙ ap (λ (t : List ℕ). t ++ got.0) is ∙ append_assoc first bytes got.0,
@@ -143,7 +143,7 @@ module _ (start : World) (now : ℕ) where
       → after.asker ≡ before.asker → (more : List ℕ) × (unsent ≡ first ++ more) × IsDone start now stream g after.held more (guest_of after l talk v)
   step_ended view stream first bytes g before after l unsent talk v is a given asker =
       let done = all_served start now view stream g before.held bytes (guest_of before l talk v) after.held a given in
-      (bytes, is, subst (λ (x : Asker). IsDone start now stream g after.held bytes (guest (party v talk.listens) l talk.told x)) (sym asker) done)
+      (bytes, is, subst (λ (x : ClientInfo). IsDone start now stream g after.held bytes (guest (party v talk.listens) l talk.told x)) (sym asker) done)
 
   -- the bytes are no value, or memory was refused
   pub step_refused : {V : Type 0} (view : V → Frame) (stream first bytes : List ℕ) (g : Guest) (before after : Attendance) (l : Listening) (unsent left : List ℕ) (talk : Talk)
@@ -181,7 +181,7 @@ module _ (start : World) (now : ℕ) where
       (text, is_out, idle_again asked left is_left turned.1 goes_on, info_told value p (party w left.listens) asked.unsent text answer told)
 
   -- the session below answered a value, whose answer is told with more fields, and what it put out was taken away
-  pub wide_told : (asker : Asker) (value : Frame) (talk asked left : Talk) (v w : View) (unsent out text : List ℕ)
+  pub wide_told : (asker : ClientInfo) (value : Frame) (talk asked left : Talk) (v w : View) (unsent out text : List ℕ)
       → Responds start now (party v talk.listens) (command_of value) asked.unsent (party w asked.listens) × (asked.held ≡ []) → asked.ended ≡ None
       → left ≡ record asked { unsent = [] } → (answer : Frame) × BeginsWith asked.unsent answer × (text ≡ spelling (wide asker value answer)) → out ≡ unsent ++ text
       → (more : List ℕ) × (out ≡ unsent ++ more) × IsIdle left × TellsWide start now asker (party v talk.listens) value more (party w left.listens)
@@ -280,7 +280,7 @@ module _ (start : World) (now : ℕ) where
       let at_l = subst (λ (x : Listening). IsOnTheWay start now stream g begins.held [] (guest (party v talk.listens) x talk.told (introduced start knows before.asker)))
       (sym is_l) first
       in
-      let met_there = subst (λ (x : Asker). IsOnTheWay start now stream g begins.held [] (guest (party v talk.listens) same_l talk.told x)) met at_l in
+      let met_there = subst (λ (x : ClientInfo). IsOnTheWay start now stream g begins.held [] (guest (party v talk.listens) same_l talk.told x)) met at_l in
       let there = subst (λ (t : Talk). IsOnTheWay start now stream g begins.held [] (guest (party v t.listens) same_l t.told begins.asker)) (sym is_same) met_there in
       let got = drains stream unsent [] g (is_kept ∙ sym (append-nil unsent)) there in
       (got.0, got.1, was_received start now answer stream g after.held got.0 (guest_of after later_l later w) got.2)

@@ -2,8 +2,8 @@
 use Rattle.std.proofs.Common.{◌≡◌, ◌⊎◌, ◌∙◌, ℕ, List, [], ◌∷◌, ◌++◌, length, drop, refl, sym, ap, subst, inl, inr, None, Result, Ok, Err}
 use Rattle.std.specs.Prelude.{OnOk, IfErr}
 use Rattle.ballot_law.specs.declared.commands.Command.{Command}
-use Rattle.port_serving.specs.declared.fault.ServeFault.{ServeFault}
-use Rattle.port_serving.specs.declared.fault.ServeFault.TheVariants.{Frame as FaultyFrame, Read, Write, Halted, NoMemory}
+use Rattle.sentinel_core.specs.declared.serving.fault.ServeFault.{ServeFault}
+use Rattle.sentinel_core.specs.declared.serving.fault.ServeFault.TheVariants.{Frame as FaultyFrame, Read, Write, Halted, NoMemory}
 use Rattle.port_sessions.specs.Talks.{Talk, Party, party, Responds, Fails, EndsSession}
 use Rattle.resp2.specs.declared.command.CommandFault.{CommandFault}
 use Rattle.sentinel_cell.specs.declared.view.View.{View}

@@ -3,14 +3,14 @@ use Rattle.std.specs.Prelude.{◌≡◌, ℕ, Bool, true, false, None, Some, Lis
 use Rattle.std.specs.Option.{is_some}
 use Rattle.ballot_law.specs.declared.messages.Note.{Note}
 use Rattle.ballot_law.specs.Rosters.{Roster}
-use Rattle.port_channels.specs.declared.channel.Event.{Event}
-use Rattle.port_channels.specs.Listening.{is_listening}
-use Rattle.port_courtesies.specs.Courtesies.{Asker, is_stranger}
-use Rattle.port_serving.specs.declared.fault.ServeFault.{ServeFault}
+use Rattle.pubsub.specs.declared.channel.Event.{Event}
+use Rattle.pubsub.specs.Listening.{is_listening}
+use Rattle.client_commands.specs.Courtesies.{ClientInfo, is_stranger}
+use Rattle.sentinel_core.specs.declared.serving.fault.ServeFault.{ServeFault}
 use Rattle.port_sessions.specs.Notes.{none_told, is_due, Notifies}
 use Rattle.port_sessions.specs.Talks as talks
 use Rattle.port_sessions.specs.Talks.{Talk, party}
-use Rattle.resp2_frames.specs.Frame.{spellings}
+use Rattle.resp2.specs.Framing.Frame.{spellings}
 use Rattle.sentinel_cell.specs.declared.view.View.{View}
 use Rattle.sentinel_cell.specs.Histories.{World}
 use Rattle.courteous_sessions.specs.Events.{told_of, event_told, is_any}
@@ -19,7 +19,7 @@ use Rattle.courteous_sessions.specs.declared.client_session.ClientSession.{Clien
 use Rattle.courteous_sessions.specs.declared.client_session.ClientSession.TheVariants.{Plain, Courteous}
 
 -- what is known of a connection at its beginning
-abbrev pub newcomer : (id : ℕ) → Asker
+abbrev pub newcomer : (id : ℕ) → ClientInfo
 newcomer id = record { id = id; name = []; listens = false; masters = []; sentinels = 0; password = None; admitted = false; current = None }
 
 -- a session with courtesies to which no bytes came

@@ -2,11 +2,11 @@
 use Rattle.std.specs.Prelude.{ℕ, Bool, true, false, not, ◌==◌, List, length, bytes_eq}
 use Rattle.ballot_law.specs.declared.messages.Note.{Note}
 use Rattle.ballot_law.specs.Rosters.{Roster, master_at}
-use Rattle.port_channels.specs.declared.channel.Event.{Event}
-use Rattle.port_channels.specs.Listening.{Listening}
-use Rattle.port_channels.specs.Telling.{channel_name, told}
+use Rattle.pubsub.specs.declared.channel.Event.{Event}
+use Rattle.pubsub.specs.Listening.{Listening}
+use Rattle.pubsub.specs.Telling.{channel_name, told}
 use Rattle.port_sessions.specs.Listening.{note_text}
-use Rattle.resp2_frames.specs.Frame.{FrameList, no_frames}
+use Rattle.resp2.specs.Framing.Frame.{FrameList, no_frames}
 use Rattle.courteous_sessions.specs.Visits.{switches}
 
 -- a note, on the channel of new addresses

@@ -6,23 +6,23 @@ use Rattle.ballot_law.specs.declared.addresses.Addr.{Addr}
 use Rattle.ballot_law.specs.declared.addresses.RunId.{RunId}
 use Rattle.ballot_law.specs.declared.messages.Note.{Note}
 use Rattle.ballot_law.specs.Rosters.{Roster}
-use Rattle.port_channels.specs.declared.channel.Event.{Event}
-use Rattle.port_channels.specs.Answering.{other, said as confirmed, answer as channel_answer}
-use Rattle.port_channels.specs.Listening.{Listening, is_listening}
-use Rattle.port_channels.specs.Telling.{channel_name, hears}
-use Rattle.port_courtesies.specs.Courtesies.{Asker, Answer, widens, said, silent, is_stranger, wording_of, own_answer, courtesy}
-use Rattle.port_courtesies.specs.Wordings.{wide}
+use Rattle.pubsub.specs.declared.channel.Event.{Event}
+use Rattle.pubsub.specs.Answering.{other, said as confirmed, answer as channel_answer}
+use Rattle.pubsub.specs.Listening.{Listening, is_listening}
+use Rattle.pubsub.specs.Telling.{channel_name, hears}
+use Rattle.client_commands.specs.Courtesies.{ClientInfo, Answer, widens, said, silent, is_stranger, wording_of, own_answer, courtesy}
+use Rattle.client_commands.specs.Wordings.{wide}
 use Rattle.port_sessions.specs.Talks.{Responds}
 use Rattle.resp2.specs.Commands.{command_of}
-use Rattle.resp2_frames.specs.Frame.{Frame, FrameList, no_frames, spelling, spellings}
-use Rattle.resp2_frames.specs.Reading.{frame_at}
+use Rattle.resp2.specs.Framing.Frame.{Frame, FrameList, no_frames, spelling, spellings}
+use Rattle.resp2.specs.Framing.Reading.{frame_at}
 use Rattle.sentinel_cell.specs.Histories.{World}
 use Rattle.courteous_sessions.specs.Epochs.{is_far, heard}
 use Rattle.courteous_sessions.specs.Events.{told_of, event_told}
 use Rattle.courteous_sessions.specs.Visits.{Guest, guest, hears_switches, channel_turn, Serves, IsAnswered}
 
 -- a Sentinel's own answer as it is told: the first value of it in redis-sentinel's words, where it is told so, and else as it is
-abbrev pub Tells : Answer → Asker → (value : Frame) → (answer bytes : List ℕ) → Type 0
+abbrev pub Tells : Answer → ClientInfo → (value : Frame) → (answer bytes : List ℕ) → Type 0
 Tells widens asker value answer bytes = (told : Frame) × (rest : List ℕ) × (frame_at answer ≡ Ok (told, rest)) × (bytes ≡ spelling (wide asker value told))
 Tells becomes asker value answer bytes = bytes ≡ answer
 

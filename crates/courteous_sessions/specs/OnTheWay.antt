@@ -3,20 +3,20 @@ use Rattle.std.specs.Prelude.{◌≡◌, ◌≢◌, ◌⊎◌, ℕ, Bool, true, 
 use Rattle.std.specs.Option.{is_some}
 use Rattle.ballot_law.specs.declared.messages.Note.{Note}
 use Rattle.ballot_law.specs.Rosters.{Roster}
-use Rattle.port_channels.specs.declared.channel.Event.{Event}
-use Rattle.port_channels.specs.Listening.{Listening, is_listening}
-use Rattle.port_courtesies.specs.Attendants.{Attendance}
-use Rattle.port_courtesies.specs.Lines.{Reads}
-use Rattle.port_serving.specs.declared.fault.ServeFault.{ServeFault}
-use Rattle.port_serving.specs.declared.fault.ServeFault.TheVariants.{Frame as FaultyFrame, NoMemory as OutOfMemory}
-use Rattle.port_serving.specs.Serving.{last_line}
+use Rattle.pubsub.specs.declared.channel.Event.{Event}
+use Rattle.pubsub.specs.Listening.{Listening, is_listening}
+use Rattle.client_commands.specs.Attendants.{Attendance}
+use Rattle.client_commands.specs.Lines.{Reads}
+use Rattle.sentinel_core.specs.declared.serving.fault.ServeFault.{ServeFault}
+use Rattle.sentinel_core.specs.declared.serving.fault.ServeFault.TheVariants.{Frame as FaultyFrame, NoMemory as OutOfMemory}
+use Rattle.sentinel_core.specs.Serving.Serving.{last_line}
 use Rattle.port_sessions.specs.Notes.{is_due}
 use Rattle.port_sessions.specs.Talks.{Talk, party}
-use Rattle.resp2_frames.specs.declared.fault.FrameFault.{FrameFault}
-use Rattle.resp2_frames.specs.declared.fault.FrameFault.TheVariants.{NoMemory}
-use Rattle.resp2_frames.specs.Frame.{Frame, spellings}
-use Rattle.resp2_frames.specs.Reading.{frame_at}
-use Rattle.resp2_frames.specs.Stream.{Held, reading, bytes_in}
+use Rattle.resp2.specs.declared.framing.fault.FrameFault.{FrameFault}
+use Rattle.resp2.specs.declared.framing.fault.FrameFault.TheVariants.{NoMemory}
+use Rattle.resp2.specs.Framing.Frame.{Frame, spellings}
+use Rattle.resp2.specs.Framing.Reading.{frame_at}
+use Rattle.resp2.specs.Framing.Stream.{Held, reading, bytes_in}
 use Rattle.sentinel_cell.specs.declared.view.View.{View}
 use Rattle.sentinel_cell.specs.Histories.{World}
 use Rattle.courteous_sessions.specs.Events.{told_of, event_told, is_any}

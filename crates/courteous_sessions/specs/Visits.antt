@@ -2,24 +2,24 @@
 use Rattle.std.specs.Prelude.{◌≡◌, ◌++◌, ◌∷◌, ℕ, Bool, true, false, Option, None, Some, List, [], Result, Ok, Err, map}
 use Rattle.ballot_law.specs.declared.commands.Command.TheVariants.{Masters, Subscribe}
 use Rattle.ballot_law.specs.Rosters.{MasterPlan, size}
-use Rattle.port_channels.specs.declared.channel.Channel.TheVariants.{SwitchMaster}
-use Rattle.port_channels.specs.Answering.{Answer as ChannelAnswer, other, said as confirmed, answer as channel_answer}
-use Rattle.port_channels.specs.Listening.{Listening, is_listening}
-use Rattle.port_channels.specs.Telling.{channel_name, hears}
-use Rattle.port_courtesies.specs.Courtesies.{Asker, MonitoredMaster, Answer, left, widens, said, asks_masters, silent, courtesy, asker_after, is_stranger}
-use Rattle.port_courtesies.specs.Infos.{info}
-use Rattle.port_courtesies.specs.Lines.{Reads, Holds}
-use Rattle.port_courtesies.specs.Wordings.{wide}
-use Rattle.port_serving.specs.declared.fault.ServeFault.{ServeFault}
-use Rattle.port_serving.specs.declared.fault.ServeFault.TheVariants.{Frame as FaultyFrame, Read, Write, Halted, NoMemory}
-use Rattle.port_serving.specs.Serving.{last_line}
+use Rattle.pubsub.specs.declared.channel.Channel.TheVariants.{SwitchMaster}
+use Rattle.pubsub.specs.Answering.{Answer as ChannelAnswer, other, said as confirmed, answer as channel_answer}
+use Rattle.pubsub.specs.Listening.{Listening, is_listening}
+use Rattle.pubsub.specs.Telling.{channel_name, hears}
+use Rattle.client_commands.specs.Courtesies.{ClientInfo, MonitoredMaster, Answer, left, widens, said, asks_masters, silent, courtesy, asker_after, is_stranger}
+use Rattle.client_commands.specs.Infos.{info}
+use Rattle.client_commands.specs.Lines.{Reads, Holds}
+use Rattle.client_commands.specs.Wordings.{wide}
+use Rattle.sentinel_core.specs.declared.serving.fault.ServeFault.{ServeFault}
+use Rattle.sentinel_core.specs.declared.serving.fault.ServeFault.TheVariants.{Frame as FaultyFrame, Read, Write, Halted, NoMemory}
+use Rattle.sentinel_core.specs.Serving.Serving.{last_line}
 use Rattle.port_sessions.specs.Notes.{none_told}
 use Rattle.port_sessions.specs.Talks.{Party, party, Responds}
 use Rattle.resp2.specs.Commands.{command_of}
-use Rattle.resp2_frames.specs.declared.fault.FrameFault.{FrameFault}
-use Rattle.resp2_frames.specs.Frame.{Frame, spelling, spellings}
-use Rattle.resp2_frames.specs.Reading.{frame_at}
-use Rattle.resp2_frames.specs.Stream.{reading, ended}
+use Rattle.resp2.specs.declared.framing.fault.FrameFault.{FrameFault}
+use Rattle.resp2.specs.Framing.Frame.{Frame, spelling, spellings}
+use Rattle.resp2.specs.Framing.Reading.{frame_at}
+use Rattle.resp2.specs.Framing.Stream.{reading, ended}
 use Rattle.sentinel_cell.specs.Histories.{World}
 use Rattle.sentinel_rules.specs.Plans.{roster_of}
 use Rattle.courteous_sessions.specs.Epochs.{heard_as}
@@ -28,7 +28,7 @@ use Rattle.courteous_sessions.specs.Epochs.{heard_as}
 -- whole value yet, the answers, notes and events that aren't sent yet, and the fault that ended it; to which channels and patterns it listens. Where it hears of new
 -- addresses, it has the entry since which it does, and of each master the epoch of the configuration that it was told last since then
 pub record Visit : Type 0 where
-  pub asker : Asker
+  pub asker : ClientInfo
   pub knows_masters : Bool
   pub held : List ℕ
   pub unsent : List ℕ
@@ -46,7 +46,7 @@ abbrev pub masters_of : World → List MonitoredMaster
 masters_of start = map monitored (roster_of start.plan).masters
 
 -- what is known of a connection once it was told the masters of this Sentinel and how many Sentinels there are
-abbrev pub introduced : World → (knows_masters : Bool) → Asker → Asker
+abbrev pub introduced : World → (knows_masters : Bool) → ClientInfo → ClientInfo
 introduced start true asker = asker
 introduced start false asker = record asker { masters = masters_of start; sentinels = size (roster_of start.plan) }
 
@@ -54,11 +54,11 @@ introduced start false asker = record asker { masters = masters_of start; sentin
 -- of each master the epoch of the configuration that it was told last
 pub record Guest : Type 0 where
   pub party : Party
-  pub asker : Asker
+  pub asker : ClientInfo
   pub listening : Listening
   pub told : List (Option ℕ)
 
-abbrev pub guest : Party → Listening → (told : List (Option ℕ)) → Asker → Guest
+abbrev pub guest : Party → Listening → (told : List (Option ℕ)) → ClientInfo → Guest
 guest p l told asker = record { party = p; asker = record asker { listens = is_listening l }; listening = l; told = told }
 
 -- ---- Pub/Sub
@@ -76,7 +76,7 @@ abbrev pub hears_switches : Listening → Bool
 hears_switches l = hears l switches
 
 -- what Pub/Sub makes of a value; it answers none of a client that is still to give its password
-abbrev pub channel_turn : Asker → Listening → Frame → ChannelAnswer
+abbrev pub channel_turn : ClientInfo → Listening → Frame → ChannelAnswer
 channel_turn asker l value = elim (is_stranger asker) [ true ↦ other | false ↦ channel_answer value l ]
 
 -- who hears of new addresses no more is told from the beginning when it does again
@@ -95,7 +95,7 @@ module _ (start : World) (now : ℕ) where
     pub bytes_are : bytes ≡ spelling (info value told)
 
   -- the answer of the session without courtesies, the first value of it told in redis-sentinel's words
-  pub record TellsWide (asker : Asker) (p : Party) (value : Frame) (bytes : List ℕ) (q : Party) : Type 0 where
+  pub record TellsWide (asker : ClientInfo) (p : Party) (value : Frame) (bytes : List ℕ) (q : Party) : Type 0 where
     pub answer : List ℕ
     pub turned : Responds start now p (command_of value) answer q
     pub told : Frame
@@ -105,7 +105,7 @@ module _ (start : World) (now : ℕ) where
 
   -- The answer to a value by what becomes of it. One that is left is answered by the session without courtesies, a question as it is heard; a courtesy takes no turn, and
   -- changes nothing of what the seat has seen
-  abbrev pub Answers : Asker → Answer → Party → Frame → List ℕ → Party → Type 0
+  abbrev pub Answers : ClientInfo → Answer → Party → Frame → List ℕ → Party → Type 0
   Answers asker left p value bytes q = Responds start now p (heard_as asker.current (command_of value)) bytes q
   Answers asker widens p value bytes q = TellsWide asker p value bytes q
   Answers asker (said answer) p value bytes q = (bytes ≡ spelling answer) × (q ≡ p)

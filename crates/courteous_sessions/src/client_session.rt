@@ -6,11 +6,11 @@ ghost use Rattle.courteous_sessions.specs.Clients.{begun, unsent_of, held_of, li
 use crate::courteous_session::CourteousSession;
 use crate::epochs::FarRequest;
 use ballot_law::{NoMemory, Note, Roster, Text};
-use conf_store::ConfStore;
-use port_channels::Event;
-use port_serving::ServeFault;
 use port_sessions::Session;
+use pubsub::Event;
 use sentinel_cell::{Seat, SharedSentinel};
+use sentinel_conf::ConfStore;
+use sentinel_core::ServeFault;
 use std::alloc::Global;
 use std::sync::Wait;
 

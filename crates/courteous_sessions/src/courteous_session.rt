@@ -1,18 +1,18 @@
 //! A session with courtesies.
 
 ghost use Rattle.std.specs.Prelude.{◌≡◌, ◌≤◌, ◌<◌, ◌↔◌, ◌++◌, ℕ, List, [], None, Some, Err, true, OnOk, OnErr, IfErr, IfSome, IsTrue, length, drop};
-ghost use Rattle.port_channels.specs.Listening.{is_listening};
-ghost use Rattle.port_courtesies.specs.Courtesies.{is_stranger};
+ghost use Rattle.pubsub.specs.Listening.{is_listening};
+ghost use Rattle.client_commands.specs.Courtesies.{is_stranger};
 ghost use Rattle.courteous_sessions.specs.Clients.{arrived, guest_at, guest_of_visit, wanting, NotifiesVisit, TellsVisit, knowing};
 ghost use Rattle.courteous_sessions.specs.Visits.{unsubscribed, Receives};
 
 use crate::epochs::FarRequest;
 use crate::exchange::Exchange;
 use ballot_law::{NoMemory, Note, Roster, Text};
-use conf_store::ConfStore;
-use port_channels::Event;
-use port_serving::ServeFault;
+use pubsub::Event;
 use sentinel_cell::{Seat, SharedSentinel};
+use sentinel_conf::ConfStore;
+use sentinel_core::ServeFault;
 use std::alloc::Global;
 use std::marker::Model;
 use std::sync::Wait;
@@ -28,7 +28,7 @@ pub struct CourteousSession {
 }
 
 impl Model for CourteousSession {
-    ghost use Rattle.resp2_frames.specs.Stream.{bytes_in};
+    ghost use Rattle.resp2.specs.Framing.Stream.{bytes_in};
     ghost use Rattle.courteous_sessions.specs.Visits.{Visit};
     ghost use Rattle.port_sessions.specs.Talks.{IsEmptied};
     ghost use Rattle.courteous_sessions.specs.OnTheWay.{IsReady, IsSilenced};

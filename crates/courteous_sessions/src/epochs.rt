@@ -1,7 +1,7 @@
 //! Requests for votes whose epoch is too far above the Sentinel's own one.
 
 ghost use Rattle.std.specs.Prelude.{◌≡◌, IfOk};
-ghost use Rattle.resp2.specs.Commands.{IsWithin};
+ghost use Rattle.ballot_law.specs.Limits.{IsWithin};
 ghost use Rattle.courteous_sessions.specs.Epochs.{is_far, heard_epoch, heard, heard_as, far_request};
 
 use ballot_law::{Command, RunId};

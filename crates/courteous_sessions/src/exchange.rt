@@ -1,35 +1,34 @@
 //! What came from a client and what goes to it.
 
 ghost use Rattle.std.specs.Prelude.{◌≡◌, ◌⊎◌, ◌≤◌, ◌<◌, ◌++◌, ℕ, List, [], None, Some, OnOk, OnErr, IfOk, IfErr, IfSome, IsTrue, true, false, length, drop};
-ghost use Rattle.port_channels.specs.Listening.{is_listening};
-ghost use Rattle.port_courtesies.specs.Attendants.{TakesCommon};
-ghost use Rattle.port_courtesies.specs.Courtesies.{Answer, is_stranger, kind_of, text_of};
+ghost use Rattle.pubsub.specs.Listening.{is_listening};
+ghost use Rattle.client_commands.specs.Attendants.{TakesCommon};
+ghost use Rattle.client_commands.specs.Courtesies.{Answer, is_stranger, kind_of, text_of};
 ghost use Rattle.port_sessions.specs.Notes.{none_told};
 ghost use Rattle.port_sessions.specs.Talks.{party, Responds};
-ghost use Rattle.port_courtesies.specs.Infos.{info};
-ghost use Rattle.port_courtesies.specs.Wordings.{wide};
+ghost use Rattle.client_commands.specs.Infos.{info};
+ghost use Rattle.client_commands.specs.Wordings.{wide};
 ghost use Rattle.resp2.specs.Asked.{IsCommon};
-ghost use Rattle.resp2.specs.Commands.{IsWithin};
-ghost use Rattle.resp2_frames.specs.Frame.{Frame, view, spelling, HasLines, IsFrame};
-ghost use Rattle.resp2_frames.specs.Stream.{reading, held_size, bytes_in};
+ghost use Rattle.ballot_law.specs.Limits.{IsWithin};
+ghost use Rattle.resp2.specs.Framing.Frame.{Frame, view, spelling, HasLines, IsFrame};
+ghost use Rattle.resp2.specs.Framing.Stream.{reading, held_size, bytes_in};
 ghost use Rattle.courteous_sessions.specs.Clients.{newcomer};
 ghost use Rattle.courteous_sessions.specs.Epochs.{heard_as};
 ghost use Rattle.courteous_sessions.specs.OnTheWay.{IsIdle, IsReady, IsOnTheWay, IsSameAsker, Steps, Drains, Refuses, BeginsWith, guest_of};
 ghost use Rattle.courteous_sessions.specs.Visits.{Guest, guest, unsubscribed, channel_turn, introduced, TellsInfo, TellsWide, Answers, Serves, Receives};
-ghost use Rattle.port_channels.specs.Answering.{other};
+ghost use Rattle.pubsub.specs.Answering.{other};
 
 use crate::epochs::{FarRequest, far_request, heard_as};
 use crate::questions::{ask, first_value, monitored_by};
 use ballot_law::{Command, NoMemory, Text};
 use bytes::BytesMut;
-use conf_store::ConfStore;
-use port_channels::Subscriptions;
-use port_courtesies::{Asker, Attendant, Courtesy};
-use port_serving::ServeFault;
+use client_commands::{ClientInfo, CommandReader, Courtesy};
 use port_sessions::Session;
-use resp2::{CommandFault, command_of};
-use resp2_frames::{FrameFault, Value};
+use pubsub::Subscriptions;
+use resp2::{CommandFault, FrameFault, Value, command_of};
 use sentinel_cell::{Seat, SharedSentinel};
+use sentinel_conf::ConfStore;
+use sentinel_core::ServeFault;
 use std::alloc::Global;
 use std::sync::Wait;
 
@@ -46,7 +45,7 @@ const ROOM_KEPT: usize = 16_384;
 #[derive(Drop)]
 pub(crate) struct Exchange {
     pub(crate) alloc: Global,
-    pub(crate) attendant: Attendant,
+    pub(crate) attendant: CommandReader,
     pub(crate) subscriptions: Subscriptions,
     pub(crate) session: Session,
     pub(crate) unsent: BytesMut,
@@ -55,10 +54,10 @@ pub(crate) struct Exchange {
 }
 
 /// What is known of a connection with this number at its beginning.
-fn newcomer(alloc: Global, id: u64) -> Asker
+fn newcomer(alloc: Global, id: u64) -> ClientInfo
     ensures { result ≡ newcomer id }
 {
-    Asker {
+    ClientInfo {
         id,
         name: Text::from_vec(Vec::new(alloc)),
         listens: false,
@@ -93,7 +92,7 @@ impl Exchange {
     {
         Exchange {
             alloc,
-            attendant: Attendant::new(alloc, newcomer(alloc, id)),
+            attendant: CommandReader::new(alloc, newcomer(alloc, id)),
             subscriptions: Subscriptions::new(alloc),
             session: Session::new(alloc),
             unsent: BytesMut::new(alloc),

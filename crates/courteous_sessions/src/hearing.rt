@@ -2,24 +2,24 @@
 
 ghost use Rattle.std.specs.Prelude.{◌≡◌, ◌⊎◌, ◌<◌, ◌++◌, ℕ, List, [], None, true, OnOk, OnErr, IfOk, IfErr, length};
 ghost use Rattle.ballot_law.specs.Rosters.{master_at};
-ghost use Rattle.port_channels.specs.Answering.{turn_of, text_of, listening_after};
-ghost use Rattle.port_channels.specs.Listening.{is_listening};
+ghost use Rattle.pubsub.specs.Answering.{turn_of, text_of, listening_after};
+ghost use Rattle.pubsub.specs.Listening.{is_listening};
 ghost use Rattle.port_sessions.specs.Listening.{note_text};
-ghost use Rattle.resp2_frames.specs.Frame.{view, spellings, HasLines, IsFrame};
+ghost use Rattle.resp2.specs.Framing.Frame.{view, spellings, HasLines, IsFrame};
 ghost use Rattle.courteous_sessions.specs.Events.{event_told};
 ghost use Rattle.courteous_sessions.specs.OnTheWay.{IsIdle, IsReady, IsTuned, NotifiesBelow, TellsBelow, guest_of};
 ghost use Rattle.courteous_sessions.specs.Visits.{channel_turn, hears_switches, switches, Serves};
-ghost use Rattle.port_channels.specs.Telling.{told};
+ghost use Rattle.pubsub.specs.Telling.{told};
 
 use crate::exchange::{Exchange, put_out};
 use crate::questions::ask;
 use ballot_law::{Command, NoMemory, Note, Roster};
-use conf_store::ConfStore;
-use port_channels::{Channel, Event, Subscriptions, Turn};
-use port_serving::ServeFault;
 use port_sessions::{Session, add_note};
-use resp2_frames::{OutText, Value};
+use pubsub::{Channel, Event, Subscriptions, Turn};
+use resp2::{OutText, Value};
 use sentinel_cell::{Seat, SharedSentinel};
+use sentinel_conf::ConfStore;
+use sentinel_core::ServeFault;
 use std::sync::Wait;
 
 /// Adds what a note tells of its master.

@@ -2,19 +2,18 @@
 
 ghost use Rattle.std.specs.Prelude.{◌≡◌, ◌⊎◌, [], None, OnOk, IfErr, IfOk, map};
 ghost use Rattle.port_sessions.specs.Talks.{party, Responds};
-ghost use Rattle.resp2.specs.Commands.{IsWithin};
-ghost use Rattle.resp2_frames.specs.Frame.{view};
+ghost use Rattle.ballot_law.specs.Limits.{IsWithin};
+ghost use Rattle.resp2.specs.Framing.Frame.{view};
 ghost use Rattle.courteous_sessions.specs.OnTheWay.{IsIdle, BeginsWith};
 ghost use Rattle.courteous_sessions.specs.Visits.{monitored};
 
 use ballot_law::{Command, NoMemory, Roster};
-use conf_store::ConfStore;
-use port_courtesies::MonitoredMaster;
-use port_serving::ServeFault;
+use client_commands::MonitoredMaster;
 use port_sessions::Session;
-use resp2::CommandFault;
-use resp2_frames::{Frames, Value};
+use resp2::{CommandFault, Frames, Value};
 use sentinel_cell::{Seat, SharedSentinel};
+use sentinel_conf::ConfStore;
+use sentinel_core::ServeFault;
 use std::alloc::Global;
 use std::sync::Wait;
 

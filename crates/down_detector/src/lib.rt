@@ -16,6 +16,11 @@
 //! than `now` is no time ago. Nothing wraps, whatever the readings and settings. Only [`DownReports::new`] takes memory.
 #![tactic(auto)]
 
+mod laws;
+mod reports;
+mod tilts;
+mod watches;
+
 pub use ballot_law::PingReply;
 pub use laws::{
     law_reports_keep_the_last, law_tilt_keeps_the_last_jump, law_watch_keeps_its_calls,
@@ -23,8 +28,3 @@ pub use laws::{
 pub use reports::{DownReports, is_odown};
 pub use tilts::Tilt;
 pub use watches::Watch;
-
-mod laws;
-mod reports;
-mod tilts;
-mod watches;

@@ -6,20 +6,20 @@
 //! says that it is a master, [`Failover::reconf`] once another replica follows it. [`Failover::end`] ends the failover
 //! where a newer configuration of the master is adopted.
 //!
-//! The table stands in `specs/Table.antt`, and the contract of `turn` cites it; `docs/FAILOVER.md` shows it in words.
+//! The table stands in `specs/Table.antt`, and the contract of `turn` cites it; `docs/RULES.md` shows it in words.
 //!
 //! All moments are milliseconds of the Sentinel's clock; a reading above 2^62 counts as 2^62, and a moment that is later
 //! than `now` is no time ago. Nothing wraps, whatever the settings. Only [`Failover::new`] takes memory.
 #![tactic(auto)]
-
-pub use failovers::Failover;
-pub use periods::{ELECTION_MS, ORDER_MS, SPREAD_MS, law_periods};
-pub use replicas::{Progress, Replica};
-pub use states::{Choice, FailoverState, Row};
-pub use turns::{Act, Facts};
 
 mod failovers;
 mod periods;
 mod replicas;
 mod states;
 mod turns;
+
+pub use failovers::Failover;
+pub use periods::{ELECTION_MS, ORDER_MS, SPREAD_MS, law_periods};
+pub use replicas::{Progress, Replica};
+pub use states::{Choice, FailoverState, Row};
+pub use turns::{Act, Facts};

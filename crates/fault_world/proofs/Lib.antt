@@ -18,3 +18,4 @@ mod Standing
 mod Stepping
 mod Takeable
 mod Told
+pub mod ScenariosLemmas

@@ -7,7 +7,7 @@ use Rattle.ballot_law.specs.declared.steps.Step.{Step}
 use Rattle.ballot_law.specs.declared.steps.Step.TheVariants.{Take, Deliver, Store, StoreRefused, Release, Stop, Start, Answer}
 use Rattle.ballot_law.specs.Worlds.{IsFree}
 use Rattle.boxed_nodes.specs.Sendable.{IsTakeable}
-use Rattle.scenarios.specs.Within.{IsTold, IsWithinStep}
+use Rattle.fault_world.specs.Scenarios.Within.{IsTold, IsWithinStep}
 use Rattle.fault_world.specs.Limits.{IsWithinInput, IsWithinLimits}
 
 told_within : (event : Event) → IsTold event → IsWithinInput event

@@ -10,8 +10,8 @@ use Rattle.ballot_law.specs.declared.messages.Message.{Message}
 use Rattle.ballot_law.specs.declared.messages.NodeName.{NodeName}
 use Rattle.ballot_law.specs.declared.messages.NodeName.TheVariants.{SentinelAt, StoreAt, ClientAt, PortAt}
 use Rattle.boxed_nodes.specs.Sendable.{IsSendable, IsTakeable}
-use Rattle.messages.specs.Deliveries.{heard, event_at, event_of}
-use Rattle.sentinel_rules.specs.Facts.{IsWithinEvent}
+use Rattle.node_texts.specs.Messages.Deliveries.{heard, event_at, event_of}
+use Rattle.ballot_law.specs.Limits.{IsWithinEvent}
 
 -- no change of a data node, and no message handed over
 abbrev pub IsHeard : Event → Type 0

@@ -11,3 +11,4 @@ pub mod Laws
 pub mod Limits
 pub mod Faults
 pub mod Shown
+pub mod Scenarios

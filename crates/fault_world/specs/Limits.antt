@@ -4,8 +4,8 @@ use Rattle.ballot_law.specs.declared.events.Event.{Event}
 use Rattle.ballot_law.specs.declared.events.Event.TheVariants.{Become}
 use Rattle.ballot_law.specs.declared.steps.Step.{Step}
 use Rattle.ballot_law.specs.declared.steps.Step.TheVariants.{Take}
-use Rattle.scenarios.specs.Within.{IsWithinStep}
-use Rattle.sentinel_rules.specs.Facts.{IsWithinEvent}
+use Rattle.fault_world.specs.Scenarios.Within.{IsWithinStep}
+use Rattle.ballot_law.specs.Limits.{IsWithinEvent}
 
 -- the epoch of a command is within the limit, and an INFO can show the numbers of a change; of any other input nothing is asked
 abbrev pub IsWithinInput : Event → Type 0

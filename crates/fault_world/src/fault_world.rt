@@ -25,7 +25,7 @@ use ballot_law::{
     Step, law_never_falls, law_one_address, law_one_leader,
 };
 use boxed_nodes::{HowStored, Node};
-use messages::event_of;
+use node_texts::event_of;
 use std::alloc::Global;
 
 /// The place of the member with this name.

@@ -25,6 +25,7 @@ mod laws;
 mod lines;
 mod names;
 mod report;
+mod scenarios;
 mod seated;
 mod sending;
 mod starts;
@@ -32,16 +33,15 @@ mod stops;
 mod telling;
 
 pub use ballot_law::KeptText;
-pub use boxed_nodes::{HowStored, Node};
-pub use client_nodes::ClientNode;
-pub use data_nodes::DataNode;
+pub use boxed_nodes::{ClientNode, DataNode, HowStored, Node, SentinelNode};
 pub use entry::Entry;
 pub use fault_world::FaultWorld;
 pub use faults::{RunFault, WorldFault};
 pub use laws::{law_reports_join, law_scenarios_are_within};
 pub use report::Report;
-pub use scenarios::{ScenarioFault, ScenarioKind, read_scenario};
+pub use scenarios::{
+    ScenarioFault, ScenarioKind, add_comment, add_message, read_scenario, words_of,
+};
 pub use seated::Seated;
-pub use sentinel_nodes::SentinelNode;
 pub use starts::members_of;
 pub use stops::with_stop;

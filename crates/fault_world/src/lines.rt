@@ -3,14 +3,14 @@
 ghost use Rattle.std.specs.Prelude.{◌≡◌, ◌∷◌, ◌++◌, [], decimal, OnOk, OnErr};
 ghost use Rattle.std.specs.List.{flat_map};
 ghost use Rattle.ballot_law.specs.Words.{ip_text, id_text};
-ghost use Rattle.resp2_frames.specs.Writing.{Begins};
+ghost use Rattle.resp2.specs.Framing.Writing.{Begins};
 ghost use Rattle.fault_world.specs.Told.{line_of, elected_words, said_words, line};
 
 use crate::entry::Entry;
 use ballot_law::{Card, Name, NoMemory, RunId};
 use itoa::Buffer;
-use resp2_frames::OutText;
-use words::{ip_text, run_id_text};
+use resp2::OutText;
+use tokens::{ip_text, run_id_text};
 
 /// Adds a word and the byte behind it.
 fn add_word(text: &mut OutText, word: &[u8], end: u8) -> Result<(), NoMemory>

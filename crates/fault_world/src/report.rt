@@ -6,7 +6,7 @@ ghost use Rattle.fault_world.specs.Told.{report_text};
 use crate::entry::Entry;
 use crate::lines::add_lines;
 use ballot_law::NoMemory;
-use resp2_frames::OutText;
+use resp2::OutText;
 use std::alloc::Global;
 use std::marker::Model;
 

@@ -2,11 +2,11 @@
 
 ghost use Rattle.std.specs.Prelude.{◌≡◌, ◌≤◌, ◌++◌, ◌∷◌, All, IfOk, OnOk, length, take, drop};
 ghost use Rattle.ballot_law.specs.declared.messages.NodeName.TheVariants.{SentinelAt};
-ghost use Rattle.scenarios.specs.Within.{IsWithinStep};
+ghost use Rattle.fault_world.specs.Scenarios.Within.{IsWithinStep};
 ghost use Rattle.fault_world.specs.Limits.{IsWithinLimits};
 
 use ballot_law::{Event, Input, KeptText, NoMemory, NodeName, Step, Text};
-use messages::copy_of;
+use node_texts::copy_of;
 use std::alloc::Global;
 
 /// A copy of what happens at a node.

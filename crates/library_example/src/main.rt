@@ -3,8 +3,7 @@
 #![tactic(auto)]
 
 use ballot_law::{Event, Input};
-use conf_store::{ConfStore, MemoryStore};
-use sentinel_conf::read;
+use sentinel_conf::{ConfStore, MemoryStore, read};
 use sentinel_core::Sentinel;
 use sentinel_outbox::Outbox;
 use std::io::{self, Write};

@@ -16,7 +16,7 @@ use Rattle.ballot_law.specs.Results.{◌>>=◌, wanted}
 use Rattle.ballot_law.specs.Words.{are_digits, has_leading_zero, is_decimal, number_within, canonical_port, name, with_first, cut_at, ip, ip_text, run_id, id_text}
 use Rattle.ballot_law.proofs.WordLemmas.{some_if-some, some_if-is, number_within-is}
 use Rattle.ballot_law.proofs.CutLemmas.{some_parts}
-use Rattle.words.proofs.NumberLemmas.{canonical_by_lead}
+use Rattle.tokens.proofs.NumberLemmas.{canonical_by_lead}
 use Rattle.node_texts.specs.declared.faults.TextFault.{TextFault}
 use Rattle.node_texts.specs.declared.faults.TextFault.TheVariants.{BadField, EpochTooLarge}
 use Rattle.node_texts.specs.declared.hello_fields.Sender.{Sender}

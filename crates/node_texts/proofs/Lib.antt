@@ -10,3 +10,4 @@ pub mod RoleText
 pub mod Utf8Lemmas
 pub mod WordsAgain
 pub mod WordsBack
+pub mod MessagesLemmas

@@ -12,7 +12,7 @@ use Rattle.ballot_law.specs.Words.{some_if, ip_text}
 use Rattle.ballot_law.proofs.WordLemmas.{ip-ip_text}
 use Rattle.node_texts.specs.declared.faults.TextFault.TheVariants.{BadField}
 use Rattle.node_texts.specs.declared.info_fields.TheConstants.{COUNT_MAX}
-use Rattle.resp2_frames.specs.Frame.{Frame, bulk, int, items, frames_of, spelling, line_end, IsFrame}
+use Rattle.resp2.specs.Framing.Frame.{Frame, bulk, int, items, frames_of, spelling, line_end, IsFrame}
 use Rattle.node_texts.specs.Roles.{IsRole, role_frame, role_of, role_of_list, list_of}
 
 port_is : (n : ℕ) → 1 ≤ n → n ≤ 65535 → some_if (leb 1 n && leb n 65535) n ≡ Some n

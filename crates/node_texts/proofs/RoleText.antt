@@ -4,9 +4,9 @@ use Rattle.std.specs.Prelude.{codes, OnOk}
 use Rattle.ballot_law.specs.declared.addresses.Addr.{Addr}
 use Rattle.ballot_law.specs.declared.replies.Role.TheVariants.{Master, Replica}
 use Rattle.ballot_law.specs.Words.{ip_text}
-use Rattle.resp2_frames.specs.Frame.{bulk, int, spelling, line_end}
-use Rattle.resp2_frames.specs.Writing.{Adds}
-use Rattle.resp2_frames.proofs.Adding.{adds_both}
+use Rattle.resp2.specs.Framing.Frame.{bulk, int, spelling, line_end}
+use Rattle.resp2.specs.Framing.Writing.{Adds}
+use Rattle.resp2.proofs.FramingLemmas.Adding.{adds_both}
 use Rattle.node_texts.specs.Roles.{role_frame}
 
 added : {X E : Type 0} (answer : Result X E) (full : Type 0) (before after bytes : List ℕ) → Adds answer before after bytes full → OnOk answer (after ≡ before ++ bytes)

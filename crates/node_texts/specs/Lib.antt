@@ -3,3 +3,4 @@ pub mod Hellos
 pub mod Infos
 pub mod Lines
 pub mod Roles
+pub mod Messages

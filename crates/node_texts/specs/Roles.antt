@@ -7,7 +7,7 @@ use Rattle.ballot_law.specs.declared.replies.Role.TheVariants.{Master, Replica}
 use Rattle.ballot_law.specs.Hellos.{IsAddr}
 use Rattle.ballot_law.specs.Results.{◌>>=◌, wanted}
 use Rattle.ballot_law.specs.Words.{some_if, ip, ip_text}
-use Rattle.resp2_frames.specs.Frame.{Frame, FrameList, int, bulk, items, no_frames, frame}
+use Rattle.resp2.specs.Framing.Frame.{Frame, FrameList, int, bulk, items, no_frames, frame}
 use Rattle.node_texts.specs.declared.faults.TextFault.{TextFault}
 use Rattle.node_texts.specs.declared.faults.TextFault.TheVariants.{FieldCount, BadField}
 use Rattle.node_texts.specs.declared.info_fields.TheConstants.{COUNT_MAX}

@@ -8,8 +8,8 @@ use crate::faults::TextFault;
 use arrayvec::ArrayVec;
 use ballot_law::RunId;
 use itoa::Buffer;
-use resp2_frames::OutText;
-use words::{ip_text, run_id_text};
+use resp2::OutText;
+use tokens::{ip_text, run_id_text};
 
 /// How many bytes a text may have that is made here: more than any hello or INFO.
 const DRAFT_MAX: usize = 512;

@@ -7,7 +7,7 @@ ghost use Rattle.node_texts.specs.Hellos.{epoch, sender_of, master_of};
 use crate::faults::TextFault;
 use ballot_law::{Addr, MAX_EPOCH, Name, RunId};
 use std::marker::Model;
-use words::{canonical_port_of, ip_of, is_decimal, number_of, run_id_of, split_at_byte};
+use tokens::{canonical_port_of, ip_of, is_decimal, number_of, run_id_of, split_at_byte};
 
 /// An epoch's number; none where it is above `MAX_EPOCH`.
 type Epoch = Option<u64>;

@@ -14,7 +14,7 @@ use crate::faults::TextFault;
 use crate::hello_fields::{HelloFields, OfMaster, Sender};
 use arrayvec::ArrayVec;
 use ballot_law::{Addr, Card, Hello};
-use resp2_frames::OutText;
+use resp2::OutText;
 
 /// The hello of these two, unless an epoch is too large.
 fn hello_from(sender: &Sender, of_master: &OfMaster) -> Result<Hello, TextFault>

@@ -6,7 +6,7 @@ ghost use Rattle.node_texts.specs.Infos.{after_label, role_name, is_up, count, c
 
 use crate::lines::without_return;
 use ballot_law::{DataRole, RunId};
-use words::{are_digits, ip_of, number_of, port_of, run_id_of, split_line};
+use tokens::{are_digits, ip_of, number_of, port_of, run_id_of, split_line};
 
 /// The greatest number of an answer to INFO: 2^63 - 1.
 const COUNT_MAX: u64 = 9_223_372_036_854_775_807;

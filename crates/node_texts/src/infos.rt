@@ -10,7 +10,7 @@ use crate::faults::TextFault;
 use crate::info_fields::{Fields, Given};
 use arrayvec::ArrayVec;
 use ballot_law::{Addr, DataRole, Info, RunId};
-use resp2_frames::OutText;
+use resp2::OutText;
 
 /// What a field's last line says, unless its value is bad.
 fn judged<T: Copy>(field: u8, given: Given<T>) -> Result<Option<T>, TextFault>

@@ -12,6 +12,7 @@ mod hellos;
 mod info_fields;
 mod infos;
 mod lines;
+mod messages;
 mod roles;
 
 pub use ballot_law::{Hello, Info, Role};
@@ -19,4 +20,5 @@ pub use faults::TextFault;
 pub use hellos::{read_hello, write_hello};
 pub use info_fields::law_counts;
 pub use infos::{read_info, write_info};
+pub use messages::{copy_of, event_of, message_text};
 pub use roles::{read_role, write_role};

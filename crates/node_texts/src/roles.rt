@@ -2,17 +2,17 @@
 
 ghost use Rattle.std.specs.Prelude.{◌≡◌, ℕ, ◌≤◌, List, ◌++◌, length, map, OnOk, OnErr, IfErr};
 ghost use Rattle.ballot_law.specs.Words.{ip_text};
-ghost use Rattle.resp2_frames.specs.Frame.{view, spelling, IsFrame};
-ghost use Rattle.resp2_frames.specs.Reading.{frame_at};
-ghost use Rattle.resp2_frames.specs.Writing.{Begins};
+ghost use Rattle.resp2.specs.Framing.Frame.{view, spelling, IsFrame};
+ghost use Rattle.resp2.specs.Framing.Reading.{frame_at};
+ghost use Rattle.resp2.specs.Framing.Writing.{Begins};
 ghost use Rattle.node_texts.specs.declared.info_fields.TheConstants.{COUNT_MAX};
 ghost use Rattle.node_texts.specs.Roles.{kind_of, offset_of, host_of, port_of, link_of, replicas_of, master_role, replica_role, role_length, role_behind, role_of, role_of_list, IsRole, role_frame};
 
 use crate::faults::TextFault;
 use crate::info_fields::role_of_name;
 use ballot_law::{Addr, DataRole, NoMemory, Role};
-use resp2_frames::{OutText, Value, push_bulk, push_int, push_size};
-use words::{PORT_MAX, ip_of, ip_text};
+use resp2::{OutText, Value, push_bulk, push_int, push_size};
+use tokens::{PORT_MAX, ip_of, ip_text};
 
 /// The role that the first element names.
 fn kind_of(value: &Value) -> Option<DataRole>

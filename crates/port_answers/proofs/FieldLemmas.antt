@@ -1,7 +1,7 @@
 -- Fields that are added one behind the other.
 use Rattle.std.proofs.Common.{◌≡◌, ℕ, List, [], ◌∷◌, ◌++◌, take, drop, refl, ap, sym, ◌∙◌, append_assoc, append-nil}
 use Rattle.std.proofs.lemmas.List.{take-append-drop}
-use Rattle.resp2_frames.specs.Frame.{bulk, spelling}
+use Rattle.resp2.specs.Framing.Frame.{bulk, spelling}
 use Rattle.ballot_law.specs.declared.messages.TheConstants.{ANSWER_MAX}
 use Rattle.port_answers.specs.Room.{bounded}
 use Rattle.port_answers.specs.Answers.{fields_text, header}

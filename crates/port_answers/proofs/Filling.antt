@@ -1,7 +1,7 @@
 -- What a text with room holds once something was added to it as to any sink.
 use Rattle.std.proofs.Common.{◌≡◌, ℕ, ◌+◌, ◌≤◌, ◌<◌, List, ◌++◌, length, take, ap, sym, ◌∙◌, arith, length-append, Result, Ok, Err}
 use Rattle.std.proofs.lemmas.List.{take-append-le, take_all, take-take, length-take-le}
-use Rattle.resp2_frames.specs.Writing.{Begins, Adds}
+use Rattle.resp2.specs.Framing.Writing.{Begins, Adds}
 use Rattle.bounded_list.specs.BoundedLists as lists
 use Rattle.bounded_list.proofs.Bounded.{bounded_all}
 use Rattle.ballot_law.specs.declared.messages.TheConstants.{ANSWER_MAX}

@@ -4,7 +4,7 @@ use Rattle.std.specs.Prelude.{codes}
 use Rattle.ballot_law.specs.declared.addresses.RunId.{RunId}
 use Rattle.ballot_law.specs.Words.{id_text}
 use Rattle.ballot_law.proofs.WordLemmas.{length-id_text}
-use Rattle.resp2_frames.specs.Frame.{Frame, spelling}
+use Rattle.resp2.specs.Framing.Frame.{Frame, spelling}
 use Rattle.resp2.specs.declared.command.CommandFault.{CommandFault}
 use Rattle.resp2.specs.declared.command.CommandFault.TheVariants.{NotACommand, UnknownCommand, WrongArguments, BadAddress, BadEpoch, BadRunId, UnknownChannel}
 use Rattle.port_answers.specs.declared.rows.SentinelRow.{SentinelRow}

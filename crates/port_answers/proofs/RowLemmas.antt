@@ -1,7 +1,7 @@
 -- Lists of rows that are added one behind the other.
 use Rattle.std.proofs.Common.{◌≡◌, ℕ, suc, List, [], ◌∷◌, ◌++◌, length, map, refl, ap, sym, ◌∙◌, append-nil, decimal}
 use Rattle.std.specs.List.{flat_map}
-use Rattle.resp2_frames.specs.Frame.{Frame, items, frames_of, count, spelling, spellings, line_end}
+use Rattle.resp2.specs.Framing.Frame.{Frame, items, frames_of, count, spelling, spellings, line_end}
 use Rattle.ballot_law.specs.declared.messages.TheConstants.{ANSWER_MAX}
 use Rattle.port_answers.specs.Room.{bounded}
 use Rattle.port_answers.specs.Answers.{header}

@@ -7,7 +7,7 @@ use Rattle.ballot_law.specs.declared.addresses.Addr.{Addr}
 use Rattle.ballot_law.specs.declared.addresses.RunId.{RunId}
 use Rattle.ballot_law.specs.Words.{ip_text, id_text}
 use Rattle.ballot_law.proofs.WordLemmas.{length-id_text}
-use Rattle.resp2_frames.specs.Frame.{Frame, bulk, items, frames_of, count, spelling, spellings, line_end}
+use Rattle.resp2.specs.Framing.Frame.{Frame, bulk, items, frames_of, count, spelling, spellings, line_end}
 use Rattle.resp2.proofs.Asks.{ip_size}
 use Rattle.resp2.proofs.AskFrames.{decimal_short}
 use Rattle.port_answers.specs.declared.rows.MasterRow.{MasterRow}

@@ -1,7 +1,7 @@
 -- The bytes of the answer to SUBSCRIBE.
 use Rattle.std.proofs.Common.{◌≡◌, ◌∙◌, ℕ, ◌+◌, ◌*◌, ◌/◌, ◌%◌, ◌<◌, ◌≤◌, List, [], ◌∷◌, ◌++◌, decimal, refl, arith}
 use Rattle.std.proofs.lemmas.Fmt.{decimal_digit, decimal_step}
-use Rattle.resp2_frames.specs.Frame.{spelling}
+use Rattle.resp2.specs.Framing.Frame.{spelling}
 use Rattle.port_answers.specs.Answers.{subscribed}
 
 pub fourteen : decimal 14 ≡ 49 ∷ 52 ∷ []

@@ -3,7 +3,7 @@ use Rattle.std.specs.Prelude.{ℕ, Bool, true, false, pos, List, [], ◌∷◌, 
 use Rattle.ballot_law.specs.declared.addresses.Addr.{Addr}
 use Rattle.ballot_law.specs.declared.addresses.RunId.{RunId}
 use Rattle.ballot_law.specs.Words.{ip_text, id_text}
-use Rattle.resp2_frames.specs.Frame.{Frame, simple, fault, int, bulk, items, frames_of, spellings, line_end}
+use Rattle.resp2.specs.Framing.Frame.{Frame, simple, fault, int, bulk, items, frames_of, spellings, line_end}
 use Rattle.resp2.specs.Commands.{channel}
 use Rattle.resp2.specs.declared.command.CommandFault.{CommandFault}
 use Rattle.resp2.specs.declared.command.CommandFault.TheVariants.{NotACommand, UnknownCommand, WrongArguments, BadAddress, BadEpoch, BadRunId, UnknownChannel}

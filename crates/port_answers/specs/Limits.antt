@@ -5,7 +5,7 @@ use Rattle.ballot_law.specs.declared.names.TheConstants.{NAME_MAX}
 use Rattle.ballot_law.specs.declared.rosters.TheConstants.{MASTERS_MAX, NODES_MAX, SENTINELS_MAX}
 use Rattle.ballot_law.specs.declared.addresses.Addr.{Addr}
 use Rattle.ballot_law.specs.declared.addresses.RunId.{RunId}
-use Rattle.resp2_frames.specs.Frame.{Frame, spelling}
+use Rattle.resp2.specs.Framing.Frame.{Frame, spelling}
 use Rattle.resp2.specs.declared.command.CommandFault.{CommandFault}
 use Rattle.port_answers.specs.declared.rows.MasterRow.{MasterRow}
 use Rattle.port_answers.specs.declared.rows.ReplicaRow.{ReplicaRow}

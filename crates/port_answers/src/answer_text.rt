@@ -1,14 +1,14 @@
 //! The text of answers, in room that was made beforehand.
 
 ghost use Rattle.std.specs.Prelude.{◌≡◌, ◌≤◌, ◌∷◌, ◌++◌, [], IfOk, length, decimal, vec_capacity};
-ghost use Rattle.resp2_frames.specs.Frame as frames;
-ghost use Rattle.resp2_frames.specs.Frame.{spelling, line_end};
+ghost use Rattle.resp2.specs.Framing.Frame as frames;
+ghost use Rattle.resp2.specs.Framing.Frame.{spelling, line_end};
 ghost use Rattle.ballot_law.specs.declared.messages.TheConstants.{ANSWER_MAX};
 ghost use Rattle.port_answers.specs.Room.{bounded};
 
 use ballot_law::{ANSWER_MAX, NoMemory, Text};
 use bounded_list::BoundedList;
-use resp2_frames::{ByteSink, push_bulk, push_kind, push_line, push_size};
+use resp2::{ByteSink, push_bulk, push_kind, push_line, push_size};
 use std::alloc::Global;
 use std::marker::Model;
 

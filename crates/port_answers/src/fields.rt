@@ -2,8 +2,8 @@
 
 ghost use Rattle.std.specs.Prelude.{◌≡◌, [], ◌∷◌, ◌++◌, decimal};
 ghost use Rattle.ballot_law.specs.Words.{ip_text, id_text};
-ghost use Rattle.resp2_frames.specs.Frame as frames;
-ghost use Rattle.resp2_frames.specs.Frame.{spelling};
+ghost use Rattle.resp2.specs.Framing.Frame as frames;
+ghost use Rattle.resp2.specs.Framing.Frame.{spelling};
 ghost use Rattle.port_answers.specs.Room.{bounded};
 ghost use Rattle.port_answers.specs.Answers.{addr_text, addr_fields, fields_text};
 
@@ -11,7 +11,7 @@ use crate::answer_text::AnswerText;
 use arrayvec::ArrayVec;
 use ballot_law::{Addr, RunId};
 use itoa::Buffer;
-use words::{ip_text, run_id_text};
+use tokens::{ip_text, run_id_text};
 
 /// How many bytes an address has at most, as `255.255.255.255:65535`.
 const ADDR_TEXT_MAX: usize = 21;

@@ -2,7 +2,7 @@
 //! answers, written as RESP2 with no memory taken.
 //!
 //! Nothing here knows a Sentinel's state: the caller gives plain rows, and an `AnswerText`, whose room was made
-//! beforehand, takes their bytes. The fields, the flags and the lines stand in docs/ANSWERS.md.
+//! beforehand, takes their bytes. The fields, the flags and the lines stand in docs/CLIENTS.md.
 #![tactic(auto)]
 
 mod answer_text;

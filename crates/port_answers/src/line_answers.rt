@@ -1,7 +1,7 @@
 //! The answers of one line or one word.
 
 ghost use Rattle.std.specs.Prelude.{◌≡◌, ◌∷◌, ◌++◌, decimal};
-ghost use Rattle.resp2_frames.specs.Frame.{spelling, line_end};
+ghost use Rattle.resp2.specs.Framing.Frame.{spelling, line_end};
 ghost use Rattle.port_answers.specs.Room.{bounded};
 ghost use Rattle.port_answers.specs.Answers.{no_such_master, ok_line, quorum_reached, no_quorum, id_frame, subscribed, fault_text, command_fault, protocol_error};
 
@@ -9,7 +9,7 @@ use crate::answer_text::AnswerText;
 use ballot_law::RunId;
 use itoa::Buffer;
 use resp2::CommandFault;
-use words::run_id_text;
+use tokens::run_id_text;
 
 /// The text of a refused command's error.
 fn fault_text(fault: CommandFault) -> &'static [u8]

@@ -1,7 +1,7 @@
 //! The answers that show rows.
 
 ghost use Rattle.std.specs.Prelude.{◌≡◌, ◌++◌, codes};
-ghost use Rattle.resp2_frames.specs.Frame.{spelling};
+ghost use Rattle.resp2.specs.Framing.Frame.{spelling};
 ghost use Rattle.port_answers.specs.Room.{bounded};
 ghost use Rattle.port_answers.specs.Answers.{node_flags, master_flags, header, master_frame, replica_frame, sentinel_frame};
 

@@ -2,8 +2,8 @@
 use Rattle.std.proofs.Common.{◌≡◌, ℕ, List, [], ◌∷◌, ◌++◌, sym, ap, ◌∙◌, subst, append_assoc}
 use Rattle.std.specs.List.{flat_map, AllByRecursion}
 use Rattle.std.proofs.lemmas.List.Concat.{flat_map-append}
-use Rattle.resp2_frames.specs.Frame.{Frame, spelling, IsFrame}
-use Rattle.resp2_frames.specs.Stream.{Parts}
+use Rattle.resp2.specs.Framing.Frame.{Frame, spelling, IsFrame}
+use Rattle.resp2.specs.Framing.Stream.{Parts}
 use Rattle.sentinel_cell.specs.Histories.{World}
 use Rattle.port_sessions.specs.Talks.{Party, AnswersTo}
 use Rattle.port_sessions.specs.Laws.{PiecesJoin}

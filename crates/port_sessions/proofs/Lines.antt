@@ -2,7 +2,7 @@
 use Rattle.std.proofs.Common.{◌≡◌, refl}
 use Rattle.bounded_list.specs.BoundedLists.{bounded as within_limit}
 use Rattle.port_answers.specs.Room.{bounded}
-use Rattle.port_serving.specs.Serving.{last_line}
+use Rattle.sentinel_core.specs.Serving.Serving.{last_line}
 
 pub protocol_error_fits : bounded last_line ≡ last_line
 unfolding within_limit

@@ -2,8 +2,8 @@
 use Rattle.std.proofs.Common.{◌≡◌, ◌∙◌, ℕ, List, [], ◌∷◌, ◌++◌, decimal, refl, sym, ap, arith, subst, append-nil, Result, Ok, Err}
 use Rattle.std.proofs.lemmas.Fmt.{decimal_digit}
 use Rattle.std.specs.Prelude.{OnOk}
-use Rattle.resp2_frames.specs.Frame.{bulk, spelling}
-use Rattle.resp2_frames.specs.Writing.{Adds}
+use Rattle.resp2.specs.Framing.Frame.{bulk, spelling}
+use Rattle.resp2.specs.Framing.Writing.{Adds}
 use Rattle.port_answers.proofs.Subscribing.{fourteen}
 use Rattle.port_sessions.specs.Listening.{pong_message, message_frame}
 

@@ -11,8 +11,8 @@ use Rattle.ballot_law.specs.declared.events.Input.{Input}
 use Rattle.ballot_law.specs.declared.events.Event.TheVariants.{Command as Commanded}
 use Rattle.ballot_law.specs.declared.messages.Body.TheVariants.{AddressAnswer}
 use Rattle.ballot_law.specs.declared.messages.NodeName.TheVariants.{PortAt}
-use Rattle.messages.specs.MessageTexts.{message_bytes}
-use Rattle.port_serving.specs.Serving.{output_bytes, replied_to}
+use Rattle.node_texts.specs.Messages.MessageTexts.{message_bytes}
+use Rattle.sentinel_core.specs.Serving.Serving.{output_bytes, replied_to}
 use Rattle.resp2.specs.declared.command.CommandFault.{CommandFault}
 use Rattle.resp2.specs.Commands.{command_of}
 use Rattle.sentinel_cell.specs.declared.entry.Entry.{Entry}

@@ -2,14 +2,14 @@
 use Rattle.std.proofs.Common.{◌≡◌, ◌≢◌, ◌⊎◌, ℕ, Bool, true, false, List, [], ◌∷◌, ◌++◌, Some, Result, Ok, Err, refl, sym, ap, ◌∙◌, subst, inl, inr, append_assoc, true≢false}
 use Rattle.std.proofs.lemmas.List.{append-nil}
 use Rattle.std.specs.Prelude.{OnOk, is_err}
-use Rattle.port_serving.specs.declared.fault.ServeFault.{ServeFault}
-use Rattle.port_serving.specs.declared.fault.ServeFault.TheVariants.{Frame as FaultyFrame, Read, Write, Halted as ServeHalted, NoMemory as OutOfMemory}
-use Rattle.port_serving.specs.Serving.{last_line}
+use Rattle.sentinel_core.specs.declared.serving.fault.ServeFault.{ServeFault}
+use Rattle.sentinel_core.specs.declared.serving.fault.ServeFault.TheVariants.{Frame as FaultyFrame, Read, Write, Halted as ServeHalted, NoMemory as OutOfMemory}
+use Rattle.sentinel_core.specs.Serving.Serving.{last_line}
 use Rattle.resp2.specs.Commands.{command_of}
-use Rattle.resp2_frames.specs.declared.fault.FrameFault.{FrameFault}
-use Rattle.resp2_frames.specs.declared.fault.FrameFault.TheVariants.{NoMemory}
-use Rattle.resp2_frames.specs.Frame.{Frame}
-use Rattle.resp2_frames.specs.Stream.{Held, reading, ended, bytes_in, Feeds, Splits}
+use Rattle.resp2.specs.declared.framing.fault.FrameFault.{FrameFault}
+use Rattle.resp2.specs.declared.framing.fault.FrameFault.TheVariants.{NoMemory}
+use Rattle.resp2.specs.Framing.Frame.{Frame}
+use Rattle.resp2.specs.Framing.Stream.{Held, reading, ended, bytes_in, Feeds, Splits}
 use Rattle.resp2.proofs.Streams.{fault_asked, value_asked}
 use Rattle.resp2.specs.Asked.{Asks}
 use Rattle.resp2.specs.declared.command.CommandFault.{CommandFault}

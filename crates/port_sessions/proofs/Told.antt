@@ -1,7 +1,7 @@
 -- What a note that was told keeps back.
 use Rattle.std.proofs.Common.{◌≡◌, ℕ, Bool, true, false, ◌&&◌, List, Option, Some, None, slice_index_or, slice_set, refl, ap, ◌∙◌, get_or-set_same, get_or-set_other}
 use Rattle.std.proofs.lemmas.Bool.{le-ltb}
-use Rattle.port_serving.specs.declared.fault.ServeFault.{ServeFault}
+use Rattle.sentinel_core.specs.declared.serving.fault.ServeFault.{ServeFault}
 use Rattle.port_sessions.specs.Laws.{NotesRise}
 use Rattle.port_sessions.specs.Notes.{listened_before, is_newer}
 use Rattle.port_sessions.specs.Talks.{Talk}

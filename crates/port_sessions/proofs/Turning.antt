@@ -8,8 +8,8 @@ use Rattle.ballot_law.specs.declared.messages.NodeName.TheVariants.{SentinelAt, 
 use Rattle.ballot_law.specs.declared.messages.Output.{Output}
 use Rattle.ballot_law.specs.declared.messages.Output.TheVariants.{Send, Tell}
 use Rattle.ballot_law.specs.Clocks.{clock}
-use Rattle.messages.specs.MessageTexts.{IsWritable}
-use Rattle.port_serving.proofs.Answering.{command_writable}
+use Rattle.node_texts.specs.Messages.MessageTexts.{IsWritable}
+use Rattle.sentinel_core.proofs.ServingLemmas.Answering.{command_writable}
 use Rattle.sentinel_cell.specs.declared.entry.Entry.{Entry}
 use Rattle.sentinel_cell.specs.declared.entry.Outcome.{Outcome}
 use Rattle.sentinel_cell.specs.declared.entry.Outcome.TheVariants.{Stored}

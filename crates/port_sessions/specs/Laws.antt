@@ -2,9 +2,9 @@
 use Rattle.std.specs.Prelude.{◌≡◌, ◌≢◌, ◌<◌, ◌≤◌, ◌⊎◌, ◌++◌, ℕ, false, List, length}
 use Rattle.ballot_law.specs.declared.messages.Note.{Note}
 use Rattle.ballot_law.specs.Rosters.{Roster}
-use Rattle.port_serving.specs.Serving.{replied}
+use Rattle.sentinel_core.specs.Serving.Serving.{replied}
 use Rattle.resp2.specs.Commands.{command_of}
-use Rattle.resp2_frames.specs.Frame.{Frame}
+use Rattle.resp2.specs.Framing.Frame.{Frame}
 use Rattle.sentinel_cell.specs.declared.entry.Entry.{Entry}
 use Rattle.sentinel_cell.specs.declared.view.View.{View}
 use Rattle.sentinel_cell.specs.Calls.{Begins}

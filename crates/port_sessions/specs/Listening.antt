@@ -9,7 +9,7 @@ use Rattle.ballot_law.specs.Words.{ip_text}
 use Rattle.port_answers.specs.Answers.{command_fault, subscribed}
 use Rattle.resp2.specs.declared.command.CommandFault.{CommandFault}
 use Rattle.resp2.specs.Commands.{channel}
-use Rattle.resp2_frames.specs.Frame.{Frame, fault, bulk, items, frames_of}
+use Rattle.resp2.specs.Framing.Frame.{Frame, fault, bulk, items, frames_of}
 
 -- ---- answers
 

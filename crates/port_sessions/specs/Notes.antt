@@ -3,7 +3,7 @@ use Rattle.std.specs.Prelude.{◌≡◌, ℕ, Bool, true, false, ◌&&◌, nat_l
 use Rattle.ballot_law.specs.declared.messages.Note.{Note}
 use Rattle.ballot_law.specs.declared.rosters.TheConstants.{MASTERS_MAX}
 use Rattle.ballot_law.specs.Rosters.{Roster}
-use Rattle.resp2_frames.specs.Frame.{spelling}
+use Rattle.resp2.specs.Framing.Frame.{spelling}
 use Rattle.port_sessions.specs.Listening.{note_frame}
 use Rattle.port_sessions.specs.Talks.{Talk}
 

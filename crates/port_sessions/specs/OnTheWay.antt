@@ -4,14 +4,14 @@ use Rattle.ballot_law.specs.declared.commands.Command.{Command}
 use Rattle.ballot_law.specs.declared.messages.Message.{Message}
 use Rattle.ballot_law.specs.declared.messages.Output.{Output}
 use Rattle.ballot_law.specs.declared.messages.Output.TheVariants.{Send}
-use Rattle.messages.specs.MessageTexts.{IsWritable}
-use Rattle.port_serving.specs.declared.fault.ServeFault.{ServeFault}
-use Rattle.port_serving.specs.declared.fault.ServeFault.TheVariants.{Frame as FaultyFrame, Read, Write, Halted as ServeHalted, NoMemory as OutOfMemory}
-use Rattle.port_serving.specs.Serving.{last_line}
-use Rattle.resp2_frames.specs.declared.fault.FrameFault.{FrameFault}
-use Rattle.resp2_frames.specs.declared.fault.FrameFault.TheVariants.{NoMemory as FrameMemory}
-use Rattle.resp2_frames.specs.Frame.{Frame}
-use Rattle.resp2_frames.specs.Stream.{Held, reading, Parts}
+use Rattle.node_texts.specs.Messages.MessageTexts.{IsWritable}
+use Rattle.sentinel_core.specs.declared.serving.fault.ServeFault.{ServeFault}
+use Rattle.sentinel_core.specs.declared.serving.fault.ServeFault.TheVariants.{Frame as FaultyFrame, Read, Write, Halted as ServeHalted, NoMemory as OutOfMemory}
+use Rattle.sentinel_core.specs.Serving.Serving.{last_line}
+use Rattle.resp2.specs.declared.framing.fault.FrameFault.{FrameFault}
+use Rattle.resp2.specs.declared.framing.fault.FrameFault.TheVariants.{NoMemory as FrameMemory}
+use Rattle.resp2.specs.Framing.Frame.{Frame}
+use Rattle.resp2.specs.Framing.Stream.{Held, reading, Parts}
 use Rattle.sentinel_cell.specs.declared.entry.Outcome.TheVariants.{Stored}
 use Rattle.sentinel_cell.specs.declared.fault.ActFault.{ActFault}
 use Rattle.sentinel_cell.specs.declared.fault.ActFault.TheVariants.{NoMemory, Spent, Halted as ActHalted, StoreRefused}

@@ -10,16 +10,16 @@ use Rattle.ballot_law.specs.declared.events.Input.{Input}
 use Rattle.ballot_law.specs.declared.messages.Body.TheVariants.{AddressAnswer}
 use Rattle.ballot_law.specs.declared.messages.NodeName.TheVariants.{PortAt}
 use Rattle.ballot_law.specs.declared.messages.Output.{Output}
-use Rattle.messages.specs.MessageTexts.{message_bytes}
+use Rattle.node_texts.specs.Messages.MessageTexts.{message_bytes}
 use Rattle.port_answers.specs.Answers.{command_fault}
-use Rattle.port_serving.specs.declared.fault.ServeFault.{ServeFault}
-use Rattle.port_serving.specs.declared.fault.ServeFault.TheVariants.{Frame as FaultyFrame, Read, Write, Halted as ServeHalted, NoMemory as OutOfMemory}
-use Rattle.port_serving.specs.Serving.{output_bytes, last_line}
+use Rattle.sentinel_core.specs.declared.serving.fault.ServeFault.{ServeFault}
+use Rattle.sentinel_core.specs.declared.serving.fault.ServeFault.TheVariants.{Frame as FaultyFrame, Read, Write, Halted as ServeHalted, NoMemory as OutOfMemory}
+use Rattle.sentinel_core.specs.Serving.Serving.{output_bytes, last_line}
 use Rattle.resp2.specs.declared.command.CommandFault.{CommandFault}
 use Rattle.resp2.specs.Commands.{command_of}
-use Rattle.resp2_frames.specs.declared.fault.FrameFault.{FrameFault}
-use Rattle.resp2_frames.specs.Frame.{Frame, spelling}
-use Rattle.resp2_frames.specs.Stream.{reading, ended, Parts, Splits}
+use Rattle.resp2.specs.declared.framing.fault.FrameFault.{FrameFault}
+use Rattle.resp2.specs.Framing.Frame.{Frame, spelling}
+use Rattle.resp2.specs.Framing.Stream.{reading, ended, Parts, Splits}
 use Rattle.sentinel_cell.specs.declared.entry.Outcome.TheVariants.{Stored}
 use Rattle.sentinel_cell.specs.declared.fault.ActFault.{ActFault}
 use Rattle.sentinel_cell.specs.declared.fault.ActFault.TheVariants.{NoMemory}

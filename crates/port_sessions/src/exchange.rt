@@ -1,21 +1,20 @@
 //! What came from a client and what goes to it.
 
 ghost use Rattle.std.specs.Prelude.{◌≡◌, ◌≤◌, ◌<◌, ◌++◌, ℕ, List, [], None, OnOk, OnErr, IfOk, IfErr, IsTrue, length, drop};
-ghost use Rattle.resp2_frames.specs.Stream.{reading, held_size, bytes_in};
-ghost use Rattle.resp2_frames.specs.Frame.{spelling};
+ghost use Rattle.resp2.specs.Framing.Stream.{reading, held_size, bytes_in};
+ghost use Rattle.resp2.specs.Framing.Frame.{spelling};
 ghost use Rattle.port_sessions.specs.Listening.{note_frame};
-ghost use Rattle.resp2.specs.Commands.{IsWithin};
+ghost use Rattle.ballot_law.specs.Limits.{IsWithin};
 ghost use Rattle.port_sessions.specs.Talks.{Party, party, Ends};
 ghost use Rattle.port_sessions.specs.OnTheWay.{IsOnTheWay, Steps, Drains, Refuses, Takes};
 
 use crate::responder::Responder;
 use ballot_law::{Command, NoMemory, Note, Roster};
 use bytes::BytesMut;
-use conf_store::ConfStore;
-use port_serving::ServeFault;
-use resp2::{CommandFault, next_command};
-use resp2_frames::{FrameFault, Frames};
+use resp2::{CommandFault, FrameFault, Frames, next_command};
 use sentinel_cell::{Seat, SharedSentinel};
+use sentinel_conf::ConfStore;
+use sentinel_core::ServeFault;
 use std::alloc::Global;
 use std::sync::Wait;
 

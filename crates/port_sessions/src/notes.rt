@@ -1,14 +1,14 @@
 //! What a client is sent that listens to notes.
 
 ghost use Rattle.std.specs.Prelude.{◌≡◌, ◌++◌, Ok, OnOk};
-ghost use Rattle.resp2_frames.specs.Frame.{spelling};
+ghost use Rattle.resp2.specs.Framing.Frame.{spelling};
 ghost use Rattle.port_sessions.specs.Listening.{addr_words, note_text, message_frame, answer_while_listening};
 
 use ballot_law::{Addr, Command, Name, NoMemory, Note};
 use itoa::Buffer;
-use resp2_frames::{OutText, push_bulk};
+use resp2::{OutText, push_bulk};
 use std::alloc::Global;
-use words::ip_text;
+use tokens::ip_text;
 
 /// Has the text hold these bytes, and nothing else.
 fn set_text(text: &mut OutText, bytes: &[u8]) -> Result<(), NoMemory>

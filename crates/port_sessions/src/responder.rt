@@ -5,11 +5,11 @@ ghost use Rattle.std.specs.Bool.{then_some};
 ghost use Rattle.ballot_law.specs.declared.messages.Body.TheVariants.{AddressAnswer};
 ghost use Rattle.ballot_law.specs.declared.messages.Message.{Message};
 ghost use Rattle.ballot_law.specs.declared.messages.Output.TheVariants.{Send};
-ghost use Rattle.messages.specs.MessageTexts.{message_bytes, IsWritable};
+ghost use Rattle.node_texts.specs.Messages.MessageTexts.{message_bytes, IsWritable};
 ghost use Rattle.port_answers.specs.Answers.{command_fault};
-ghost use Rattle.port_serving.specs.Serving.{last_line};
-ghost use Rattle.resp2.specs.Commands.{IsWithin};
-ghost use Rattle.resp2_frames.specs.Frame.{spelling};
+ghost use Rattle.sentinel_core.specs.Serving.Serving.{last_line};
+ghost use Rattle.ballot_law.specs.Limits.{IsWithin};
+ghost use Rattle.resp2.specs.Framing.Frame.{spelling};
 ghost use Rattle.sentinel_cell.specs.declared.view.View.{View};
 ghost use Rattle.sentinel_rules.specs.Answers.{named};
 ghost use Rattle.sentinel_rules.specs.Plans.{master_count};
@@ -22,13 +22,12 @@ use ballot_law::{
     Body, Card, Command, Event, Input, Message, Name, NoMemory, NodeName, Note, Output, Roster,
     Shown,
 };
-use conf_store::ConfStore;
-use messages::message_text;
+use node_texts::message_text;
 use port_answers::AnswerText;
-use port_serving::ServeFault;
-use resp2::CommandFault;
-use resp2_frames::OutText;
+use resp2::{CommandFault, OutText};
 use sentinel_cell::{ActFault, Seat, SharedSentinel};
+use sentinel_conf::ConfStore;
+use sentinel_core::ServeFault;
 use sentinel_outbox::Outbox;
 use std::alloc::Global;
 use std::sync::Wait;
@@ -184,7 +183,7 @@ impl Responder {
     }
 
     /// The answer to a value that is no command.
-    #[tactic(auto, using(port_serving::proofs::Answering::line_fits))]
+    #[tactic(auto, using(sentinel_core::proofs::ServingLemmas::Answering::line_fits))]
     fn answer_fault(&mut self, fault: CommandFault) -> Result<(), ServeFault>
         ensures same { self.new.listens ≡ self.old.listens }
         ensures ok { OnOk result (self.new.text ≡ spelling (command_fault fault)) }

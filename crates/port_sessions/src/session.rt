@@ -5,14 +5,14 @@ ghost use Rattle.std.specs.Option.{is_some};
 ghost use Rattle.ballot_law.specs.declared.rosters.TheConstants.{MASTERS_MAX};
 ghost use Rattle.port_sessions.specs.Notes.{none_told, is_due, Notifies};
 ghost use Rattle.port_sessions.specs.Talks.{EndsSession, Receives, party};
-ghost use Rattle.resp2.specs.Commands.{IsWithin};
+ghost use Rattle.ballot_law.specs.Limits.{IsWithin};
 
 use crate::exchange::Exchange;
 use ballot_law::{Command, MASTERS_MAX, NoMemory, Note, Roster};
-use conf_store::ConfStore;
-use port_serving::ServeFault;
 use resp2::CommandFault;
 use sentinel_cell::{Seat, SharedSentinel};
+use sentinel_conf::ConfStore;
+use sentinel_core::ServeFault;
 use std::alloc::Global;
 use std::marker::Model;
 use std::sync::Wait;
@@ -29,7 +29,7 @@ pub struct Session {
 
 impl Model for Session {
     ghost use Rattle.std.specs.Prelude.{◌≡◌};
-    ghost use Rattle.resp2_frames.specs.Stream.{reading, bytes_in};
+    ghost use Rattle.resp2.specs.Framing.Stream.{reading, bytes_in};
     ghost use Rattle.port_sessions.specs.Talks.{Talk, IsEmptied};
 
     ghost Value = { Talk };

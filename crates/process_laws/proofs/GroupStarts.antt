@@ -22,9 +22,9 @@ use Rattle.ballot_law.specs.Rosters.{Roster, size, id_of, master_at, no_master}
 use Rattle.ballot_law.specs.Worlds.{World as Group, Sentinel, Other, Ready, no_sentinel, sentinel_at, started}
 use Rattle.ballot_law.proofs.CountedVotes.{same_id-equal}
 use Rattle.ballot_law.proofs.Counting.{below_suc}
-use Rattle.group_checks.specs.declared.report.NamedConf.{NamedConf}
-use Rattle.group_checks.specs.Groups.{IsGroupOf}
-use Rattle.group_checks.proofs.Alike.{kept_of_each}
+use Rattle.conf_check.specs.declared.group.report.NamedConf.{NamedConf}
+use Rattle.conf_check.specs.Group.Groups.{IsGroupOf}
+use Rattle.conf_check.proofs.GroupLemmas.Alike.{kept_of_each}
 use Rattle.sentinel_conf.specs.Facts.{IsSoundConf}
 use Rattle.sentinel_conf.specs.Meaning.{ConfPlan}
 use Rattle.sentinel_conf.specs.Rewritten.{IsKeptPart, IsKeptMaster}

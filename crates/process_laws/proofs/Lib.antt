@@ -4,3 +4,7 @@ pub mod LateRun
 pub mod Merging
 pub mod Safety
 pub mod TwoProcesses
+pub mod Reading
+pub mod Turns
+pub mod Joining
+pub mod About

@@ -4,8 +4,8 @@ use Rattle.ballot_law.specs.Law.{IsStart}
 use Rattle.ballot_law.specs.NodePlaces.{node_count}
 use Rattle.ballot_law.specs.Rosters.{Roster, size, HasDistinctIds}
 use Rattle.ballot_law.specs.Worlds.{World as Group}
-use Rattle.group_checks.specs.declared.report.NamedConf.{NamedConf}
-use Rattle.group_checks.specs.Groups.{IsOneGroup}
+use Rattle.conf_check.specs.declared.group.report.NamedConf.{NamedConf}
+use Rattle.conf_check.specs.Group.Groups.{IsOneGroup}
 use Rattle.sentinel_conf.specs.Facts.{IsSoundConf}
 use Rattle.sentinel_conf.specs.Meaning.{ConfPlan}
 use Rattle.process_laws.specs.Actions.{IsOpened, at_first, opened_by}

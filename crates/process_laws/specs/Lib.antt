@@ -2,3 +2,4 @@ pub mod Actions
 pub mod GroupStarts
 pub mod LateAnswers
 pub mod TwoProcesses
+pub mod Connections

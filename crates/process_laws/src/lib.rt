@@ -1,9 +1,15 @@
 //! Processes of one Sentinel each, with one order of all that they did, are a run of the model of the whole group.
+//!
+//! What a Sentinel hears over a connection to another Sentinel's port is what the model of the whole group delivers.
 #![tactic(auto)]
 
 mod laws;
+mod link_laws;
 
 pub use laws::{
     law_actions_happen, law_late_answers_happen, law_one_group_is_a_start, law_processes_are_a_run,
     law_processes_are_safe,
+};
+pub use link_laws::{
+    law_answers_are_about_it, law_answers_are_delivered, law_senders_are_free, law_targets_are_free,
 };

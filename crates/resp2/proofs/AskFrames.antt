@@ -2,7 +2,7 @@
 use Rattle.std.proofs.Common.{◌≡◌, ℕ, suc, ◌*◌, ◌^◌, ◌≤◌, ◌<◌, List, [], ◌∷◌, ◌++◌, length, refl, ap, arith, length-append, decimal}
 use Rattle.std.specs.List.{AllByRecursion}
 use Rattle.std.proofs.lemmas.Fmt.{length-decimal-le}
-use Rattle.resp2_frames.specs.Frame.{bulk, items, spelling, spellings, line_end, count, ArePlain, IsFrame, deepest_of, widest_of}
+use Rattle.resp2.specs.Framing.Frame.{bulk, items, spelling, spellings, line_end, count, ArePlain, IsFrame, deepest_of, widest_of}
 use Rattle.resp2.specs.Commands.{bulks}
 
 abbrev pub AreShort : List (List ℕ) → Type 0

@@ -13,11 +13,11 @@ use Rattle.ballot_law.specs.Words.{then_some, canonical_within, canonical_addres
 use Rattle.ballot_law.proofs.WordLemmas.{ip-ip_text, run_id-id_text, length-id_text}
 use Rattle.resp2.specs.declared.command.CommandFault.TheVariants.{BadAddress, BadEpoch, BadRunId}
 use Rattle.resp2.specs.Commands.{candidate, candidate_text, ask_frame, command_of, IsCandidate}
-use Rattle.resp2_frames.specs.Frame.{spelling, IsFrame}
-use Rattle.resp2_frames.specs.Reading.{frame_at}
+use Rattle.resp2.specs.Framing.Frame.{spelling, IsFrame}
+use Rattle.resp2.specs.Framing.Reading.{frame_at}
 use Rattle.resp2.proofs.AskFrames.{decimal_short, short_array}
 use Rattle.resp2.proofs.Canonical.{canonical_decimal}
-use Rattle.resp2_frames.proofs.Window.{frame_again}
+use Rattle.resp2.proofs.FramingLemmas.Window.{frame_again}
 
 address_again : (addr : Addr) → IsAddr addr → canonical_address (ip_text addr.ip) (decimal addr.port) ≡ Some addr
 address_again addr is =

@@ -3,8 +3,8 @@ use Rattle.std.proofs.Common.{◌≡◌, ℕ, ◌-◌, ◌^◌, ◌≤◌, ◌<�
 use Rattle.ballot_law.specs.Orders.{same_bytes}
 use Rattle.ballot_law.specs.Words.{some_if, then_some, number_within, canonical_within}
 use Rattle.ballot_law.proofs.WordLemmas.{same_bytes-refl, same_bytes-true, number_within-decimal, then_some-is, some_if-is, number_within-is}
-use Rattle.resp2_frames.specs.Reading.{number_of}
-use Rattle.resp2_frames.proofs.Numbers.{number_takes, number_again}
+use Rattle.resp2.specs.Framing.Reading.{number_of}
+use Rattle.resp2.proofs.FramingLemmas.Numbers.{number_takes, number_again}
 
 -- what a word spells, and its bounds
 pub record Canonical (low high : ℕ) (word : List ℕ) (n : ℕ) : Type 0 where

@@ -2,8 +2,8 @@
 use Rattle.std.proofs.Common.{◌≡◌, ◌≢◌, List, [], ◌∷◌, length, refl, Err}
 use Rattle.ballot_law.specs.declared.commands.Command.{Command}
 use Rattle.resp2.specs.declared.command.CommandFault.TheVariants.{WrongArguments}
-use Rattle.resp2_frames.specs.declared.value.Value.{Value}
-use Rattle.resp2_frames.specs.Frame.{frames_view}
+use Rattle.resp2.specs.declared.framing.value.Value.{Value}
+use Rattle.resp2.specs.Framing.Frame.{frames_view}
 use Rattle.resp2.specs.Commands.{words, is_master_down_by_addr, master_of, alone, subscribe}
 
 pub wrong_number : (args : List Value) → length args ≢ 4 → is_master_down_by_addr (words (frames_view args)) ≡ Err WrongArguments

@@ -4,3 +4,4 @@ pub mod AskFrames
 pub mod Asks
 pub mod Found
 pub mod Streams
+pub mod FramingLemmas

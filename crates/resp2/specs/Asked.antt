@@ -5,10 +5,10 @@ use Rattle.ballot_law.specs.declared.commands.Command.TheVariants.{Ping, GetMast
 use Rattle.ballot_law.specs.Words.{lower}
 use Rattle.resp2.specs.declared.command.CommandFault.{CommandFault}
 use Rattle.resp2.specs.Commands.{command_of}
-use Rattle.resp2_frames.specs.declared.fault.FrameFault.{FrameFault}
-use Rattle.resp2_frames.specs.Frame.{Frame, bulk, spelling, line_end}
-use Rattle.resp2_frames.specs.Reading.{frame_at}
-use Rattle.resp2_frames.specs.Stream.{Held, Answers}
+use Rattle.resp2.specs.declared.framing.fault.FrameFault.{FrameFault}
+use Rattle.resp2.specs.Framing.Frame.{Frame, bulk, spelling, line_end}
+use Rattle.resp2.specs.Framing.Reading.{frame_at}
+use Rattle.resp2.specs.Framing.Stream.{Held, Answers}
 
 -- the first value of the bytes is this command, or none for this reason, and the rest stands behind it
 abbrev pub Found : List ℕ → Result Command CommandFault → List ℕ → Type 0

@@ -10,7 +10,7 @@ use Rattle.ballot_law.specs.Results.{◌>>=◌, wanted}
 use Rattle.ballot_law.specs.Words.{then_some, canonical_within, canonical_address, run_id, name, lower, ip_text, id_text}
 use Rattle.resp2.specs.declared.command.CommandFault.{CommandFault}
 use Rattle.resp2.specs.declared.command.CommandFault.TheVariants.{NotACommand, UnknownCommand, WrongArguments, BadAddress, BadEpoch, BadRunId, UnknownChannel}
-use Rattle.resp2_frames.specs.Frame.{Frame, FrameList, bulk, items, no_frames, frame}
+use Rattle.resp2.specs.Framing.Frame.{Frame, FrameList, bulk, items, no_frames, frame}
 
 -- ---- words
 
@@ -134,8 +134,3 @@ ask_frame addr epoch candidate =
 abbrev pub IsCandidate : Option RunId → Type 0
 IsCandidate None = Unit {0}
 IsCandidate (Some id) = IsRunId id
-
--- the epoch of a command is in range
-abbrev pub IsWithin : Command → Type 0
-IsWithin (IsMasterDownByAddr addr epoch candidate) = epoch ≤ MAX_EPOCH
-IsWithin _ = Unit {0}

@@ -5,8 +5,9 @@
 
 ghost use Rattle.std.specs.Prelude.{◌≡◌, ◌≤◌, ◌+◌, ◌⊎◌, ◌∷◌, ◌++◌, ℕ, length, drop, decimal, codes, IfOk, IfSome};
 ghost use Rattle.resp2.specs.Asked.{Found, IsBehindPing, IsBehindNames, IsCommon};
+ghost use Rattle.ballot_law.specs.Limits.{IsWithin};
 ghost use Rattle.resp2.specs.Commands as commands;
-ghost use Rattle.resp2_frames.specs.Frame.{bulk, spelling, line_end};
+ghost use Rattle.resp2.specs.Framing.Frame.{bulk, spelling, line_end};
 
 use crate::command::{CommandFault, name_of, question_of};
 use ballot_law::Command;
@@ -176,7 +177,7 @@ fn behind_question(bytes: &[u8]) -> Option<&[u8]>
 
 fn ping_at(bytes: &[u8]) -> Option<(Result<Command, CommandFault>, &[u8])>
     ensures found { IfSome result (λ x. Found bytes.now x.0 x.1.now) }
-    ensures within { IfSome result (λ x. IfOk x.0 commands.IsWithin) }
+    ensures within { IfSome result (λ x. IfOk x.0 IsWithin) }
     ensures common { IfSome result (λ x. IfOk x.0 IsCommon) }
 {
     let rest = behind_ping(bytes)?;
@@ -185,7 +186,7 @@ fn ping_at(bytes: &[u8]) -> Option<(Result<Command, CommandFault>, &[u8])>
 
 fn address_at(bytes: &[u8]) -> Option<(Result<Command, CommandFault>, &[u8])>
     ensures found { IfSome result (λ x. Found bytes.now x.0 x.1.now) }
-    ensures within { IfSome result (λ x. IfOk x.0 commands.IsWithin) }
+    ensures within { IfSome result (λ x. IfOk x.0 IsWithin) }
     ensures common { IfSome result (λ x. IfOk x.0 IsCommon) }
 {
     let (name, rest) = word_at(behind_address(bytes)?)?;
@@ -194,7 +195,7 @@ fn address_at(bytes: &[u8]) -> Option<(Result<Command, CommandFault>, &[u8])>
 
 fn question_at(bytes: &[u8]) -> Option<(Result<Command, CommandFault>, &[u8])>
     ensures found { IfSome result (λ x. Found bytes.now x.0 x.1.now) }
-    ensures within { IfSome result (λ x. IfOk x.0 commands.IsWithin) }
+    ensures within { IfSome result (λ x. IfOk x.0 IsWithin) }
     ensures common { IfSome result (λ x. IfOk x.0 IsCommon) }
 {
     let (ip, rest) = word_at(behind_question(bytes)?)?;
@@ -208,7 +209,7 @@ fn question_at(bytes: &[u8]) -> Option<(Result<Command, CommandFault>, &[u8])>
 /// byte, tells which it may be.
 fn asked_at(bytes: &[u8]) -> Option<(Result<Command, CommandFault>, &[u8])>
     ensures found { IfSome result (λ x. Found bytes.now x.0 x.1.now) }
-    ensures within { IfSome result (λ x. IfOk x.0 commands.IsWithin) }
+    ensures within { IfSome result (λ x. IfOk x.0 IsWithin) }
     ensures common { IfSome result (λ x. IfOk x.0 IsCommon) }
 {
     match bytes.get(1)? {
@@ -223,7 +224,7 @@ fn asked_at(bytes: &[u8]) -> Option<(Result<Command, CommandFault>, &[u8])>
 pub(crate) fn asked_of(bytes: &[u8]) -> Option<(Result<Command, CommandFault>, usize)>
     ensures found { IfSome result (λ x. Found bytes.now x.0 (drop x.1 bytes.now)) }
     ensures short { IfSome result (λ x. x.1 ≤ length bytes.now) }
-    ensures within { IfSome result (λ x. IfOk x.0 commands.IsWithin) }
+    ensures within { IfSome result (λ x. IfOk x.0 IsWithin) }
     ensures common { IfSome result (λ x. IfOk x.0 IsCommon) }
 {
     match asked_at(bytes) {

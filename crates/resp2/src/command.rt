@@ -2,14 +2,15 @@
 ghost use Rattle.std.specs.Prelude.{◌≡◌, ◌∷◌, [], IfOk};
 ghost use Rattle.ballot_law.specs.Words.{name, lower};
 ghost use Rattle.resp2.specs.Asked.{IsCommon};
+ghost use Rattle.ballot_law.specs.Limits.{IsWithin};
 ghost use Rattle.resp2.specs.Commands as commands;
-ghost use Rattle.resp2_frames.specs.Frame as frames;
-ghost use Rattle.resp2_frames.specs.Frame.{view, frames_view};
+ghost use Rattle.resp2.specs.Framing.Frame as frames;
+ghost use Rattle.resp2.specs.Framing.Frame.{view, frames_view};
 
+use crate::framing::Value;
 use ballot_law::{Command, MAX_EPOCH, Name, RunId};
-use resp2_frames::Value;
 use thiserror::Error;
-use words::{canonical_address_of, canonical_number_of, run_id_of};
+use tokens::{canonical_address_of, canonical_number_of, run_id_of};
 
 /// Why a value is no command of a Sentinel's port. The text of each is the variant's name.
 ///
@@ -94,7 +95,7 @@ pub(crate) fn question_of(
     epoch: &[u8],
     id: &[u8],
 ) -> Result<Command, CommandFault>
-    ensures within { IfOk result commands.IsWithin }
+    ensures within { IfOk result IsWithin }
     ensures common { IfOk result IsCommon }
     ensures command { result
         ≡ commands.is_master_down_by_addr (ip.now ∷ port.now ∷ epoch.now ∷ id.now ∷ []) }
@@ -111,7 +112,7 @@ pub(crate) fn question_of(
 
 /// The command of `SENTINEL IS-MASTER-DOWN-BY-ADDR` and these words.
 fn is_master_down_by_addr(args: &[Value]) -> Result<Command, CommandFault>
-    ensures within { IfOk result commands.IsWithin }
+    ensures within { IfOk result IsWithin }
     ensures command { result ≡ commands.is_master_down_by_addr (commands.words (frames_view args.now)) }
 {
     let [ip, port, epoch, id] = args else {
@@ -141,8 +142,8 @@ fn master_of(args: &[Value]) -> Result<Option<Name>, CommandFault>
 /// The command, where no word stands behind its name.
 #[tactic(auto, using(crate::proofs::Counts::more_words))]
 fn alone(command: Command, args: &[Value]) -> Result<Command, CommandFault>
-    requires { commands.IsWithin command }
-    ensures within { IfOk result commands.IsWithin }
+    requires { IsWithin command }
+    ensures within { IfOk result IsWithin }
     ensures command { result ≡ commands.alone command (commands.words (frames_view args.now)) }
 {
     if args.is_empty() {
@@ -158,7 +159,7 @@ pub const CHANNEL: &str = "+switch-master";
 /// The command of `SUBSCRIBE` and these words.
 #[tactic(auto, using(crate::proofs::Counts::no_one_channel))]
 fn subscribe(args: &[Value]) -> Result<Command, CommandFault>
-    ensures within { IfOk result commands.IsWithin }
+    ensures within { IfOk result IsWithin }
     ensures command { result ≡ commands.subscribe (commands.words (frames_view args.now)) }
 {
     let [word] = args else {
@@ -173,7 +174,7 @@ fn subscribe(args: &[Value]) -> Result<Command, CommandFault>
 
 /// The command of `SENTINEL` and these words.
 fn sentinel_command(words: &[Value]) -> Result<Command, CommandFault>
-    ensures within { IfOk result commands.IsWithin }
+    ensures within { IfOk result IsWithin }
     ensures command { result ≡ commands.sentinel_command (commands.words (frames_view words.now)) }
 {
     let Some((first, args)) = words.split_first() else {
@@ -204,7 +205,7 @@ fn sentinel_command(words: &[Value]) -> Result<Command, CommandFault>
 }
 
 fn command_of_items(words: &[Value]) -> Result<Command, CommandFault>
-    ensures within { IfOk result commands.IsWithin }
+    ensures within { IfOk result IsWithin }
     ensures command { result ≡ commands.command_of (frames.items (frames_view words.now)) }
 {
     if !are_bulk(words) {
@@ -226,13 +227,13 @@ fn command_of_items(words: &[Value]) -> Result<Command, CommandFault>
 
 /// The command that a value spells, or the first fault that fits. No memory is taken.
 ///
-/// The commands are `PING`, `SUBSCRIBE` and the subcommands of `SENTINEL` that docs/RESP2.md lists, by the names that the Redis
+/// The commands are `PING`, `SUBSCRIBE` and the subcommands of `SENTINEL` that docs/CLIENTS.md lists, by the names that the Redis
 /// Sentinel documentation gives them; `SLAVES` is the former name of `REPLICAS`. Names of commands and subcommands ignore ASCII
 /// case, as in Redis; all other words are taken as they are. A word in the place of a master's name that can't be a name
 /// is no fault: the command names no master.
 pub fn command_of(value: &Value) -> Result<Command, CommandFault>
     ensures command { result ≡ commands.command_of (view value.now) }
-    ensures within { IfOk result commands.IsWithin }
+    ensures within { IfOk result IsWithin }
 {
     match value {
         Value::Items(items) => command_of_items(items),

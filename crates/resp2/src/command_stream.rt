@@ -1,13 +1,13 @@
 //! Reads commands from a stream that comes in pieces.
 ghost use Rattle.std.specs.Prelude.{◌≡◌, ◌<◌, ◌≤◌, Ok, Some, None, OnOk, IfOk, IfSome};
 ghost use Rattle.resp2.specs.Asked.{Asks, IsCommon};
-ghost use Rattle.resp2.specs.Commands.{IsWithin};
-ghost use Rattle.resp2_frames.specs.Stream.{held_size};
+ghost use Rattle.ballot_law.specs.Limits.{IsWithin};
+ghost use Rattle.resp2.specs.Framing.Stream.{held_size};
 
 use crate::asked::asked_of;
 use crate::command::{CommandFault, command_of};
+use crate::framing::{FrameFault, Frames};
 use ballot_law::Command;
-use resp2_frames::{FrameFault, Frames};
 
 /// Takes the first whole value out of the bytes that came, as the command that it spells or the reason why it is none; `None` where more bytes
 /// are needed. It answers what `Frames::next` and then `command_of` would, and leaves what `next` would leave.

@@ -6,8 +6,8 @@ ghost use Rattle.ballot_law.specs.declared.cards.TheConstants.{MAX_EPOCH};
 ghost use Rattle.ballot_law.specs.declared.commands.Command.TheVariants.{IsMasterDownByAddr};
 ghost use Rattle.ballot_law.specs.Hellos.{IsAddr};
 ghost use Rattle.resp2.specs.Commands.{IsCandidate, ask_frame, command_of};
-ghost use Rattle.resp2_frames.specs.Frame.{spelling};
-ghost use Rattle.resp2_frames.specs.Reading.{frame_at};
+ghost use Rattle.resp2.specs.Framing.Frame.{spelling};
+ghost use Rattle.resp2.specs.Framing.Reading.{frame_at};
 
 /// What an ask spells is read as its frame, and its frame as that command.
 #[tactic(auto, using(crate::proofs::Asks::ask_again, crate::proofs::Asks::ask_bytes_again))]

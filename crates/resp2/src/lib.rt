@@ -1,16 +1,22 @@
 //! The commands of a Sentinel's port: which a value of the Redis serialization protocol (RESP2) spells.
 //!
 //! `command_of` tells what a value asks of a Sentinel, and `next_command` reads what the next value of a stream asks. The values
-//! themselves, their reader and their writer are those of `resp2_frames`, which this crate passes on. The commands and their
-//! faults stand in docs/RESP2.md.
+//! themselves, their reader and their writer are those of `resp2`, which this crate passes on. The commands and their
+//! faults stand in docs/PROTOCOL.md.
 #![tactic(auto)]
 
 mod asked;
 mod command;
 mod command_stream;
+mod framing;
 mod laws;
 
 pub use command::{CommandFault, command_of};
 pub use command_stream::{next_command, next_common};
+pub use framing::{
+    ByteSink, FrameFault, Frames, OutText, Unread, Value, law_fault_and_value_stay, law_faults,
+    law_no_value_behind_a_fault, law_one_spelling, law_one_split, law_reading_is_spelling,
+    law_waits_within_a_frame, push_bulk, push_int, push_kind, push_line, push_size,
+    values_of_pieces, write_value,
+};
 pub use laws::law_ask_is_read_again;
-pub use resp2_frames::{FrameFault, Frames, OutText, Value, write_value};

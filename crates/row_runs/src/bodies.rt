@@ -2,8 +2,8 @@
 
 ghost use Rattle.std.specs.Prelude.{IfOk};
 ghost use Rattle.ballot_law.specs.Hellos.{IsHello};
-ghost use Rattle.messages.specs.MessageTexts.{IsWritable};
-ghost use Rattle.sentinel_rules.specs.Limits.{AnswersWithin, HasEpochWithin, IsWithinBody};
+ghost use Rattle.node_texts.specs.Messages.MessageTexts.{IsWritable};
+ghost use Rattle.ballot_law.specs.Limits.{AnswersWithin, HasEpochWithin, IsWithinBody};
 
 use crate::given::{addr, maybe_addr, maybe_id, number, number_16, says, text};
 use crate::told::Unplayed;

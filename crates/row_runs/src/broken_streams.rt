@@ -3,7 +3,7 @@
 use crate::given::{number, says, text};
 use crate::sentinels::Lone;
 use crate::told::{Told, Unplayed};
-use port_serving::{ServeFault, Served};
+use sentinel_core::{ServeFault, Served};
 use std::alloc::Global;
 use std::io::{self, Cursor, ErrorKind, Read, Write};
 

@@ -2,8 +2,8 @@
 
 use crate::commands::array;
 use crate::told::{Told, Unplayed};
-use port_channels::{Channel, Event, Subscriptions, Turn, is_match};
-use resp2_frames::OutText;
+use pubsub::{Channel, Event, Subscriptions, Turn, is_match};
+use resp2::OutText;
 use std::alloc::Global;
 
 /// The channels of all events.

@@ -4,10 +4,10 @@ use crate::conf_files::conf_of;
 use crate::given::{joined, number, text};
 use crate::told::{Told, Unplayed};
 use ballot_law::Text;
-use conf_advice::{Directives, ID_BYTES, add_warnings, add_watch_warnings, id_line};
-use conf_faults::add_notes;
-use conf_mending::{MendFault, add_sides, are_one_group, mended_texts};
-use group_checks::{NamedConf, Report};
+use conf_check::{
+    Directives, ID_BYTES, MendFault, NamedConf, Report, add_notes, add_sides, add_warnings,
+    add_watch_warnings, are_one_group, id_line, mended_texts,
+};
 use std::alloc::Global;
 
 /// The name of a file that is told of.

@@ -3,8 +3,7 @@
 use crate::frames::{feed, next};
 use crate::told::{Told, Unplayed};
 use ballot_law::{Command, Name, Text};
-use resp2::{CommandFault, command_of};
-use resp2_frames::{Frames, Value};
+use resp2::{CommandFault, Frames, Value, command_of};
 use std::alloc::Global;
 
 /// Tells the name of a command, and the master that it names.

@@ -6,15 +6,13 @@ ghost use Rattle.sentinel_outbox.specs.declared.phase.Phase.TheVariants.{Ready};
 use crate::given::{number, number_16, says};
 use crate::told::{Told, Unplayed};
 use ballot_law::{Addr, Card, Note, Text};
-use conf_store::MemoryStore;
 use courteous_sessions::ClientSession;
-use port_serving::ServeFault;
 use sentinel_cell::{CellFault, Seat, SharedSentinel};
-use sentinel_conf::read;
-use sentinel_core::Sentinel;
+use sentinel_conf::{MemoryStore, read};
+use sentinel_core::{Sentinel, ServeFault};
 use std::alloc::Global;
 use std::sync::Wait;
-use words::run_id_text;
+use tokens::run_id_text;
 
 /// How many bytes have room in a store, so that it takes no memory.
 const ROOM: usize = 65_536;

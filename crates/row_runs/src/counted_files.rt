@@ -1,8 +1,7 @@
 //! A file in memory that counts how often it is written.
 
 use crate::told::Unplayed;
-use conf_store::{ConfStore, LoadFault, MemoryStore, StoreRefused};
-use sentinel_conf::FileText;
+use sentinel_conf::{ConfStore, FileText, LoadFault, MemoryStore, StoreRefused};
 use std::alloc::Global;
 
 /// How many bytes have room, so that a store takes no memory.

@@ -1,13 +1,15 @@
 //! What a port answers to commands beside a Sentinel's own.
 
-ghost use Rattle.resp2_frames.specs.Frame.{view, HasLines};
+ghost use Rattle.resp2.specs.Framing.Frame.{view, HasLines};
 
 use crate::commands::{array, tell_command, value_of};
 use crate::given::number_32;
 use crate::told::{Told, Unplayed};
 use ballot_law::{Name, Text};
-use port_courtesies::{Asker, Attendant, Courtesy, MonitoredMaster, courtesy_of, info, wide};
-use resp2_frames::{FrameFault, OutText, Value, write_value};
+use client_commands::{
+    ClientInfo, CommandReader, Courtesy, MonitoredMaster, courtesy_of, info, wide,
+};
+use resp2::{FrameFault, OutText, Value, write_value};
 use std::alloc::Global;
 
 /// The master `mymaster` with this quorum.
@@ -21,8 +23,8 @@ fn mymaster(alloc: Global, quorum: u32) -> Result<Vec<MonitoredMaster>, Unplayed
 }
 
 /// A connection with number 21 and this name, at one of three Sentinels that watch `mymaster`.
-fn asker(alloc: Global, name: &[u8], listens: bool) -> Result<Asker, Unplayed> {
-    Ok(Asker {
+fn asker(alloc: Global, name: &[u8], listens: bool) -> Result<ClientInfo, Unplayed> {
+    Ok(ClientInfo {
         id: 21,
         name: Text::from_slice(alloc, name)?,
         listens,
@@ -35,7 +37,7 @@ fn asker(alloc: Global, name: &[u8], listens: bool) -> Result<Asker, Unplayed> {
 }
 
 /// The connection with no name of whose client the password `secret` is wanted; whether the client gave it.
-fn locked(alloc: Global, admitted: bool) -> Result<Asker, Unplayed> {
+fn locked(alloc: Global, admitted: bool) -> Result<ClientInfo, Unplayed> {
     let mut asker = asker(alloc, b"", false)?;
     asker.password = Some(Text::from_slice(alloc, b"secret")?);
     asker.admitted = admitted;
@@ -55,7 +57,7 @@ fn tell_kind(kind: Courtesy, text: &[u8], told: &mut Told) -> Result<(), Unplaye
 /// Tells what becomes of a command of a connection, whether its client gave the password then that is wanted, and the name that it has.
 fn tell(
     alloc: Global,
-    asker: &mut Asker,
+    asker: &mut ClientInfo,
     words: &[Vec<u8>],
     told: &mut Told,
 ) -> Result<(), Unplayed> {
@@ -138,7 +140,7 @@ fn tell_value(alloc: Global, value: &Value, told: &mut Told) -> Result<(), Unpla
 /// answer, where the Sentinel answers with no masters.
 fn tell_one(
     alloc: Global,
-    attendant: &mut Attendant,
+    attendant: &mut CommandReader,
     value: &Value,
     told: &mut Told,
 ) -> Result<(), Unplayed>
@@ -162,7 +164,11 @@ fn tell_one(
 }
 
 /// Tells what becomes of the values that are whole. Whether the stream goes on.
-fn tell_whole(alloc: Global, attendant: &mut Attendant, told: &mut Told) -> Result<bool, Unplayed> {
+fn tell_whole(
+    alloc: Global,
+    attendant: &mut CommandReader,
+    told: &mut Told,
+) -> Result<bool, Unplayed> {
     for _ in 0..u64::MAX {
         match attendant.next() {
             Ok(Some(value)) => tell_one(alloc, attendant, &value, told)?,
@@ -178,7 +184,7 @@ fn tell_whole(alloc: Global, attendant: &mut Attendant, told: &mut Told) -> Resu
 }
 
 /// Tells the commands that come first and are read where they stand.
-fn tell_commands(attendant: &mut Attendant, told: &mut Told) -> Result<(), Unplayed> {
+fn tell_commands(attendant: &mut CommandReader, told: &mut Told) -> Result<(), Unplayed> {
     for _ in 0..u64::MAX {
         match attendant.next_common() {
             Some(command) => tell_command(&command, told)?,
@@ -191,7 +197,7 @@ fn tell_commands(attendant: &mut Attendant, told: &mut Told) -> Result<(), Unpla
 /// Tells of each piece the commands that come first and are read where they stand, and the value after them by its bytes.
 fn tell_common(
     alloc: Global,
-    attendant: &mut Attendant,
+    attendant: &mut CommandReader,
     pieces: &[Vec<u8>],
     told: &mut Told,
 ) -> Result<(), Unplayed> {
@@ -210,7 +216,7 @@ fn tell_common(
 /// Tells what becomes of the values of a stream that comes in these pieces.
 fn tell_stream(
     alloc: Global,
-    attendant: &mut Attendant,
+    attendant: &mut CommandReader,
     pieces: &[Vec<u8>],
     told: &mut Told,
 ) -> Result<(), Unplayed> {
@@ -226,19 +232,19 @@ fn tell_stream(
 }
 
 /// One that attends to a stream of the connection with no name.
-fn attendant(alloc: Global) -> Result<Attendant, Unplayed> {
-    Ok(Attendant::new(alloc, asker(alloc, b"", false)?))
+fn attendant(alloc: Global) -> Result<CommandReader, Unplayed> {
+    Ok(CommandReader::new(alloc, asker(alloc, b"", false)?))
 }
 
 /// One that attends to a stream of the connection once it listens.
-fn listening(alloc: Global) -> Result<Attendant, Unplayed> {
+fn listening(alloc: Global) -> Result<CommandReader, Unplayed> {
     let mut attendant = attendant(alloc)?;
     attendant.note_listening(true);
     Ok(attendant)
 }
 
 /// One that attends to a stream of the connection once a password is wanted of its client.
-fn demanding(alloc: Global) -> Result<Attendant, Unplayed> {
+fn demanding(alloc: Global) -> Result<CommandReader, Unplayed> {
     let mut attendant = attendant(alloc)?;
     attendant.want_password(Text::from_slice(alloc, b"secret")?);
     Ok(attendant)

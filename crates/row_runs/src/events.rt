@@ -1,8 +1,8 @@
 //! What happens at a Sentinel, and the names of nodes, in words.
 
 ghost use Rattle.std.specs.Prelude.{IfOk};
-ghost use Rattle.resp2.specs.Commands.{IsWithin};
-ghost use Rattle.sentinel_rules.specs.Facts.{IsWithinEvent};
+ghost use Rattle.ballot_law.specs.Limits.{IsWithin};
+ghost use Rattle.ballot_law.specs.Limits.{IsWithinEvent};
 
 use crate::commands::array;
 use crate::given::{addr, maybe_id, number, number_16, number_32, says, text};

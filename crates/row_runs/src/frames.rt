@@ -1,11 +1,11 @@
 //! Streams of RESP2 values: what a reader gives of them, whole and in pieces, and what is written of values.
 
 ghost use Rattle.std.specs.Prelude.{IfOk, IfSome};
-ghost use Rattle.resp2_frames.specs.Frame.{view, HasLines};
+ghost use Rattle.resp2.specs.Framing.Frame.{view, HasLines};
 
 use crate::given::number;
 use crate::told::{Told, Unplayed};
-use resp2_frames::{FrameFault, Frames, OutText, Value, values_of_pieces, write_value};
+use resp2::{FrameFault, Frames, OutText, Value, values_of_pieces, write_value};
 use std::alloc::Global;
 
 /// Tells a value: a line, an integer or a bulk string after the byte of its kind, and an array as how many items it has and then those.

@@ -4,7 +4,7 @@ use crate::told::Unplayed;
 use ballot_law::{Addr, RunId};
 use std::alloc::Global;
 use std::str;
-use words::{address_of, ip_of, run_id_of, split_at_byte};
+use tokens::{address_of, ip_of, run_id_of, split_at_byte};
 
 /// A word as a text; it is to be UTF-8.
 pub(crate) fn text(word: &[u8]) -> Result<&str, Unplayed> {

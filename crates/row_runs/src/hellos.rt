@@ -6,7 +6,7 @@ ghost use Rattle.ballot_law.specs.Hellos.{IsHello};
 use crate::told::{Told, Unplayed};
 use ballot_law::Hello;
 use node_texts::{TextFault, read_hello, write_hello};
-use resp2_frames::OutText;
+use resp2::OutText;
 use std::alloc::Global;
 
 /// What these bytes say, or their fault.

@@ -6,7 +6,7 @@ ghost use Rattle.node_texts.specs.Infos.{IsInfo};
 use crate::told::{Told, Unplayed};
 use ballot_law::{DataRole, Info};
 use node_texts::{read_info, write_info};
-use resp2_frames::OutText;
+use resp2::OutText;
 use std::alloc::Global;
 
 /// The greatest number of an INFO.

@@ -3,7 +3,7 @@
 use crate::events::node;
 use crate::message_rows::{message, tell_event};
 use crate::told::{Told, Unplayed};
-use link_sessions::{LinkFault, LinkSession};
+use links::{LinkFault, LinkSession};
 use std::alloc::Global;
 
 /// Takes a refused growth as such, and tells another fault.

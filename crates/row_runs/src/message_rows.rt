@@ -1,8 +1,8 @@
 //! What nodes send each other: as bytes, as words that people read, as what it becomes at its target.
 
 ghost use Rattle.std.specs.Prelude.{IfOk};
-ghost use Rattle.messages.specs.MessageTexts.{IsWritable};
-ghost use Rattle.sentinel_rules.specs.Limits.{IsWithinBody};
+ghost use Rattle.node_texts.specs.Messages.MessageTexts.{IsWritable};
+ghost use Rattle.ballot_law.specs.Limits.{IsWithinBody};
 
 use crate::bodies::body;
 use crate::commands::{tell_command, value_of};
@@ -12,9 +12,9 @@ use crate::given::number;
 use crate::told::{Told, Unplayed};
 use crate::writable::can_write;
 use ballot_law::{Body, Event, Message, NodeName, Output, PingReply, Roster, Shown};
-use messages::{copy_of, event_of, message_text};
-use resp2_frames::OutText;
-use scenarios::{add_comment, add_message};
+use fault_world::{add_comment, add_message};
+use node_texts::{copy_of, event_of, message_text};
+use resp2::OutText;
 use std::alloc::Global;
 
 /// Tells the configurations that an answer shows: the number of the master, the epoch and the address of each.

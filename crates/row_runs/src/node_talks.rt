@@ -5,7 +5,7 @@ ghost use Rattle.node_texts.specs.Infos.{IsInfo};
 use crate::infos::can_be_written;
 use crate::told::{Told, Unplayed};
 use ballot_law::Info;
-use node_ports::Session;
+use data_node_port::Session;
 use node_texts::read_info;
 use std::alloc::Global;
 

@@ -6,9 +6,8 @@ use crate::told::{Told, Unplayed};
 use ballot_law::NodeName;
 use sentinel_conf::read;
 use sentinel_rules::Frame;
-use sentinel_state::Core;
+use sentinel_state::{Core, FrameList, Plan};
 use std::alloc::Global;
-use watched_nodes::{FrameList, Plan};
 
 /// The greatest place of a data node.
 const PLACE_MAX: u64 = 256;

@@ -8,7 +8,7 @@ use crate::given::{address, number, number_16};
 use crate::told::{Told, Unplayed};
 use ballot_law::{Advertisement, Card, Election, Roster};
 use fault_world::{Entry, Report};
-use resp2_frames::OutText;
+use resp2::OutText;
 use std::alloc::Global;
 
 /// Whether the roster has a Sentinel and a master with these numbers.

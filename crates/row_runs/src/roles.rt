@@ -7,7 +7,7 @@ use crate::commands::value_of;
 use crate::told::{Told, Unplayed};
 use ballot_law::Role;
 use node_texts::{read_role, write_role};
-use resp2_frames::{OutText, Value};
+use resp2::{OutText, Value};
 use std::alloc::Global;
 
 /// The greatest replication offset.

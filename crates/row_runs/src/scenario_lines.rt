@@ -4,7 +4,7 @@ use crate::commands::tell_command;
 use crate::given::joined;
 use crate::told::{Told, Unplayed};
 use ballot_law::{Event, Input, KeptText, NodeName, Step};
-use scenarios::{ScenarioFault, ScenarioKind, read_scenario};
+use fault_world::{ScenarioFault, ScenarioKind, read_scenario};
 use std::alloc::Global;
 
 /// Tells a step, or its event, and the node that it is of.

@@ -2,7 +2,7 @@
 
 ghost use Rattle.std.specs.Prelude.{◌≡◌, IfOk, true};
 ghost use Rattle.sentinel_outbox.specs.declared.phase.Phase.TheVariants.{Ready};
-ghost use Rattle.sentinel_rules.specs.Facts.{IsWithinEvent};
+ghost use Rattle.ballot_law.specs.Limits.{IsWithinEvent};
 
 use crate::commands::value_of;
 use crate::counted_files::CountedFile;
@@ -13,11 +13,9 @@ use crate::message_rows::{is_hello, is_routine, tell_output};
 use crate::told::{Told, Unplayed};
 use ballot_law::{Card, Event, Input, Output};
 use conf_lines::ConfKind;
-use conf_store::ConfStore;
-use port_serving::{ServeFault, Served};
-use resp2_frames::{OutText, push_bulk, push_size};
-use sentinel_conf::read;
-use sentinel_core::Sentinel;
+use resp2::{OutText, push_bulk, push_size};
+use sentinel_conf::{ConfStore, read};
+use sentinel_core::{Sentinel, ServeFault, Served};
 use sentinel_outbox::{Outbox, ReleaseFault, StoreFault, TakeFault, Took};
 use std::alloc::Global;
 use std::io::{Cursor, Read, Write};

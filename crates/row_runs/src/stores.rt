@@ -2,7 +2,7 @@
 
 use crate::given::{number, number_32, text};
 use crate::told::{Told, Unplayed};
-use conf_store::{ConfStore, FileStore, FileText, LoadFault, MemoryStore};
+use sentinel_conf::{ConfStore, FileStore, FileText, LoadFault, MemoryStore};
 use std::alloc::Global;
 use std::fs::{self, Permissions};
 use std::io;

@@ -4,7 +4,7 @@ use crate::spelling::add_spelling;
 use ballot_law::{Addr, NoMemory, RunId};
 use std::alloc::{AllocError, AllocFailed, Global};
 use std::fmt::Display;
-use words::{ip_text, run_id_text};
+use tokens::{ip_text, run_id_text};
 
 /// Why a row isn't played.
 #[derive(Clone, Copy, PartialEq, Eq)]

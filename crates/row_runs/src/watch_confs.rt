@@ -3,10 +3,9 @@
 use crate::conf_files::conf_of;
 use crate::given::joined;
 use crate::told::{Told, Unplayed};
-use sentinel_conf::Conf;
+use sentinel_conf::{Bind, Conf, WatchConf, WatchKind, read_watch, redis_text};
 use std::alloc::Global;
-use watch_conf::{Bind, WatchConf, WatchKind, read_watch, redis_text};
-use words::ip_text;
+use tokens::ip_text;
 
 /// Tells the ips at which a port listens, after a `-` those that the machine may lack.
 fn tell_binds(binds: &[Bind], told: &mut Told) -> Result<(), Unplayed> {

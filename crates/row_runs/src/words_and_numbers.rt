@@ -3,7 +3,7 @@
 use crate::given::{number, number_32, run_id};
 use crate::told::{Told, Unplayed};
 use std::alloc::Global;
-use words::{
+use tokens::{
     add_number, address_of, are_digits, canonical_address_of, canonical_number_of, ip_of, ip_text,
     is_decimal, number_of, port_of, run_id_of, run_id_text, split_at_byte, split_line,
 };

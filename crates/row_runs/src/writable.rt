@@ -3,8 +3,8 @@
 ghost use Rattle.std.specs.Prelude.{IsTrue};
 ghost use Rattle.ballot_law.specs.Hellos.{IsAddr, IsHello, IsRunId};
 ghost use Rattle.ballot_law.specs.Names.{IsName};
-ghost use Rattle.messages.specs.MessageTexts.{IsWritable};
-ghost use Rattle.resp2_frames.specs.Frame.{IsLine};
+ghost use Rattle.node_texts.specs.Messages.MessageTexts.{IsWritable};
+ghost use Rattle.resp2.specs.Framing.Frame.{IsLine};
 
 use crate::{infos, roles};
 use ballot_law::{Addr, Body, Hello, MAX_EPOCH, Name, RunId};

@@ -13,7 +13,7 @@ use Rattle.boxed_nodes.specs.Moves.{Shows}
 use Rattle.fault_world.specs.Seats.{IsSeat}
 use Rattle.fault_world.specs.Standing.{IsShown}
 use Rattle.sentinel_core.specs.Sentinels.{Whole}
-use Rattle.sentinel_nodes.specs.Kinds.{IsImageOf}
+use Rattle.boxed_nodes.specs.Sentinels.Kinds.{IsImageOf}
 use Rattle.scenario_replay.specs.Files.{HoldsFile, AreHeld, IsOfFile, BeginsWith, AreOfFiles, AreFirst}
 
 -- A Sentinel

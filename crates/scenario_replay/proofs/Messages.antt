@@ -3,7 +3,7 @@ use Rattle.std.proofs.Common.{◌≡◌, ℕ, zero, suc, Some, List, [], ◌∷�
 use Rattle.std.specs.List.{AllByRecursion}
 use Rattle.std.proofs.lemmas.Option.{none-some, same_Some}
 use Rattle.ballot_law.specs.declared.messages.Message.{Message}
-use Rattle.messages.specs.MessageTexts.{IsWritable}
+use Rattle.node_texts.specs.Messages.MessageTexts.{IsWritable}
 use Rattle.boxed_nodes.specs.Sendable.{IsSendable}
 
 sendable_at : (messages : List Message) (k : ℕ) (m : Message) → AllByRecursion IsSendable messages → slice_get messages k ≡ Some m → IsSendable m

@@ -8,10 +8,10 @@ use Rattle.ballot_law.specs.Results.{◌>>=◌}
 use Rattle.ballot_law.specs.Rosters.{Roster}
 use Rattle.ballot_law.specs.Worlds.{World}
 use Rattle.boxed_nodes.specs.Images.{Image}
-use Rattle.scenarios.specs.declared.faults.ScenarioFault.{ScenarioFault}
-use Rattle.scenarios.specs.declared.faults.ScenarioKind.{ScenarioKind}
-use Rattle.scenarios.specs.declared.faults.ScenarioKind.TheVariants.{NotUtf8}
-use Rattle.scenarios.specs.Scenarios.{at_line, behind, fault_at, line_of, scenario, steps_from}
+use Rattle.fault_world.specs.declared.scenarios.faults.ScenarioFault.{ScenarioFault}
+use Rattle.fault_world.specs.declared.scenarios.faults.ScenarioKind.{ScenarioKind}
+use Rattle.fault_world.specs.declared.scenarios.faults.ScenarioKind.TheVariants.{NotUtf8}
+use Rattle.fault_world.specs.Scenarios.Scenarios.{at_line, behind, fault_at, line_of, scenario, steps_from}
 use Rattle.std.specs.Str.{is_utf8}
 use Rattle.fault_world.specs.declared.entry.Entry.{Entry}
 use Rattle.fault_world.specs.Laws.{GoesOn, HasBegun, HasRun}

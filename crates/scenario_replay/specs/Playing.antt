@@ -5,7 +5,7 @@ use Rattle.ballot_law.specs.Rosters.{Roster, HasDistinctIds}
 use Rattle.ballot_law.specs.Worlds.{World, StepOf, JoinedBy}
 use Rattle.ballot_law.specs.Cuts.{lines}
 use Rattle.ballot_law.specs.Law.{HasOneLeader, HasOneAddress, IsSafeStep, IsStart}
-use Rattle.scenarios.specs.Scenarios.{scenario, steps_from}
+use Rattle.fault_world.specs.Scenarios.Scenarios.{scenario, steps_from}
 use Rattle.fault_world.specs.declared.entry.Entry.{Entry}
 use Rattle.fault_world.specs.Told.{report_text}
 use Rattle.fault_world.specs.Runs.{Ran}

@@ -2,8 +2,8 @@
 use Rattle.std.specs.Prelude.{◌≡◌, ◌⊎◌, ℕ, List, Err}
 use Rattle.conf_lines.specs.Faults as conf_faults
 use Rattle.conf_lines.specs.declared.faults.ConfFault.{ConfFault}
-use Rattle.scenarios.specs.Scenarios as scenario_faults
-use Rattle.scenarios.specs.declared.faults.ScenarioFault.{ScenarioFault}
+use Rattle.fault_world.specs.Scenarios.Scenarios as scenario_faults
+use Rattle.fault_world.specs.declared.scenarios.faults.ScenarioFault.{ScenarioFault}
 use Rattle.sentinel_conf.specs.Reading.{conf_of_bytes}
 
 -- a growth was refused, or it is the first fault of a scenario

@@ -1,8 +1,7 @@
 //! Why a story isn't played.
 
 use ballot_law::NoMemory;
-use fault_world::{RunFault, WorldFault};
-use scenarios::ScenarioFault;
+use fault_world::{RunFault, ScenarioFault, WorldFault};
 use std::alloc::AllocFailed;
 use thiserror::Error;
 

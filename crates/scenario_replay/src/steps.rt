@@ -1,12 +1,11 @@
 //! The steps of a scenario.
 
 ghost use Rattle.std.specs.Prelude.{◌≡◌, All, IfOk, Ok};
-ghost use Rattle.scenarios.specs.Scenarios.{scenario};
+ghost use Rattle.fault_world.specs.Scenarios.Scenarios.{scenario};
 ghost use Rattle.fault_world.specs.Limits.{IsWithinLimits};
 
 use ballot_law::Step;
-use fault_world::law_scenarios_are_within;
-use scenarios::{ScenarioFault, read_scenario};
+use fault_world::{ScenarioFault, law_scenarios_are_within, read_scenario};
 use std::alloc::Global;
 
 /// The steps of a scenario, which a world can run.

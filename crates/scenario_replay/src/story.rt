@@ -15,15 +15,11 @@ use crate::seats::{Seat, Seats};
 use crate::steps::steps_of;
 use crate::traces::trace;
 use ballot_law::{KeptText, NoMemory, Roster};
-use boxed_nodes::Node;
-use client_nodes::ClientNode;
+use boxed_nodes::{ClientNode, DataNode, Node, SentinelNode};
 use conf_lines::{ConfFault, ConfKind};
-use data_nodes::DataNode;
-use fault_world::{FaultWorld, with_stop};
-use resp2_frames::OutText;
-use scenarios::{ScenarioFault, read_scenario};
+use fault_world::{FaultWorld, ScenarioFault, read_scenario, with_stop};
+use resp2::OutText;
 use sentinel_conf::{Conf, read};
-use sentinel_nodes::SentinelNode;
 use std::alloc::Global;
 
 /// What a story prints.

@@ -9,11 +9,10 @@ ghost use Rattle.scenario_replay.specs.Playing.{IsTraced};
 use crate::faults::ReplayFault;
 use crate::steps::steps_of;
 use ballot_law::NoMemory;
-use fault_world::{FaultWorld, Report};
-use resp2_frames::OutText;
-use scenarios::{add_comment, add_message};
+use fault_world::{FaultWorld, Report, add_comment, add_message};
+use resp2::OutText;
 use std::alloc::Global;
-use words::split_line;
+use tokens::split_line;
 
 /// Adds the messages from this number on as comments, and answers the number of the next one.
 fn add_messages(

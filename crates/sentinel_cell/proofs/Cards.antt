@@ -6,7 +6,7 @@ use Rattle.ballot_law.specs.declared.events.Input.{Input}
 use Rattle.ballot_law.specs.declared.messages.Output.{Output}
 use Rattle.ballot_law.specs.Ballots.{card_of}
 use Rattle.sentinel_rules.specs.Changes.{IsSameOrNewer}
-use Rattle.sentinel_rules.specs.Facts.{IsWithinEvent}
+use Rattle.ballot_law.specs.Limits.{IsWithinEvent}
 use Rattle.sentinel_rules.proofs.Rising.{inputs_raise_cards}
 use Rattle.sentinel_rules.proofs.SoundInputs.{inputs_keep_few}
 use Rattle.sentinel_cell.specs.declared.entry.Entry.{Entry}

@@ -14,7 +14,7 @@ use Rattle.ballot_law.specs.Orders.{same_addr}
 use Rattle.sentinel_conf.specs.Rewritten.{rewritten, IsKeptPart}
 use Rattle.sentinel_rules.specs.Plans.{Plan, master_count}
 use Rattle.sentinel_rules.specs.States.{Core}
-use Rattle.sentinel_rules.specs.Facts.{IsWithinEvent}
+use Rattle.ballot_law.specs.Limits.{IsWithinEvent}
 use Rattle.sentinel_rules.specs.Takes.{Next, next}
 use Rattle.sentinel_rules.proofs.Choices.{same_addr-equal, same_addr-same}
 use Rattle.sentinel_outbox.specs.declared.faults.StoreFault.{StoreFault}

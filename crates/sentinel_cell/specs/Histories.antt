@@ -13,7 +13,8 @@ use Rattle.ballot_law.specs.Rosters.{no_id}
 use Rattle.sentinel_conf.specs.Rewritten.{rewritten, IsKeptPart}
 use Rattle.sentinel_rules.specs.Plans.{Plan, addr_at, master_count}
 use Rattle.sentinel_rules.specs.States.{Core}
-use Rattle.sentinel_rules.specs.Facts.{IsSoundPlan, IsSound, IsWithinEvent}
+use Rattle.sentinel_rules.specs.Facts.{IsSoundPlan, IsSound}
+use Rattle.ballot_law.specs.Limits.{IsWithinEvent}
 use Rattle.sentinel_rules.specs.Changes.{IsSameOrNewer, IsAhead}
 use Rattle.sentinel_rules.specs.Takes.{Next, next}
 use Rattle.sentinel_outbox.specs.declared.phase.Phase.TheVariants.{Ready, Halted}

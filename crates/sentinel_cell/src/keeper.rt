@@ -3,7 +3,7 @@
 ghost use Rattle.std.specs.Prelude.{◌≡◌, ◌≢◌, ◌<◌, ◌++◌, ℕ, [], drop, length, None, Some};
 ghost use Rattle.ballot_law.specs.Ballots.{card_of};
 ghost use Rattle.sentinel_rules.specs.Changes.{IsSameOrNewer};
-ghost use Rattle.sentinel_rules.specs.Facts.{IsWithinEvent};
+ghost use Rattle.ballot_law.specs.Limits.{IsWithinEvent};
 ghost use Rattle.sentinel_rules.specs.Plans.{addr_at, master_count};
 ghost use Rattle.sentinel_conf.specs.Rewritten.{IsKeptPart};
 ghost use Rattle.sentinel_outbox.specs.Outboxes.{Fits, room_of_sentinel};
@@ -15,7 +15,7 @@ use crate::entry::Outcome;
 use crate::observer::Observer;
 use crate::word::word_of;
 use ballot_law::Input;
-use conf_store::ConfStore;
+use sentinel_conf::ConfStore;
 use sentinel_core::Sentinel;
 use sentinel_outbox::Outbox;
 use sentinel_rules::law_inputs_change_one_card;

@@ -7,7 +7,7 @@ ghost use Rattle.sentinel_cell.specs.Histories.{IsLegal, Fits, Announces, stored
 ghost use Rattle.sentinel_cell.specs.Turns.{serving, raised, passed, answered, unpacked, IsFresh, numbered, left_half, right_half, merged, first_view, first_view_at, AreGiven, Follows};
 ghost use Rattle.sentinel_cell.specs.Standing.{first_number, AtRest, Adds, IsSame};
 ghost use Rattle.sentinel_outbox.specs.Outboxes.{Fits as HasFit, room_of_sentinel};
-ghost use Rattle.sentinel_rules.specs.Facts.{IsWithinEvent};
+ghost use Rattle.ballot_law.specs.Limits.{IsWithinEvent};
 ghost use Rattle.sentinel_rules.specs.Plans.{addr_at, master_count};
 ghost use Rattle.sentinel_cell.specs.Calls.{Begins, Has, AreApart, calls_by, AreOf};
 
@@ -21,7 +21,7 @@ use crate::plays::{
 use crate::view::View;
 use atomic_table::Shared;
 use ballot_law::Input;
-use conf_store::ConfStore;
+use sentinel_conf::ConfStore;
 use sentinel_outbox::Outbox;
 use std::marker::Brand;
 use std::sync::Wait;

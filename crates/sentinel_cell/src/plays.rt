@@ -3,7 +3,7 @@
 use crate::keeper::Keeper;
 use crate::view::View;
 use atomic_table::{Join, Play, Split, TableRule};
-use conf_store::ConfStore;
+use sentinel_conf::ConfStore;
 use std::marker::{Brand, PhantomData};
 
 /// What a cell is made with. The table's rule is told it once, as it was then.

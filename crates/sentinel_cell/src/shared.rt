@@ -2,7 +2,7 @@
 
 ghost use Rattle.std.specs.Prelude.{◌≡◌, ◌⊎◌, ℕ, ◌+◌, ◌-◌, ◌/◌, ◌∷◌, [], ◌++◌, ◌<◌, ◌≤◌, ◌^◌, Some, None, IfSome, IfNone, IfOk, IfErr, OnOk, OnErr, MatchResult, length, drop, slice_index};
 ghost use Rattle.ballot_law.specs.Ballots.{card_of};
-ghost use Rattle.sentinel_rules.specs.Facts.{IsWithinEvent};
+ghost use Rattle.ballot_law.specs.Limits.{IsWithinEvent};
 ghost use Rattle.sentinel_rules.specs.Plans.{addr_at, master_count, roster_of};
 ghost use Rattle.sentinel_outbox.specs.declared.phase.Phase.TheVariants.{Ready};
 ghost use Rattle.sentinel_outbox.specs.Outboxes.{room_of_sentinel};
@@ -24,7 +24,7 @@ use crate::view::View;
 use crate::word::card_in;
 use atomic_table::{Badge, Table};
 use ballot_law::{Addr, Card, Input, Roster};
-use conf_store::ConfStore;
+use sentinel_conf::ConfStore;
 use sentinel_core::Sentinel;
 use sentinel_outbox::{Outbox, Room};
 use std::alloc::{AllocError, Global};

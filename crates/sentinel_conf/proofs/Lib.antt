@@ -16,3 +16,4 @@ pub mod TextLemmas
 pub mod ReadAgain
 pub mod ReadConf
 pub mod SoundConf
+pub mod WatchLemmas

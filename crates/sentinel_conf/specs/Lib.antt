@@ -4,3 +4,5 @@ pub mod Rewritten
 pub mod Fixed
 pub mod Reading
 pub mod Facts
+pub mod Store
+pub mod Watch

@@ -16,7 +16,7 @@ ghost use Rattle.conf_lines.specs.Faults.{no_memory};
 use ballot_law::{Name, is_same_bytes};
 use conf_lines::{ConfFault, ConfKind, Line, Setting, StateLine, line_of};
 use std::alloc::{AllocError, Global};
-use words::split_line;
+use tokens::split_line;
 
 /// What the lines of a file say, in order.
 #[derive(Drop)]

@@ -4,7 +4,7 @@
 //! - `read` gives the `Conf` of a file, or a `ConfFault` with the number of the line.
 //! - `ConfText` has the room of a rewritten file, and `rewrite_into` writes one without memory.
 //!
-//! What one line says stands in `conf_lines`, and where the file is held in `conf_store`; what callers need of both is named here
+//! What one line says stands in `conf_lines`, and where the file is held in `sentinel_conf`; what callers need of both is named here
 //! too.
 //!
 //! The definitions stand in `specs/`: `Meaning` (what all lines mean together), `Reading` (the conf or the first fault), `Facts` (what is known of each conf), `Rewritten` (the file that is
@@ -20,11 +20,20 @@ mod meaning;
 mod members;
 mod reading;
 mod settings;
+mod store;
+mod watch;
 mod writing;
 
 pub use conf::{Conf, read, rewrite_into};
 pub use conf_lines::{ConfFault, ConfKind};
-pub use conf_store::{ConfStore, FileText, LoadFault, MemoryStore, StoreRefused};
 pub use conf_text::{ConfText, FILE_MAX};
 pub use laws::{law_read_again, law_run_ids};
 pub use settings::{DEFAULT_SETTINGS, Settings, law_defaults};
+pub use store::{
+    ConfStore, FileFault, FileStep, FileStore, FileText, LoadFault, MemoryStore, StoreRefused,
+};
+pub use watch::{
+    Bind, BindWord, Binds, CLIENTS_MAX, Directives, EVERYWHERE, IDLE_SECONDS, IDLE_SECONDS_MAX,
+    IPS_MAX, Setting, WatchConf, WatchFault, WatchKind, WatchLine, is_listed, lacks_announce_ip,
+    law_lines_are_text, line_of, lowered, read_watch, redis_text,
+};

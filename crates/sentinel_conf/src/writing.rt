@@ -14,7 +14,7 @@ use crate::fixed_lines::FixedLines;
 use ballot_law::{Addr, KeptMaster, Member, Name, Roster, RunId, Text, Watched};
 use conf_lines::StateLine;
 use itoa::Buffer;
-use words::{ip_text, run_id_text};
+use tokens::{ip_text, run_id_text};
 
 /// Adds a word after a space.
 #[tactic(auto, using(crate::proofs::RoomLemmas::added_both))]

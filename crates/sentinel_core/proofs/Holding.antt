@@ -11,7 +11,7 @@ use Rattle.sentinel_conf.specs.Meaning.{ConfPlan}
 use Rattle.sentinel_conf.specs.Rewritten.{rewritten}
 use Rattle.sentinel_outbox.specs.declared.faults.StoreFault.{StoreFault}
 use Rattle.sentinel_outbox.specs.declared.faults.StoreFault.TheVariants.{Nothing, Refused}
-use Rattle.port_serving.specs.Serving.{Holds}
+use Rattle.sentinel_core.specs.Serving.Serving.{Holds}
 
 -- ---- what isn't different is the same
 

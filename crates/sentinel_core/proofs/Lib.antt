@@ -2,3 +2,5 @@ pub mod Holding
 pub mod NewsSteps
 pub mod PuttingBack
 pub mod Flushes
+pub mod InputsLemmas
+pub mod ServingLemmas

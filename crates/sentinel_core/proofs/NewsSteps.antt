@@ -12,8 +12,8 @@ use Rattle.sentinel_rules.specs.Parts.{Part}
 use Rattle.sentinel_rules.specs.Takes.{next_at, part_of, shown_after}
 use Rattle.sentinel_state.specs.declared.states.State.{State}
 use Rattle.sentinel_state.specs.Parts.{with_part}
-use Rattle.watched_nodes.specs.Room.{added}
-use Rattle.watched_nodes.proofs.RoomLemmas.{added_all}
+use Rattle.sentinel_state.specs.Nodes.Room.{added}
+use Rattle.sentinel_state.proofs.NodesLemmas.RoomLemmas.{added_all}
 use Rattle.sentinel_core.specs.Sentinels.{is_command}
 
 -- all frames had room

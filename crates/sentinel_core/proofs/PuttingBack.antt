@@ -8,7 +8,7 @@ use Rattle.ballot_law.specs.declared.cards.Kept.{Kept}
 use Rattle.ballot_law.specs.declared.cards.KeptMaster.{KeptMaster}
 use Rattle.ballot_law.specs.Ballots.{kept_of, no_kept}
 use Rattle.sentinel_rules.specs.Changes.{ChangesAt}
-use Rattle.sentinel_core.specs.declared.former.FormerEntry.{FormerEntry}
+use Rattle.sentinel_core.specs.declared.undo.FormerEntry.{FormerEntry}
 use Rattle.sentinel_core.specs.Formers.{entry_of, former_of, masters_before, put_back}
 
 -- an entry that was written stands at its place alone

@@ -1,2 +1,4 @@
 pub mod Formers
 pub mod Sentinels
+pub mod Inputs
+pub mod Serving

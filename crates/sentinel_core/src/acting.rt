@@ -10,25 +10,25 @@ ghost use Rattle.sentinel_core.specs.Sentinels.{is_command};
 ghost use Rattle.sentinel_rules.specs.Answers.{commanded};
 ghost use Rattle.node_texts.specs.declared.faults.TextFault.{TextFault};
 ghost use Rattle.sentinel_rules.specs.Changes.{IsAhead, asked_about, concerned, listed_by, told_of};
-ghost use Rattle.sentinel_rules.specs.Facts.{IsSoundPlan, IsSound, IsWithinEvent};
+ghost use Rattle.sentinel_rules.specs.Facts.{IsSoundPlan, IsSound};
+ghost use Rattle.ballot_law.specs.Limits.{IsWithinEvent};
 ghost use Rattle.sentinel_rules.specs.Named.{IsNamed};
 ghost use Rattle.sentinel_rules.specs.Parts.{output_of, send, hello_of_master};
 ghost use Rattle.sentinel_rules.specs.Plans.{master_count, node_named};
 ghost use Rattle.sentinel_rules.specs.Takes.{next, next_at, part_of, answer_to};
 ghost use Rattle.sentinel_state.specs.Parts.{with_part};
 
-use crate::former::Former;
-use ballot_law::{Body, Command, Event, Hello, Input, Message, NodeName, Note, Output};
-use node_texts::{TextFault, read_hello, read_info};
-use sentinel_inputs::{
+use crate::inputs::{
     answer_by_text, answer_plainly, hear_answer, hear_pong, take_hello, take_info, tick,
 };
+use crate::undo::Undo;
+use ballot_law::{Body, Command, Event, Hello, Input, Message, NodeName, Note, Output};
+use node_texts::{TextFault, read_hello, read_info};
 use sentinel_outbox::{Outbox, Phase, Stores};
 use sentinel_rules::{
     Frame, law_hellos_name_masters, law_inputs_change_one_card, law_inputs_keep_sound,
 };
-use sentinel_state::{Core, State};
-use watched_nodes::Plan;
+use sentinel_state::{Core, Plan, State};
 
 /// The part of a Sentinel that takes an input: it adds to what is held, and is never in the phase in which that is shown.
 #[derive(Clone, Copy)]
@@ -154,7 +154,7 @@ fn told_of(plan: &Plan, hello: &Result<Hello, TextFault>) -> Option<u16>
 }
 
 /// Has the state take an event that is no command, and takes down what it may overwrite of what is kept.
-fn hear(state: &mut State, now: u64, event: &Event, former: &mut Former)
+fn hear(state: &mut State, now: u64, event: &Event, former: &mut Undo)
     ensures former { former.new ≡ former_of state.old.core.kept (concerned state.old.plan event.now state.old.core.kept) }
     ensures state { state.new ≡ with_part state.old (part_of state.old.plan (clock now) event.now state.old.core) }
 {
@@ -204,7 +204,7 @@ fn hold_answer(
     sender: NodeName,
     command: &Command,
     outbox: &mut Outbox,
-    former: &mut Former,
+    former: &mut Undo,
 )
     requires { Fits outbox.old room_of_sentinel }
     ensures former { former.new ≡ former_of state.old.core.kept (asked_about command.now state.old.core.kept) }
@@ -238,7 +238,7 @@ fn hold_frames(state: &State, outbox: &mut Outbox)
 }
 
 /// What an event does that is no command. What it may overwrite of what is kept is taken down.
-fn act_on_news(state: &mut State, input: &Input, outbox: &mut Outbox, former: &mut Former)
+fn act_on_news(state: &mut State, input: &Input, outbox: &mut Outbox, former: &mut Undo)
     requires kind { is_command input.now.event ≡ false }
     requires few { length (part_of state.old.plan (clock input.now.now) input.now.event state.old.core).frames ≤ OUTPUTS_MAX }
     requires fits { Fits outbox.old room_of_sentinel }
@@ -259,7 +259,7 @@ fn act_on_news(state: &mut State, input: &Input, outbox: &mut Outbox, former: &m
 }
 
 /// What an event does that may be a command. What it may overwrite of what is kept is taken down.
-fn act_on(state: &mut State, input: &Input, outbox: &mut Outbox, former: &mut Former)
+fn act_on(state: &mut State, input: &Input, outbox: &mut Outbox, former: &mut Undo)
     requires few { length (part_of state.old.plan (clock input.now.now) input.now.event state.old.core).frames ≤ OUTPUTS_MAX }
     requires fits { Fits outbox.old room_of_sentinel }
     ensures former { former.new
@@ -283,7 +283,7 @@ fn act_on(state: &mut State, input: &Input, outbox: &mut Outbox, former: &mut Fo
 /// What an input does: the state after it, and its outputs, held in the outbox. What the input overwrote of what is kept is taken down.
 ///
 /// Many clauses: one for each part of the state, since each caller needs another.
-pub(crate) fn act(state: &mut State, input: &Input, outbox: &mut Outbox, former: &mut Former)
+pub(crate) fn act(state: &mut State, input: &Input, outbox: &mut Outbox, former: &mut Undo)
     requires plan { IsSoundPlan state.old.plan }
     requires sound { IsSound state.old.plan state.old.core }
     requires within { IsWithinEvent input.now.event }

@@ -17,11 +17,16 @@
 #![tactic(auto)]
 
 mod acting;
-mod former;
+mod inputs;
 mod sentinel;
+mod sentinel_port;
 mod serving;
+mod undo;
 
-pub use messages::message_text;
-pub use port_serving::{ServeFault, Served};
+pub use inputs::{
+    answer_by_text, answer_plainly, hear_answer, hear_pong, take_hello, take_info, tick,
+};
+pub use node_texts::message_text;
 pub use sentinel::Sentinel;
 pub use sentinel_outbox::{OpenFault, Outbox, ReleaseFault, Room, StoreFault, TakeFault, Took};
+pub use serving::{PortSentinel, READS_MAX, ServeFault, Served, law_reads, serve_stream};

@@ -3,7 +3,7 @@
 ghost use Rattle.std.specs.Prelude.{◌≡◌, ◌≢◌, ◌↔◌, ◌≤◌, ◌<◌, ◌⊎◌, ◌+◌, ◌-◌, ◌^◌, ◌++◌, [], ◌||◌, ℕ, true, false, length, OnOk, OnErr, IsOk, is_ok, IfOk, IfErr, IfSome, IfNone, IsTrue, IsFalse, IsErrOf, Some, None, vec_capacity};
 ghost use Rattle.ballot_law.specs.Ballots.{Parts, card_of};
 ghost use Rattle.sentinel_conf.specs.Rewritten.{rewritten, HasRunIds};
-ghost use Rattle.sentinel_rules.specs.Facts.{IsWithinEvent};
+ghost use Rattle.ballot_law.specs.Limits.{IsWithinEvent};
 ghost use Rattle.sentinel_rules.specs.Plans.{group_size, master_count, me, roster_of};
 ghost use Rattle.sentinel_rules.specs.Parts.{output_of};
 ghost use Rattle.sentinel_rules.specs.States.{opened};
@@ -14,10 +14,9 @@ ghost use Rattle.sentinel_outbox.specs.Outboxes.{Fits, room_of_sentinel};
 ghost use Rattle.sentinel_core.specs.Sentinels.{IsWhole, is_busy, is_pending, is_flush};
 
 use crate::acting::act;
-use crate::former::Former;
+use crate::undo::Undo;
 use ballot_law::{Card, Command, Event, Input, Roster};
-use conf_store::ConfStore;
-use sentinel_conf::{Conf, ConfText, law_run_ids, rewrite_into};
+use sentinel_conf::{Conf, ConfStore, ConfText, law_run_ids, rewrite_into};
 use sentinel_outbox::{
     OpenFault, Outbox, Phase, ReleaseFault, Room, StoreFault, Stores, TakeFault, Took,
 };
@@ -25,10 +24,9 @@ use sentinel_rules::{
     law_ignored_inputs_change_nothing, law_inputs_are_steps, law_inputs_change_one_card,
     law_opening_is_sound,
 };
-use sentinel_state::{Core, State};
+use sentinel_state::{Core, FrameList, Plan, State};
 use std::alloc::Global;
 use std::marker::Model;
-use watched_nodes::{FrameList, Plan};
 
 /// One Sentinel of a group, as Redis Sentinel 7.2 works.
 ///
@@ -38,7 +36,7 @@ use watched_nodes::{FrameList, Plan};
 #[derive(Drop)]
 pub struct Sentinel {
     state: State,
-    former: Former,
+    former: Undo,
     phase: Phase,
     change: Option<u16>,
     file: ConfText,
@@ -108,7 +106,7 @@ impl Sentinel {
         let Ok(frames) = FrameList::with_room(alloc) else {
             return Err(OpenFault::NoMemory);
         };
-        let former = Former::of(core.kept(), None);
+        let former = Undo::of(core.kept(), None);
         let state = State { plan, core, frames };
         Ok(Sentinel {
             state,

@@ -1,7 +1,7 @@
 -- The exit statuses.
 use Rattle.std.specs.Prelude.{ℕ}
-use Rattle.port_serving.specs.declared.fault.ServeFault.{ServeFault}
-use Rattle.port_serving.specs.declared.fault.ServeFault.TheVariants.{Frame, Read, Write, Halted, NoMemory}
+use Rattle.sentinel_core.specs.declared.serving.fault.ServeFault.{ServeFault}
+use Rattle.sentinel_core.specs.declared.serving.fault.ServeFault.TheVariants.{Frame, Read, Write, Halted, NoMemory}
 use Rattle.sentinel_runner.specs.declared.group_fault.GroupFault.{GroupFault}
 use Rattle.sentinel_runner.specs.declared.group_fault.OrderedFault.{OrderedFault}
 use Rattle.sentinel_runner.specs.declared.group_fault.OrderedFault.TheVariants.{Group, Read as OrderedRead}

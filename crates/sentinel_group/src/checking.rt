@@ -8,14 +8,12 @@ use crate::redis_text::write_for_redis;
 use crate::telling::{tell_faults, tell_file, tell_files};
 use crate::watching::refuse_watch;
 use clap::ArgMatches;
-use conf_store::FileText;
-use group_checks::{NamedConf, Report};
-use port_serving::ServeFault;
-use sentinel_conf::{Conf, read};
+use conf_check::{NamedConf, Report};
+use sentinel_conf::{Conf, FileText, WatchKind, lacks_announce_ip, read, read_watch};
+use sentinel_core::ServeFault;
 use sentinel_runner::GroupFault;
 use std::io::Write;
 use std::process::ExitCode;
-use watch_conf::{WatchKind, lacks_announce_ip, read_watch};
 
 /// The text of the file at the path, and what it says. A file that is refused is told, with all that is wrong with it, and the status tells
 /// it too.

@@ -3,7 +3,7 @@
 use crate::failures::fail;
 use clap::error::ErrorKind;
 use clap::{Arg, ArgAction, ArgMatches, Command, Error, value_parser};
-use port_serving::ServeFault;
+use sentinel_core::ServeFault;
 use sentinel_runner::PORT_THREADS_MAX;
 use std::alloc::{AllocError, Global};
 use std::env::{self, Env};

@@ -4,9 +4,9 @@ ghost use Rattle.std.specs.Prelude.{◌≡◌};
 ghost use Rattle.sentinel_group.specs.Statuses.{status_of, status_of_group, status_of_ordered};
 
 use conf_lines::{ConfFault, ConfKind};
-use port_serving::ServeFault;
+use fault_world::{ScenarioFault, ScenarioKind};
 use scenario_replay::ReplayFault;
-use scenarios::{ScenarioFault, ScenarioKind};
+use sentinel_core::ServeFault;
 use sentinel_runner::{GroupFault, OrderedFault};
 use std::fmt::Display;
 use std::io;

@@ -5,10 +5,9 @@ ghost use Rattle.std.specs.Prelude.{◌≡◌, ◌<◌, ◌-◌, ◌^◌, All, I
 use crate::conf_paths::ConfPath;
 use crate::failures::{fail, refuse_conf, refuse_file, refuse_with_reason};
 use crate::noted_store::NotedStore;
-use conf_store::{ConfStore, FileFault, FileStep, FileStore, FileText, LoadFault};
 use log::Log;
-use port_serving::ServeFault;
-use sentinel_conf::{Conf, read};
+use sentinel_conf::{Conf, ConfStore, FileFault, FileStep, FileStore, FileText, LoadFault, read};
+use sentinel_core::ServeFault;
 use std::fs;
 use std::io::ErrorKind;
 use std::process::ExitCode;

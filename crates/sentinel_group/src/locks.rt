@@ -9,7 +9,7 @@ use crate::conf_paths::ConfPath;
 use crate::failures::{fail, refuse_file, refuse_with_reason};
 use crate::new_files::make_file;
 use log::{Log, warn};
-use port_serving::ServeFault;
+use sentinel_core::ServeFault;
 use std::fs::{self, File, Metadata, OpenOptions, TryLockError};
 use std::io::{self, ErrorKind};
 use std::os::unix::fs::{MetadataExt, fchown};

@@ -2,8 +2,6 @@
 //! `watch` runs one Sentinel over real Redis servers, `replay` plays a story of a group, `check` tells what group files make, `new-id` prints a run id for a new one.
 #![tactic(auto)]
 
-ghost use Rattle.std.specs.Prelude.{◌<◌, ◌-◌, ◌^◌};
-
 mod checking;
 mod command_line;
 mod conf_paths;
@@ -21,6 +19,8 @@ mod starting;
 mod telling;
 mod watching;
 
+ghost use Rattle.std.specs.Prelude.{◌<◌, ◌-◌, ◌^◌};
+
 use crate::checking::check;
 use crate::command_line::{command, refuse_unread, tell_words, words};
 use crate::conf_paths::ConfPath;
@@ -32,13 +32,11 @@ use crate::replaying::replay;
 use crate::serving::{serve as serve_group, tell_end};
 use crate::watching::{tell_watched, watch, watch_level};
 use clap::ArgMatches;
-use conf_store::{ConfStore, MemoryStore};
 use log::sink::Discard;
 use log::{LevelFilter, Logged};
-use port_serving::ServeFault;
-use queued_notes::NoteQueue;
-use sentinel_conf::{Conf, read};
-use sentinel_core::Sentinel;
+use sentinel_conf::{Conf, ConfStore, MemoryStore, read};
+use sentinel_core::{Sentinel, ServeFault};
+use sentinel_runner::NoteQueue;
 use std::process::ExitCode;
 
 /// The configuration of a Sentinel that is given no file: it watches one master with three other Sentinels.

@@ -2,9 +2,8 @@
 
 use crate::failures::{fail, fail_group, refuse_file_to_write};
 use crate::new_files::make_file_as;
-use conf_mending::{MendFault, are_one_group, mended_texts};
-use group_checks::NamedConf;
-use port_serving::ServeFault;
+use conf_check::{MendFault, NamedConf, are_one_group, mended_texts};
+use sentinel_core::ServeFault;
 use sentinel_runner::GroupFault;
 use std::io::{self, Write};
 use std::process::ExitCode;

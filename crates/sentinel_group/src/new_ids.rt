@@ -1,8 +1,8 @@
 //! `new-id`: a run id for a new file.
 
 use crate::failures::fail;
-use conf_advice::{ID_BYTES, id_line};
-use port_serving::ServeFault;
+use conf_check::{ID_BYTES, id_line};
+use sentinel_core::ServeFault;
 use std::io::Write;
 use std::process::ExitCode;
 use std::random::RandomSource;

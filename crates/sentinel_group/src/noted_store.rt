@@ -2,8 +2,8 @@
 
 ghost use Rattle.std.specs.Prelude.{◌≡◌, IfOk};
 
-use conf_store::{ConfStore, FileFault, FileStep, FileStore, FileText, LoadFault, StoreRefused};
 use log::{Level, Log, log_enabled, warn};
+use sentinel_conf::{ConfStore, FileFault, FileStep, FileStore, FileText, LoadFault, StoreRefused};
 use std::alloc::AllocError;
 use std::marker::Model;
 

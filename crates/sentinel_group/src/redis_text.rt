@@ -2,11 +2,11 @@
 
 use crate::failures::{fail, refuse_file_to_write};
 use crate::new_files::make_file_as;
-use port_serving::ServeFault;
+use sentinel_conf::redis_text;
+use sentinel_core::ServeFault;
 use std::fs;
 use std::io::{self, ErrorKind, Write};
 use std::process::ExitCode;
-use watch_conf::redis_text;
 
 /// Why a text isn't written.
 #[derive(Clone, Copy)]

@@ -2,8 +2,8 @@
 
 use crate::failures::{fail, refuse_conf, refuse_file, refuse_scenario, refuse_story};
 use clap::ArgMatches;
-use port_serving::ServeFault;
 use scenario_replay::{Printed, Story};
+use sentinel_core::ServeFault;
 use std::fs;
 use std::io::{ErrorKind, Write};
 use std::process::ExitCode;

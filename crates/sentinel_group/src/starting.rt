@@ -1,7 +1,6 @@
 //! What is noted as a group starts: each Sentinel with its masters, and the warnings of its file.
 
-use conf_advice::{Directives, add_warnings};
-use group_checks::is_one_group;
+use conf_check::{Directives, add_warnings, is_one_group};
 use log::{Level, Log, info, log_enabled, warn};
 use sentinel_conf::Conf;
 use std::fs;

@@ -1,17 +1,13 @@
 //! What is told of files beside the line of a fault: all that is wrong with them, and warnings; on standard error, or as notes.
 
 use crate::new_files::make_file;
-use conf_advice::{Directives, add_watch_warnings};
-use conf_faults::add_notes;
-use conf_mending::add_sides;
-use group_checks::NamedConf;
+use conf_check::{Directives, NamedConf, add_notes, add_sides, add_watch_warnings};
 use log::{Log, info, warn};
-use sentinel_conf::Conf;
+use sentinel_conf::{Conf, WatchKind, WatchLine, line_of, read_watch};
 use std::fs;
 use std::io::{self, Write};
 use std::str::from_utf8;
-use watch_conf::{WatchKind, WatchLine, line_of, read_watch};
-use words::split_line;
+use tokens::split_line;
 
 /// Writes these lines to standard error. Where they can't be written, nothing tells it.
 fn tell(rt: HostRuntime, lines: &[u8]) {

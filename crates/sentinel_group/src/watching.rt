@@ -12,11 +12,10 @@ use crate::starting::note_sentinel;
 use crate::telling::{note_watch, tell_faults, tell_watch};
 use ballot_law::{Roster, Text};
 use clap::ArgMatches;
-use conf_store::FileText;
-use group_ports::{Admission, PortAddress};
+use client_port::{Admission, PortAddress};
 use log::{LevelFilter, Log};
-use port_serving::ServeFault;
-use sentinel_conf::{Conf, read};
+use sentinel_conf::{Conf, FileText, WatchConf, WatchFault, WatchKind, read, read_watch};
+use sentinel_core::ServeFault;
 use sentinel_runner::{GroupFault, PortSettings, Watch, WatchSettings};
 use std::alloc::{AllocError, Global};
 use std::net::{Ipv4Addr, Net, SocketAddr};
@@ -24,8 +23,7 @@ use std::process::ExitCode;
 use std::rt::Clock;
 use std::sync::Wait;
 use std::thread::Threads;
-use tcp_wires::Logins;
-use watch_conf::{WatchConf, WatchFault, WatchKind, read_watch};
+use tcp_transport::Logins;
 
 /// Why a Sentinel didn't run, or ended.
 #[derive(Drop)]

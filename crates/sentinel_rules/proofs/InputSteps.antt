@@ -20,7 +20,7 @@ use Rattle.ballot_law.specs.Orders.{same_addr}
 use Rattle.ballot_law.specs.Worlds.{IsRightOutput}
 use Rattle.node_texts.specs.Hellos.{hello_of}
 use Rattle.node_texts.specs.Infos.{info_of}
-use Rattle.resp2_frames.specs.Frame.{Frame as Reply}
+use Rattle.resp2.specs.Framing.Frame.{Frame as Reply}
 use Rattle.port_answers.specs.Answers.{master_frame, masters_frame, replicas_frame, sentinels_frame, no_such_master, ok_line, id_frame, subscribed}
 use Rattle.sentinel_rules.specs.Plans.{Plan, roster_of, me, master_count}
 use Rattle.sentinel_rules.specs.States.{Core, is_tilted, is_master_down}
@@ -30,7 +30,8 @@ use Rattle.sentinel_rules.specs.News.{answered, pinged, info_read, hello_read}
 use Rattle.sentinel_rules.specs.Answers.{Answered, master_with_card, asked_at, asked_of, master_row, replica_rows, sentinel_rows, all_masters, quorum_frame, reply, named, about, address_of, commanded}
 use Rattle.sentinel_rules.specs.Takes.{Next, next_at, shown_after, answer_to, cleared}
 use Rattle.sentinel_rules.specs.Ticks.{tick}
-use Rattle.sentinel_rules.specs.Facts.{IsSoundPlan, IsSound, IsWithinEvent}
+use Rattle.sentinel_rules.specs.Facts.{IsSoundPlan, IsSound}
+use Rattle.ballot_law.specs.Limits.{IsWithinEvent}
 use Rattle.sentinel_rules.specs.Steps.{IsPartsOf, IsTake, InputsAreSteps}
 use Rattle.sentinel_rules.proofs.SoundTicks.{tick_keeps}
 use Rattle.sentinel_rules.proofs.SoundNews.{hello_keeps, answered_sound, pinged_sound, info_keeps}

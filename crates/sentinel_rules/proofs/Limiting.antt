@@ -22,8 +22,10 @@ use Rattle.sentinel_rules.specs.States.{Core, is_master_down, is_tilted}
 use Rattle.sentinel_rules.specs.Parts.{output_of}
 use Rattle.sentinel_rules.specs.Answers.{commanded, asked_of, asked_at, master_with_card, about, named}
 use Rattle.sentinel_rules.specs.Takes.{next_at, part_of, cleared}
-use Rattle.sentinel_rules.specs.Facts.{IsSoundPlan, IsSound, IsWithinEvent}
-use Rattle.sentinel_rules.specs.Limits.{IsWithinBody, IsWithinOutput, OutputsAreWithin, MessagesComeWithin}
+use Rattle.sentinel_rules.specs.Facts.{IsSoundPlan, IsSound}
+use Rattle.ballot_law.specs.Limits.{IsWithinEvent}
+use Rattle.sentinel_rules.specs.Limits.{OutputsAreWithin, MessagesComeWithin}
+use Rattle.ballot_law.specs.Limits.{IsWithinBody, IsWithinOutput}
 use Rattle.sentinel_rules.specs.Named.{IsNamed}
 use Rattle.sentinel_rules.proofs.SoundInputs.{inputs_keep_few}
 use Rattle.sentinel_rules.proofs.NamedFrames.{hellos_name_masters}

@@ -11,14 +11,15 @@ use Rattle.ballot_law.specs.declared.events.Event.TheVariants.{Tick, Command as 
 use Rattle.ballot_law.specs.Clocks.{clock}
 use Rattle.ballot_law.specs.OwnVotes.{grants, asked}
 use Rattle.node_texts.specs.Infos.{info_of}
-use Rattle.resp2.specs.Commands.{IsWithin}
+use Rattle.ballot_law.specs.Limits.{IsWithin}
 use Rattle.sentinel_rules.specs.declared.frames.TheConstants.{FRAMES_MAX}
 use Rattle.sentinel_rules.specs.Plans.{Plan}
 use Rattle.sentinel_rules.specs.States.{Core, is_tilted, is_master_down}
 use Rattle.sentinel_rules.specs.Votes.{book_of, with_book, mark_for, requested}
 use Rattle.sentinel_rules.specs.Answers.{asked_at, asked_of, commanded, master_with_card}
 use Rattle.sentinel_rules.specs.Takes.{next_at, part_of, cleared}
-use Rattle.sentinel_rules.specs.Facts.{IsSoundPlan, IsSound, IsWithinEvent}
+use Rattle.sentinel_rules.specs.Facts.{IsSoundPlan, IsSound}
+use Rattle.ballot_law.specs.Limits.{IsWithinEvent}
 use Rattle.sentinel_rules.specs.Room.{InputsKeepFew}
 use Rattle.sentinel_rules.proofs.Framing.{sound_alike}
 use Rattle.sentinel_rules.proofs.SoundTicks.{keeps_more, tick_keeps, book_sound, mark_sound}

@@ -13,7 +13,7 @@ use Rattle.ballot_law.specs.Ballots.{card_of}
 use Rattle.ballot_law.specs.Counts.{count_below}
 use Rattle.ballot_law.specs.Orders.{same_addr}
 use Rattle.ballot_law.specs.Rosters.{master_at, master_listing, master_named, need, id_of, no_member}
-use Rattle.resp2_frames.specs.Frame.{Frame, spelling}
+use Rattle.resp2.specs.Framing.Frame.{Frame, spelling}
 use Rattle.port_answers.specs.declared.rows.MasterRow.{MasterRow}
 use Rattle.port_answers.specs.declared.rows.ReplicaRow.{ReplicaRow}
 use Rattle.port_answers.specs.declared.rows.SentinelRow.{SentinelRow}

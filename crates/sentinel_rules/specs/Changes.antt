@@ -17,7 +17,8 @@ use Rattle.sentinel_rules.specs.Plans.{Plan, roster_of, node_named}
 use Rattle.sentinel_rules.specs.States.{Core, failover_of, opened}
 use Rattle.sentinel_rules.specs.Steps.{campaign_in}
 use Rattle.sentinel_rules.specs.Takes.{next}
-use Rattle.sentinel_rules.specs.Facts.{IsSoundPlan, IsSound, IsWithinEvent}
+use Rattle.sentinel_rules.specs.Facts.{IsSoundPlan, IsSound}
+use Rattle.ballot_law.specs.Limits.{IsWithinEvent}
 
 -- at most the current epoch, and the entry of one master
 abbrev pub ChangesOne : Kept → Kept → Type 0

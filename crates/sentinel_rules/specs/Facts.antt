@@ -1,15 +1,12 @@
 -- What is known of each plan that was read, and of each core on the way from its start.
 use Rattle.std.specs.Prelude.{◌≡◌, ◌≢◌, ℕ, ◌<◌, ◌≤◌, Option, Some, None, length, IfSome}
 use Rattle.ballot_law.specs.declared.cards.Kept.{Kept}
-use Rattle.ballot_law.specs.declared.events.Event.{Event}
-use Rattle.ballot_law.specs.declared.events.Event.TheVariants.{Command as Commanded}
 use Rattle.ballot_law.specs.Ballots.{card_of}
 use Rattle.ballot_law.specs.VotesHeard.{kept_at}
 use Rattle.failover_states.specs.declared.states.Choice.{Choice}
 use Rattle.failover_states.specs.declared.states.FailoverState.{FailoverState}
 use Rattle.failover_states.specs.declared.states.FailoverState.TheVariants.{Idle, WaitStart, SelectReplica, SendPromotion, WaitPromotion, ReconfReplicas, UpdateConfig}
 use Rattle.failover_states.specs.Calls.{epoch_of}
-use Rattle.resp2.specs.Commands.{IsWithin}
 use Rattle.sentinel_conf.specs.Facts.{IsSoundConf}
 use Rattle.sentinel_conf.specs.Rewritten.{IsKeptPart}
 use Rattle.sentinel_rules.specs.Plans.{Plan, me, group_size, master_count, nodes_of, addr_at}
@@ -55,8 +52,3 @@ pub record IsSound (plan : Plan) (core : Core) : Type 0 where
   pub kept_masters : length core.kept.masters ≡ master_count plan
   pub peers : length core.peers ≡ group_size plan
   pub each : (m : ℕ) → m < master_count plan → IsSoundMaster plan core.kept m (master_of core m)
-
--- the epoch of a command is in range
-abbrev pub IsWithinEvent : Event → Type 0
-IsWithinEvent (Commanded sender command) = IsWithin command
-IsWithinEvent _ = Unit {0}

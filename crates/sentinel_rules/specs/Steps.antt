@@ -12,7 +12,8 @@ use Rattle.failover_states.specs.declared.states.FailoverState.TheVariants.{Idle
 use Rattle.sentinel_rules.specs.Plans.{Plan, roster_of}
 use Rattle.sentinel_rules.specs.States.{Core, MasterState, master_of, opened}
 use Rattle.sentinel_rules.specs.Takes.{next}
-use Rattle.sentinel_rules.specs.Facts.{IsSoundPlan, IsSound, IsWithinEvent}
+use Rattle.sentinel_rules.specs.Facts.{IsSoundPlan, IsSound}
+use Rattle.ballot_law.specs.Limits.{IsWithinEvent}
 
 -- what a failover is to the model
 abbrev pub campaign_in : FailoverState → Campaign

@@ -5,7 +5,7 @@
 //! `Facts` (what is known of each plan and core), `Steps` (an input by steps of the ballot model), `Room`, `Named` and `Limits` (how
 //! much is put out, of which masters, and with which numbers), `Changes` (what an input changes of what is kept), `Ignored` (what
 //! changes nothing), `Worked` (whole runs, computed).
-//! `docs/SENTINEL.md` says the same in words.
+//! `docs/RULES.md` says the same in words.
 #![tactic(auto)]
 
 mod assumed;

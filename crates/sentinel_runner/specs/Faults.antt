@@ -1,6 +1,6 @@
 -- How a group ends in which something went wrong.
-use Rattle.group_sentinels.specs.declared.run_state.RunFault.{RunFault}
-use Rattle.group_sentinels.specs.declared.run_state.RunFault.TheVariants as run
+use Rattle.sentinel_runtime.specs.declared.run_state.RunFault.{RunFault}
+use Rattle.sentinel_runtime.specs.declared.run_state.RunFault.TheVariants as run
 use Rattle.sentinel_runner.specs.declared.group_fault.GroupFault.{GroupFault}
 use Rattle.sentinel_runner.specs.declared.group_fault.GroupFault.TheVariants.{Halted, NoMemory, PortRefused}
 

@@ -2,8 +2,8 @@
 use Rattle.std.specs.Prelude.{ℕ, ◌==◌, true, false, nat_lt, List, [], ◌∷◌, ◌++◌, length, Option, Some, None, option_map, codes}
 use Rattle.ballot_law.specs.Orders.{same_bytes}
 use Rattle.ballot_law.specs.Words.{cut_at, number_within, some_if, then_some}
-use Rattle.group_links.specs.declared.node_orders.TheConstants.{GREATEST}
-use Rattle.group_links.specs.Dispatches as nodes
+use Rattle.channel_transport.specs.declared.node_orders.TheConstants.{GREATEST}
+use Rattle.channel_transport.specs.Dispatches as nodes
 use Rattle.sentinel_runner.specs.declared.line_reader.TheConstants.{LINE_MAX}
 use Rattle.sentinel_runner.specs.declared.orders.Counts.{Counts}
 use Rattle.sentinel_runner.specs.declared.orders.LineOrder.{LineOrder}

@@ -13,14 +13,13 @@ use crate::port_parts::end_for_want;
 use crate::restarts::Restarts;
 use crate::shared::Shared;
 use crate::started::Started;
-use crate::stop_words::StopWords;
-use conf_store::ConfStore;
+use crate::stop_flags::StopFlags;
+use channel_transport::{DataNodes, Links, NodeOrder, SharedNodes};
+use conf_check::is_one_group;
 use crossbeam_channel::Receiver;
-use group_checks::is_one_group;
-use group_links::{DataNodes, Links, NodeOrder, SharedNodes};
-use group_sentinels::{GroupClock, RunFault, RunState};
 use log::Log;
-use sentinel_conf::Conf;
+use sentinel_conf::{Conf, ConfStore};
+use sentinel_runtime::{GroupClock, RunFault, RunState};
 use std::alloc::Global;
 use std::io::Read;
 use std::net::Net;
@@ -44,7 +43,7 @@ pub struct Group<S: ConfStore> {
     restarts: Restarts<S>,
     nodes: DataNodes,
     links: Links,
-    stops: StopWords,
+    stops: StopFlags,
     state: RunState,
 }
 
@@ -141,7 +140,7 @@ impl<S: ConfStore + Drop> Group<S> {
             return Err(GroupFault::NoMemory);
         };
         let (mut links, node_orders) = Links::open(alloc, confs.len())?;
-        let stops = StopWords::new(alloc, confs.len())?;
+        let stops = StopFlags::new(alloc, confs.len())?;
         let clock = GroupClock::start(rt);
         let room = room_of(rt, alloc, confs.len(), port, own)?;
         let mut restarts = Restarts::new(alloc, confs.len(), roster, room)?;

@@ -5,6 +5,7 @@
 mod group;
 mod group_fault;
 mod line_reader;
+mod log_queue;
 mod node_parts;
 mod opened;
 mod orders;
@@ -12,11 +13,12 @@ mod port_parts;
 mod restarts;
 mod shared;
 mod started;
-mod stop_words;
+mod stop_flags;
 mod watch;
 
 pub use group::{Group, run_group};
 pub use group_fault::{GroupFault, OrderedFault};
+pub use log_queue::{NoteQueue, NoteWriter, WAITING_MAX};
 pub use node_parts::{ServesNodes, WithPorts, WithoutPorts};
 pub use opened::{PORT_THREADS_MAX, PortSettings};
 pub use watch::{Watch, WatchSettings};

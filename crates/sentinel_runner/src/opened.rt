@@ -6,11 +6,10 @@ ghost use Rattle.std.specs.IoError.{error_kind};
 ghost use Rattle.sentinel_runner.specs.declared.group_fault.GroupFault.TheVariants.{NoMemory, NotOneRoster, PortRefused};
 
 use crate::group_fault::GroupFault;
-use conf_store::ConfStore;
-use group_ports::{Port, PortRoom, connections_beside};
+use client_port::{Port, PortRoom, connections_beside};
 use log::{Log, warn};
 use sentinel_cell::{Seat, SharedSentinel};
-use sentinel_conf::Conf;
+use sentinel_conf::{Conf, ConfStore};
 use sentinel_core::Sentinel;
 use std::alloc::Global;
 use std::io::{self, ErrorKind};

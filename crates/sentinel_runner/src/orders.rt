@@ -8,16 +8,16 @@ use crate::line_reader::LineReader;
 use crate::restarts::Restarts;
 use crate::shared::Shared;
 use ballot_law::is_same_bytes;
-use conf_store::ConfStore;
+use channel_transport::{GREATEST, NodeOrder};
 use crossbeam_channel::Sender;
-use group_links::{GREATEST, NodeOrder};
 use log::{Log, warn};
+use sentinel_conf::ConfStore;
 use std::io::{ErrorKind, Read};
 use std::net::Net;
 use std::rt::Clock;
 use std::sync::Wait;
 use std::sync::atomic::AtomicU64;
-use words::{number_of, split_at_byte};
+use tokens::{number_of, split_at_byte};
 
 /// How many bytes one read asks for.
 const PIECE: usize = 512;

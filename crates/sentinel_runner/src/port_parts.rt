@@ -4,12 +4,12 @@ ghost use Rattle.std.specs.Prelude.{◌≡◌, IfOk, length};
 
 use crate::group_fault::GroupFault;
 use crate::opened::fault_of;
-use conf_store::ConfStore;
+use channel_transport::Delivery;
+use client_port::Port;
 use crossbeam_channel::{Receiver, Sender};
-use group_links::Delivery;
-use group_ports::Port;
-use group_sentinels::{RunFault, RunState, RunningSentinel, ThreadSeat, Which};
 use log::Log;
+use sentinel_conf::ConfStore;
+use sentinel_runtime::{RunFault, RunState, RunningSentinel, ThreadSeat, Which};
 use std::alloc::{AllocError, Global};
 use std::io;
 use std::rt::Clock;

@@ -1,9 +1,9 @@
 //! What all threads of a group share.
 
-use crate::stop_words::StopWords;
+use crate::stop_flags::StopFlags;
+use channel_transport::{Links, NodeOrder, SharedNodes};
 use crossbeam_channel::Receiver;
-use group_links::{Links, NodeOrder, SharedNodes};
-use group_sentinels::RunState;
+use sentinel_runtime::RunState;
 use std::rt::Clock;
 use std::sync::Wait;
 use std::sync::atomic::AtomicU64;
@@ -13,7 +13,7 @@ use std::sync::atomic::AtomicU64;
 pub(crate) struct Shared {
     pub(crate) nodes: SharedNodes,
     pub(crate) links: Links,
-    pub(crate) stops: StopWords,
+    pub(crate) stops: StopFlags,
     pub(crate) state: RunState,
 }
 

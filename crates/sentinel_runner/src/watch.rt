@@ -9,11 +9,11 @@ use crate::group::outcome;
 use crate::group_fault::GroupFault;
 use crate::opened::{Opened, PortSettings, fault_of};
 use crate::port_parts::{PortPart, ServesPort, end_for_want, note_lost, parts_of, serve_parts};
-use conf_store::ConfStore;
-use group_ports::{Admission, Port, PortAddress, PortRoom, Sockets, seats_beside};
-use group_sentinels::{GroupClock, RunState, RunningSentinel, ThreadSeat, Which};
+use client_port::{Admission, Port, PortAddress, PortRoom, Sockets, seats_beside};
+use links::connection_count;
 use log::{Log, info, warn};
-use sentinel_conf::{Conf, ConfText, rewrite_into};
+use sentinel_conf::{Conf, ConfStore, ConfText, rewrite_into};
+use sentinel_runtime::{GroupClock, RunState, RunningSentinel, ThreadSeat, Which};
 use std::alloc::{AllocError, Global};
 use std::io::ErrorKind;
 use std::marker::Brand;
@@ -22,8 +22,7 @@ use std::rt::Clock;
 use std::sync::Wait;
 use std::sync::atomic::{AtomicU64, Ordering};
 use std::thread::{self, Threads};
-use tcp_links::connection_count;
-use tcp_wires::{FarEnd, Logins, Rounds, WatchState, Wires};
+use tcp_transport::{Connections, Logins, SentinelEnd, TickLoop, WatchState};
 
 /// How many threads use a Sentinel beside those of its port: that of its ticks.
 const BESIDE: u16 = 1;
@@ -45,7 +44,7 @@ pub struct WatchSettings {
 #[derive(Drop)]
 struct Watching<S: ConfStore> {
     opened: Opened<S>,
-    far: FarEnd,
+    far: SentinelEnd,
     alloc: Global,
     ghost seats: { opened.beside ≡ BESIDE },
 }
@@ -54,7 +53,7 @@ struct Watching<S: ConfStore> {
 #[derive(Drop)]
 pub struct Watch<S: ConfStore> {
     watching: Watching<S>,
-    wires: Wires,
+    wires: Connections,
     state: WatchState,
 }
 
@@ -80,10 +79,10 @@ fn wires_of<R: Net>(
     alloc: Global,
     conf: &Conf,
     logins: Logins,
-) -> Result<(Wires, FarEnd), GroupFault>
+) -> Result<(Connections, SentinelEnd), GroupFault>
     ensures roster { IfErr result (λ fault. fault ≢ NotOneRoster) }
 {
-    match Wires::new(rt, alloc, conf, logins) {
+    match Connections::new(rt, alloc, conf, logins) {
         Ok(both) => Ok(both),
         Err(error) => Err(fault_of(&error)),
     }
@@ -232,7 +231,7 @@ fn run_named<J: Which + Send + Sync, S: ConfStore + Drop + Send, R, N: Net>(
     net: &N,
     state: &WatchState,
     watching: Watching<S>,
-    wires: Wires,
+    wires: Connections,
 )
 where
     R: Threads + Wait + Clock + Log + Sync,
@@ -278,7 +277,7 @@ where
 /// What the thread of a Sentinel's ticks has: its end of the connections, and its seat.
 #[derive(Drop)]
 struct TickPart<J: Which> {
-    far: FarEnd,
+    far: SentinelEnd,
     seat: ThreadSeat<J>,
     alloc: Global,
 }
@@ -301,7 +300,7 @@ impl<J: Which, S: ConfStore> Ticks<RunningSentinel<J, S>> for TickPart<J> {
             mut seat,
             alloc,
         } = self;
-        let mut rounds = Rounds::new(alloc, member, far, state.run.clock.now(rt));
+        let mut rounds = TickLoop::new(alloc, member, far, state.run.clock.now(rt));
         rounds.run(rt, state, member, &mut seat);
         state.ending.store(1, Ordering::SeqCst);
     }
@@ -384,7 +383,7 @@ trait RunsWires {
 /// Connections with the handle for their sockets.
 #[derive(Drop)]
 struct NetWires<'n, N: Net> {
-    wires: Wires,
+    wires: Connections,
     net: &'n N,
 }
 

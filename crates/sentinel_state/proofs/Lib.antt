@@ -1,2 +1,3 @@
 pub mod FewPlaces
 pub mod KeptLemmas
+pub mod NodesLemmas

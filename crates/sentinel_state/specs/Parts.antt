@@ -1,7 +1,7 @@
 -- A part of an input, done by a Sentinel at work.
 use Rattle.sentinel_rules.specs.Parts.{Part}
 use Rattle.sentinel_state.specs.declared.states.State.{State}
-use Rattle.watched_nodes.specs.Room.{added}
+use Rattle.sentinel_state.specs.Nodes.Room.{added}
 
 -- what is kept after the part, and what it puts out behind what was put out before
 abbrev pub with_part : State → Part → State

@@ -7,7 +7,7 @@ ghost use Rattle.sentinel_rules.specs.States.{master_of, with_master};
 
 use crate::cores::Core;
 use crate::masters::Master;
-use watched_nodes::{greet_soon, move_all};
+use crate::nodes::{greet_soon, move_all};
 
 impl Master {
     /// The configuration changed, the address stayed.

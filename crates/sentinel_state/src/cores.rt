@@ -10,12 +10,12 @@ ghost use Rattle.sentinel_rules.specs.Ticks.{with_reading};
 ghost use Rattle.sentinel_rules.specs.Plans.{roster_of, group_size, master_count};
 
 use crate::masters::Master;
+use crate::nodes::{Node, Peer, Plan};
 use ballot_law::{Addr, Card, Info, Kept, KeptMaster, KeptMasters, NoMemory, RunId, Win};
 use down_detector::{Tilt, is_odown};
 use failover_states::FailoverState;
 use std::alloc::{AllocError, Global};
 use std::marker::Model;
-use watched_nodes::{Node, Peer, Plan};
 
 /// What is kept of a master that there is none of.
 const NO_ENTRY: KeptMaster = KeptMaster {

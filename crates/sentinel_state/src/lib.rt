@@ -1,7 +1,7 @@
 //! A Sentinel at work: `State` is its plan, what it keeps (`Core`), and what the input in hand has put out so far.
 //!
 //! `Core` has the calls that read what is kept and those that set a part of it. Nothing here takes memory but the opening. Each call's
-//! contract is an equation with the definitions of `sentinel_rules`. What an input does stands in `sentinel_inputs`: each
+//! contract is an equation with the definitions of `sentinel_rules`. What an input does stands in `sentinel_core`: each
 //! part of it is a call on the `State` with one clause, `state.new ≡ with_part state.old ..`.
 #![tactic(auto)]
 
@@ -9,10 +9,15 @@ mod cards;
 mod cores;
 mod failovers;
 mod masters;
+mod nodes;
 mod reports;
 mod sending;
 mod states;
 mod votes;
 
 pub use cores::Core;
+pub use nodes::{
+    FrameList, Node, Peer, Plan, Sending, greet_soon, move_all, ping_period, send_each_node,
+    send_each_peer,
+};
 pub use states::State;

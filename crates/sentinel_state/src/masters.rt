@@ -5,13 +5,13 @@ ghost use Rattle.ballot_law.specs.declared.rosters.TheConstants.{NODES_MAX};
 ghost use Rattle.ballot_law.specs.Clocks.{clock};
 ghost use Rattle.sentinel_rules.specs.States.{new_master};
 
+use crate::nodes::Node;
 use ballot_law::NoMemory;
 use down_detector::DownReports;
 use failover_states::Failover;
 use std::alloc::Global;
 use std::marker::Model;
 use vote_book::Heard;
-use watched_nodes::Node;
 
 /// What is kept of a master.
 #[derive(Drop)]

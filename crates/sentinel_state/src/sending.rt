@@ -2,15 +2,15 @@
 
 ghost use Rattle.std.specs.Prelude.{◌≡◌, Some};
 ghost use Rattle.ballot_law.specs.Clocks.{clock};
-ghost use Rattle.watched_nodes.specs.Room.{added};
+ghost use Rattle.sentinel_state.specs.Nodes.Room.{added};
 ghost use Rattle.sentinel_rules.specs.Parts.{changed_from, frames_from};
 ghost use Rattle.sentinel_rules.specs.States.{card_place, master_of, with_master};
 ghost use Rattle.sentinel_rules.specs.Ticks.{node_after, node_frames, nodes_part, sending_of};
 
 use crate::cores::Core;
 use crate::masters::Master;
+use crate::nodes::{FrameList, Plan, Sending, ping_period, send_each_node};
 use ballot_law::clock_of;
-use watched_nodes::{FrameList, Plan, Sending, ping_period, send_each_node};
 
 impl Master {
     /// Sends each of its nodes what is due.

@@ -7,8 +7,8 @@ ghost use Rattle.sentinel_rules.specs.Ticks.{nodes_part, peers_part};
 ghost use Rattle.sentinel_state.specs.Parts.{with_part};
 
 use crate::cores::Core;
+use crate::nodes::{FrameList, Plan, send_each_peer};
 use ballot_law::clock_of;
-use watched_nodes::{FrameList, Plan, send_each_peer};
 
 /// A Sentinel at work.
 #[derive(Drop)]

@@ -8,10 +8,10 @@ ghost use Rattle.sentinel_rules.specs.Ticks.{with_vote, pick_of, count_of};
 ghost use Rattle.sentinel_rules.specs.Votes.{book_of, with_book, mark_for, requested};
 
 use crate::cores::Core;
+use crate::nodes::Plan;
 use ballot_law::{RunId, clock_of};
 use failover_states::SPREAD_MS;
 use vote_book::VoteBook;
-use watched_nodes::Plan;
 
 impl Core {
     /// A candidate's request for the vote of an epoch: the vote is given where none was in this epoch or a later one and the

@@ -10,20 +10,19 @@
 //! says how a world of them is refused, and how a story is.
 #![tactic(auto)]
 
-ghost use Rattle.std.specs.Prelude.{All, IfSome};
-ghost use Rattle.fault_world.specs.Limits.{IsWithinLimits};
-
 mod laws;
 mod stops;
 mod worlds;
 
+ghost use Rattle.std.specs.Prelude.{All, IfSome};
+ghost use Rattle.fault_world.specs.Limits.{IsWithinLimits};
+
 use crate::stops::{Stopped, stop_behind_each};
 use crate::worlds::{Calls, Lines, Refusal, lines_of, steps_of};
 use ballot_law::Step;
-use fault_world::WorldFault;
-use resp2_frames::OutText;
+use fault_world::{WorldFault, read_scenario};
+use resp2::OutText;
 use scenario_replay::{Printed, ReplayFault, Story};
-use scenarios::read_scenario;
 use sentinel_conf::{Conf, read};
 use std::alloc::Global;
 use std::{env, fs, io};

@@ -4,7 +4,7 @@ ghost use Rattle.std.specs.Prelude.{◌≤◌, length};
 
 use crate::laws::Breaches;
 use ballot_law::{KeptText, Step};
-use resp2_frames::OutText;
+use resp2::OutText;
 use scenario_replay::{Printed, Stop, Story};
 use std::alloc::Global;
 use std::str;

@@ -13,7 +13,7 @@ use fault_world::{
     ClientNode, DataNode, FaultWorld, Report, RunFault, SentinelNode, WorldFault,
     law_scenarios_are_within, read_scenario, with_stop,
 };
-use resp2_frames::OutText;
+use resp2::OutText;
 use sentinel_conf::Conf;
 use std::alloc::{AllocFailed, Global};
 

@@ -1,8 +1,8 @@
 //! Inputs of a Sentinel as plain data, for tests.
 
 ghost use Rattle.std.specs.Prelude.{IfOk};
-ghost use Rattle.resp2.specs.Commands.{IsWithin};
-ghost use Rattle.sentinel_rules.specs.Facts.{IsWithinEvent};
+ghost use Rattle.ballot_law.specs.Limits.{IsWithin};
+ghost use Rattle.ballot_law.specs.Limits.{IsWithinEvent};
 
 use ballot_law::{Addr, Command, Event, Input, NoMemory, NodeName, PingReply, RunId, Text};
 use std::alloc::Global;

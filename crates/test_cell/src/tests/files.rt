@@ -4,9 +4,8 @@ ghost use Rattle.std.specs.Prelude.{◌≡◌, IfOk, IfSome};
 ghost use Rattle.sentinel_outbox.specs.declared.phase.Phase.TheVariants.{Ready};
 
 use ballot_law::NoMemory;
-use conf_store::{ConfStore, LoadFault, MemoryStore, StoreRefused};
 use sentinel_cell::{Seat, SharedSentinel};
-use sentinel_conf::{FileText, read};
+use sentinel_conf::{ConfStore, FileText, LoadFault, MemoryStore, StoreRefused, read};
 use sentinel_core::Sentinel;
 use std::alloc::Global;
 

@@ -1,16 +1,16 @@
 //! A cell and the seats that are known to be of it, for tests: a thread may act by its seat without a further condition.
 
 ghost use Rattle.std.specs.Prelude.{◌≡◌, []};
-ghost use Rattle.sentinel_rules.specs.Facts.{IsWithinEvent};
+ghost use Rattle.ballot_law.specs.Limits.{IsWithinEvent};
 
 use super::calls::Call;
 use super::files::boxed;
 use super::wire::add_outputs;
 use ballot_law::{Card, Input, Output};
-use conf_store::ConfStore;
 use port_sessions::Session;
-use resp2_frames::OutText;
+use resp2::OutText;
 use sentinel_cell::{ActFault, CellFault, Reply, Seat, SharedSentinel};
+use sentinel_conf::ConfStore;
 use sentinel_outbox::Outbox;
 use std::alloc::Global;
 use std::marker::{Brand, PhantomData};

@@ -7,7 +7,7 @@ use super::files::{Opened, shared_by};
 use super::known_cell::{KnownCell, KnownSeat, Which};
 use super::seat_counts::cut;
 use ballot_law::Card;
-use conf_store::ConfStore;
+use sentinel_conf::ConfStore;
 use std::alloc::Global;
 use std::marker::Brand;
 use std::process::Abort;

@@ -1,13 +1,12 @@
 //! One Sentinel that no threads share, with its file, for tests.
 
-ghost use Rattle.sentinel_rules.specs.Facts.{IsWithinEvent};
+ghost use Rattle.ballot_law.specs.Limits.{IsWithinEvent};
 
 use super::calls::Call;
 use super::files::{FOUR_SENTINELS, RefusingFile};
 use ballot_law::{Input, NoMemory, Output, Text};
-use conf_store::ConfStore;
 use sentinel_cell::ActFault;
-use sentinel_conf::read;
+use sentinel_conf::{ConfStore, read};
 use sentinel_core::Sentinel;
 use sentinel_outbox::{Outbox, Room, TakeFault};
 use std::alloc::Global;

@@ -3,8 +3,7 @@
 ghost use Rattle.std.specs.Prelude.{◌≡◌};
 
 use super::files::RefusingFile;
-use conf_store::{ConfStore, LoadFault, StoreRefused};
-use sentinel_conf::FileText;
+use sentinel_conf::{ConfStore, FileText, LoadFault, StoreRefused};
 use std::sync::atomic::{AtomicU64, Ordering};
 use std::thread;
 

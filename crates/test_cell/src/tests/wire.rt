@@ -2,12 +2,12 @@
 
 ghost use Rattle.std.specs.Prelude.{◌≤◌, IsTrue};
 ghost use Rattle.ballot_law.specs.declared.cards.TheConstants.{MAX_EPOCH};
-ghost use Rattle.messages.specs.MessageTexts.{IsWritable};
-ghost use Rattle.resp2_frames.specs.Frame.{IsLine};
+ghost use Rattle.node_texts.specs.Messages.MessageTexts.{IsWritable};
+ghost use Rattle.resp2.specs.Framing.Frame.{IsLine};
 
 use ballot_law::{Addr, Body, Hello, MAX_EPOCH, Message, NoMemory, NodeName, Note, Output, RunId};
-use messages::message_text;
-use resp2_frames::OutText;
+use node_texts::message_text;
+use resp2::OutText;
 use std::alloc::Global;
 
 /// Whether no CR or LF stands in the text.

@@ -3,9 +3,8 @@
 ghost use Rattle.std.specs.Prelude.{◌≡◌, All, IfSome};
 
 use crate::tests::confs::{Paired, both_of, free_port, text_of_one};
-use conf_store::MemoryStore;
 use log::Log;
-use sentinel_conf::{Conf, read};
+use sentinel_conf::{Conf, MemoryStore, read};
 use sentinel_runner::{GroupFault, run_group};
 use std::alloc::Global;
 use std::net::Net;

@@ -3,11 +3,10 @@
 ghost use Rattle.std.specs.Prelude.{◌≡◌, All, IfSome};
 
 use crate::tests::confs::{free_port, text_of_one};
-use conf_store::MemoryStore;
 use log::kv::Source;
 use log::span::Spans;
 use log::{Level, LevelFilter, Log, Logged, Metadata, Record};
-use sentinel_conf::{Conf, read};
+use sentinel_conf::{Conf, MemoryStore, read};
 use sentinel_runner::{Group, OrderedFault};
 use std::alloc::Global;
 use std::fmt::Display;

@@ -4,8 +4,8 @@ ghost use Rattle.std.specs.Prelude.{Some};
 ghost use Rattle.boxed_nodes.specs.Sendable.{IsSendableOutput};
 
 use ballot_law::{Addr, Body, Card, Message, NodeName, Note, Output};
-use group_sentinels::{Outlet, send_all};
-use messages::copy_of;
+use node_texts::copy_of;
+use sentinel_runtime::{Outlet, send_all};
 use std::alloc::Global;
 use std::process::Abort;
 use std::test::Fail;

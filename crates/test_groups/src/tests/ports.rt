@@ -4,9 +4,8 @@ ghost use Rattle.std.specs.Prelude.{◌≡◌, All, IfSome};
 
 use crate::tests::clients::{ADDRESS, ADDRESS_AND_FAULT, connected};
 use crate::tests::confs::{free_port, text_of_one};
-use conf_store::MemoryStore;
 use log::Log;
-use sentinel_conf::{Conf, read};
+use sentinel_conf::{Conf, MemoryStore, read};
 use sentinel_runner::{Group, GroupFault, PortSettings};
 use std::alloc::Global;
 use std::io::{self, Read, Write};

@@ -3,8 +3,7 @@
 ghost use Rattle.std.specs.Prelude.{◌≡◌, IfOk};
 
 use ballot_law::NoMemory;
-use conf_store::{ConfStore, LoadFault, MemoryStore, StoreRefused};
-use sentinel_conf::{FileText, read};
+use sentinel_conf::{ConfStore, FileText, LoadFault, MemoryStore, StoreRefused, read};
 use std::alloc::Global;
 use std::rt::Clock;
 use std::sync::atomic::{AtomicU64, Ordering};

@@ -1,8 +1,8 @@
 use Rattle.std.proofs.Common.{◌≡◌, ◌∙◌, ap, sym, refl, arith, rules, ℤ, pos, negsuc, ◌<ℤ◌, Some}
 use Rattle.std.proofs.lemmas.Int.{ints}
-use Rattle.resp2_frames.specs.declared.value.Value.TheFolds.{fold-roll-Value}
-use Rattle.resp2_frames.specs.declared.value.Value.TheVariants as value
-use Rattle.resp2_frames.specs.Frame.{Frame, view, view_step, int}
+use Rattle.resp2.specs.declared.framing.value.Value.TheFolds.{fold-roll-Value}
+use Rattle.resp2.specs.declared.framing.value.Value.TheVariants as value
+use Rattle.resp2.specs.Framing.Frame.{Frame, view, view_step, int}
 use Rattle.node_texts.specs.Roles.{offset_of}
 use Rattle.node_texts.proofs.roles.offset_of.Goals as goal
 

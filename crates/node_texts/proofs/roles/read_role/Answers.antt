@@ -1,7 +1,7 @@
 use Rattle.std.proofs.Common.{◌≡◌, map, ap, sym, ◌∙◌}
-use Rattle.resp2_frames.specs.declared.value.Value.TheFolds.{fold-roll-Value}
-use Rattle.resp2_frames.specs.declared.value.Value.TheVariants as value
-use Rattle.resp2_frames.specs.Frame.{Frame, view, view_step, items, frames_of}
+use Rattle.resp2.specs.declared.framing.value.Value.TheFolds.{fold-roll-Value}
+use Rattle.resp2.specs.declared.framing.value.Value.TheVariants as value
+use Rattle.resp2.specs.Framing.Frame.{Frame, view, view_step, items, frames_of}
 use Rattle.node_texts.specs.Roles.{role_of, role_of_list}
 use Rattle.node_texts.proofs.RoleAgain.{role_of_array}
 use Rattle.node_texts.proofs.roles.read_role.Goals as goal

@@ -1,8 +1,8 @@
 use Rattle.std.proofs.Common.{◌≡◌, ◌∙◌, ◌-◌, ◌⊎◌, inl, inr, List, [], ◌∷◌, length, get_or, take, drop, map, Ok, sym, ap, arith}
 use Rattle.ballot_law.specs.declared.replies.DataRole.{DataRole}
 use Rattle.ballot_law.specs.Results.{◌>>=◌, wanted}
-use Rattle.resp2_frames.specs.declared.value.Value.{Value}
-use Rattle.resp2_frames.specs.Frame.{view}
+use Rattle.resp2.specs.declared.framing.value.Value.{Value}
+use Rattle.resp2.specs.Framing.Frame.{view}
 use Rattle.node_texts.specs.declared.faults.TextFault.TheVariants.{BadField}
 use Rattle.node_texts.specs.Roles.{kind_of, role_behind, role_of_list}
 use Rattle.node_texts.proofs.roles.role_of_items.Goals as goal

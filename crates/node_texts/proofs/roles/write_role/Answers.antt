@@ -1,4 +1,4 @@
-use Rattle.resp2_frames.proofs.Window.{frame_again}
+use Rattle.resp2.proofs.FramingLemmas.Window.{frame_again}
 use Rattle.node_texts.specs.Roles.{role_frame}
 use Rattle.node_texts.proofs.RoleAgain.{role_again}
 use Rattle.node_texts.proofs.roles.write_role.Goals as goal

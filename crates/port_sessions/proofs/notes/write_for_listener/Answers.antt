@@ -1,7 +1,7 @@
 use Rattle.std.proofs.Common.{◌∙◌, ap, Ok}
 use Rattle.ballot_law.specs.declared.commands.Command.{Command}
 use Rattle.port_answers.proofs.Subscribing.{subscribed_bytes}
-use Rattle.resp2_frames.specs.Frame.{spelling}
+use Rattle.resp2.specs.Framing.Frame.{spelling}
 use Rattle.port_sessions.specs.Listening.{answer_while_listening}
 use Rattle.port_sessions.proofs.Listening.{pong_bytes, set_to}
 use Rattle.port_sessions.proofs.notes.write_for_listener.Goals as goal

@@ -1,5 +1,5 @@
 use Rattle.std.proofs.Common.{refl, sym, ap}
-use Rattle.watched_nodes.proofs.MasterNames.{found_named}
+use Rattle.sentinel_state.proofs.NodesLemmas.MasterNames.{found_named}
 use Rattle.sentinel_rules.specs.Answers.{named}
 use Rattle.port_sessions.proofs.responder.master_named.Goals as goal
 

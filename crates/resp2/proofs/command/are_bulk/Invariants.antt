@@ -1,6 +1,6 @@
 use Rattle.std.proofs.Common.{◌≡◌, drop}
 use Rattle.resp2.specs.Commands as commands
-use Rattle.resp2_frames.specs.Frame.{frames_view}
+use Rattle.resp2.specs.Framing.Frame.{frames_view}
 use Rattle.resp2.proofs.command.are_bulk.Given as goal
 
 abbrev pub invariant-loop-item : goal.invariant-loop-item

@@ -3,7 +3,7 @@ use Rattle.std.specs.Prelude.{codes}
 use Rattle.std.proofs.lemmas.Bool.{true≢false}
 use Rattle.resp2.specs.declared.command.CommandFault.TheVariants.{UnknownCommand}
 use Rattle.resp2.specs.Commands.{is_called, sentinel_command, words}
-use Rattle.resp2_frames.specs.Frame.{frames_view}
+use Rattle.resp2.specs.Framing.Frame.{frames_view}
 use Rattle.resp2.proofs.command.sentinel_command.Goals as goal
 use Rattle.resp2.proofs.command.sentinel_command.Goals.{then-is_called-5, else-is_called-5}
 

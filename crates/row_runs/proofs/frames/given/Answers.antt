@@ -1,4 +1,4 @@
-use Rattle.resp2_frames.proofs.HaveLines.{given_lines}
+use Rattle.resp2.proofs.FramingLemmas.HaveLines.{given_lines}
 use Rattle.row_runs.proofs.frames.given.Goals as goal
 
 pub returns : goal.returns

@@ -1,6 +1,6 @@
 use Rattle.std.proofs.Common.{◌≡◌, Ok, refl, ◌∙◌, subst, sym, arith}
 use Rattle.std.proofs.lemmas.Grind.{common_steps}
-use Rattle.scenarios.specs.Scenarios.{scenario}
+use Rattle.fault_world.specs.Scenarios.Scenarios.{scenario}
 use Rattle.scenario_replay.proofs.Groups.{stands_after, stands_in}
 use Rattle.scenario_replay.proofs.Tracing.{traced_begin, traced_end, traced_more}
 use Rattle.scenario_replay.proofs.traces.trace.Goals as goal

@@ -4,7 +4,7 @@ use Rattle.sentinel_rules.specs.States.{Core}
 use Rattle.sentinel_rules.specs.Changes.{IsAhead, concerned}
 use Rattle.sentinel_rules.specs.Facts.{IsSound}
 use Rattle.sentinel_rules.specs.Takes.{next, next_at}
-use Rattle.sentinel_core.specs.declared.former.Former.{Former}
+use Rattle.sentinel_core.specs.declared.undo.Undo.{Undo}
 use Rattle.sentinel_core.specs.Formers.{former_of, put_back}
 use Rattle.sentinel_core.proofs.PuttingBack.{before_is}
 use Rattle.sentinel_core.proofs.acting.act.Goals as goal
@@ -27,6 +27,6 @@ returns-clause-former c =
     (c.law_inputs_keep_sound.ensures plan old input.now input.event c.requires.plan c.requires.sound c.requires.within).0 in
     let long = sound.kept_masters ∙ sym c.requires.sound.kept_masters in
     ap (λ (s : Core). put_back s.kept c.act_on.new.former) e
-    ∙ ap (λ (f : Former). put_back (next plan old input.now input.event).core.kept f) f
+    ∙ ap (λ (f : Undo). put_back (next plan old input.now input.event).core.kept f) f
     ∙ before_is old.kept (next plan old input.now input.event).core.kept (concerned plan input.event old.kept) long
     (c.law_inputs_change_one_card.ensures.at plan old input.now input.event)

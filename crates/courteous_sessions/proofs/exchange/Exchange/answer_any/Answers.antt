@@ -1,4 +1,4 @@
-use Rattle.resp2_frames.specs.Frame.{view}
+use Rattle.resp2.specs.Framing.Frame.{view}
 use Rattle.courteous_sessions.proofs.Stepping.{read_frame, step_answered}
 use Rattle.courteous_sessions.proofs.exchange.Exchange.answer_any.Goals as goal
 

@@ -1,5 +1,5 @@
 use Rattle.std.proofs.Common.{◌∙◌, ap, sym, subst}
-use Rattle.port_courtesies.specs.Attendants.{Attendance, TakesCommon}
+use Rattle.client_commands.specs.Attendants.{Attendance, TakesCommon}
 use Rattle.port_sessions.specs.Talks.{Talk}
 use Rattle.courteous_sessions.proofs.Stepping.{step_common}
 use Rattle.courteous_sessions.proofs.exchange.Exchange.answer_next.Goals as goal

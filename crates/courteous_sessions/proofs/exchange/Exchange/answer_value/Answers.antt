@@ -1,5 +1,5 @@
 use Rattle.std.proofs.Common.{◌∙◌, ap, sym}
-use Rattle.resp2_frames.specs.Frame.{view}
+use Rattle.resp2.specs.Framing.Frame.{view}
 use Rattle.courteous_sessions.specs.OnTheWay.{guest_of}
 use Rattle.courteous_sessions.specs.Visits.{channel_turn}
 use Rattle.courteous_sessions.proofs.Serving.{other_turn, listens_on, ready_same, turn_same, served_same}

@@ -1,5 +1,5 @@
 use Rattle.std.proofs.Common.{◌≡◌, ◌++◌, ℕ, List}
-use Rattle.resp2_frames.specs.Stream.{held_size}
+use Rattle.resp2.specs.Framing.Stream.{held_size}
 use Rattle.courteous_sessions.specs.Visits.{Guest}
 use Rattle.courteous_sessions.specs.OnTheWay.{IsReady, IsOnTheWay, guest_of}
 use Rattle.courteous_sessions.proofs.exchange.Exchange.answer_whole.Given as goal

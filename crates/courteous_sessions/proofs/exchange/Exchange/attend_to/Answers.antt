@@ -1,6 +1,6 @@
 use Rattle.std.proofs.Common.{◌∙◌}
-use Rattle.port_courtesies.specs.Courtesies.{courtesy}
-use Rattle.resp2_frames.specs.Frame.{view}
+use Rattle.client_commands.specs.Courtesies.{courtesy}
+use Rattle.resp2.specs.Framing.Frame.{view}
 use Rattle.courteous_sessions.proofs.Serving.{answered_by_others, asked_before}
 use Rattle.courteous_sessions.proofs.Stepping.{on_ok}
 use Rattle.courteous_sessions.proofs.exchange.Exchange.attend_to.Goals as goal

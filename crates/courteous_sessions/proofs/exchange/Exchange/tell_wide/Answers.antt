@@ -1,8 +1,8 @@
 use Rattle.std.proofs.Common.{◌∙◌, ◌++◌, ap, sym, List, [], ℕ}
-use Rattle.port_courtesies.specs.Attendants.{Attendance}
+use Rattle.client_commands.specs.Attendants.{Attendance}
 use Rattle.port_sessions.specs.Talks.{Talk}
 use Rattle.courteous_sessions.proofs.Stepping.{on_ok, ok_of, wide_told}
-use Rattle.resp2_frames.specs.Frame.{view}
+use Rattle.resp2.specs.Framing.Frame.{view}
 use Rattle.courteous_sessions.proofs.exchange.Exchange.tell_wide.Goals as goal
 
 pub returns-clause-answered : goal.returns-clause-answered

@@ -1,5 +1,5 @@
 use Rattle.std.proofs.Common.{◌++◌, ap, ◌∙◌}
-use Rattle.resp2_frames.specs.Frame.{bulk, spelling}
+use Rattle.resp2.specs.Framing.Frame.{bulk, spelling}
 use Rattle.port_answers.specs.Room.{bounded}
 use Rattle.port_answers.proofs.answer_text.AnswerText.add_addr_text.Goals as goal
 

@@ -1,4 +1,4 @@
-use Rattle.resp2_frames.specs.Frame.{spelling, bulk}
+use Rattle.resp2.specs.Framing.Frame.{spelling, bulk}
 use Rattle.port_answers.proofs.Filling.{filled}
 use Rattle.port_answers.proofs.answer_text.AnswerText.add_bulk.Goals as goal
 

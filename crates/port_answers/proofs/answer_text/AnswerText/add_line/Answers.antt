@@ -1,5 +1,5 @@
 use Rattle.std.proofs.Common.{◌++◌}
-use Rattle.resp2_frames.specs.Frame.{line_end}
+use Rattle.resp2.specs.Framing.Frame.{line_end}
 use Rattle.port_answers.proofs.Filling.{filled}
 use Rattle.port_answers.proofs.answer_text.AnswerText.add_line.Goals as goal
 

@@ -1,5 +1,5 @@
 use Rattle.std.specs.Prelude.{codes, decimal}
-use Rattle.resp2_frames.specs.Frame.{line_end}
+use Rattle.resp2.specs.Framing.Frame.{line_end}
 use Rattle.port_answers.proofs.FieldLemmas.{line_of}
 use Rattle.port_answers.proofs.answer_text.AnswerText.add_quorum_reached.Goals as goal
 

@@ -1,5 +1,5 @@
 use Rattle.std.proofs.Common.{◌≡◌, ◌++◌, ℕ, List}
-use Rattle.resp2_frames.specs.Stream.{held_size}
+use Rattle.resp2.specs.Framing.Stream.{held_size}
 use Rattle.port_sessions.specs.Talks.{Party, party}
 use Rattle.port_sessions.specs.OnTheWay.{IsOnTheWay}
 use Rattle.port_sessions.proofs.exchange.Exchange.answer_whole.Given as goal

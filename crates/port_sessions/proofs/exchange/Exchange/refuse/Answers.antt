@@ -1,10 +1,10 @@
 use Rattle.std.proofs.Common.{◌≡◌, ◌≢◌, ◌++◌, ℕ, false, List, Result, Ok, Err, refl, sym, inr, true≢false}
 use Rattle.std.specs.Prelude.{OnOk, is_err}
-use Rattle.port_serving.specs.declared.fault.ServeFault.{ServeFault}
-use Rattle.port_serving.specs.declared.fault.ServeFault.TheVariants.{Frame as FaultyFrame}
-use Rattle.port_serving.specs.Serving.{last_line}
-use Rattle.resp2_frames.specs.declared.fault.FrameFault.{FrameFault}
-use Rattle.resp2_frames.specs.declared.fault.FrameFault.TheVariants.{NoMemory}
+use Rattle.sentinel_core.specs.declared.serving.fault.ServeFault.{ServeFault}
+use Rattle.sentinel_core.specs.declared.serving.fault.ServeFault.TheVariants.{Frame as FaultyFrame}
+use Rattle.sentinel_core.specs.Serving.Serving.{last_line}
+use Rattle.resp2.specs.declared.framing.fault.FrameFault.{FrameFault}
+use Rattle.resp2.specs.declared.framing.fault.FrameFault.TheVariants.{NoMemory}
 use Rattle.port_sessions.specs.OnTheWay.{Refuses}
 use Rattle.port_sessions.proofs.exchange.Exchange.refuse.Goals as goal
 

@@ -1,7 +1,7 @@
 use Rattle.std.proofs.Common.{◌∙◌, sym, subst}
 use Rattle.std.specs.Prelude.{◌≡◌, OnOk}
 use Rattle.ballot_law.specs.declared.messages.Message.{Message}
-use Rattle.messages.specs.MessageTexts.{message_bytes, IsWritable}
+use Rattle.node_texts.specs.Messages.MessageTexts.{message_bytes, IsWritable}
 use Rattle.port_sessions.proofs.Turning.{first_message}
 use Rattle.port_sessions.proofs.responder.Responder.write_shown.Goals as goal
 

@@ -1,5 +1,5 @@
 use Rattle.std.proofs.Common.{List, [], ℕ, Option, None, ap, ◌∙◌}
-use Rattle.resp2_frames.specs.Stream.{bytes_in}
+use Rattle.resp2.specs.Framing.Stream.{bytes_in}
 use Rattle.port_sessions.specs.Talks.{Talk}
 use Rattle.port_sessions.specs.Notes.{none_told}
 use Rattle.port_sessions.proofs.session.Session.new.Goals as goal

@@ -1,5 +1,5 @@
 use Rattle.std.proofs.Common.{◌≡◌, Some, slice_set, sym, subst, ◌∙◌}
-use Rattle.resp2_frames.specs.Stream.{bytes_in}
+use Rattle.resp2.specs.Framing.Stream.{bytes_in}
 use Rattle.port_sessions.proofs.Told.{talk_of}
 use Rattle.port_sessions.specs.Notes.{notified}
 use Rattle.port_sessions.specs.Talks.{Talk}

@@ -1,5 +1,5 @@
 use Rattle.std.proofs.Common.{◌≡◌, drop, ap, subst, ◌∙◌}
-use Rattle.resp2_frames.specs.Stream.{bytes_in}
+use Rattle.resp2.specs.Framing.Stream.{bytes_in}
 use Rattle.port_sessions.proofs.Told.{talk_of}
 use Rattle.port_sessions.specs.Talks.{Talk}
 use Rattle.port_sessions.proofs.session.Session.sent.Goals as goal

@@ -1,5 +1,5 @@
 use Rattle.std.proofs.Common.{◌∙◌, ◌++◌, ap, subst, sym, Ok, ◌≡◌}
-use Rattle.scenarios.specs.Scenarios.{scenario}
+use Rattle.fault_world.specs.Scenarios.Scenarios.{scenario}
 use Rattle.fault_world.specs.Told.{report_text}
 use Rattle.scenario_replay.proofs.Groups.{begun_reached, begun_shows, begun_stands}
 use Rattle.scenario_replay.proofs.story.Story.tell.Goals as goal

@@ -1,0 +1,4 @@
+pub mod Holding
+pub mod MasterAddrs
+pub mod SaidMessages
+pub mod Taking

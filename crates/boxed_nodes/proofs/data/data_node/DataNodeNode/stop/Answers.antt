@@ -1,0 +1,5 @@
+use Rattle.std.proofs.Common.{rules}
+use Rattle.boxed_nodes.proofs.data.data_node.DataNodeNode.stop.Goals as goal
+
+pub returns-clause-same : goal.returns-clause-same
+returns-clause-same c = search rules

@@ -1,0 +1,358 @@
+-- No line of an answer holds a CR or LF, so each answer is one value on the wire.
+use Rattle.std.proofs.Common.{◌≡◌, ◌≢◌, ◌+◌, ◌-◌, ◌||◌, ◌&&◌, ◌==◌, not, ℕ, List, [], ◌∷◌, ◌++◌, map, take, length, Option, None, Some, Bool, true, false, codes, refl, sym, ◌∙◌, ap, subst, arith}
+use Rattle.std.specs.Prelude.{nat_lt, nat_le}
+use Rattle.std.specs.List.{list_all}
+use Rattle.std.proofs.lemmas.Bool.{and_parts}
+use Rattle.ballot_law.specs.Words.{lower}
+use Rattle.resp2.specs.Framing.Frame.{Frame, fault, bulk, frames_of, IsLine, HasLines, HaveLines}
+use Rattle.client_commands.specs.declared.verbs.Verb.{Verb}
+use Rattle.client_commands.specs.declared.verbs.Verb.TheVariants.{Ping, Hello, Auth, SetName, SetInfo, GetName, Id, NoEvict, Reply, Commands, Docs, Count, Role, Publish, Info}
+use Rattle.client_commands.specs.declared.hellos.Expects.{Expects}
+use Rattle.client_commands.specs.declared.hellos.Expects.TheVariants.{Start, User, Password, NewName}
+use Rattle.client_commands.specs.Refusals.{is_called, printed_byte, printed, wrong_arguments, unknown_subcommand, shown_words, unknown_command, no_option, wrong_password, no_password, no_auth, no_auth_yet, no_name, not_while_listening}
+use Rattle.resp2.specs.Commands.{command_of}
+use Rattle.client_commands.specs.declared.wordings.Wording.{Wording}
+use Rattle.client_commands.specs.Courtesies as table
+use Rattle.client_commands.specs.Courtesies.{ClientInfo, Answer, left, widens, said, asks_masters, silent, Looked, known, refused, verb_name, Greeted, greeted, expected, taken, is_user, is_password, is_some, admits, is_stranger, lacks_password, greeted_by, is_client_name, asks_for_2, is_integer, after_first, first, or_else, hello_map, answered, asks_nothing, reply_to, courtesy, left_over, or_left}
+use Rattle.client_commands.proofs.Silence.{asked_is, unasked_is}
+
+-- ---- lines
+
+abbrev is_plain_byte : ℕ → Bool
+is_plain_byte b = not ((b == 13) || (b == 10))
+
+plain : (b : ℕ) → is_plain_byte b ≡ true → (b ≢ 13) × (b ≢ 10)
+plain b h = (
+  (λ e. let never : false ≡ true = subst (λ (x : ℕ). is_plain_byte x ≡ true) e h in absurd (cc)),
+  (λ e. let never : false ≡ true = subst (λ (x : ℕ). is_plain_byte x ≡ true) e h in absurd (cc)),
+)
+
+-- a text of the program, by a test that computes
+pub checked : (text : List ℕ) → list_all is_plain_byte text ≡ true → IsLine text
+checked [] h = tt
+checked (b ∷ text) h =
+    let both = and_parts (is_plain_byte b) (list_all is_plain_byte text) h in
+    (plain b both.0, checked text both.1)
+
+pub joined : (one two : List ℕ) → IsLine one → IsLine two → IsLine (one ++ two)
+joined [] two h k = k
+joined (b ∷ one) two h k = (h.0, joined one two h.1 k)
+
+around : (before word after : List ℕ) → list_all is_plain_byte before ≡ true → IsLine word → IsLine after → IsLine (before ++ (word ++ after))
+around before word after h k l = joined before (word ++ after) (checked before h) (joined word after k l)
+
+shown_byte : (b : ℕ) (test : Bool) → ((b == 13) || (b == 10)) ≡ test
+    → (elim test as (λ _. ℕ) [ true ↦ 32 | false ↦ b ] ≢ 13) × (elim test as (λ _. ℕ) [ true ↦ 32 | false ↦ b ] ≢ 10)
+shown_byte b true e = (omega arith, omega arith)
+shown_byte b false e = plain b (ap not e)
+
+byte_line : (b : ℕ) → (printed_byte b ≢ 13) × (printed_byte b ≢ 10)
+byte_line b = shown_byte b ((b == 13) || (b == 10)) refl
+
+shown : (word : List ℕ) → IsLine (map printed_byte word)
+shown [] = tt
+shown (b ∷ word) = (byte_line b, shown word)
+
+either_line : (test : Bool) (one two : List ℕ) → IsLine one → IsLine two → IsLine (elim test as (λ _. List ℕ) [ true ↦ one | false ↦ two ])
+either_line true one two h k = h
+either_line false one two h k = k
+
+words_line : (count : ℕ) (words : List (List ℕ)) → IsLine (shown_words count words)
+words_line count [] = tt
+words_line count (word ∷ words) =
+    either_line (nat_lt count 128) _ _
+    (around (codes "'") (printed (128 - count) word) _ refl (shown (take (128 - count) word))
+    (joined (codes "' ") _ (checked (codes "' ") refl) (words_line (count + length (take (128 - count) word) + 3) words)))
+    tt
+
+-- ---- refusals
+
+arguments_line : (name : List ℕ) → IsLine name → HasLines (wrong_arguments name)
+arguments_line name h = around (codes "ERR wrong number of arguments for '") name (codes "' command") refl h (checked (codes "' command") refl)
+
+subcommand_line : (help word : List ℕ) → IsLine help → HasLines (unknown_subcommand help word)
+subcommand_line help word h =
+    around (codes "ERR unknown subcommand '") (printed 128 word) (codes "'. Try " ++ help) refl (shown (take 128 word))
+    (joined (codes "'. Try ") help (checked (codes "'. Try ") refl) h)
+
+unknown_line : (name : List ℕ) (words : List (List ℕ)) → HasLines (unknown_command name words)
+unknown_line name words =
+    around (codes "ERR unknown command '") (printed 128 name) (codes "', with args beginning with: " ++ shown_words 0 words) refl (shown (take 128 name))
+    (joined (codes "', with args beginning with: ") (shown_words 0 words) (checked (codes "', with args beginning with: ") refl) (words_line 0 words))
+
+option_line : (word : List ℕ) → HasLines (no_option word)
+option_line word = around (codes "ERR Syntax error in HELLO option '") (printed (length word) word) (codes "'") refl (shown (take (length word) word)) (checked (codes "'") refl)
+
+verb_line : (verb : Verb) → IsLine (verb_name verb)
+verb_line Ping = checked (codes "ping") refl
+verb_line Hello = checked (codes "hello") refl
+verb_line Auth = checked (codes "auth") refl
+verb_line SetName = checked (codes "client|setname") refl
+verb_line SetInfo = checked (codes "client|setinfo") refl
+verb_line GetName = checked (codes "client|getname") refl
+verb_line Id = checked (codes "client|id") refl
+verb_line NoEvict = checked (codes "client|no-evict") refl
+verb_line Reply = checked (codes "client|reply") refl
+verb_line Commands = checked (codes "command") refl
+verb_line Docs = checked (codes "command|docs") refl
+verb_line Count = checked (codes "command|count") refl
+verb_line Role = checked (codes "role") refl
+verb_line Publish = checked (codes "publish") refl
+verb_line Info = checked (codes "info") refl
+
+listener_line : (verb : Verb) → HasLines (not_while_listening (verb_name verb))
+listener_line verb =
+    around (codes "ERR Can't execute '") (verb_name verb) (codes "': only (P|S)SUBSCRIBE / (P|S)UNSUBSCRIBE / PING / QUIT / RESET are allowed in this context") refl
+    (verb_line verb)
+    (checked (codes "': only (P|S)SUBSCRIBE / (P|S)UNSUBSCRIBE / PING / QUIT / RESET are allowed in this context") refl)
+
+-- ---- the commands
+
+abbrev AreLines : Looked → Type 0
+AreLines (known verb words) = Unit {0}
+AreLines (refused refusal) = HasLines refusal
+
+both : (test : Bool) (one two : Looked) → AreLines one → AreLines two → AreLines (elim test as (λ _. Looked) [ true ↦ one | false ↦ two ])
+both true one two h k = h
+both false one two h k = k
+
+taken_lines : (verb : Verb) (fits : Bool) (words : List (List ℕ)) → AreLines (taken verb fits words)
+taken_lines verb fits words = both fits _ _ tt (arguments_line (verb_name verb) (verb_line verb))
+
+client_lines : (words : List (List ℕ)) → AreLines (table.client words)
+client_lines [] = arguments_line (codes "client") (checked (codes "client") refl)
+client_lines (word ∷ words) =
+    both (is_called (codes "setname") word) _ _ (taken_lines SetName (length words == 1) words)
+    (both (is_called (codes "setinfo") word) _ _ (taken_lines SetInfo (length words == 2) words)
+    (both (is_called (codes "getname") word) _ _ (taken_lines GetName (length words == 0) words)
+    (both (is_called (codes "id") word) _ _ (taken_lines Id (length words == 0) words)
+    (both (is_called (codes "no-evict") word) _ _ (taken_lines NoEvict (length words == 1) words)
+    (both (is_called (codes "reply") word) _ _ (taken_lines Reply (length words == 1) words)
+    (subcommand_line (codes "CLIENT HELP.") word (checked (codes "CLIENT HELP.") refl)))))))
+
+command_lines : (words : List (List ℕ)) → AreLines (table.command words)
+command_lines [] = tt
+command_lines (word ∷ words) =
+    both (is_called (codes "docs") word) _ _ tt
+    (both (is_called (codes "count") word) _ _ (taken_lines Count (length words == 0) words)
+    (subcommand_line (codes "COMMAND HELP.") word (checked (codes "COMMAND HELP.") refl)))
+
+sentinel_lines : (miscounted : Bool) (words : List (List ℕ)) → AreLines (table.sentinel miscounted words)
+sentinel_lines miscounted [] = arguments_line (codes "sentinel") (checked (codes "sentinel") refl)
+sentinel_lines miscounted (word ∷ words) =
+    both miscounted _ _ (arguments_line (codes "sentinel|" ++ map printed_byte (lower word)) (joined (codes "sentinel|") _ (checked (codes "sentinel|") refl) (shown (lower word))))
+    (subcommand_line (codes "SENTINEL HELP.") word (checked (codes "SENTINEL HELP.") refl))
+
+other_lines : (miscounted : Bool) (name : List ℕ) (words : List (List ℕ)) → AreLines (table.other_named miscounted name words)
+other_lines miscounted name words =
+    both (is_called (codes "role") name) _ _ (taken_lines Role (length words == 0) words)
+    (both (is_called (codes "publish") name) _ _ (taken_lines Publish (length words == 2) words)
+    (both (is_called (codes "info") name) _ _ tt
+    (both (is_called (codes "sentinel") name) _ _ (sentinel_lines miscounted words)
+    (both (is_called (codes "subscribe") name) _ _ (arguments_line (codes "subscribe") (checked (codes "subscribe") refl)) (unknown_line name words)))))
+
+looked_up_lines : (miscounted : Bool) (name : List ℕ) (words : List (List ℕ)) → AreLines (table.looked_up miscounted name words)
+looked_up_lines miscounted name words =
+    both (is_called (codes "ping") name) _ _ (taken_lines Ping (nat_le (length words) 1) words)
+    (both (is_called (codes "hello") name) _ _ tt
+    (both (is_called (codes "auth") name) _ _ (taken_lines Auth (nat_lt 0 (length words)) words)
+    (both (is_called (codes "client") name) _ _ (client_lines words)
+    (both (is_called (codes "command") name) _ _ (command_lines words) (other_lines miscounted name words)))))
+
+-- ---- what each is answered
+
+one_of : (test : Bool) (one two : Frame) → HasLines one → HasLines two → HasLines (elim test as (λ _. Frame) [ true ↦ one | false ↦ two ])
+one_of true one two h k = h
+one_of false one two h k = k
+
+ok_line : HasLines table.ok
+ok_line = checked (codes "OK") refl
+
+syntax_line : HasLines (fault (codes "ERR syntax error"))
+syntax_line = checked (codes "ERR syntax error") refl
+
+password_line : HasLines (fault (codes "WRONGPASS invalid username-password pair or user is disabled."))
+password_line = checked (codes "WRONGPASS invalid username-password pair or user is disabled.") refl
+
+name_line : HasLines (fault (codes "ERR Client names cannot contain spaces, newlines or special characters."))
+name_line = checked (codes "ERR Client names cannot contain spaces, newlines or special characters.") refl
+
+abbrev IsLineOrNone : Option Frame → Type 0
+IsLineOrNone None = Unit {0}
+IsLineOrNone (Some refusal) = HasLines refusal
+
+next_lines : (wanted : Option (List ℕ)) (next : Option Expects) (word name : List ℕ) (admitted : Bool) (words : List (List ℕ))
+    → ((e : Expects) → IsLineOrNone (greeted wanted e word name admitted words).refusal)
+    → IsLineOrNone (elim next as (λ _. Greeted) [
+      | Some e ↦ greeted wanted e word name admitted words
+      | None ↦ record { name = name; admitted = admitted; refusal = Some (no_option word) }
+    ]).refusal
+next_lines wanted (Some e) word name admitted words each = each e
+next_lines wanted None word name admitted words each = option_line word
+
+given_lines : (test : Bool) (name : List ℕ) (admitted : Bool) (g : Greeted) → IsLineOrNone g.refusal
+    → IsLineOrNone (elim test as (λ _. Greeted) [ true ↦ g | false ↦ record { name = name; admitted = admitted; refusal = Some wrong_password } ]).refusal
+given_lines true name admitted g h = h
+given_lines false name admitted g h = password_line
+
+named_lines : (test : Bool) (name : List ℕ) (admitted : Bool) (g : Greeted) → IsLineOrNone g.refusal
+    → IsLineOrNone (elim test as (λ _. Greeted) [ true ↦ g | false ↦ record { name = name; admitted = admitted; refusal = Some no_name } ]).refusal
+named_lines true name admitted g h = h
+named_lines false name admitted g h = name_line
+
+greeted_lines : (wanted : Option (List ℕ)) (expects : Expects) (option name : List ℕ) (admitted : Bool) (words : List (List ℕ))
+    → IsLineOrNone (greeted wanted expects option name admitted words).refusal
+greeted_lines wanted Start option name admitted [] = tt
+greeted_lines wanted User option name admitted [] = option_line option
+greeted_lines wanted (Password familiar) option name admitted [] = option_line option
+greeted_lines wanted NewName option name admitted [] = option_line option
+greeted_lines wanted Start option name admitted (word ∷ words) =
+    next_lines wanted (expected word) word name admitted words (λ (next : Expects). greeted_lines wanted next word name admitted words)
+greeted_lines wanted User option name admitted (word ∷ words) = greeted_lines wanted (Password (is_user word)) option name admitted words
+greeted_lines wanted (Password familiar) option name admitted (word ∷ words) =
+    given_lines (familiar && is_password wanted word) name admitted _ (greeted_lines wanted Start option name true words)
+greeted_lines wanted NewName option name admitted (word ∷ words) =
+    named_lines (is_client_name word) name admitted _ (greeted_lines wanted Start option word admitted words)
+
+map_lines : (id : ℕ) → HasLines (hello_map id)
+map_lines id = (tt, (tt, (tt, (tt, (tt, (tt, (tt, (tt, (tt, (tt, (tt, (tt, tt))))))))))))
+
+or_else_lines : (refusal : Option Frame) (answer : Frame) → IsLineOrNone refusal → HasLines answer → HasLines (or_else refusal answer)
+or_else_lines None answer h k = k
+or_else_lines (Some refusal) answer h k = h
+
+no_auth_line : HasLines no_auth
+no_auth_line = checked (codes "NOAUTH Authentication required.") refl
+
+no_auth_yet_line : HasLines no_auth_yet
+no_auth_yet_line =
+    checked
+    (codes "NOAUTH HELLO must be called with the client already authenticated, otherwise the HELLO AUTH <user> <pass> option can be used to authenticate the client"
+    ++ codes " and select the RESP protocol version at the same time")
+    refl
+
+welcome_lines : (asker : ClientInfo) (g : Greeted) → IsLineOrNone g.refusal → HasLines (table.welcome asker g)
+welcome_lines asker g h = or_else_lines g.refusal _ h (one_of (lacks_password asker.password g.admitted) _ _ no_auth_yet_line (map_lines asker.id))
+
+hello_lines : (asker : ClientInfo) (words : List (List ℕ)) → HasLines (table.hello asker words)
+hello_lines asker words =
+    one_of (asks_for_2 words) _ _
+    (welcome_lines asker (greeted_by asker words) (greeted_lines asker.password Start [] asker.name asker.admitted (after_first words)))
+    (one_of (is_integer (first words)) _ _ (checked (codes "NOPROTO unsupported protocol version") refl)
+    (checked (codes "ERR Protocol version is not an integer or out of range") refl))
+
+no_password_line : HasLines no_password
+no_password_line =
+    checked (codes "ERR AUTH <password> called without any password configured for the default user. Are you sure your configuration is correct?") refl
+
+unadmitted_lines : (wanted : Option (List ℕ)) (count : ℕ) → HasLines (table.unadmitted wanted count)
+unadmitted_lines wanted count =
+    one_of (count == 1) _ _ (one_of (is_some wanted) _ _ password_line no_password_line) (one_of (count == 2) _ _ password_line syntax_line)
+
+auth_lines : (wanted : Option (List ℕ)) (words : List (List ℕ)) → HasLines (table.auth wanted words)
+auth_lines wanted words = one_of (admits wanted words) _ _ ok_line (unadmitted_lines wanted (length words))
+
+get_name_lines : (name : List ℕ) → HasLines (table.get_name name)
+get_name_lines [] = tt
+get_name_lines (b ∷ name) = tt
+
+names_lines : (names : List (List ℕ)) → HaveLines (frames_of (map bulk names))
+names_lines [] = tt
+names_lines (name ∷ names) = (tt, names_lines names)
+
+publish_lines : (words : List (List ℕ)) → HasLines (table.publish words)
+publish_lines words =
+    one_of (table.is_hello_channel (first words)) _ _ tt (checked (codes "ERR Only HELLO messages are accepted by Sentinel instances.") refl)
+
+abbrev AreAnswerLines : Answer → Type 0
+AreAnswerLines left = Unit {0}
+AreAnswerLines widens = Unit {0}
+AreAnswerLines (said answer) = HasLines answer
+AreAnswerLines asks_masters = Unit {0}
+AreAnswerLines silent = ⊥
+
+executed_lines : (asker : ClientInfo) (verb : Verb) (words : List (List ℕ)) → AreAnswerLines (table.executed asker verb words)
+executed_lines asker Ping words = tt
+executed_lines asker Hello words = hello_lines asker words
+executed_lines asker Auth words = auth_lines asker.password words
+executed_lines asker SetName words = one_of (is_client_name (first words)) _ _ ok_line name_line
+executed_lines asker SetInfo words = ok_line
+executed_lines asker GetName words = get_name_lines asker.name
+executed_lines asker Id words = tt
+executed_lines asker NoEvict words = one_of (is_called (codes "on") (first words) || is_called (codes "off") (first words)) _ _ ok_line syntax_line
+executed_lines asker Reply words = one_of (is_called (codes "on") (first words)) _ _ ok_line syntax_line
+executed_lines asker Commands words = tt
+executed_lines asker Docs words = tt
+executed_lines asker Count words = tt
+executed_lines asker Role words = (tt, (names_lines (table.names_of asker.masters), tt))
+executed_lines asker Publish words = publish_lines words
+executed_lines asker Info words = tt
+
+listening_lines : (verb : Verb) (words : List (List ℕ)) → HasLines (table.while_listening verb words)
+listening_lines Ping words = (tt, (tt, tt))
+listening_lines Hello words = listener_line Hello
+listening_lines Auth words = listener_line Auth
+listening_lines SetName words = listener_line SetName
+listening_lines SetInfo words = listener_line SetInfo
+listening_lines GetName words = listener_line GetName
+listening_lines Id words = listener_line Id
+listening_lines NoEvict words = listener_line NoEvict
+listening_lines Reply words = listener_line Reply
+listening_lines Commands words = listener_line Commands
+listening_lines Docs words = listener_line Docs
+listening_lines Count words = listener_line Count
+listening_lines Role words = listener_line Role
+listening_lines Publish words = listener_line Publish
+listening_lines Info words = listener_line Info
+
+one_answer : (test : Bool) (one two : Answer) → AreAnswerLines one → AreAnswerLines two → AreAnswerLines (elim test as (λ _. Answer) [ true ↦ one | false ↦ two ])
+one_answer true one two h k = h
+one_answer false one two h k = k
+
+answered_lines : (asker : ClientInfo) (looked : Looked) → AreLines looked → AreAnswerLines (answered asker looked)
+answered_lines asker (known verb words) h =
+    one_answer asker.listens _ _ (listening_lines verb words) (executed_lines asker verb words)
+answered_lines asker (refused refusal) h = h
+
+abbrev AreLinesOrNone : Option Looked → Type 0
+AreLinesOrNone None = Unit {0}
+AreLinesOrNone (Some looked) = AreLines looked
+
+maybe : (test : Bool) (one two : Option Looked) → AreLinesOrNone one → AreLinesOrNone two → AreLinesOrNone (elim test as (λ _. Option Looked) [ true ↦ one | false ↦ two ])
+maybe true one two h k = h
+maybe false one two h k = k
+
+in_lines : (asker : ClientInfo) (miscounted : Bool) (words : List (List ℕ)) → AreLinesOrNone (table.looked_up_in asker miscounted words)
+in_lines asker miscounted [] = tt
+in_lines asker miscounted (name ∷ words) =
+    maybe (table.names_channels (name ∷ words) || table.is_barred asker name) _ _ tt (looked_up_lines miscounted name words)
+
+own_lines : (own : Option Wording) → AreAnswerLines (table.own_answer own)
+own_lines None = tt
+own_lines (Some own) = tt
+
+or_left_lines : (asker : ClientInfo) (looked : Option Looked) → AreLinesOrNone looked → AreAnswerLines (or_left asker looked)
+or_left_lines asker None h = one_answer (is_stranger asker) _ _ no_auth_line tt
+or_left_lines asker (Some looked) h = answered_lines asker looked h
+
+reply_lines : (asker : ClientInfo) (value : Frame) → AreAnswerLines (reply_to asker value)
+reply_lines asker value =
+    one_answer (table.is_refused (command_of value)) _ _
+    (or_left_lines asker (table.looked_up_in asker (table.is_miscounted (command_of value)) (table.words_of value))
+    (in_lines asker (table.is_miscounted (command_of value)) (table.words_of value)))
+    (one_answer (is_stranger asker) _ _ no_auth_line (own_lines (table.wording_of (command_of value))))
+
+said_by : (asker : ClientInfo) (value answer : Frame) (test : Bool) → asks_nothing value ≡ test → courtesy asker value ≡ said answer → HasLines answer
+said_by asker value answer true h is = absurd (let no = sym (unasked_is asker value h) ∙ is in cc)
+said_by asker value answer false h is = subst AreAnswerLines (sym (asked_is asker value h) ∙ is) (reply_lines asker value)
+
+pub said_has_lines : (asker : ClientInfo) (value answer : Frame) → courtesy asker value ≡ said answer → HasLines answer
+said_has_lines asker value answer is = said_by asker value answer (asks_nothing value) refl is
+
+silent_by : (asker : ClientInfo) (value : Frame) (test : Bool) → asks_nothing value ≡ test → courtesy asker value ≡ silent → asks_nothing value ≡ true
+silent_by asker value true h is = h
+silent_by asker value false h is = absurd (subst AreAnswerLines (sym (asked_is asker value h) ∙ is) (reply_lines asker value))
+
+-- each value but these has an answer
+pub silent_asks_nothing : (asker : ClientInfo) (value : Frame) → courtesy asker value ≡ silent → asks_nothing value ≡ true
+silent_asks_nothing asker value is = silent_by asker value (asks_nothing value) refl is

@@ -1,0 +1,84 @@
+-- What a reader of a stream with lines answers.
+use Rattle.std.proofs.Common.{◌≡◌, ◌∙◌, ℕ, ◌<◌, ◌≤◌, true, false, List, length, drop, Option, Some, None, Result, Ok, Err, refl, sym, ap, arith, true≢false}
+use Rattle.std.specs.Prelude.{IfSome}
+use Rattle.std.proofs.lemmas.List.{length-drop}
+use Rattle.ballot_law.specs.declared.commands.Command.{Command}
+use Rattle.resp2.specs.Asked.{Asks}
+use Rattle.resp2.specs.declared.framing.fault.FrameFault.{FrameFault}
+use Rattle.resp2.specs.declared.framing.fault.FrameFault.TheVariants.{BadKind, BadLength, BadNumber, MissingEnd, TooLong, TooDeep, TooMany, NoMemory}
+use Rattle.resp2.specs.declared.framing.value.Value.{Value}
+use Rattle.resp2.specs.Framing.Frame.{view, HasLines}
+use Rattle.resp2.specs.Framing.Reading.{frame_at}
+use Rattle.resp2.specs.Framing.Stream as streams
+use Rattle.resp2.specs.Framing.Stream.{Held, reading, ended, bytes_in, held_size}
+use Rattle.resp2.proofs.FramingLemmas.HaveLines.{plain_lines}
+use Rattle.client_commands.specs.declared.lines.Line.TheVariants.{Whole, Open, Broken}
+use Rattle.client_commands.specs.Attendants.{TakesCommon}
+use Rattle.client_commands.specs.Lines.{begins_line, value_at, IsFound, Answers}
+use Rattle.client_commands.proofs.LineStreams.{as_line, as_frame, line_is_faulty, value_is_frame}
+
+-- where no line begins, a stream is read as in RESP2
+answers_same : (before after : Held) (answer : Result (Option Value) FrameFault) → value_at (bytes_in before) ≡ frame_at (bytes_in before)
+    → streams.Answers view before answer after → Answers view before answer after
+answers_same (reading bytes) after (Ok (Some v)) same h = (h.0, same ∙ h.1, h.2)
+answers_same (reading bytes) after (Ok None) same h = (same ∙ h.0, h.1)
+answers_same (reading bytes) after (Err NoMemory) same h = h
+answers_same (reading bytes) after (Err BadKind) same h = (same ∙ h.0, h.1)
+answers_same (reading bytes) after (Err BadLength) same h = (same ∙ h.0, h.1)
+answers_same (reading bytes) after (Err BadNumber) same h = (same ∙ h.0, h.1)
+answers_same (reading bytes) after (Err MissingEnd) same h = (same ∙ h.0, h.1)
+answers_same (reading bytes) after (Err TooLong) same h = (same ∙ h.0, h.1)
+answers_same (reading bytes) after (Err TooDeep) same h = (same ∙ h.0, h.1)
+answers_same (reading bytes) after (Err TooMany) same h = (same ∙ h.0, h.1)
+answers_same (ended fault) after answer same h = h
+
+pub frame_answered : (before after : Held) (answer : Result (Option Value) FrameFault) → begins_line (bytes_in before) ≡ false → streams.Answers view before answer after
+    → Answers view before answer after
+frame_answered before after answer begins h = answers_same before after answer (as_frame (bytes_in before) begins) h
+
+-- a command that is read where it stands is the first value, where no line begins
+common_taken : (before after : Held) (command : Command) → begins_line (bytes_in before) ≡ false → Asks before (Ok (Some (Ok command))) after
+    → TakesCommon before after command
+common_taken (reading bytes) after command begins h =
+    record { bytes = bytes; value = h.0; rest = h.1.0; held_is = refl; found = as_frame bytes begins ∙ h.1.1; left = h.1.2; asked = sym h.2 }
+common_taken (ended fault) after command begins h = absurd (let no = h.1.0 in cc)
+
+pub maybe_common_taken : (before after : Held) (given : Option Command) → begins_line (bytes_in before) ≡ false
+    → IfSome given (λ command. Asks before (Ok (Some (Ok command))) after) → IfSome given (TakesCommon before after)
+maybe_common_taken before after (Some command) begins h = common_taken before after command begins h
+maybe_common_taken before after None begins h = tt
+
+-- a line that is none is at fault in RESP2
+pub broken_answered : (before after : Held) (answer : Result (Option Value) FrameFault) → begins_line (bytes_in before) ≡ true → IsFound Broken (bytes_in before)
+    → streams.Answers view before answer after → Answers view before answer after
+broken_answered before after answer begins found h =
+    answers_same before after answer (as_line (bytes_in before) begins ∙ found ∙ sym (line_is_faulty (bytes_in before) begins)) h
+
+pub is_reading : (held : Held) → begins_line (bytes_in held) ≡ true → held ≡ reading (bytes_in held)
+is_reading (reading bytes) begins = refl
+is_reading (ended fault) begins = absurd (true≢false (sym begins))
+
+pub whole_answered : (before after : Held) (value : Value) (size : ℕ) → begins_line (bytes_in before) ≡ true → IsFound (Whole value size) (bytes_in before)
+    → after ≡ reading (drop size (bytes_in before)) → Answers view before (Ok (Some value)) after
+whole_answered (reading bytes) after value size begins found is = (drop size bytes, as_line bytes begins ∙ found.2, is)
+whole_answered (ended fault) after value size begins found is = absurd (true≢false (sym begins))
+
+pub open_answered : (before : Held) → begins_line (bytes_in before) ≡ true → IsFound Open (bytes_in before) → Answers {V = Value} view before (Ok None) before
+open_answered (reading bytes) begins found = (as_line bytes begins ∙ found, refl)
+open_answered (ended fault) begins found = absurd (true≢false (sym begins))
+
+pub refused_answered : (before : Held) → begins_line (bytes_in before) ≡ true → Answers {V = Value} view before (Err NoMemory) before
+refused_answered (reading bytes) begins = refl
+refused_answered (ended fault) begins = absurd (true≢false (sym begins))
+
+pub fewer_after : (before after : Held) (value : Value) (size : ℕ) → begins_line (bytes_in before) ≡ true → IsFound (Whole value size) (bytes_in before)
+    → after ≡ reading (drop size (bytes_in before)) → held_size after < held_size before
+fewer_after (reading bytes) after value size begins found is =
+    let now : held_size after ≡ length (drop size bytes) = ap held_size is in
+    let some : 0 < size = found.0 in
+    let within : size ≤ length bytes = found.1 in
+    omega (arith, now, some, within, length-drop size bytes)
+fewer_after (ended fault) after value size begins found is = absurd (true≢false (sym begins))
+
+pub whole_has_lines : (bytes : List ℕ) (value : Value) (size : ℕ) → begins_line bytes ≡ true → IsFound (Whole value size) bytes → HasLines (view value)
+whole_has_lines bytes value size begins found = plain_lines (view value) (value_is_frame bytes (view value) (drop size bytes) (as_line bytes begins ∙ found.2)).plain

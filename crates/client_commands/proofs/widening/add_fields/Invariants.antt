@@ -1,0 +1,11 @@
+use Rattle.std.proofs.Common.{◌≡◌, ◌++◌, length, map}
+use Rattle.resp2.specs.Framing.Frame.{bulk, frames_of, spellings}
+use Rattle.client_commands.specs.Widening.{wide_words}
+use Rattle.client_commands.proofs.widening.add_fields.Given as goal
+
+abbrev pub invariant-loop-rest : goal.invariant-loop-rest
+invariant-loop-rest l =
+    l.fn.out ++ spellings (frames_of (map bulk (wide_words l.fields l.words))) ≡ l.out ++ spellings (frames_of (map bulk (wide_words l.rest l.words)))
+
+abbrev pub decreases-loop-rest : goal.decreases-loop-rest
+decreases-loop-rest l = length l.rest

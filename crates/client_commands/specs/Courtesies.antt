@@ -1,0 +1,506 @@
+-- What a port answers to the values that a Sentinel's rules call unknown, or refuse for their number of words.
+use Rattle.std.specs.Prelude.{ℕ, pos, Bool, true, false, not, ◌||◌, ◌&&◌, ◌==◌, nat_lt, nat_le, List, [], ◌∷◌, ◌++◌, map, length, bytes_eq, codes, Option, Some, None, Result, Ok, Err}
+use Rattle.std.specs.List.{list_all}
+use Rattle.ballot_law.specs.declared.commands.Command.{Command}
+use Rattle.ballot_law.specs.declared.commands.Command.TheVariants.{Masters, Master, Replicas, Sentinels, CkQuorum}
+use Rattle.ballot_law.specs.Words.{lower, canonical_within}
+use Rattle.resp2.specs.declared.command.CommandFault.{CommandFault}
+use Rattle.resp2.specs.declared.command.CommandFault.TheVariants.{UnknownCommand, WrongArguments}
+use Rattle.resp2.specs.Commands.{command_of, words}
+use Rattle.resp2.specs.Framing.Frame.{Frame, simple, int, bulk, null_bulk, items, null_items, no_frames, frames_of, spelling}
+use Rattle.client_commands.specs.declared.verbs.Verb.{Verb}
+use Rattle.client_commands.specs.declared.verbs.Verb.TheVariants.{Ping, Hello, Auth, SetName, SetInfo, GetName, Id, NoEvict, Reply, Commands, Docs, Count, Role, Publish, Info}
+use Rattle.client_commands.specs.declared.hellos.Expects.{Expects}
+use Rattle.client_commands.specs.declared.hellos.Expects.TheVariants.{Start, User, Password, NewName}
+use Rattle.client_commands.specs.declared.wordings.Wording.{Wording}
+use Rattle.client_commands.specs.declared.wordings.Wording.TheVariants.{Rows, Quorum}
+use Rattle.client_commands.specs.declared.tables.Table.TheVariants.{OneMaster, AllMasters, OfReplicas, OfSentinels}
+use Rattle.client_commands.specs.declared.courtesies.Courtesy.{Courtesy}
+use Rattle.client_commands.specs.declared.courtesies.Courtesy.TheVariants.{Left, Widens, Said, AsksMasters}
+use Rattle.client_commands.specs.Refusals.{is_called, printed_byte, wrong_arguments, unknown_subcommand, unknown_command, syntax_error, wrong_password, no_password, no_auth, no_auth_yet, no_name, no_such_protocol, no_protocol, no_option, no_hello, not_while_listening}
+
+-- a master that a Sentinel watches
+pub record MonitoredMaster : Type 0 where
+  pub name : List ℕ
+  pub quorum : ℕ
+
+-- what is known of a connection: its number, the name that its client gave it, whether it listens to notes, the Sentinel's masters, how many Sentinels watch them, the
+-- password that is wanted of its client, where one is, and whether the client gave it; and the Sentinel's current epoch as it was last told, where that was
+pub record ClientInfo : Type 0 where
+  pub id : ℕ
+  pub name : List ℕ
+  pub listens : Bool
+  pub masters : List MonitoredMaster
+  pub sentinels : ℕ
+  pub password : Option (List ℕ)
+  pub admitted : Bool
+  pub current : Option ℕ
+
+-- what becomes of a value: the Sentinel's rules answer it, the answer that they give is told in other words, it is answered by this value, or by what is told of the
+-- Sentinel's masters, or it has no answer
+pub data Answer : Type 0 where
+  left : Answer
+  widens : Answer
+  said : Frame → Answer
+  asks_masters : Answer
+  silent : Answer
+
+-- ---- which command the words are
+
+-- the names of the commands, that of a subcommand after that of its command
+abbrev pub verb_name : Verb → List ℕ
+verb_name Ping = codes "ping"
+verb_name Hello = codes "hello"
+verb_name Auth = codes "auth"
+verb_name SetName = codes "client|setname"
+verb_name SetInfo = codes "client|setinfo"
+verb_name GetName = codes "client|getname"
+verb_name Id = codes "client|id"
+verb_name NoEvict = codes "client|no-evict"
+verb_name Reply = codes "client|reply"
+verb_name Commands = codes "command"
+verb_name Docs = codes "command|docs"
+verb_name Count = codes "command|count"
+verb_name Role = codes "role"
+verb_name Publish = codes "publish"
+verb_name Info = codes "info"
+
+-- a command with the words after its name, or why there is none
+pub data Looked : Type 0 where
+  known : Verb → List (List ℕ) → Looked
+  refused : Frame → Looked
+
+-- the command and the words after it, where there is one
+abbrev pub found : Looked → Option (Verb × List (List ℕ))
+found (known verb words) = Some (verb, words)
+found (refused refusal) = None
+
+-- the text that was there, or the refusal in its place
+abbrev pub text_after : List ℕ → Looked → List ℕ
+text_after before (known verb words) = before
+text_after before (refused refusal) = spelling refusal
+
+-- the command, where it has as many words as it takes
+abbrev pub taken : Verb → Bool → List (List ℕ) → Looked
+taken verb fits words = elim fits [ true ↦ known verb words | false ↦ refused (wrong_arguments (verb_name verb)) ]
+
+abbrev pub client_named : List ℕ → List (List ℕ) → Looked
+client_named word words =
+    elim (is_called (codes "setname") word) [
+      | true ↦ taken SetName (length words == 1) words
+      | false ↦ elim (is_called (codes "setinfo") word) [
+        | true ↦ taken SetInfo (length words == 2) words
+        | false ↦ elim (is_called (codes "getname") word) [
+          | true ↦ taken GetName (length words == 0) words
+          | false ↦ elim (is_called (codes "id") word) [
+            | true ↦ taken Id (length words == 0) words
+            | false ↦ elim (is_called (codes "no-evict") word) [
+              | true ↦ taken NoEvict (length words == 1) words
+              | false ↦ elim (is_called (codes "reply") word) [
+                | true ↦ taken Reply (length words == 1) words
+                | false ↦ refused (unknown_subcommand (codes "CLIENT HELP.") word)
+              ]
+            ]
+          ]
+        ]
+      ]
+    ]
+
+abbrev pub client : List (List ℕ) → Looked
+client [] = refused (wrong_arguments (codes "client"))
+client (word ∷ words) = client_named word words
+
+abbrev pub command : List (List ℕ) → Looked
+command [] = known Commands []
+command (word ∷ words) =
+    elim (is_called (codes "docs") word) [
+      | true ↦ known Docs words
+      | false ↦ elim (is_called (codes "count") word) [
+        | true ↦ taken Count (length words == 0) words
+        | false ↦ refused (unknown_subcommand (codes "COMMAND HELP.") word)
+      ]
+    ]
+
+-- a subcommand of the Sentinel's rules with another number of words, or none of them
+abbrev pub sentinel : (miscounted : Bool) → List (List ℕ) → Looked
+sentinel miscounted [] = refused (wrong_arguments (codes "sentinel"))
+sentinel miscounted (word ∷ words) =
+    elim miscounted [
+      | true ↦ refused (wrong_arguments (codes "sentinel|" ++ map printed_byte (lower word)))
+      | false ↦ refused (unknown_subcommand (codes "SENTINEL HELP.") word)
+    ]
+
+-- a command that is none of those of a connection
+abbrev pub other_named : (miscounted : Bool) → List ℕ → List (List ℕ) → Looked
+other_named miscounted name words =
+    elim (is_called (codes "role") name) [
+      | true ↦ taken Role (length words == 0) words
+      | false ↦ elim (is_called (codes "publish") name) [
+        | true ↦ taken Publish (length words == 2) words
+        | false ↦ elim (is_called (codes "info") name) [
+          | true ↦ known Info words
+          | false ↦ elim (is_called (codes "sentinel") name) [
+            | true ↦ sentinel miscounted words
+            | false ↦ elim (is_called (codes "subscribe") name) [
+              | true ↦ refused (wrong_arguments (codes "subscribe"))
+              | false ↦ refused (unknown_command name words)
+            ]
+          ]
+        ]
+      ]
+    ]
+
+-- The command with this name and these words. Where the rules of the Sentinel know it, they refused it as `miscounted`
+abbrev pub looked_up : (miscounted : Bool) → List ℕ → List (List ℕ) → Looked
+looked_up miscounted name words =
+    elim (is_called (codes "ping") name) [
+      | true ↦ taken Ping (nat_le (length words) 1) words
+      | false ↦ elim (is_called (codes "hello") name) [
+        | true ↦ known Hello words
+        | false ↦ elim (is_called (codes "auth") name) [
+          | true ↦ taken Auth (nat_lt 0 (length words)) words
+          | false ↦ elim (is_called (codes "client") name) [
+            | true ↦ client words
+            | false ↦ elim (is_called (codes "command") name) [ true ↦ command words | false ↦ other_named miscounted name words ]
+          ]
+        ]
+      ]
+    ]
+
+-- ---- passwords
+
+abbrev pub is_some : {X : Type 0} → Option X → Bool
+is_some None = false
+is_some (Some x) = true
+
+-- a password is wanted that wasn't given
+abbrev pub lacks_password : (wanted : Option (List ℕ)) → (admitted : Bool) → Bool
+lacks_password None admitted = false
+lacks_password (Some password) admitted = not admitted
+
+abbrev pub is_stranger : ClientInfo → Bool
+is_stranger asker = lacks_password asker.password asker.admitted
+
+-- the whole password that is wanted; any word where none is
+abbrev pub is_password : (wanted : Option (List ℕ)) → List ℕ → Bool
+is_password None word = true
+is_password (Some password) word = bytes_eq word password
+
+-- the commands by which a client gives its password
+abbrev pub is_for_strangers : (name : List ℕ) → Bool
+is_for_strangers name = is_called (codes "auth") name || is_called (codes "hello") name
+
+-- a client that didn't give its password has no other command, whether there is one with this name or none
+abbrev pub is_barred : ClientInfo → (name : List ℕ) → Bool
+is_barred asker name = is_stranger asker && not (is_for_strangers name)
+
+-- ---- what each is answered
+
+abbrev pub ok : Frame
+ok = simple (codes "OK")
+
+abbrev pub first : List (List ℕ) → List ℕ
+first [] = []
+first (word ∷ words) = word
+
+-- no space, and nothing that isn't printed
+abbrev pub is_name_byte : ℕ → Bool
+is_name_byte b = nat_le 33 b && nat_le b 126
+
+abbrev pub is_client_name : List ℕ → Bool
+is_client_name word = list_all is_name_byte word
+
+-- there is this user and no other
+abbrev pub is_user : List ℕ → Bool
+is_user word = bytes_eq word (codes "default")
+
+-- a list of values as the clients of protocol 2 get a map: each name before its value
+abbrev pub hello_map : ℕ → Frame
+hello_map id =
+    items (frames_of (bulk (codes "server") ∷ bulk (codes "redis") ∷ bulk (codes "version") ∷ bulk (codes "7.2.0") ∷ bulk (codes "proto") ∷ int (pos 2)
+    ∷ bulk (codes "id") ∷ int (pos id) ∷ bulk (codes "mode") ∷ bulk (codes "sentinel") ∷ bulk (codes "modules") ∷ items no_frames ∷ []))
+
+abbrev pub is_negative : List ℕ → Bool
+is_negative [] = false
+is_negative (b ∷ bs) = (b == 45) && is_some (canonical_within 1 9223372036854775808 bs)
+
+-- a number of 64 bits with a sign
+abbrev pub is_integer : List ℕ → Bool
+is_integer word = is_some (canonical_within 0 9223372036854775807 word) || is_negative word
+
+-- the name that the options of HELLO leave a connection, whether its client gave the password then, and why they are refused, if so
+pub record Greeted : Type 0 where
+  pub name : List ℕ
+  pub admitted : Bool
+  pub refusal : Option Frame
+
+-- what the next word is to be after the name of an option
+abbrev pub expected : List ℕ → Option Expects
+expected word =
+    elim (is_called (codes "auth") word) [ true ↦ Some User | false ↦ elim (is_called (codes "setname") word) [ true ↦ Some NewName | false ↦ None ] ]
+
+-- each option in turn, from a word that is expected after the option; what comes after the first option that is refused has no effect
+abbrev pub greeted : (wanted : Option (List ℕ)) → Expects → (option name : List ℕ) → (admitted : Bool) → List (List ℕ) → Greeted
+greeted wanted Start option name admitted [] = record { name = name; admitted = admitted; refusal = None }
+greeted wanted User option name admitted [] = record { name = name; admitted = admitted; refusal = Some (no_option option) }
+greeted wanted (Password familiar) option name admitted [] = record { name = name; admitted = admitted; refusal = Some (no_option option) }
+greeted wanted NewName option name admitted [] = record { name = name; admitted = admitted; refusal = Some (no_option option) }
+greeted wanted Start option name admitted (word ∷ words) =
+    elim (expected word) [
+      | Some next ↦ greeted wanted next word name admitted words
+      | None ↦ record { name = name; admitted = admitted; refusal = Some (no_option word) }
+    ]
+greeted wanted User option name admitted (word ∷ words) = greeted wanted (Password (is_user word)) option name admitted words
+greeted wanted (Password familiar) option name admitted (word ∷ words) =
+    elim (familiar && is_password wanted word) [
+      | true ↦ greeted wanted Start option name true words
+      | false ↦ record { name = name; admitted = admitted; refusal = Some wrong_password }
+    ]
+greeted wanted NewName option name admitted (word ∷ words) =
+    elim (is_client_name word) [
+      | true ↦ greeted wanted Start option word admitted words
+      | false ↦ record { name = name; admitted = admitted; refusal = Some no_name }
+    ]
+
+abbrev pub or_else : Option Frame → Frame → Frame
+or_else None answer = answer
+or_else (Some refusal) answer = refusal
+
+-- the text that was there, or the refusal in its place
+abbrev pub refusal_text : List ℕ → Option Frame → List ℕ
+refusal_text before None = before
+refusal_text before (Some refusal) = spelling refusal
+
+-- the first word of HELLO asks for protocol 2, which is the only one
+abbrev pub asks_for_2 : List (List ℕ) → Bool
+asks_for_2 [] = true
+asks_for_2 (version ∷ options) = bytes_eq version (codes "2")
+
+abbrev pub after_first : List (List ℕ) → List (List ℕ)
+after_first [] = []
+after_first (word ∷ words) = words
+
+-- what the options of HELLO with these words leave a connection
+abbrev pub greeted_by : ClientInfo → List (List ℕ) → Greeted
+greeted_by asker words = greeted asker.password Start [] asker.name asker.admitted (after_first words)
+
+-- HELLO is answered to clients alone that gave the password before it or with it
+abbrev pub greeting_of : ClientInfo → (admitted : Bool) → Frame
+greeting_of asker admitted = elim (lacks_password asker.password admitted) [ true ↦ no_auth_yet | false ↦ hello_map asker.id ]
+
+abbrev pub welcome : ClientInfo → Greeted → Frame
+welcome asker g = or_else g.refusal (greeting_of asker g.admitted)
+
+-- at the refusal of protocol 3 clients go on with protocol 2
+abbrev pub hello : ClientInfo → List (List ℕ) → Frame
+hello asker words =
+    elim (asks_for_2 words) [
+      | true ↦ welcome asker (greeted_by asker words)
+      | false ↦ elim (is_integer (first words)) [ true ↦ no_such_protocol | false ↦ no_protocol ]
+    ]
+
+-- the name that a connection has after HELLO
+abbrev pub hello_name : ClientInfo → List (List ℕ) → List ℕ
+hello_name asker words = elim (asks_for_2 words) [ true ↦ (greeted_by asker words).name | false ↦ asker.name ]
+
+-- whether the client gave the password then
+abbrev pub hello_admitted : ClientInfo → List (List ℕ) → Bool
+hello_admitted asker words = elim (asks_for_2 words) [ true ↦ (greeted_by asker words).admitted | false ↦ asker.admitted ]
+
+-- AUTH with these words is answered OK: a password that is wanted, or a user and its password
+abbrev pub admits : (wanted : Option (List ℕ)) → List (List ℕ) → Bool
+admits wanted [] = false
+admits wanted (word ∷ []) = is_some wanted && is_password wanted word
+admits wanted (user ∷ word ∷ []) = is_user user && is_password wanted word
+admits wanted (user ∷ word ∷ next ∷ words) = false
+
+-- why AUTH with so many words isn't answered OK
+abbrev pub unadmitted : (wanted : Option (List ℕ)) → (count : ℕ) → Frame
+unadmitted wanted count =
+    elim (count == 1) [
+      | true ↦ elim (is_some wanted) [ true ↦ wrong_password | false ↦ no_password ]
+      | false ↦ elim (count == 2) [ true ↦ wrong_password | false ↦ syntax_error ]
+    ]
+
+abbrev pub auth : (wanted : Option (List ℕ)) → List (List ℕ) → Frame
+auth wanted words = elim (admits wanted words) [ true ↦ ok | false ↦ unadmitted wanted (length words) ]
+
+abbrev pub set_name : List (List ℕ) → Frame
+set_name words = elim (is_client_name (first words)) [ true ↦ ok | false ↦ no_name ]
+
+abbrev pub get_name : List ℕ → Frame
+get_name [] = null_bulk
+get_name (b ∷ bs) = bulk (b ∷ bs)
+
+abbrev pub no_evict : List (List ℕ) → Frame
+no_evict words = elim (is_called (codes "on") (first words) || is_called (codes "off") (first words)) [ true ↦ ok | false ↦ syntax_error ]
+
+-- each value has its answer, so a client can't do without
+abbrev pub reply : List (List ℕ) → Frame
+reply words = elim (is_called (codes "on") (first words)) [ true ↦ ok | false ↦ syntax_error ]
+
+abbrev pub names_of : List MonitoredMaster → List (List ℕ)
+names_of [] = []
+names_of (master ∷ masters) = master.name ∷ names_of masters
+
+abbrev pub role : List (List ℕ) → Frame
+role masters = items (frames_of (bulk (codes "sentinel") ∷ items (frames_of (map bulk masters)) ∷ []))
+
+-- the channel on which Sentinels say hello
+abbrev pub is_hello_channel : List ℕ → Bool
+is_hello_channel word = bytes_eq word (codes "__sentinel__:hello")
+
+-- what others say isn't heard
+abbrev pub publish : List (List ℕ) → Frame
+publish words = elim (is_hello_channel (first words)) [ true ↦ int (pos 1) | false ↦ no_hello ]
+
+-- the answer to a command of a connection that doesn't listen; no command is described
+abbrev pub executed : ClientInfo → Verb → List (List ℕ) → Answer
+executed asker Ping words = said (bulk (first words))
+executed asker Hello words = said (hello asker words)
+executed asker Auth words = said (auth asker.password words)
+executed asker SetName words = said (set_name words)
+executed asker SetInfo words = said ok
+executed asker GetName words = said (get_name asker.name)
+executed asker Id words = said (int (pos asker.id))
+executed asker NoEvict words = said (no_evict words)
+executed asker Reply words = said (reply words)
+executed asker Commands words = said (items no_frames)
+executed asker Docs words = said (items no_frames)
+executed asker Count words = said (int (pos 0))
+executed asker Role words = said (role (names_of asker.masters))
+executed asker Publish words = said (publish words)
+executed asker Info words = asks_masters
+
+-- the answer to PING of a connection that listens
+abbrev pub pong : List (List ℕ) → Frame
+pong words = items (frames_of (bulk (codes "pong") ∷ bulk (first words) ∷ []))
+
+-- a connection that listens has an answer to PING alone
+abbrev pub while_listening : Verb → List (List ℕ) → Frame
+while_listening Ping words = pong words
+while_listening verb words = not_while_listening (verb_name verb)
+
+-- the name that a connection has after a command
+abbrev pub name_after : ClientInfo → Verb → List (List ℕ) → List ℕ
+name_after asker SetName words = elim (is_client_name (first words)) [ true ↦ first words | false ↦ asker.name ]
+name_after asker Hello words = hello_name asker words
+name_after asker verb words = asker.name
+
+-- whether its client gave the password then
+abbrev pub admitted_after : ClientInfo → Verb → List (List ℕ) → Bool
+admitted_after asker Auth words = asker.admitted || admits asker.password words
+admitted_after asker Hello words = hello_admitted asker words
+admitted_after asker verb words = asker.admitted
+
+-- ---- the answer to a value
+
+abbrev pub words_of : Frame → List (List ℕ)
+words_of (items fs) = words fs
+words_of value = []
+
+abbrev pub is_miscounted : Result Command CommandFault → Bool
+is_miscounted (Err WrongArguments) = true
+is_miscounted asked = false
+
+-- the rules of the Sentinel call it unknown, or refuse its number of words
+abbrev pub is_refused : Result Command CommandFault → Bool
+is_refused (Err UnknownCommand) = true
+is_refused (Err WrongArguments) = true
+is_refused asked = false
+
+-- SUBSCRIBE with channels is left to the session
+abbrev pub names_channels : List (List ℕ) → Bool
+names_channels [] = false
+names_channels (name ∷ []) = false
+names_channels (name ∷ word ∷ words) = is_called (codes "subscribe") name
+
+abbrev pub answered : ClientInfo → Looked → Answer
+answered asker (refused refusal) = said refusal
+answered asker (known verb words) = elim asker.listens [ true ↦ said (while_listening verb words) | false ↦ executed asker verb words ]
+
+abbrev pub named : ClientInfo → Looked → List ℕ
+named asker (refused refusal) = asker.name
+named asker (known verb words) = elim asker.listens [ true ↦ asker.name | false ↦ name_after asker verb words ]
+
+abbrev pub admitted_by : ClientInfo → Looked → Bool
+admitted_by asker (refused refusal) = asker.admitted
+admitted_by asker (known verb words) = elim asker.listens [ true ↦ asker.admitted | false ↦ admitted_after asker verb words ]
+
+abbrev pub looked_up_in : ClientInfo → (miscounted : Bool) → List (List ℕ) → Option Looked
+looked_up_in asker miscounted [] = None
+looked_up_in asker miscounted (name ∷ words) =
+    elim (names_channels (name ∷ words) || is_barred asker name) [ true ↦ None | false ↦ Some (looked_up miscounted name words) ]
+
+-- the command that the rules of the Sentinel leave to the courtesies, where they do
+abbrev pub left_over : ClientInfo → Frame → Option Looked
+left_over asker value =
+    elim (is_refused (command_of value)) [ true ↦ looked_up_in asker (is_miscounted (command_of value)) (words_of value) | false ↦ None ]
+
+-- the answers of the Sentinel's rules that are told in other words
+abbrev pub wording_of : Result Command CommandFault → Option Wording
+wording_of (Ok (Master name)) = Some (Rows OneMaster)
+wording_of (Ok Masters) = Some (Rows AllMasters)
+wording_of (Ok (Replicas name)) = Some (Rows OfReplicas)
+wording_of (Ok (Sentinels name)) = Some (Rows OfSentinels)
+wording_of (Ok (CkQuorum name)) = Some (Quorum name)
+wording_of asked = None
+
+-- what becomes of a value that the rules answer
+abbrev pub own_answer : Option Wording → Answer
+own_answer None = left
+own_answer (Some wording) = widens
+
+abbrev pub unless_stranger : ClientInfo → Answer → Answer
+unless_stranger asker answer = elim (is_stranger asker) [ true ↦ said no_auth | false ↦ answer ]
+
+abbrev pub or_left : ClientInfo → Option Looked → Answer
+or_left asker None = unless_stranger asker left
+or_left asker (Some looked) = answered asker looked
+
+abbrev pub or_same : ClientInfo → Option Looked → List ℕ
+or_same asker None = asker.name
+or_same asker (Some looked) = named asker looked
+
+abbrev pub or_admitted : ClientInfo → Option Looked → Bool
+or_admitted asker None = asker.admitted
+or_admitted asker (Some looked) = admitted_by asker looked
+
+-- an array without items asks for nothing
+abbrev pub asks_nothing : Frame → Bool
+asks_nothing (items no_frames) = true
+asks_nothing null_items = true
+asks_nothing value = false
+
+-- the answer to a value that asks for something
+abbrev pub reply_to : ClientInfo → Frame → Answer
+reply_to asker value =
+    elim (is_refused (command_of value)) [
+      | true ↦ or_left asker (looked_up_in asker (is_miscounted (command_of value)) (words_of value))
+      | false ↦ unless_stranger asker (own_answer (wording_of (command_of value)))
+    ]
+
+-- the answer to a value of a connection
+abbrev pub courtesy : ClientInfo → Frame → Answer
+courtesy asker value = elim (asks_nothing value) as (λ _. Answer) [ true ↦ silent | false ↦ reply_to asker value ]
+
+-- what is known of the connection after it
+abbrev pub asker_after : ClientInfo → Frame → ClientInfo
+asker_after asker value = record asker { name = or_same asker (left_over asker value); admitted = or_admitted asker (left_over asker value) }
+
+-- ---- an answer as it is handed out
+
+abbrev pub kind_of : Answer → Courtesy
+kind_of left = Left
+kind_of widens = Widens
+kind_of (said answer) = Said
+kind_of asks_masters = AsksMasters
+kind_of silent = Said
+
+-- its bytes on the wire, where it is known
+abbrev pub text_of : Answer → List ℕ
+text_of left = []
+text_of widens = []
+text_of (said answer) = spelling answer
+text_of asks_masters = []
+text_of silent = []

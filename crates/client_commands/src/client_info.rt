@@ -1,0 +1,196 @@
+//! What is known of a connection.
+
+ghost use Rattle.std.specs.Prelude.{◌≡◌, Some, false};
+ghost use Rattle.client_commands.specs.Courtesies.{is_some, lacks_password, is_stranger, is_password};
+
+use crate::passwords::is_same;
+use ballot_law::{Name, Text};
+use std::marker::Model;
+
+/// A master that a Sentinel watches.
+#[derive(Drop)]
+pub struct MonitoredMaster {
+    /// Its name.
+    pub name: Name,
+    /// How many Sentinels have to call it down before a failover.
+    pub quorum: u32,
+}
+
+impl Model for MonitoredMaster {
+    ghost use Rattle.client_commands.specs.Courtesies.{MonitoredMaster as MonitoredMasterModel};
+
+    ghost Value = { MonitoredMasterModel };
+
+    ghost view = { λ master. record { name = master.name; quorum = master.quorum } };
+}
+
+impl MonitoredMaster {
+    /// The name.
+    pub(crate) fn name(&self) -> &[u8]
+        ensures { result.now ≡ self.now.name }
+    {
+        self.name.as_slice()
+    }
+
+    /// The quorum.
+    pub(crate) fn quorum(&self) -> u32
+        ensures { result ≡ self.now.quorum }
+    {
+        self.quorum
+    }
+}
+
+/// What is known of a connection.
+#[derive(Drop)]
+pub struct ClientInfo {
+    /// Its number, which no other connection of the port has.
+    pub id: u64,
+    /// The name that its client gave it, empty where it gave none.
+    pub name: Text,
+    /// Whether it listens to notes.
+    pub listens: bool,
+    /// The Sentinel's masters, in the roster's order.
+    pub masters: Vec<MonitoredMaster>,
+    /// How many Sentinels watch them, this one too.
+    pub sentinels: usize,
+    /// The password that is wanted of its client; none where every client is admitted.
+    pub password: Option<Text>,
+    /// Whether the client gave the password.
+    pub admitted: bool,
+    /// The Sentinel's current epoch as it was last told; none where requests for votes of any epoch are heard.
+    pub current: Option<u64>,
+}
+
+impl Model for ClientInfo {
+    ghost use Rattle.client_commands.specs.Courtesies.{ClientInfo as AskerModel};
+
+    ghost Value = { AskerModel };
+
+    ghost view = { λ asker. record { id = asker.id; name = asker.name; listens = asker.listens; masters = asker.masters.items; sentinels = asker.sentinels; password = asker.password; admitted = asker.admitted; current = asker.current } };
+}
+
+impl ClientInfo {
+    /// The number.
+    pub(crate) fn id(&self) -> u64
+        ensures { result ≡ self.now.id }
+    {
+        self.id
+    }
+
+    /// The name.
+    pub(crate) fn name(&self) -> &[u8]
+        ensures { result.now ≡ self.now.name }
+    {
+        self.name.as_slice()
+    }
+
+    /// Whether it listens.
+    pub(crate) fn listens(&self) -> bool
+        ensures { result ≡ self.now.listens }
+    {
+        self.listens
+    }
+
+    /// The masters.
+    pub(crate) fn masters(&self) -> &[MonitoredMaster]
+        ensures { result.now ≡ self.now.masters }
+    {
+        self.masters.as_slice()
+    }
+
+    /// How many Sentinels there are.
+    pub(crate) fn sentinels(&self) -> usize
+        ensures { result ≡ self.now.sentinels }
+    {
+        self.sentinels
+    }
+
+    /// Whether a password is wanted.
+    pub(crate) fn wants_password(&self) -> bool
+        ensures { result ≡ is_some self.now.password }
+    {
+        self.password.is_some()
+    }
+
+    /// Whether a client that gave the password or didn't, as is told, is still to give it.
+    pub(crate) fn lacks_password(&self, admitted: bool) -> bool
+        ensures { result ≡ lacks_password self.now.password admitted }
+    {
+        self.password.is_some() && !admitted
+    }
+
+    /// Whether its client is still to give the password.
+    pub(crate) fn is_stranger(&self) -> bool
+        ensures { result ≡ is_stranger self.now }
+    {
+        self.lacks_password(self.admitted)
+    }
+
+    /// Whether the word is the password that is wanted, or none is.
+    pub(crate) fn is_password(&self, word: &[u8]) -> bool
+        ensures { result ≡ is_password self.now.password word.now }
+    {
+        match &self.password {
+            Some(password) => is_same(word, password.as_slice()),
+            None => true,
+        }
+    }
+
+    /// Whether its client gave the password.
+    pub(crate) fn admitted(&self) -> bool
+        ensures { result ≡ self.now.admitted }
+    {
+        self.admitted
+    }
+
+    /// Gives it another name.
+    pub(crate) fn rename(&mut self, name: Text)
+        ensures { self.new ≡ record self.old { name = name } }
+    {
+        self.name = name;
+    }
+
+    /// Has it listen or not.
+    pub(crate) fn listen(&mut self, listens: bool)
+        ensures { self.new ≡ record self.old { listens = listens } }
+    {
+        self.listens = listens;
+    }
+
+    /// Has it know these masters, which `sentinels` Sentinels watch.
+    pub(crate) fn watch(&mut self, masters: Vec<MonitoredMaster>, sentinels: usize)
+        ensures { self.new ≡ record self.old { masters = masters.items; sentinels = sentinels } }
+    {
+        self.masters = masters;
+        self.sentinels = sentinels;
+    }
+
+    /// Has it want this password, which its client didn't give.
+    pub(crate) fn want_password(&mut self, password: Text)
+        ensures { self.new ≡ record self.old { password = Some password; admitted = false } }
+    {
+        self.password = Some(password);
+        self.admitted = false;
+    }
+
+    /// The Sentinel's current epoch as it was last told.
+    pub(crate) fn current(&self) -> Option<u64>
+        ensures { result ≡ self.now.current }
+    {
+        self.current
+    }
+
+    /// Has it know this current epoch of the Sentinel.
+    pub(crate) fn note_epoch(&mut self, epoch: u64)
+        ensures { self.new ≡ record self.old { current = Some epoch } }
+    {
+        self.current = Some(epoch);
+    }
+
+    /// Has it know whether its client gave the password.
+    pub(crate) fn admit(&mut self, admitted: bool)
+        ensures { self.new ≡ record self.old { admitted = admitted } }
+    {
+        self.admitted = admitted;
+    }
+}

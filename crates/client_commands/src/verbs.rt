@@ -1,0 +1,49 @@
+//! The commands beside a Sentinel's own.
+
+ghost use Rattle.std.specs.Prelude.{◌≡◌};
+ghost use Rattle.client_commands.specs.Courtesies.{verb_name};
+
+/// A command beside a Sentinel's own.
+#[derive(Clone, Copy)]
+pub(crate) enum Verb {
+    Ping,
+    Hello,
+    Auth,
+    SetName,
+    SetInfo,
+    GetName,
+    Id,
+    NoEvict,
+    Reply,
+    Commands,
+    Docs,
+    Count,
+    Role,
+    Publish,
+    Info,
+}
+
+impl Verb {
+    /// Its name, that of a subcommand after that of its command.
+    pub(crate) fn name(self) -> &'static [u8]
+        ensures { result.now ≡ verb_name self }
+    {
+        match self {
+            Verb::Ping => b"ping",
+            Verb::Hello => b"hello",
+            Verb::Auth => b"auth",
+            Verb::SetName => b"client|setname",
+            Verb::SetInfo => b"client|setinfo",
+            Verb::GetName => b"client|getname",
+            Verb::Id => b"client|id",
+            Verb::NoEvict => b"client|no-evict",
+            Verb::Reply => b"client|reply",
+            Verb::Commands => b"command",
+            Verb::Docs => b"command|docs",
+            Verb::Count => b"command|count",
+            Verb::Role => b"role",
+            Verb::Publish => b"publish",
+            Verb::Info => b"info",
+        }
+    }
+}

@@ -1,5 +1,0 @@
-use Rattle.std.proofs.Common.{◌≡◌, map, take}
-use Rattle.client_nodes.proofs.group.addrs_of.Given as goal
-
-abbrev pub invariant-loop-member : goal.invariant-loop-member
-invariant-loop-member l = l.addrs.items ≡ map (λ member. member.addr) (take l.member-index l.members)

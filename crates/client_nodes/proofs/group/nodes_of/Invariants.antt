@@ -1,6 +1,0 @@
-use Rattle.std.proofs.Common.{◌≡◌, take}
-use Rattle.std.specs.List.{flat_map}
-use Rattle.client_nodes.proofs.group.nodes_of.Given as goal
-
-abbrev pub invariant-loop-master : goal.invariant-loop-master
-invariant-loop-master l = l.addrs.items ≡ flat_map (λ master. master.nodes) (take l.master-index l.masters)

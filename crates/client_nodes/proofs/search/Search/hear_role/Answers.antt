@@ -1,5 +1,0 @@
-use Rattle.std.proofs.Common.{rules}
-use Rattle.client_nodes.proofs.search.Search.hear_role.Goals as goal
-
-pub returns-then-role_was : goal.returns-then-role_was
-returns-then-role_was c = search rules

@@ -1,0 +1,50 @@
+-- What is read and sent by one call after the other, where the bytes may be unknown.
+use Rattle.std.proofs.Common.{◌≡◌, ◌∷◌, subst, ◌≤◌, ◌+◌, ◌-◌, ℕ, List, length, arith, [], ◌++◌, take, drop, Option, None, Some, append_assoc, sym, refl, ◌∙◌, ap}
+use Rattle.std.specs.Io.KnownBytes.{Consumes, Appends, Keeps}
+use Rattle.std.proofs.lemmas.List.{append-nil, take-append-drop, length-take-le, drop-take}
+use Rattle.client_port.specs.Sending.{IsSent}
+
+pub consumes_nothing : (a b : Option (List ℕ)) → Keeps a b → Consumes a b []
+consumes_nothing None b h = tt
+consumes_nothing (Some old) None h = absurd h
+consumes_nothing (Some old) (Some new) h = sym h
+
+appends_nothing : (a b : Option (List ℕ)) → Keeps a b → Appends a b []
+appends_nothing None b h = tt
+appends_nothing (Some old) None h = absurd h
+appends_nothing (Some old) (Some new) h = h ∙ sym (append-nil old)
+
+appends_twice : (a b c : Option (List ℕ)) (xs ys : List ℕ) → Appends a b xs → Appends b c ys → Appends a c (xs ++ ys)
+appends_twice None b c xs ys h k = tt
+appends_twice (Some old) None c xs ys h k = absurd h
+appends_twice (Some old) (Some mid) None xs ys h k = absurd k
+appends_twice (Some old) (Some mid) (Some new) xs ys h k = k ∙ ap (λ t. t ++ ys) h ∙ append_assoc old xs ys
+
+pub sent_none : (a b : Option (List ℕ)) (unsent : List ℕ) → Keeps a b → IsSent a b unsent unsent
+sent_none a b unsent h = ([], refl, appends_nothing a b h)
+
+pub sent_some : (a b : Option (List ℕ)) (unsent : List ℕ) (n : ℕ) → Appends a b (take n unsent) → IsSent a b unsent (drop n unsent)
+sent_some a b unsent n h = (take n unsent, sym (take-append-drop n unsent), h)
+
+pub sent_twice : (a b c : Option (List ℕ)) (unsent middle left : List ℕ) → IsSent a b unsent middle → IsSent b c middle left → IsSent a c unsent left
+sent_twice a b c unsent middle left h k =
+    (h.0 ++ k.0, h.1 ∙ ap (λ t. h.0 ++ t) k.1 ∙ sym (append_assoc h.0 k.0 left), appends_twice a b c h.0 k.0 h.2 k.2)
+
+pub sent_nothing : (a : Option (List ℕ)) (unsent : List ℕ) → IsSent a a unsent unsent
+sent_nothing None unsent = ([], refl, tt)
+sent_nothing (Some old) unsent = ([], refl, sym (append-nil old))
+
+pub first_part : (xs : List ℕ) (n : ℕ) → n ≤ length xs → xs ≡ take n xs ++ drop (length (take n xs)) xs
+first_part xs n fits =
+    let size : length (take n xs) ≡ n = length-take-le n xs fits in
+    rw size (sym (take-append-drop n xs))
+
+pub whole_part : (xs : List ℕ) → xs ≡ xs ++ drop (length xs) xs
+whole_part [] = refl
+whole_part (x ∷ xs) = ap (λ t. x ∷ t) (whole_part xs)
+
+-- `&xs[from..to]`, as the first `to` elements without the first `from` of them
+pub part_is : (xs : List ℕ) (from to : ℕ) → from ≤ to → take (to - from) (drop from xs) ≡ drop from (take to xs)
+part_is xs from to ordered =
+    let whole : from + (to - from) ≡ to = omega (arith, ordered) in
+    subst (λ n. take (to - from) (drop from xs) ≡ drop from (take n xs)) whole (sym (drop-take from (to - from) xs))

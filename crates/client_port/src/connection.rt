@@ -1,0 +1,343 @@
+//! One client's connection.
+
+ghost use Rattle.std.specs.Prelude.{◌≡◌, ◌≢◌, ◌<◌, ◌↔◌, ◌⊎◌, ◌++◌, ℕ, List, [], None, IsTrue, false, true, length};
+ghost use Rattle.std.specs.Io.KnownBytes.{Consumes};
+ghost use Rattle.courteous_sessions.specs.Clients.{unsent_of, held_of, listens_of, owes_password};
+ghost use Rattle.client_port.specs.Admitting.{has_own_seat};
+ghost use Rattle.client_port.specs.Sending.{IsSent, IsHanded};
+
+use crate::read_buffer::{PIECE, ReadBuffer};
+use crate::seats::Place;
+use crate::standing::Standing;
+use crate::waiting::Line;
+use courteous_sessions::ClientSession;
+use sentinel_conf::ConfStore;
+use sentinel_core::ServeFault;
+use sentinel_runtime::{News, RunFault, RunState, RunningSentinel, ThreadSeat, Which};
+use std::io::{ErrorKind, Read, Write};
+use std::rt::Clock;
+use std::sync::Wait;
+
+/// How many times a connection reads, or hands bytes over, before the others have their turn.
+const STEPS_MAX: u32 = 16;
+
+/// How many bytes may wait to be sent before the connection is read no further, and no more of what was read is answered.
+pub(crate) const UNSENT_MAX: usize = 1_048_576;
+
+/// With how many bytes that wait to be sent a connection is closed at an event: its client doesn't read them.
+const TOLD_MAX: usize = 2 * UNSENT_MAX;
+
+/// Whence a connection came: on which seat it is kept, whether another Sentinel has its ip, and the clock's reading
+/// in milliseconds when it came.
+#[derive(Clone, Copy)]
+pub(crate) struct Origin {
+    pub(crate) place: Place,
+    pub(crate) is_peer: bool,
+    pub(crate) came: u64,
+}
+
+/// A client's connection with its session.
+///
+/// `readable` is whether the system told of bytes that may not be read yet. `half` is whether its client has ended
+/// its stream or broken off, as the system told: then the end is still to be read after the last piece. `votes` is
+/// whether it may have asked for a vote that isn't answered yet. `ends` is whether no more of it is read or answered:
+/// it is closed once all is sent. `heard` is the clock's reading of the turn that read its last byte, or of when it
+/// came. `counted` is how many bytes were unsent when that was looked at last.
+#[derive(Drop)]
+pub(crate) struct Connection<T: Read + Write + Drop> {
+    stream: T,
+    session: ClientSession,
+    buffer: ReadBuffer,
+    readable: bool,
+    half: bool,
+    votes: bool,
+    ends: bool,
+    origin: Origin,
+    heard: u64,
+    counted: usize,
+}
+
+impl<T: Read + Write + Drop> Connection<T> {
+    /// A connection from which nothing was read, with a session to which no bytes came.
+    pub(crate) fn new(stream: T, session: ClientSession, origin: Origin) -> Connection<T> {
+        Connection {
+            stream,
+            session,
+            buffer: ReadBuffer::new(),
+            readable: false,
+            half: false,
+            votes: false,
+            ends: false,
+            origin,
+            heard: origin.came,
+            counted: 0,
+        }
+    }
+
+    /// On which seat it is kept.
+    pub(crate) fn place(&self) -> Place
+        ensures { result ≡ self.now.origin.place }
+    {
+        self.origin.place
+    }
+
+    /// Whether its client listens.
+    pub(crate) fn listens(&self) -> bool
+        ensures { result ≡ listens_of self.now.session }
+    {
+        self.session.listens()
+    }
+
+    /// The clock's reading of the turn that read its last byte, or of when it came.
+    pub(crate) fn heard(&self) -> u64
+        ensures { result ≡ self.now.heard }
+    {
+        self.heard
+    }
+
+    /// How many bytes were unsent when that was looked at last.
+    pub(crate) fn counted(&self) -> usize
+        ensures { result ≡ self.now.counted }
+    {
+        self.counted
+    }
+
+    /// How many bytes are unsent, which is looked at.
+    pub(crate) fn count_unsent(&mut self) -> usize
+        ensures count { result ≡ length (unsent_of self.old.session) }
+        ensures rest { self.new ≡ record self.old { counted = result } }
+    {
+        self.counted = self.session.unsent().len();
+        self.counted
+    }
+
+    /// Gives back the room in which nothing is held.
+    pub(crate) fn rest(&mut self)
+        ensures { self.new.session ≡ self.old.session }
+    {
+        self.session.rest();
+    }
+
+    /// What counts where it may have to go.
+    pub(crate) fn standing(&self) -> Standing
+        ensures seat { result.has_own_seat ≡ has_own_seat self.now.origin.place }
+        ensures listens { result.listens ≡ listens_of self.now.session }
+        ensures owes { result.owes ≡ owes_password self.now.session }
+        ensures works { result.works ≡ false → unsent_of self.now.session ≡ [] }
+        ensures readings { (result.came ≡ self.now.origin.came) × (result.heard ≡ self.now.heard) }
+    {
+        Standing {
+            came: self.origin.came,
+            heard: self.heard,
+            has_own_seat: self.origin.place.is_own(),
+            listens: self.session.listens(),
+            owes: self.session.owes_password(),
+            works: self.wants_turn() || !self.session.unsent().is_empty(),
+        }
+    }
+
+    /// In which line it waits where it has something to do.
+    pub(crate) fn line(&self) -> Line {
+        match (self.votes, self.origin.is_peer) {
+            (false, _) => Line::Plain,
+            (true, true) => Line::PeerVoter,
+            (true, false) => Line::OtherVoter,
+        }
+    }
+
+    /// The system told of bytes to read, and whether its client has ended its stream or broken off.
+    pub(crate) fn note_readable(&mut self, half: bool) {
+        self.readable = true;
+        self.half |= half;
+    }
+
+    /// Whether it may have asked for a vote that isn't answered yet, which is stored before it is.
+    pub(crate) fn asks_for_votes(&self) -> bool {
+        self.votes
+    }
+
+    /// Whether a turn has something to do: there is something to read or to answer, it doesn't end, and not too much is unsent.
+    pub(crate) fn wants_turn(&self) -> bool
+        ensures { IsTrue result ↔ ((self.now.ends ≡ false) × ((self.now.readable ≡ true) ⊎ (self.now.buffer ≢ [])) × (length (unsent_of self.now.session) < UNSENT_MAX)) }
+    {
+        !self.ends
+            && (self.readable || !self.buffer.is_empty())
+            && self.session.unsent().len() < UNSENT_MAX
+    }
+
+    /// Whether it ends and all is sent.
+    pub(crate) fn is_done(&self) -> bool
+        ensures { IsTrue result ↔ ((self.now.ends ≡ true) × (unsent_of self.now.session ≡ [])) }
+    {
+        self.ends && self.session.unsent().is_empty()
+    }
+
+    /// Writes once of what is unsent; the error says why nothing was taken.
+    #[tactic(auto, using(crate::proofs::Sends::sent_none, crate::proofs::Sends::sent_some))]
+    fn write(&mut self) -> Result<(), ErrorKind>
+        ensures sent { IsSent (T.contents self.old.stream) (T.contents self.new.stream) (unsent_of self.old.session) (unsent_of self.new.session) }
+        ensures read { self.new.buffer ≡ self.old.buffer }
+    {
+        match self.stream.write(self.session.unsent()) {
+            Ok(0) => Err(ErrorKind::WriteZero),
+            Ok(count) => {
+                self.session.sent(count);
+                Ok(())
+            }
+            Err(error) => Err(error.kind()),
+        }
+    }
+
+    /// Sends what is unsent until it would wait: whether the connection is whole. What its client gets is what was taken away of the front.
+    #[tactic(auto, using(crate::proofs::Sends::sent_none, crate::proofs::Sends::sent_twice, crate::proofs::Sends::sent_nothing))]
+    pub(crate) fn send(&mut self) -> bool
+        ensures sent { IsSent (T.contents self.old.stream) (T.contents self.new.stream) (unsent_of self.old.session) (unsent_of self.new.session) }
+        ensures read { self.new.buffer ≡ self.old.buffer }
+    {
+        for _ in 0..u64::MAX {
+            if self.session.unsent().is_empty() {
+                return true;
+            }
+            match self.write() {
+                Ok(()) | Err(ErrorKind::Interrupted) => {}
+                Err(ErrorKind::WouldBlock) => return true,
+                Err(_) => return false,
+            }
+        }
+        true
+    }
+
+    /// Tells its client of a master's new address or of another event, where it has subscribed to that: whether the connection is whole, had memory for it, and doesn't
+    /// leave so much unread that no event is told.
+    pub(crate) fn tell<J: Which, S: ConfStore>(
+        &mut self,
+        member: &RunningSentinel<J, S>,
+        news: &News,
+    ) -> bool {
+        let told = match news {
+            News::Switch(switch) => member.notify(&mut self.session, switch),
+            News::Event(_) if self.session.unsent().len() >= TOLD_MAX => return false,
+            News::Event(event) => self.session.tell_event(event),
+        };
+        match told {
+            Ok(false) => true,
+            Ok(true) => self.send(),
+            Err(_) => false,
+        }
+    }
+
+    /// Reads once, in the turn that began at this reading of the clock: whether the connection is whole. A read that
+    /// leaves room has read all that there was, unless the stream has ended.
+    #[tactic(auto, using(crate::proofs::Sends::consumes_nothing))]
+    fn read(&mut self, now: u64) -> bool
+        requires { self.old.buffer ≡ [] }
+        ensures read { Consumes (T.remaining self.old.stream) (T.remaining self.new.stream) self.new.buffer }
+        ensures session { self.new.session ≡ self.old.session }
+    {
+        match self.buffer.fill(&mut self.stream) {
+            Ok(0) => self.ends = true,
+            Ok(count) => {
+                self.readable = self.half || count == PIECE;
+                self.heard = now;
+            }
+            Err(error) => match error.kind() {
+                ErrorKind::WouldBlock => self.readable = false,
+                ErrorKind::Interrupted => {}
+                _ => return false,
+            },
+        }
+        true
+    }
+
+    /// Hands the session the bytes that are next, at a reading of the clock.
+    fn hand_over<J: Which, S: ConfStore, R: Wait + Clock>(
+        &mut self,
+        rt: &R,
+        state: &RunState,
+        member: &RunningSentinel<J, S>,
+        seat: &mut ThreadSeat<J>,
+        now: u64,
+    )
+        ensures handed { (bytes : List ℕ) × (self.old.buffer ≡ bytes ++ self.new.buffer)
+            × IsHanded member.now.cell.start now self.old.session seat.old.seat.view bytes self.new.session seat.new.seat.view }
+        ensures stream { self.new.stream ≡ self.old.stream }
+    {
+        let bytes = self.buffer.next();
+        let count = bytes.len();
+        let dotted = bytes.last() == Some(&b'.');
+        if let Err(fault) = member.receive(rt, seat, &mut self.session, now, bytes) {
+            if let ServeFault::Halted = fault {
+                state.note(RunFault::Halted);
+            }
+            self.ends = true;
+        }
+        self.votes |= dotted;
+        self.buffer.take(count);
+    }
+
+    /// Reads where nothing is left to hand over, and hands over what is next: whether the connection is whole.
+    fn step<J: Which, S: ConfStore, R: Wait + Clock>(
+        &mut self,
+        rt: &R,
+        state: &RunState,
+        member: &RunningSentinel<J, S>,
+        seat: &mut ThreadSeat<J>,
+        now: u64,
+    ) -> bool {
+        if self.buffer.is_empty() && !self.read(now) {
+            return false;
+        }
+        if !self.buffer.is_empty() {
+            self.hand_over(rt, state, member, seat, now);
+        }
+        true
+    }
+
+    /// Whether all that it asked is answered: nothing is left to read or to hand over, and no part of a value is held.
+    fn is_answered(&self) -> bool
+        ensures { IsTrue result ↔ ((self.now.readable ≡ false) × (self.now.buffer ≡ []) × (held_of self.now.session ≡ [])) }
+    {
+        !self.readable && self.buffer.is_empty() && self.session.holds_nothing()
+    }
+
+    /// Reads and answers, in the turn that began at this reading of the clock, until it would wait, or until others
+    /// have their turn: after the step in which the clock's millisecond ended, or from which on it may ask for votes.
+    /// The answer is whether it is whole.
+    fn take_steps<J: Which, S: ConfStore, R: Wait + Clock>(
+        &mut self,
+        rt: &R,
+        state: &RunState,
+        member: &RunningSentinel<J, S>,
+        seat: &mut ThreadSeat<J>,
+        began: u64,
+    ) -> bool {
+        let asked_for_votes = self.votes;
+        for _ in 0..STEPS_MAX {
+            if !self.step(rt, state, member, seat, began) {
+                return false;
+            }
+            if !self.wants_turn() || self.votes != asked_for_votes || state.clock.now(rt) != began {
+                break;
+            }
+        }
+        true
+    }
+
+    /// Its turn, which began at this reading of the clock: whether it is whole. After a turn among those that may
+    /// have asked for votes it isn't one of them any more, once all that it asked is answered.
+    pub(crate) fn turn<J: Which, S: ConfStore, R: Wait + Clock>(
+        &mut self,
+        rt: &R,
+        state: &RunState,
+        member: &RunningSentinel<J, S>,
+        seat: &mut ThreadSeat<J>,
+        began: u64,
+    ) -> bool {
+        let asked_for_votes = self.votes;
+        let is_whole = self.take_steps(rt, state, member, seat, began);
+        if asked_for_votes && self.is_answered() {
+            self.votes = false;
+        }
+        is_whole
+    }
+}

@@ -1,0 +1,154 @@
+//! A port that serves its clients.
+
+ghost use Rattle.std.specs.Prelude.{◌≡◌, ◌+◌, IfOk, length};
+
+use crate::admission::Admission;
+use crate::clients::Clients;
+use crate::handoff::Handoff;
+use crate::listener::{Acceptor, LISTENER, Listener, Sockets};
+use crate::port_room::PortRoom;
+use crate::seats::Seats;
+use log::Log;
+use mio::Events;
+use sentinel_conf::ConfStore;
+use sentinel_runtime::{RunState, RunningSentinel, ThreadSeat, Which};
+use std::alloc::Global;
+use std::io;
+use std::net::{Ipv4Addr, Net, SocketAddr};
+use std::rt::Clock;
+use std::sync::atomic::{AtomicU64, Ordering};
+use std::sync::{Arc, Wait};
+
+/// How many connections the system tells of at once.
+const EVENTS: usize = 256;
+
+/// What a thread serves of a listening port: its own connections. The threads of a port are numbered from 0 on.
+#[derive(Drop)]
+pub struct Port {
+    clients: Clients,
+    entrance: Acceptor,
+    events: Events<Global>,
+    thread: u16,
+}
+
+impl Port {
+    /// What the thread with this number serves.
+    fn of(alloc: Global, clients: Clients, entrance: Acceptor, thread: u16) -> io::Result<Port> {
+        Ok(Port {
+            clients,
+            entrance,
+            events: Events::with_capacity(alloc, EVENTS)?,
+            thread,
+        })
+    }
+
+    /// Listens on 127.0.0.1 at this port for each client, as `open_at` does.
+    pub fn open<N: Net>(
+        net: &N,
+        alloc: Global,
+        port: u16,
+        room: PortRoom,
+    ) -> io::Result<(Port, Vec<Port>)>
+        ensures { IfOk result (λ parts. length parts.1.items + 1 ≡ room.threads) }
+    {
+        let address = SocketAddr::from((Ipv4Addr::LOCALHOST, port));
+        let sockets = Sockets::at(net, alloc, address)?;
+        Port::open_at(net, alloc, sockets, room, &Admission::of_all(alloc))
+    }
+
+    /// Lets those in who come to these sockets, with so much room for all of them: what the first thread serves, and
+    /// what each further one does, in their order. The first one accepts, and each connection goes to the thread that
+    /// has the fewest; one for which none has room is closed. An error is the system's; `OutOfMemory` is a refused
+    /// allocation.
+    pub fn open_at<N: Net>(
+        net: &N,
+        alloc: Global,
+        sockets: Sockets,
+        room: PortRoom,
+        admission: &Admission,
+    ) -> io::Result<(Port, Vec<Port>)>
+        ensures { IfOk result (λ parts. length parts.1.items + 1 ≡ room.threads) }
+    {
+        let seats = Arc::new(alloc, Seats::open(alloc, admission)?)?;
+        let mut desks = Vec::new(alloc);
+        let mut others = Vec::new(alloc);
+        for thread in 1..room.threads() {
+            let own = Arc::try_clone(&seats)?;
+            let clients = Clients::open(net, alloc, room, thread, admission, own)?;
+            let desk = Arc::new(
+                alloc,
+                Handoff::open(alloc, clients.registry(), room.each())?,
+            )?;
+            let entrance = Acceptor::IsHanded(Arc::try_clone(&desk)?);
+            desks.push(desk)?;
+            others.push(Port::of(alloc, clients, entrance, thread)?)?;
+        }
+        let own = Arc::try_clone(&seats)?;
+        let clients = Clients::open(net, alloc, room, 0, admission, own)?;
+        let listener = Listener::open(clients.registry(), sockets, desks, seats)?;
+        let first = Port::of(alloc, clients, Acceptor::Listens(listener), 0)?;
+        Ok((first, others))
+    }
+
+    /// Serves until `ending` isn't 0 or the Sentinel closes its port, and looks at the first of these before each connection. The error is the system's, where it tells of no connection any more. No
+    /// memory is taken for that: a connection that has none is closed.
+    pub fn serve<J: Which, S: ConfStore, R: Wait + Clock + Log>(
+        &mut self,
+        rt: &R,
+        state: &RunState,
+        member: &RunningSentinel<J, S>,
+        seat: &mut ThreadSeat<J>,
+        ending: &AtomicU64,
+    ) -> io::Result<()> {
+        if self.clients.courteous() {
+            member.tell_events();
+        }
+        let log = member.noting(rt);
+        for _ in rt.forever() {
+            if ending.load(Ordering::SeqCst) != 0 || member.is_closed(state) {
+                return Ok(());
+            }
+            self.entrance.admit(rt, &log, state, &mut self.clients);
+            if let Err(error) = self.clients.wait(&mut self.events) {
+                self.entrance.close(rt);
+                return Err(error);
+            }
+            self.answer_events(rt, state, member, seat, ending);
+            self.clients.send_events(&self.events);
+            self.clients.serve_busy(rt, state, member, seat, ending);
+            self.clients.tell_news(rt, member, self.thread);
+            self.look_at_silent(rt, state);
+        }
+        unreachable!()
+    }
+
+    /// Looks at the connections that are silent. The clock is read for it only where nothing came.
+    fn look_at_silent<R: Clock>(&mut self, rt: &R, state: &RunState) {
+        if self.events.is_empty() {
+            self.clients.note_time(state.clock.now(rt));
+        }
+        self.entrance.look_at_silent(&mut self.clients);
+    }
+
+    /// Has the connections of which the system told read and answer, and takes in new ones. It stops where the group ends.
+    fn answer_events<J: Which, S: ConfStore, R: Wait + Clock + Log>(
+        &mut self,
+        rt: &R,
+        state: &RunState,
+        member: &RunningSentinel<J, S>,
+        seat: &mut ThreadSeat<J>,
+        ending: &AtomicU64,
+    ) {
+        for event in &self.events {
+            if ending.load(Ordering::SeqCst) != 0 {
+                return;
+            }
+            if event.token() == LISTENER {
+                let log = member.noting(rt);
+                self.entrance.admit_new(rt, &log, state, &mut self.clients);
+            } else {
+                self.clients.answer_event(rt, state, member, seat, event);
+            }
+        }
+    }
+}

@@ -1,0 +1,4 @@
+pub mod ErrorsLemmas
+pub mod WarningsLemmas
+pub mod GroupLemmas
+pub mod RepairLemmas

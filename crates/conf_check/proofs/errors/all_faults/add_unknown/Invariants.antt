@@ -1,0 +1,14 @@
+use Rattle.std.proofs.Common.{◌≡◌, ◌+◌, ◌≤◌, ◌++◌, map, length}
+use Rattle.ballot_law.specs.Cuts.{lines}
+use Rattle.conf_lines.specs.Lines.{line_of}
+use Rattle.conf_check.specs.Errors.AllFaults.{unknown_faults}
+use Rattle.conf_check.proofs.errors.all_faults.add_unknown.Given as goal
+
+abbrev pub invariant-loop-rest : goal.invariant-loop-rest
+invariant-loop-rest l = record {
+  added : l.fn.faults.items ++ unknown_faults l.names 1 (map line_of (lines l.bytes)) ≡ l.faults.items ++ unknown_faults l.names l.number (map line_of (lines l.rest));
+  counted : l.number + length l.rest ≤ length l.bytes + 1;
+}
+
+abbrev pub decreases-loop-rest : goal.decreases-loop-rest
+decreases-loop-rest l = length l.rest

@@ -1,0 +1,16 @@
+use Rattle.std.proofs.Common.{◌≡◌, ◌++◌, length}
+use Rattle.std.specs.List.{flat_map}
+use Rattle.ballot_law.specs.Cuts.{lines}
+use Rattle.conf_check.specs.Warnings.Warnings.{warning, warnings}
+use Rattle.conf_check.proofs.warnings.line_warnings.warnings_of.Given as goal
+
+-- the warnings so far and those of what is left are all of them
+abbrev pub invariant-loop-rest : goal.invariant-loop-rest
+invariant-loop-rest l =
+    let first = lines l.fn.known.first.now in
+    let sentinel = lines l.fn.known.sentinel.now in
+    warnings first sentinel l.fn.sentinels l.fn.path l.fn.bytes
+    ≡ l.text.items ++ flat_map (warning first sentinel l.fn.sentinels l.fn.path l.fn.bytes) l.rest
+
+abbrev pub decreases-loop-rest : goal.decreases-loop-rest
+decreases-loop-rest l = length l.rest

@@ -1,0 +1,4 @@
+pub mod Errors
+pub mod Warnings
+pub mod Group
+pub mod Repair

@@ -1,5 +1,0 @@
-use Rattle.conf_faults.proofs.FirstFaults.{first_is_told}
-use Rattle.conf_faults.proofs.laws.law_first_fault_is_told.Goals as goal
-
-pub returns : goal.returns
-returns c = first_is_told

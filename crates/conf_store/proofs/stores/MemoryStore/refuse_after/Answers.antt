@@ -1,6 +1,0 @@
-use Rattle.std.proofs.Common.{Some, ap}
-use Rattle.conf_store.specs.Stores.{Stored}
-use Rattle.conf_store.proofs.stores.MemoryStore.refuse_after.Goals as goal
-
-pub returns : goal.returns
-returns c = ap (λ (store : Stored). let new : Stored = record store { refusal = Some (record { passes = c.args.passes; new = c.args.new }) } in new) c.self.view_is

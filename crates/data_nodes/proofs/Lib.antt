@@ -1,4 +1,0 @@
-mod Holding
-mod MasterAddrs
-mod SaidMessages
-mod Taking

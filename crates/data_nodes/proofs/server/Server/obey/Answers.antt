@@ -1,5 +1,0 @@
-use Rattle.std.proofs.Common.{rules}
-use Rattle.data_nodes.proofs.server.Server.obey.Goals as goal
-
-pub returns-then-can_follow : goal.returns-then-can_follow
-returns-then-can_follow c = search rules

@@ -1,0 +1,3 @@
+pub mod Bulks
+pub mod Following
+pub mod Texts

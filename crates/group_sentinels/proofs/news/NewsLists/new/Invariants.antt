@@ -1,8 +1,0 @@
-use Rattle.std.proofs.Common.{◌-◌, ◌≤◌, length}
-use Rattle.group_sentinels.proofs.news.NewsLists.new.Given as goal
-
-abbrev pub invariant-loop-lists : goal.invariant-loop-lists
-invariant-loop-lists l = length l.lists.items ≤ l.threads
-
-abbrev pub decreases-loop-lists : goal.decreases-loop-lists
-decreases-loop-lists l = l.threads - length l.lists.items

@@ -1,5 +1,0 @@
-use Rattle.std.proofs.Common.{rules}
-use Rattle.link_sessions.proofs.conversation.Conversation.sent.Goals as goal
-
-pub returns-clause-unsent : goal.returns-clause-unsent
-returns-clause-unsent c = search rules

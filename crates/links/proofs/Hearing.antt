@@ -1,0 +1,159 @@
+-- What is heard on a connection: answers of its node, and hellos where it listens.
+use Rattle.std.proofs.Common.{◌≡◌, ℕ, ◌+◌, ◌≤◌, ◌<◌, Bool, true, false, cond, List, [], ◌∷◌, ◌++◌, length, Option, Some, None, Result, Ok, Err, refl, sym, ap, ◌∙◌, subst, arith}
+use Rattle.std.specs.List.{AllByRecursion}
+use Rattle.ballot_law.specs.declared.addresses.Addr.{Addr}
+use Rattle.ballot_law.specs.declared.events.Event.{Event}
+use Rattle.resp2.specs.Framing.Frame.{Frame, FrameList, simple, fault, int, bulk, null_bulk, items, null_items}
+use Rattle.links.specs.declared.sessions.fault.LinkFault.{LinkFault}
+use Rattle.links.specs.declared.sessions.fault.LinkFault.TheVariants.{Strange}
+use Rattle.links.specs.declared.sessions.questions.Question.{Question}
+use Rattle.links.specs.declared.sessions.questions.Question.TheVariants as asks
+use Rattle.links.specs.declared.sessions.replies.Vote.{Vote}
+use Rattle.links.specs.Sessions.LongValues.{told_value}
+use Rattle.links.specs.Sessions.Links.{next_asked, heard_of, ping_heard, info_heard, answered, ask_heard, vote_of, hello_in, hello_in_list, hello_of_list, hello_heard, is_confirmed, begins_message, list_of, listed, Tells}
+use Rattle.links.specs.declared.target.Target.{Target}
+use Rattle.links.specs.NodeLinks.{IsHeardOn, IsAsked}
+
+pub all_append : {X : Type 0} (P : X → Type 0) (xs ys : List X) → AllByRecursion P xs → AllByRecursion P ys → AllByRecursion P (xs ++ ys)
+all_append P [] ys a b = b
+all_append P (x ∷ xs) ys a b = (a.0, all_append P xs ys a.1 b)
+
+module _ (target : Target) where
+  -- what a value may tell
+  abbrev MayTell : Result (Option Event) LinkFault → Type 0
+  MayTell (Ok heard) = AllByRecursion (IsHeardOn target) (listed heard)
+  MayTell (Err why) = Unit {0}
+
+  ping_on : (f : Frame) → MayTell (ping_heard target.node f)
+  ping_on (simple text) = (refl, tt)
+  ping_on (fault text) = (refl, tt)
+  ping_on (int z) = tt
+  ping_on (bulk text) = tt
+  ping_on null_bulk = tt
+  ping_on null_items = tt
+  ping_on (items fs) = tt
+
+  info_on : (f : Frame) → MayTell (info_heard target.node f)
+  info_on (simple text) = tt
+  info_on (fault text) = tt
+  info_on (int z) = tt
+  info_on (bulk text) = (refl, tt)
+  info_on null_bulk = tt
+  info_on null_items = tt
+  info_on (items fs) = tt
+
+  answered_on : (master : ℕ) (addr : Addr) (vote : Option Vote) → MayTell (answered target.node master addr vote)
+  answered_on master addr (Some vote) = (refl, tt)
+  answered_on master addr None = tt
+
+  ask_on : (master : ℕ) (addr : Addr) (f : Frame) → MayTell (ask_heard target.node master addr f)
+  ask_on master addr (simple text) = answered_on master addr (vote_of (simple text))
+  ask_on master addr (fault text) = tt
+  ask_on master addr (int z) = answered_on master addr (vote_of (int z))
+  ask_on master addr (bulk text) = answered_on master addr (vote_of (bulk text))
+  ask_on master addr null_bulk = answered_on master addr (vote_of null_bulk)
+  ask_on master addr null_items = answered_on master addr (vote_of null_items)
+  ask_on master addr (items fs) = answered_on master addr (vote_of (items fs))
+
+  hello_in_on : target.listens ≡ true → (f : Frame) → MayTell (hello_in f)
+  hello_in_on listens (simple text) = tt
+  hello_in_on listens (fault text) = tt
+  hello_in_on listens (int z) = tt
+  hello_in_on listens (bulk text) = (listens, tt)
+  hello_in_on listens null_bulk = tt
+  hello_in_on listens null_items = tt
+  hello_in_on listens (items fs) = tt
+
+  hello_list_on : target.listens ≡ true → (fs : List Frame) → MayTell (hello_in_list fs)
+  hello_list_on listens [] = tt
+  hello_list_on listens (a ∷ []) = tt
+  hello_list_on listens (a ∷ b ∷ []) = tt
+  hello_list_on listens (a ∷ b ∷ c ∷ []) = hello_in_on listens c
+  hello_list_on listens (a ∷ b ∷ c ∷ d ∷ fs) = tt
+
+  hello_if : target.listens ≡ true → (fs : List Frame) (confirmed begins : Bool)
+      → MayTell (cond confirmed (Ok None) (cond begins (hello_in_list fs) (Err Strange)))
+  hello_if listens fs true begins = tt
+  hello_if listens fs false true = hello_list_on listens fs
+  hello_if listens fs false false = tt
+
+  hello_on : target.listens ≡ true → (f : Frame) → MayTell (hello_heard f)
+  hello_on listens (simple text) = tt
+  hello_on listens (fault text) = tt
+  hello_on listens (int z) = tt
+  hello_on listens (bulk text) = tt
+  hello_on listens null_bulk = tt
+  hello_on listens null_items = tt
+  hello_on listens (items fs) = hello_if listens (list_of fs) (is_confirmed (list_of fs)) (begins_message (list_of fs))
+
+  -- a hello is awaited where the connection listens
+  abbrev MayAwait : Question → Type 0
+  MayAwait asks.Hello = target.listens ≡ true
+  MayAwait question = Unit {0}
+
+  value_on : (q : Question) (f : Frame) → MayAwait q → MayTell (heard_of target.node q f)
+  value_on asks.Ping f may = ping_on f
+  value_on asks.Info f may = info_on f
+  value_on (asks.Ask master addr) f may = ask_on master addr f
+  value_on asks.Order f may = tt
+  value_on asks.Hello f may = hello_on may f
+
+  asked_awaits : (q : Question) → IsAsked q → MayAwait q
+  asked_awaits asks.Ping is = tt
+  asked_awaits asks.Info is = tt
+  asked_awaits (asks.Ask master addr) is = tt
+  asked_awaits asks.Order is = tt
+  asked_awaits asks.Hello is = absurd is
+
+  -- what is awaited next, and what is asked then
+  record IsNext (asked : List Question) (question : Question) (others : List Question) : Type 0 where
+    pub awaits : MayAwait question
+    pub asked_still : AllByRecursion IsAsked others
+    pub few : length others ≤ length asked
+
+  next_on : (listens : Bool) (asked : List Question) (question : Question) (others : List Question) → listens ≡ target.listens → AllByRecursion IsAsked asked
+      → next_asked listens asked ≡ Some (question, others) → IsNext asked question others
+  next_on listens (q ∷ asked) question others same all next =
+      let both : ◌≡◌ {A = Question × List Question} (q, asked) (question, others) = cc in
+      let first : q ≡ question = ap (λ x. x.0) both in
+      let rest : asked ≡ others = ap (λ x. x.1) both in
+      record {
+        awaits = subst MayAwait first (asked_awaits q all.0);
+        asked_still = subst (AllByRecursion IsAsked) rest all.1;
+        few = subst (λ (l : List Question). length l ≤ length (q ∷ asked)) rest (omega arith);
+      }
+  next_on true [] question others same all next =
+      let both : ◌≡◌ {A = Question × List Question} (asks.Hello, []) (question, others) = cc in
+      let first : asks.Hello ≡ question = ap (λ x. x.0) both in
+      let rest : [] ≡ others = ap (λ x. x.1) both in
+      record {
+        awaits = subst MayAwait first (sym same);
+        asked_still = subst (AllByRecursion IsAsked) rest tt;
+        few = subst (λ (l : List Question). length l ≤ 0) rest (omega arith);
+      }
+  next_on false [] question others same all next = absurd (let no : ⊥ = cc in no)
+
+  -- what values tell, and which questions are left
+  pub record IsTold (asked : List Question) (events : List Event) (left : List Question) : Type 0 where
+    pub heard : AllByRecursion (IsHeardOn target) events
+    pub asked_still : AllByRecursion IsAsked left
+    pub few : length left ≤ length asked
+
+  pub told : (asked : List Question) (values : List Frame) (events : List Event) (left : List Question) → AllByRecursion IsAsked asked
+      → Tells target.node target.listens asked values events left → IsTold asked events left
+  told asked [] events left all t = record {
+    heard = subst (AllByRecursion (IsHeardOn target)) (sym t.0) tt;
+    asked_still = subst (AllByRecursion IsAsked) (sym t.1) all;
+    few = subst (λ (l : List Question). length l ≤ length asked) (sym t.1) (omega arith);
+  }
+  told asked (v ∷ values) events left all t =
+      let next = next_on target.listens asked t.0 t.1 refl all t.4 in
+      let more = told t.1 values t.3 left next.asked_still t.7 in
+      let one : AllByRecursion (IsHeardOn target) (listed t.2) = subst MayTell t.5 (value_on t.0 (told_value v) next.awaits) in
+      let fewer = next.few in
+      let fewest = more.few in
+      record {
+        heard = subst (AllByRecursion (IsHeardOn target)) (sym t.6) (all_append (IsHeardOn target) (listed t.2) t.3 one more.heard);
+        asked_still = more.asked_still;
+        few = omega (arith, fewer, fewest);
+      }

@@ -1,0 +1,5 @@
+pub mod Hearing
+pub mod Keeping
+pub mod Places
+pub mod Saying
+pub mod SessionsLemmas

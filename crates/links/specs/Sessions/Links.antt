@@ -1,0 +1,195 @@
+-- What is asked of a node over a connection, and what the values that come tell.
+use Rattle.std.specs.Prelude.{◌≡◌, ◌≤◌, length, ℕ, ℤ, pos, negsuc, nat_le, Bool, true, false, ◌&&◌, ◌==◌, List, [], ◌∷◌, ◌++◌, Option, Some, None, Result, Ok, Err, bytes_eq, codes, if◌then◌else◌}
+use Rattle.ballot_law.specs.declared.addresses.Addr.{Addr}
+use Rattle.ballot_law.specs.declared.addresses.RunId.{RunId}
+use Rattle.ballot_law.specs.declared.cards.TheConstants.{MAX_EPOCH}
+use Rattle.ballot_law.specs.declared.events.Event.{Event}
+use Rattle.ballot_law.specs.declared.events.Event.TheVariants.{Answered, Pinged, InfoRead, HelloRead}
+use Rattle.ballot_law.specs.declared.messages.Body.{Body}
+use Rattle.ballot_law.specs.declared.messages.Body.TheVariants.{Ask, Ping, InfoAsk}
+use Rattle.ballot_law.specs.declared.messages.NodeName.{NodeName}
+use Rattle.ballot_law.specs.PingReplies.{reply_of}
+use Rattle.ballot_law.specs.Words.{then_some, some_if}
+use Rattle.node_texts.specs.Messages.MessageTexts.{hello_channel}
+use Rattle.resp2.specs.Commands.{candidate}
+use Rattle.resp2.specs.Framing.Frame.{Frame, FrameList, no_frames, frame, simple, fault, int, bulk, items}
+use Rattle.resp2.specs.declared.framing.fault.Unread.TheVariants.{NeedsMore, Faulty}
+use Rattle.links.specs.declared.sessions.conversation.TheConstants.{ASKED_MAX}
+use Rattle.links.specs.declared.sessions.fault.LinkFault.{LinkFault}
+use Rattle.links.specs.declared.sessions.fault.LinkFault.TheVariants.{Strange}
+use Rattle.links.specs.declared.sessions.fault.LinkFault.TheVariants as links
+use Rattle.links.specs.declared.sessions.questions.Question.{Question}
+use Rattle.links.specs.declared.sessions.questions.Question.TheVariants as asks
+use Rattle.links.specs.declared.sessions.replies.Vote.{Vote}
+use Rattle.links.specs.Sessions.LongValues.{told_value, LinkParts, link_value_at, as_held}
+
+-- what the answer to a message will be about
+abbrev pub question_of : Body → Question
+question_of Ping = asks.Ping
+question_of InfoAsk = asks.Info
+question_of (Ask master addr epoch candidate) = asks.Ask master addr
+question_of _ = asks.Order
+
+-- ---- the answer to the question whether a master is down
+
+abbrev pub list_of : FrameList → List Frame
+list_of no_frames = []
+list_of (frame f fs) = f ∷ list_of fs
+
+abbrev pub flag : ℤ → Option Bool
+flag (pos n) = if n == 0 then Some false else if n == 1 then Some true else None
+flag (negsuc n) = None
+
+abbrev pub is_down : Frame → Option Bool
+is_down (int z) = flag z
+is_down _ = None
+
+abbrev pub leader_of : Frame → Option (Option RunId)
+leader_of (bulk word) = candidate word
+leader_of _ = None
+
+abbrev pub epoch_within : ℤ → Option ℕ
+epoch_within (pos n) = some_if (nat_le n MAX_EPOCH) n
+epoch_within (negsuc n) = None
+
+abbrev pub epoch_of : Frame → Option ℕ
+epoch_of (int z) = epoch_within z
+epoch_of _ = None
+
+abbrev pub votes_of : List Frame → Option Vote
+votes_of (down ∷ leader ∷ epoch ∷ []) =
+    then_some (is_down down) (λ d. then_some (leader_of leader) (λ l. then_some (epoch_of epoch) (λ e. Some (record { down = d; leader = l; epoch = e }))))
+votes_of _ = None
+
+abbrev pub vote_of : Frame → Option Vote
+vote_of (items fs) = votes_of (list_of fs)
+vote_of _ = None
+
+-- ---- what a value tells: an event, nothing, or that it is no answer to its question
+
+abbrev pub ping_heard : NodeName → Frame → Result (Option Event) LinkFault
+ping_heard node (simple text) = Ok (Some (Pinged node (reply_of false text)))
+ping_heard node (fault text) = Ok (Some (Pinged node (reply_of true text)))
+ping_heard node _ = Err Strange
+
+-- an error tells nothing, as while a node loads
+abbrev pub info_heard : NodeName → Frame → Result (Option Event) LinkFault
+info_heard node (bulk text) = Ok (Some (InfoRead node text))
+info_heard node (fault text) = Ok None
+info_heard node _ = Err Strange
+
+abbrev pub answered : NodeName → (master : ℕ) → Addr → Option Vote → Result (Option Event) LinkFault
+answered voter master addr (Some vote) = Ok (Some (Answered voter master addr vote.down vote.leader vote.epoch))
+answered voter master addr None = Err Strange
+
+-- the master and the address are those of the question
+abbrev pub ask_heard : NodeName → (master : ℕ) → Addr → Frame → Result (Option Event) LinkFault
+ask_heard voter master addr (fault text) = Ok None
+ask_heard voter master addr f = answered voter master addr (vote_of f)
+
+abbrev pub is_word : List ℕ → Frame → Bool
+is_word word (bulk bytes) = bytes_eq bytes word
+is_word word _ = false
+
+abbrev pub is_confirmed : List Frame → Bool
+is_confirmed (kind ∷ channel ∷ int n ∷ []) = is_word (codes "subscribe") kind && is_word hello_channel channel
+is_confirmed _ = false
+
+abbrev pub begins_message : List Frame → Bool
+begins_message (kind ∷ channel ∷ text ∷ []) = is_word (codes "message") kind && is_word hello_channel channel
+begins_message _ = false
+
+abbrev pub hello_in : Frame → Result (Option Event) LinkFault
+hello_in (bulk text) = Ok (Some (HelloRead text))
+hello_in _ = Err Strange
+
+abbrev pub hello_in_list : List Frame → Result (Option Event) LinkFault
+hello_in_list (kind ∷ channel ∷ text ∷ []) = hello_in text
+hello_in_list _ = Err Strange
+
+abbrev pub hello_of_list : List Frame → Result (Option Event) LinkFault
+hello_of_list fs = if is_confirmed fs then Ok None else if begins_message fs then hello_in_list fs else Err Strange
+
+-- a hello that a data node passes on, or that the connection listens to them
+abbrev pub hello_heard : Frame → Result (Option Event) LinkFault
+hello_heard (items fs) = hello_of_list (list_of fs)
+hello_heard _ = Err Strange
+
+abbrev pub heard_of : NodeName → Question → Frame → Result (Option Event) LinkFault
+heard_of node asks.Ping f = ping_heard node f
+heard_of node asks.Info f = info_heard node f
+heard_of node (asks.Ask master addr) f = ask_heard node master addr f
+heard_of node asks.Order f = Ok None
+heard_of node asks.Hello f = hello_heard f
+
+-- ---- one connection
+
+-- a question is refused where so many wait as may, or memory was refused
+abbrev pub IsRefused : (asked : List Question) → LinkFault → Type 0
+IsRefused asked links.Full = ASKED_MAX ≤ length asked
+IsRefused asked links.NoMemory = Unit {0}
+IsRefused asked _ = ⊥
+
+-- What a connection has: the node at its other end, whether it listens to hellos, what is asked and isn't answered yet, oldest first, the bytes that came and are no
+-- whole value yet, where those that were passed over stand as zeros, how many of them are in memory, the bytes that aren't sent yet, and the fault that ended it
+pub record Link : Type 0 where
+  pub node : NodeName
+  pub listens : Bool
+  pub asked : List Question
+  pub held : List ℕ
+  pub kept : ℕ
+  pub unsent : List ℕ
+  pub ended : Option LinkFault
+
+-- what the next value answers, and what is asked then: the oldest question, and where none waits, on a connection that listens, a hello
+abbrev pub next_asked : (listens : Bool) → List Question → Option (Question × List Question)
+next_asked listens (question ∷ asked) = Some (question, asked)
+next_asked true [] = Some (asks.Hello, [])
+next_asked false [] = None
+
+abbrev pub listed : Option Event → List Event
+listed None = []
+listed (Some event) = event ∷ []
+
+-- the values, in their order, answer the oldest questions, and what is told of them tells these events; the other questions are left
+abbrev pub Tells : NodeName → Bool → List Question → List Frame → List Event → List Question → Type 0
+Tells node listens asked [] events left = (events ≡ []) × (left ≡ asked)
+Tells node listens asked (value ∷ values) events left =
+    (question : Question) × (others : List Question) × (heard : Option Event) × (rest : List Event)
+    × (next_asked listens asked ≡ Some (question, others)) × (heard_of node question (told_value value) ≡ Ok heard)
+    × (events ≡ listed heard ++ rest) × Tells node listens others values rest left
+
+-- how a piece is taken: `stream` is what was held before it, and then the piece
+
+-- all values of the stream told these events, and the bytes after the last of them are held
+pub record IsHeard (node : NodeName) (listens : Bool) (asked : List Question) (stream : List ℕ) (events : List Event) (left : List Question) (held : List ℕ) : Type 0 where
+  pub values : List Frame
+  pub rest : List ℕ
+  pub parts : LinkParts stream values rest
+  pub waits : link_value_at rest ≡ Err NeedsMore
+  pub held_is : held ≡ as_held rest
+  pub tells : Tells node listens asked values events left
+
+-- why the hearing breaks off in front of these bytes, at which these questions wait: this fault of a frame shows, or a value that answers none, or not its own
+abbrev pub Because : NodeName → Bool → (rest : List ℕ) → List Question → LinkFault → Type 0
+Because node listens rest asked (links.Unread why) = link_value_at rest ≡ Err (Faulty why)
+Because node listens rest asked links.Unasked = (value : Frame) × (later : List ℕ) × (link_value_at rest ≡ Ok (value, later)) × (next_asked listens asked ≡ None)
+Because node listens rest asked links.Strange =
+    (value : Frame) × (later : List ℕ) × (question : Question) × (others : List Question)
+    × (link_value_at rest ≡ Ok (value, later)) × (next_asked listens asked ≡ Some (question, others)) × (heard_of node question value ≡ Err links.Strange)
+Because node listens rest asked links.NoMemory = Unit {0}
+Because node listens rest asked links.Full = ⊥
+Because node listens rest asked links.Frame = ⊥
+
+-- the first values of the stream told these events, and then it broke off
+pub record IsBroken (node : NodeName) (listens : Bool) (asked : List Question) (stream : List ℕ) (why : LinkFault) (events : List Event) : Type 0 where
+  pub values : List Frame
+  pub rest : List ℕ
+  pub parts : LinkParts stream values rest
+  pub left : List Question
+  pub tells : Tells node listens asked values events left
+  pub because : Because node listens rest left why
+
+abbrev pub Receives : {X : Type 0} → NodeName → Bool → List Question → (stream : List ℕ) → Result X LinkFault → List Event → List Question → (held : List ℕ) → Type 0
+Receives node listens asked stream (Ok x) events left held = IsHeard node listens asked stream events left held
+Receives node listens asked stream (Err why) events left held = IsBroken node listens asked stream why events

@@ -1,0 +1,53 @@
+-- What goes over a connection for a message, and what comes before all messages.
+use Rattle.std.specs.Prelude.{Bool, true, false, List, [], ◌∷◌, ◌++◌, ℕ, codes}
+use Rattle.ballot_law.specs.declared.messages.Body.{Body}
+use Rattle.ballot_law.specs.declared.messages.Body.TheVariants.{ReplicaOf}
+use Rattle.node_texts.specs.Messages.MessageTexts.{message_bytes, words_frame, hello_channel}
+use Rattle.resp2.specs.Framing.Frame.{spelling}
+use Rattle.links.specs.declared.sessions.questions.Question.{Question}
+use Rattle.links.specs.declared.sessions.questions.Question.TheVariants as asks
+use Rattle.links.specs.Sessions.Links.{question_of}
+use Rattle.links.specs.declared.speaking.Login.{Login}
+use Rattle.links.specs.declared.speaking.Login.TheVariants.{Without, Pass, User}
+
+-- a command of these words
+abbrev pub command_bytes : List (List ℕ) → List ℕ
+command_bytes words = spelling (words_frame words)
+
+-- after the order to follow a master, or none: the node's file is rewritten, so that a restart knows it, and its clients are sent away, so that they ask for the
+-- master anew; all of it at once
+abbrev pub after_order : List ℕ
+after_order =
+    command_bytes (codes "CONFIG" ∷ codes "REWRITE" ∷ [])
+    ++ (command_bytes (codes "CLIENT" ∷ codes "KILL" ∷ codes "TYPE" ∷ codes "normal" ∷ [])
+    ++ (command_bytes (codes "CLIENT" ∷ codes "KILL" ∷ codes "TYPE" ∷ codes "pubsub" ∷ [])
+    ++ command_bytes (codes "EXEC" ∷ [])))
+
+-- the bytes that go over the connection for a message
+abbrev pub bytes_for : Body → List ℕ
+bytes_for (ReplicaOf to) = command_bytes (codes "MULTI" ∷ []) ++ (message_bytes (ReplicaOf to) ++ after_order)
+bytes_for body = message_bytes body
+
+-- what their answers will be about
+abbrev pub questions_for : Body → List Question
+questions_for (ReplicaOf to) = asks.Order ∷ asks.Order ∷ asks.Order ∷ asks.Order ∷ asks.Order ∷ asks.Order ∷ []
+questions_for body = question_of body ∷ []
+
+-- ---- before all messages
+
+abbrev pub login_bytes : Login → List ℕ
+login_bytes Without = []
+login_bytes (Pass pass) = command_bytes (codes "AUTH" ∷ pass.now ∷ [])
+login_bytes (User user pass) = command_bytes (codes "AUTH" ∷ user.now ∷ pass.now ∷ [])
+
+abbrev pub login_questions : Login → List Question
+login_questions Without = []
+login_questions _ = asks.Order ∷ []
+
+abbrev pub listen_bytes : (listens : Bool) → List ℕ
+listen_bytes true = command_bytes (codes "SUBSCRIBE" ∷ hello_channel ∷ [])
+listen_bytes false = []
+
+abbrev pub listen_questions : (listens : Bool) → List Question
+listen_questions true = asks.Order ∷ []
+listen_questions false = []

@@ -1,0 +1,306 @@
+//! A connection of a Sentinel to a node, without its socket.
+
+ghost use Rattle.std.specs.Prelude.{◌≡◌, ◌≢◌, ◌≤◌, ◌<◌, ◌↔◌, ◌++◌, ◌-◌, ℕ, true, false, Some, None, List, length, drop, OnOk, OnErr};
+ghost use Rattle.std.specs.List.{AllByRecursion};
+ghost use Rattle.ballot_law.specs.declared.events.Event.{Event};
+ghost use Rattle.ballot_law.specs.declared.messages.NodeName.TheVariants.{StoreAt};
+ghost use Rattle.links.specs.Sessions.Links.{Receives};
+ghost use Rattle.node_texts.specs.Messages.MessageTexts.{IsWritable};
+ghost use Rattle.links.specs.declared.schedule.Stage.TheVariants.{Closed, Opening, Open};
+ghost use Rattle.links.specs.declared.schedule.Stale.TheVariants.{Unreached, Silent, NoHello};
+ghost use Rattle.links.specs.NodeLinks.{fresh, closed_at, opening_at, asked_at, IsHeardOn, IsBounded};
+ghost use Rattle.links.specs.Schedules.{IsPast, closed};
+
+use crate::schedule::{CONNECT_MS, NO_HELLO_MS, SILENT_MS, Schedule, Stale};
+use crate::sessions::{LinkFault, LinkSession};
+use crate::speaking::{Login, put_first_words, put_message};
+use crate::target::Target;
+use ballot_law::{Body, Event, Message, NodeName};
+use std::alloc::Global;
+use std::marker::Model;
+
+/// A connection to a node, or the wish for one: its times, and what is asked, held and unsent on it. Its owner has the socket, opens that where `open` did, and
+/// drops it where the connection is closed. A fault closes it, and all that was on it is lost.
+#[derive(Drop)]
+pub struct NodeLink {
+    target: Target,
+    schedule: Schedule,
+    session: LinkSession,
+    alloc: Global,
+}
+
+impl Model for NodeLink {
+    ghost use Rattle.links.specs.NodeLinks.{State, IsKept};
+
+    ghost Value = { State };
+
+    ghost view = { λ link. record {
+      target = link.target;
+      schedule = link.schedule;
+      talk = link.session;
+    } };
+
+    ghost invariant = { λ link. IsKept link.target link.session };
+}
+
+/// A session on which nothing was asked.
+fn fresh(alloc: Global, target: Target) -> LinkSession
+    ensures { result ≡ fresh target }
+{
+    if target.listens {
+        LinkSession::listening(alloc, target.node)
+    } else {
+        LinkSession::new(alloc, target.node)
+    }
+}
+
+/// Closes a connection: its session from now on.
+fn closed(alloc: Global, target: Target, schedule: &mut Schedule, now: u64) -> LinkSession
+    ensures session { result ≡ fresh target }
+    ensures schedule { schedule.new ≡ closed now schedule.old }
+{
+    schedule.close(now);
+    fresh(alloc, target)
+}
+
+impl NodeLink {
+    /// A connection that isn't open, and is to be opened at once, with so many milliseconds between two PINGs. No memory is taken.
+    #[tactic(auto, using(crate::proofs::Keeping::kept_anew))]
+    pub fn new(alloc: Global, target: Target, ping_each: u64) -> NodeLink
+        ensures target { result.target ≡ target }
+        ensures stage { result.schedule.stage ≡ Closed }
+        ensures pause { result.schedule.pause ≡ 0 }
+        ensures ping { result.schedule.ping_each ≡ ping_each }
+        ensures talk { result.talk ≡ fresh target }
+    {
+        NodeLink {
+            target,
+            schedule: Schedule::new(ping_each),
+            session: fresh(alloc, target),
+            alloc,
+        }
+    }
+
+    /// How much is held at most: 65,536 bytes that are unsent, 512 questions, and in memory 65,537 bytes that came and are no whole value yet.
+    pub fn is_bounded(&self)
+        ensures { IsBounded self.now.talk }
+    {
+        let _ = &self.target;
+    }
+
+    /// The node that it is to.
+    pub fn target(&self) -> Target
+        ensures { result ≡ self.now.target }
+    {
+        self.target
+    }
+
+    /// Its times.
+    pub fn schedule(&self) -> Schedule
+        ensures { result ≡ self.now.schedule }
+    {
+        self.schedule
+    }
+
+    /// The bytes that aren't sent yet.
+    pub fn unsent(&self) -> &[u8]
+        ensures { result.now ≡ self.now.talk.unsent }
+    {
+        self.session.unsent()
+    }
+
+    /// Why it is to be given up now; `None` where it isn't.
+    pub fn stale(&self, now: u64) -> Option<Stale>
+        ensures unreached { result ≡ Some Unreached ↔ ((self.now.schedule.stage ≡ Opening) × (CONNECT_MS ≤ now - self.now.schedule.since)) }
+        ensures silent { result ≡ Some Silent
+            ↔ ((self.now.schedule.stage ≡ Open) × (self.now.target.listens ≡ false) × (0 < length self.now.talk.asked) × (SILENT_MS ≤ now - self.now.schedule.quiet)) }
+        ensures no_hello { result ≡ Some NoHello
+            ↔ ((self.now.schedule.stage ≡ Open) × (self.now.target.listens ≡ true) × (NO_HELLO_MS ≤ now - self.now.schedule.quiet)) }
+    {
+        let waits = self.session.is_waiting();
+        self.schedule.stale(self.target.listens, waits, now)
+    }
+
+    /// It is closed from now on.
+    #[tactic(auto, using(crate::proofs::Keeping::kept_anew))]
+    pub fn close(&mut self, now: u64)
+        ensures { self.new ≡ closed_at now self.old }
+    {
+        self.session = closed(self.alloc, self.target, &mut self.schedule, now);
+    }
+
+    /// It is being opened from now on, and what comes before all messages is unsent. A fault, as a login that is too long, leaves it closed.
+    #[tactic(auto, using(crate::proofs::Keeping::kept_first))]
+    pub fn open(&mut self, login: Login<'_>, now: u64) -> Result<(), LinkFault>
+        ensures ok { OnOk result (self.new ≡ opening_at now login.entry self.old) }
+        ensures err { OnErr result (self.new ≡ closed_at now self.old) }
+    {
+        let mut session = fresh(self.alloc, self.target);
+        match put_first_words(&mut session, login, self.target.listens) {
+            Ok(()) => {
+                self.session = session;
+                self.schedule.begin(now);
+                Ok(())
+            }
+            Err(fault) => {
+                self.close(now);
+                Err(fault)
+            }
+        }
+    }
+
+    /// It is open from now on.
+    pub fn reach(&mut self, now: u64)
+        ensures { self.new ≡ record self.old {
+          schedule = record self.old.schedule { stage = Open; since = now; quiet = now; pinged = None; infos = 0 };
+        } }
+    {
+        self.schedule.reach(now);
+    }
+
+    /// What was silent so far counts no more: it was this Sentinel that stood still.
+    pub fn excuse(&mut self, now: u64)
+        ensures { self.new ≡ record self.old { schedule = record self.old.schedule { quiet = now } } }
+    {
+        self.schedule.excuse(now);
+    }
+
+    /// Where it is closed, it is to be opened at once: the node ended a connection that had lasted.
+    pub fn forgive(&mut self)
+        ensures { self.new ≡ record self.old { schedule = record self.old.schedule { pause = 0 } } }
+    {
+        self.schedule.forgive();
+    }
+
+    /// Takes away the first `n` bytes of what isn't sent yet, which the socket took.
+    #[tactic(auto, using(crate::proofs::Keeping::kept_sent))]
+    pub fn sent(&mut self, n: usize)
+        requires { n ≤ length self.old.talk.unsent }
+        ensures { self.new ≡ record self.old { talk = record self.old.talk { unsent = drop n self.old.talk.unsent } } }
+    {
+        self.session.sent(n);
+    }
+
+    /// Puts out a message where it is open; else the message is lost. A fault closes it.
+    #[tactic(auto, using(crate::proofs::Keeping::kept_anew, crate::proofs::Keeping::excused_waiting, crate::proofs::Keeping::excused_alone))]
+    pub fn ask(&mut self, message: &Message, now: u64) -> Result<(), LinkFault>
+        requires { IsWritable message.now.body }
+        ensures shut { self.old.schedule.stage ≢ Open → self.new ≡ self.old }
+        ensures ok { OnOk result (self.old.schedule.stage ≡ Open → self.new ≡ asked_at now message.now.body self.old) }
+        ensures err { OnErr result (self.new ≡ closed_at now self.old) }
+        ensures target { self.new.target ≡ self.old.target }
+    {
+        if !self.schedule.is_open() {
+            return Ok(());
+        }
+        let waits = self.session.is_waiting();
+        match put_message(&mut self.session, message) {
+            Ok(()) => {
+                if !waits {
+                    self.schedule.excuse(now);
+                }
+                Ok(())
+            }
+            Err(fault) => {
+                self.session = closed(self.alloc, self.target, &mut self.schedule, now);
+                Err(fault)
+            }
+        }
+    }
+
+    /// Takes the next piece of what the node sends, and adds what the values tell that are whole with it, as `LinkSession::received` does. A fault closes it.
+    #[tactic(auto, using(crate::proofs::Keeping::kept_anew))]
+    pub fn received(
+        &mut self,
+        piece: &[u8],
+        now: u64,
+        events: &mut Vec<Event>,
+    ) -> Result<(), LinkFault>
+        ensures received { (more : List Event) × (events.new.items ≡ events.old.items ++ more) × AllByRecursion (IsHeardOn self.old.target) more
+            × Receives self.old.target.node self.old.target.listens self.old.talk.asked (self.old.talk.held ++ piece.now) result more self.new.talk.asked self.new.talk.held }
+        ensures unsent { OnOk result (self.new.talk.unsent ≡ self.old.talk.unsent) }
+        ensures schedule { OnOk result (self.new.schedule ≡ record self.old.schedule { quiet = now; pause = 0 }) }
+        ensures target { self.new.target ≡ self.old.target }
+        ensures err { OnErr result (self.new ≡ closed_at now self.old) }
+    {
+        match self.session.received(piece, events) {
+            Ok(()) => {
+                self.schedule.hear(now);
+                Ok(())
+            }
+            Err(fault) => {
+                self.session = closed(self.alloc, self.target, &mut self.schedule, now);
+                Err(fault)
+            }
+        }
+    }
+
+    /// Puts out a message by itself, as a PING.
+    fn ask_alone(&mut self, body: Body, now: u64) -> Result<(), LinkFault>
+        requires { IsWritable body }
+        ensures shut { self.old.schedule.stage ≢ Open → self.new ≡ self.old }
+        ensures ok { OnOk result (self.old.schedule.stage ≡ Open → self.new ≡ asked_at now body self.old) }
+        ensures err { OnErr result (self.new ≡ closed_at now self.old) }
+        ensures target { self.new.target ≡ self.old.target }
+    {
+        let node = self.target.node;
+        let message = Message {
+            sender: node,
+            target: node,
+            body,
+        };
+        self.ask(&message, now)
+    }
+
+    /// Sends a PING, where it is open and takes messages. A fault closes it.
+    pub fn ping(&mut self, now: u64) -> Result<(), LinkFault>
+        ensures pinged { OnOk result (self.new.schedule.pinged ≡ Some now) }
+        ensures listens { self.old.target.listens ≡ true → self.new.talk ≡ self.old.talk }
+        ensures asked { OnOk result (self.old.target.listens ≡ false → self.old.schedule.stage ≡ Open
+            → self.new.talk ≡ (asked_at now Body.Ping self.old).talk) }
+        ensures target { self.new.target ≡ self.old.target }
+    {
+        if !self.target.listens {
+            self.ask_alone(Body::Ping, now)?;
+        }
+        self.schedule.ping(now);
+        Ok(())
+    }
+
+    /// Asks for INFO, where it is open, takes messages, and is to a data node: so it is known at once what came of an order. A fault closes it.
+    pub fn look(&mut self, now: u64) -> Result<(), LinkFault>
+        ensures listens { self.old.target.listens ≡ true → self.new ≡ self.old }
+        ensures shut { self.old.schedule.stage ≢ Open → self.new ≡ self.old }
+        ensures asked { OnOk result (self.old.target.listens ≡ false → self.old.schedule.stage ≡ Open
+            → (number : ℕ) → self.old.target.node ≡ StoreAt number → self.new ≡ asked_at now Body.InfoAsk self.old) }
+        ensures err { OnErr result (self.new ≡ closed_at now self.old) }
+        ensures target { self.new.target ≡ self.old.target }
+    {
+        match self.target.node {
+            NodeName::StoreAt(_) if !self.target.listens => self.ask_alone(Body::InfoAsk, now),
+            _ => Ok(()),
+        }
+    }
+
+    /// Asks for INFO by itself, where it is open, takes messages, and is to a data node. A fault closes it.
+    fn ask_info(&mut self, now: u64) -> Result<(), LinkFault>
+        ensures target { self.new.target ≡ self.old.target }
+    {
+        self.look(now)?;
+        self.schedule.ask_info(now);
+        Ok(())
+    }
+
+    /// Sends the PING and the INFO that are due. A fault closes it.
+    pub fn ask_due(&mut self, now: u64) -> Result<(), LinkFault>
+        ensures target { self.new.target ≡ self.old.target }
+    {
+        if self.schedule.is_ping_due(now) {
+            self.ping(now)?;
+        }
+        if self.schedule.is_info_due(now) {
+            self.ask_info(now)?;
+        }
+        Ok(())
+    }
+}

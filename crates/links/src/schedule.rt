@@ -1,0 +1,229 @@
+//! When a connection is opened, given up, and asked besides what the Sentinel asks.
+
+ghost use Rattle.std.specs.Prelude.{◌≡◌, ◌≤◌, ◌↔◌, ◌+◌, ◌-◌, ◌/◌, true, false, Some, None, IsTrue, max, min};
+ghost use Rattle.links.specs.declared.schedule.Stage.TheVariants.{Closed, Opening, Open};
+ghost use Rattle.links.specs.declared.schedule.Stale.TheVariants.{Unreached, Silent, NoHello};
+ghost use Rattle.links.specs.Schedules.{IsPast, begun, closed};
+
+/// How long a connection may take to be opened, in milliseconds.
+pub const CONNECT_MS: u64 = 1_000;
+
+/// How long nothing may come while an answer is awaited, in milliseconds.
+pub const SILENT_MS: u64 = 2_000;
+
+/// How long nothing may come on a connection that listens to hellos, in milliseconds.
+pub const NO_HELLO_MS: u64 = 6_000;
+
+/// The shortest and the longest pause before a connection is opened again, in milliseconds.
+pub const PAUSE_MIN_MS: u64 = 100;
+
+pub const PAUSE_MAX_MS: u64 = 500;
+
+/// For how long a connection has to be open to be opened again at once where its node ends it, in milliseconds: as at CLIENT KILL, after which hellos would be missed.
+pub const LASTING_MS: u64 = 2_000;
+
+/// The shortest and the longest time between two PINGs that a connection sends, in milliseconds.
+pub const PING_MIN_MS: u64 = 250;
+
+pub const PING_MAX_MS: u64 = 1_000;
+
+/// How many PINGs a connection sends in the time after which its node would be down, within these limits.
+pub const PINGS: u64 = 8;
+
+/// How long it is between two INFOs that the connection asks for by itself, in milliseconds. A replica whose INFO is older than 5 s isn't promoted; and a node whose role is wrong has
+/// to say so twice, 8 s apart, before it is told otherwise, which is after two of these times.
+pub const INFO_MS: u64 = 4_150;
+
+/// Where a connection stands.
+#[derive(Clone, Copy, PartialEq, Eq)]
+pub enum Stage {
+    /// It is closed, since the time of its schedule.
+    Closed,
+    /// It is being opened.
+    Opening,
+    /// It is open.
+    Open,
+}
+
+/// Why a connection is given up by the clock alone.
+#[derive(Clone, Copy, Debug, PartialEq, Eq)]
+pub enum Stale {
+    /// It took too long to be opened.
+    Unreached,
+    /// An answer is awaited, and nothing came for too long.
+    Silent,
+    /// It listens to hellos, and none came for too long.
+    NoHello,
+}
+
+/// The times of a connection, readings of one clock in milliseconds: `since` is when its stage began, `quiet` when the silence began that counts, and `pinged` when it
+/// last sent a PING. `ping_each` is how long it is between two PINGs, `pause` how long it stays closed, and `infos` the time, of those between two INFOs since it was opened, at
+/// which it is to ask for INFO by itself again.
+#[derive(Clone, Copy)]
+pub struct Schedule {
+    pub stage: Stage,
+    pub since: u64,
+    pub quiet: u64,
+    pub pause: u64,
+    pub pinged: Option<u64>,
+    pub ping_each: u64,
+    pub infos: u64,
+}
+
+/// How long it is between two PINGs to a node that is down after a silence of so many milliseconds: an eighth of that, so that a pause of the node's own machine is seldom taken for
+/// one, and within the limits.
+pub fn ping_each(down_after: u64) -> u64
+    ensures { result ≡ min (max (down_after / PINGS) PING_MIN_MS) PING_MAX_MS }
+{
+    (down_after / PINGS).max(PING_MIN_MS).min(PING_MAX_MS)
+}
+
+impl Schedule {
+    /// A connection that is to be opened at once, with so many milliseconds between two PINGs.
+    pub fn new(ping_each: u64) -> Schedule
+        ensures stage { result.stage ≡ Closed }
+        ensures pause { result.pause ≡ 0 }
+        ensures ping { result.ping_each ≡ ping_each }
+    {
+        Schedule {
+            stage: Stage::Closed,
+            since: 0,
+            quiet: 0,
+            pause: 0,
+            pinged: None,
+            ping_each,
+            infos: 0,
+        }
+    }
+
+    /// Whether it is to be opened now.
+    pub fn is_due(&self, now: u64) -> bool
+        ensures { IsTrue result ↔ ((self.now.stage ≡ Closed) × (self.now.pause ≤ now - self.now.since)) }
+    {
+        self.stage == Stage::Closed && self.pause <= now.saturating_sub(self.since)
+    }
+
+    /// Why it is to be given up now, where it listens to hellos or doesn't, and an answer is awaited on it or none; `None` where it isn't.
+    pub fn stale(&self, listens: bool, waits: bool, now: u64) -> Option<Stale>
+        ensures unreached { result ≡ Some Unreached ↔ ((self.now.stage ≡ Opening) × (CONNECT_MS ≤ now - self.now.since)) }
+        ensures silent { result ≡ Some Silent
+            ↔ ((self.now.stage ≡ Open) × (listens ≡ false) × (waits ≡ true) × (SILENT_MS ≤ now - self.now.quiet)) }
+        ensures no_hello { result ≡ Some NoHello
+            ↔ ((self.now.stage ≡ Open) × (listens ≡ true) × (NO_HELLO_MS ≤ now - self.now.quiet)) }
+    {
+        let quiet = now.saturating_sub(self.quiet);
+        match self.stage {
+            Stage::Closed => None,
+            Stage::Opening if now.saturating_sub(self.since) >= CONNECT_MS => Some(
+                Stale::Unreached,
+            ),
+            Stage::Open if listens && quiet >= NO_HELLO_MS => Some(Stale::NoHello),
+            Stage::Open if !listens && waits && quiet >= SILENT_MS => Some(Stale::Silent),
+            _ => None,
+        }
+    }
+
+    /// It is being opened from now on.
+    pub fn begin(&mut self, now: u64)
+        ensures { self.new ≡ begun now self.old }
+    {
+        self.stage = Stage::Opening;
+        self.since = now;
+        self.quiet = now;
+    }
+
+    /// It is open from now on. A PING and an INFO are due at once.
+    pub fn reach(&mut self, now: u64)
+        ensures { self.new ≡ record self.old { stage = Open; since = now; quiet = now; pinged = None; infos = 0 } }
+    {
+        self.stage = Stage::Open;
+        self.since = now;
+        self.quiet = now;
+        self.pinged = None;
+        self.infos = 0;
+    }
+
+    /// Whether it is open.
+    pub fn is_open(&self) -> bool
+        ensures { IsTrue result ↔ self.now.stage ≡ Open }
+    {
+        self.stage == Stage::Open
+    }
+
+    /// Something came that its session took: the next pause is the shortest again.
+    pub fn hear(&mut self, now: u64)
+        ensures { self.new ≡ record self.old { quiet = now; pause = 0 } }
+    {
+        self.quiet = now;
+        self.pause = 0;
+    }
+
+    /// What was silent so far counts no more: a first answer is awaited, or it was this Sentinel that stood still.
+    pub fn excuse(&mut self, now: u64)
+        ensures { self.new ≡ record self.old { quiet = now } }
+    {
+        self.quiet = now;
+    }
+
+    /// It is closed from now on. Where nothing was heard since it was last closed, the pause is twice as long as the last one.
+    pub fn close(&mut self, now: u64)
+        ensures { self.new ≡ closed now self.old }
+    {
+        self.stage = Stage::Closed;
+        self.since = now;
+        self.pause = self
+            .pause
+            .saturating_mul(2)
+            .max(PAUSE_MIN_MS)
+            .min(PAUSE_MAX_MS);
+    }
+
+    /// The next time it is opened comes at once, where it is closed.
+    pub fn forgive(&mut self)
+        ensures { self.new ≡ record self.old { pause = 0 } }
+    {
+        self.pause = 0;
+    }
+
+    /// Whether it is open, and has been for so long that its node counts as a good one: where such a connection ends, it is opened again at once.
+    pub fn is_lasting(&self, now: u64) -> bool
+        ensures { IsTrue result ↔ ((self.now.stage ≡ Open) × (LASTING_MS ≤ now - self.now.since)) }
+    {
+        self.stage == Stage::Open && now.saturating_sub(self.since) >= LASTING_MS
+    }
+
+    /// Whether it is to send a PING now.
+    pub fn is_ping_due(&self, now: u64) -> bool
+        ensures { IsTrue result ↔ ((self.now.stage ≡ Open) × IsPast self.now.ping_each self.now.pinged now) }
+    {
+        match self.pinged {
+            Some(pinged) => {
+                self.stage == Stage::Open && now.saturating_sub(pinged) >= self.ping_each
+            }
+            None => self.stage == Stage::Open,
+        }
+    }
+
+    /// It sent a PING.
+    pub fn ping(&mut self, now: u64)
+        ensures { self.new ≡ record self.old { pinged = Some now } }
+    {
+        self.pinged = Some(now);
+    }
+
+    /// Whether it is to ask for INFO by itself now: at once, and each `INFO_MS` after it was opened.
+    pub fn is_info_due(&self, now: u64) -> bool
+        ensures { IsTrue result ↔ ((self.now.stage ≡ Open) × (self.now.infos ≤ (now - self.now.since) / INFO_MS)) }
+    {
+        let passed = now.saturating_sub(self.since) / INFO_MS;
+        self.stage == Stage::Open && self.infos <= passed
+    }
+
+    /// It asked for INFO: it is to ask again once the next `INFO_MS` have passed.
+    pub fn ask_info(&mut self, now: u64)
+        ensures { self.new ≡ record self.old { infos = (now - self.old.since) / INFO_MS + 1 } }
+    {
+        let passed = now.saturating_sub(self.since) / INFO_MS;
+        self.infos = passed + 1;
+    }
+}

@@ -1,0 +1,300 @@
+//! What was asked over a connection, what came, and what isn't sent yet.
+
+ghost use Rattle.std.specs.Prelude.{◌≡◌, ◌↔◌, ◌≤◌, ◌<◌, ◌++◌, ◌∷◌, ℕ, List, [], map, length, drop, IsTrue, IsFalse, IfOk, IfErr, IfSome, IfNone, None, OnOk, OnErr};
+ghost use Rattle.ballot_law.specs.declared.events.Event.{Event};
+ghost use Rattle.node_texts.specs.Messages.MessageTexts.{message_bytes, words_frame, IsWritable};
+ghost use Rattle.resp2.specs.Framing.Frame.{view, spelling};
+ghost use Rattle.resp2.specs.Framing.Stream.{reading, held_size, bytes_in};
+ghost use Rattle.links.specs.declared.sessions.questions.Question.{Question};
+ghost use Rattle.links.specs.Sessions.LongHeld.{held_in, memory_in};
+ghost use Rattle.links.specs.Sessions.Links.{next_asked, listed, question_of, IsRefused, Receives};
+ghost use Rattle.links.specs.Sessions.OnTheWay.{IsOnTheWay, Steps, Drains, Told, Untold, closed_by};
+
+use crate::sessions::fault::LinkFault;
+use crate::sessions::long_frames::LongFrames;
+use crate::sessions::questions::{Question, question_of};
+use crate::sessions::replies::heard_of;
+use ballot_law::{Event, Message, NoMemory, NodeName};
+use bytes::BytesMut;
+use node_texts::message_text;
+use resp2::{FrameFault, OutText, Value, push_bulk, push_size};
+use std::alloc::Global;
+use std::collections::VecDeque;
+
+/// How many questions may wait for their answers.
+pub const ASKED_MAX: usize = 512;
+
+/// What was asked and isn't answered yet, the bytes that came and are no whole value yet, and the bytes that aren't sent yet.
+#[derive(Drop)]
+pub(crate) struct Conversation {
+    alloc: Global,
+    pub(crate) node: NodeName,
+    pub(crate) listens: bool,
+    pub(crate) frames: LongFrames,
+    pub(crate) asked: VecDeque<Question>,
+    pub(crate) unsent: BytesMut,
+}
+
+/// Adds what a value tells.
+fn add_heard(events: &mut Vec<Event>, heard: Option<Event>) -> Result<(), LinkFault>
+    ensures ok { OnOk result (events.new.items ≡ events.old.items ++ listed heard) }
+    ensures err { OnErr result (events.new.items ≡ events.old.items) }
+    ensures fault { IfErr result (λ fault. fault ≡ LinkFault.NoMemory) }
+{
+    match heard {
+        None => Ok(()),
+        Some(event) => match events.push(event) {
+            Ok(()) => Ok(()),
+            Err(_) => Err(LinkFault::NoMemory),
+        },
+    }
+}
+
+/// Adds an array of these words, each of them a bulk string.
+fn push_words(text: &mut OutText, words: &[&[u8]]) -> Result<(), NoMemory>
+    ensures { OnOk result (text.new ≡ text.old ++ spelling (words_frame (map (λ word. word.now) words.now))) }
+{
+    push_size(text, b'*', words.len())?;
+    for word in words {
+        push_bulk(text, word)?;
+    }
+    Ok(())
+}
+
+impl Conversation {
+    /// Nothing was asked and nothing came yet. No memory is taken.
+    pub(crate) fn new(alloc: Global, node: NodeName, listens: bool) -> Conversation
+        ensures node { result.node ≡ node }
+        ensures listens { result.listens ≡ listens }
+        ensures frames { held_in result.frames ≡ reading [] }
+        ensures memory { memory_in result.frames ≡ 0 }
+        ensures asked { result.asked.items ≡ [] }
+        ensures unsent { result.unsent.items ≡ [] }
+    {
+        Conversation {
+            alloc,
+            node,
+            listens,
+            frames: LongFrames::new(alloc),
+            asked: VecDeque::new(alloc),
+            unsent: BytesMut::new(alloc),
+        }
+    }
+
+    /// The bytes that aren't sent yet.
+    pub(crate) fn unsent(&self) -> &[u8]
+        ensures { result.now ≡ self.now.unsent.items }
+    {
+        self.unsent.as_slice()
+    }
+
+    /// Whether an answer is awaited.
+    pub(crate) fn is_waiting(&self) -> bool
+        ensures { IsTrue result ↔ (0 < length self.now.asked.items) }
+    {
+        !self.asked.is_empty()
+    }
+
+    /// Takes the first `n` bytes of them away.
+    pub(crate) fn sent(&mut self, n: usize)
+        requires { n ≤ length self.old.unsent.items }
+        ensures unsent { self.new.unsent.items ≡ drop n self.old.unsent.items }
+        ensures node { self.new.node ≡ self.old.node }
+        ensures listens { self.new.listens ≡ self.old.listens }
+        ensures frames { self.new.frames ≡ self.old.frames }
+        ensures asked { self.new.asked.items ≡ self.old.asked.items }
+    {
+        self.unsent.advance(n);
+    }
+
+    /// Puts out a text and remembers the question, or changes nothing.
+    fn put_out(&mut self, text: &OutText, question: Question) -> Result<(), LinkFault>
+        ensures node { self.new.node ≡ self.old.node }
+        ensures listens { self.new.listens ≡ self.old.listens }
+        ensures frames { self.new.frames ≡ self.old.frames }
+        ensures ok { OnOk result ((self.new.unsent.items ≡ self.old.unsent.items ++ text.now) × (self.new.asked.items ≡ self.old.asked.items ++ question ∷ [])) }
+        ensures few { OnOk result (length self.new.asked.items ≤ ASKED_MAX) }
+        ensures err { OnErr result ((self.new.unsent.items ≡ self.old.unsent.items) × (self.new.asked.items ≡ self.old.asked.items)) }
+        ensures fault { IfErr result (IsRefused self.old.asked.items) }
+    {
+        if self.asked.len() >= ASKED_MAX {
+            return Err(LinkFault::Full);
+        }
+        if self.asked.reserve(1).is_err() {
+            return Err(LinkFault::NoMemory);
+        }
+        if self.unsent.extend_from_slice(text.as_slice()).is_err() {
+            return Err(LinkFault::NoMemory);
+        }
+        let Ok(()) = self.asked.push_back(question) else {
+            unreachable!()
+        };
+        Ok(())
+    }
+
+    /// Puts out what a message says, and remembers what its answer will be about, or changes nothing.
+    pub(crate) fn ask(&mut self, message: &Message) -> Result<(), LinkFault>
+        requires { IsWritable message.now.body }
+        ensures node { self.new.node ≡ self.old.node }
+        ensures listens { self.new.listens ≡ self.old.listens }
+        ensures frames { self.new.frames ≡ self.old.frames }
+        ensures ok { OnOk result ((self.new.unsent.items ≡ self.old.unsent.items ++ message_bytes message.now.body)
+            × (self.new.asked.items ≡ self.old.asked.items ++ question_of message.now.body ∷ [])) }
+        ensures few { OnOk result (length self.new.asked.items ≤ ASKED_MAX) }
+        ensures err { OnErr result ((self.new.unsent.items ≡ self.old.unsent.items) × (self.new.asked.items ≡ self.old.asked.items)) }
+        ensures fault { IfErr result (IsRefused self.old.asked.items) }
+    {
+        let mut text = OutText::new(self.alloc);
+        if message_text(self.alloc, message, &mut text).is_err() {
+            return Err(LinkFault::NoMemory);
+        }
+        self.put_out(&text, question_of(&message.body))
+    }
+
+    /// Puts out a command whose answer tells nothing, or changes nothing.
+    pub(crate) fn order(&mut self, words: &[&[u8]]) -> Result<(), LinkFault>
+        ensures node { self.new.node ≡ self.old.node }
+        ensures listens { self.new.listens ≡ self.old.listens }
+        ensures frames { self.new.frames ≡ self.old.frames }
+        ensures ok { OnOk result ((self.new.unsent.items ≡ self.old.unsent.items ++ spelling (words_frame (map (λ word. word.now) words.now)))
+            × (self.new.asked.items ≡ self.old.asked.items ++ Question.Order ∷ [])) }
+        ensures few { OnOk result (length self.new.asked.items ≤ ASKED_MAX) }
+        ensures err { OnErr result ((self.new.unsent.items ≡ self.old.unsent.items) × (self.new.asked.items ≡ self.old.asked.items)) }
+        ensures fault { IfErr result (IsRefused self.old.asked.items) }
+    {
+        let mut text = OutText::new(self.alloc);
+        if push_words(&mut text, words).is_err() {
+            return Err(LinkFault::NoMemory);
+        }
+        self.put_out(&text, Question::Order)
+    }
+
+    /// What the next value answers.
+    fn next_question(&mut self) -> Option<Question>
+        ensures node { self.new.node ≡ self.old.node }
+        ensures listens { self.new.listens ≡ self.old.listens }
+        ensures frames { self.new.frames ≡ self.old.frames }
+        ensures unsent { self.new.unsent.items ≡ self.old.unsent.items }
+        ensures next { IfSome result (λ question. next_asked self.old.listens self.old.asked.items ≡ Some (question, self.new.asked.items)) }
+        ensures none { IfNone result (next_asked self.old.listens self.old.asked.items ≡ None) }
+    {
+        if let Some(question) = self.asked.pop_front() {
+            return Some(question);
+        }
+        if self.listens {
+            return Some(Question::Hello);
+        }
+        None
+    }
+
+    /// Adds what a value tells that answers the oldest question.
+    fn hear_value(&mut self, value: Value, events: &mut Vec<Event>) -> Result<(), LinkFault>
+        ensures node { self.new.node ≡ self.old.node }
+        ensures listens { self.new.listens ≡ self.old.listens }
+        ensures frames { self.new.frames ≡ self.old.frames }
+        ensures unsent { self.new.unsent.items ≡ self.old.unsent.items }
+        ensures told { OnOk result (Told self.old.node self.old.listens self.old.asked.items (view value) events.old.items events.new.items self.new.asked.items) }
+        ensures untold { OnErr result (events.new.items ≡ events.old.items) }
+        ensures why { IfErr result (Untold self.old.node self.old.listens self.old.asked.items (view value)) }
+    {
+        let Some(question) = self.next_question() else {
+            return Err(LinkFault::Unasked);
+        };
+        match heard_of(self.node, question, value) {
+            Ok(heard) => add_heard(events, heard),
+            Err(fault) => Err(fault),
+        }
+    }
+
+    /// Hears the first value that is whole, and tells whether there was one.
+    fn hear_next(&mut self, events: &mut Vec<Event>) -> Result<bool, LinkFault>
+        requires open { held_in self.old.frames ≡ reading (bytes_in (held_in self.old.frames)) }
+        ensures node { self.new.node ≡ self.old.node }
+        ensures listens { self.new.listens ≡ self.old.listens }
+        ensures unsent { self.new.unsent.items ≡ self.old.unsent.items }
+        ensures open { OnOk result (held_in self.new.frames ≡ reading (bytes_in (held_in self.new.frames))) }
+        ensures smaller { IfOk result (λ more. IsTrue more → held_size (held_in self.new.frames) < held_size (held_in self.old.frames)) }
+        ensures memory { IfOk result (λ more. IsFalse more → memory_in self.new.frames ≤ 65537) }
+        ensures heard { (stream : List ℕ) (asked : List Question) (before so_far : List Event) → events.old.items ≡ before ++ so_far
+            → IsOnTheWay self.old.node self.old.listens asked stream (held_in self.old.frames) so_far self.old.asked.items
+            → (more : List Event) × (events.new.items ≡ before ++ more)
+            × Steps self.old.node self.old.listens asked stream result (held_in self.new.frames) more self.new.asked.items }
+    {
+        let value = match self.frames.next() {
+            Ok(Some(value)) => value,
+            Ok(None) => return Ok(false),
+            Err(fault) => return Err(fault_of(fault)),
+        };
+        match self.hear_value(value, events) {
+            Ok(()) => Ok(true),
+            Err(fault) => Err(fault),
+        }
+    }
+
+    /// Hears each value that is whole.
+    fn hear_whole(&mut self, events: &mut Vec<Event>) -> Result<(), LinkFault>
+        requires open { held_in self.old.frames ≡ reading (bytes_in (held_in self.old.frames)) }
+        ensures node { self.new.node ≡ self.old.node }
+        ensures listens { self.new.listens ≡ self.old.listens }
+        ensures unsent { self.new.unsent.items ≡ self.old.unsent.items }
+        ensures open { OnOk result (held_in self.new.frames ≡ reading (bytes_in (held_in self.new.frames))) }
+        ensures memory { OnOk result (memory_in self.new.frames ≤ 65537) }
+        ensures heard { (stream : List ℕ) (asked : List Question) (before so_far : List Event) → events.old.items ≡ before ++ so_far
+            → IsOnTheWay self.old.node self.old.listens asked stream (held_in self.old.frames) so_far self.old.asked.items
+            → (more : List Event) × (events.new.items ≡ before ++ more)
+            × Drains self.old.node self.old.listens asked stream result (held_in self.new.frames) more self.new.asked.items }
+    {
+        loop {
+            match self.hear_next(events) {
+                Ok(true) => {}
+                Ok(false) => return Ok(()),
+                Err(fault) => return Err(fault),
+            }
+        }
+    }
+
+    /// Takes the next piece, and hears the values that are whole with it.
+    pub(crate) fn take_piece(
+        &mut self,
+        piece: &[u8],
+        events: &mut Vec<Event>,
+    ) -> Result<(), LinkFault>
+        requires open { held_in self.old.frames ≡ reading (bytes_in (held_in self.old.frames)) }
+        ensures node { self.new.node ≡ self.old.node }
+        ensures listens { self.new.listens ≡ self.old.listens }
+        ensures unsent { self.new.unsent.items ≡ self.old.unsent.items }
+        ensures open { OnOk result (held_in self.new.frames ≡ reading (bytes_in (held_in self.new.frames))) }
+        ensures memory { OnOk result (memory_in self.new.frames ≤ 65537) }
+        ensures received { (more : List Event) × (events.new.items ≡ events.old.items ++ more)
+            × Receives self.old.node self.old.listens self.old.asked.items (bytes_in (held_in self.old.frames) ++ piece.now) result more self.new.asked.items (bytes_in (held_in self.new.frames)) }
+    {
+        if self.frames.feed(piece).is_err() {
+            return Err(LinkFault::NoMemory);
+        }
+        self.hear_whole(events)
+    }
+
+    /// Drops what came, what is asked and what isn't sent.
+    pub(crate) fn drop_all(&mut self)
+        ensures node { self.new.node ≡ self.old.node }
+        ensures listens { self.new.listens ≡ self.old.listens }
+        ensures frames { held_in self.new.frames ≡ reading [] }
+        ensures memory { memory_in self.new.frames ≡ 0 }
+        ensures asked { self.new.asked.items ≡ [] }
+        ensures unsent { self.new.unsent.items ≡ [] }
+    {
+        self.frames = LongFrames::new(self.alloc);
+        self.asked = VecDeque::new(self.alloc);
+        self.unsent = BytesMut::new(self.alloc);
+    }
+}
+
+/// Why a link is closed at a fault of a frame.
+fn fault_of(fault: FrameFault) -> LinkFault
+    ensures { result ≡ closed_by fault }
+{
+    match fault {
+        FrameFault::NoMemory => LinkFault::NoMemory,
+        fault => LinkFault::Unread(fault),
+    }
+}

@@ -1,0 +1,36 @@
+//! What an answer will be about.
+
+ghost use Rattle.std.specs.Prelude.{◌≡◌};
+ghost use Rattle.links.specs.Sessions.Links.{question_of};
+
+use ballot_law::{Addr, Body};
+
+/// What the answer to a message will be about.
+#[derive(Clone, Copy, PartialEq, Eq)]
+pub enum Question {
+    /// The answer to a PING.
+    Ping,
+    /// The answer to an INFO.
+    Info,
+    /// The answer to the question whether this master at this address is down.
+    Ask { master: u16, addr: Addr },
+    /// An answer that tells nothing, as that to PUBLISH or REPLICAOF.
+    Order,
+    /// What comes on a connection that listens to hellos, unasked.
+    Hello,
+}
+
+/// What the answer to this message will be about.
+pub fn question_of(body: &Body) -> Question
+    ensures { result ≡ question_of body.now }
+{
+    match body {
+        Body::Ping => Question::Ping,
+        Body::InfoAsk => Question::Info,
+        Body::Ask { master, addr, .. } => Question::Ask {
+            master: *master,
+            addr: *addr,
+        },
+        _ => Question::Order,
+    }
+}

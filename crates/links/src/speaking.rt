@@ -1,0 +1,142 @@
+//! What goes over a connection for a message, and what comes before all messages.
+
+ghost use Rattle.std.specs.Prelude.{◌≡◌, ◌≤◌, ◌↔◌, ◌++◌, ◌∷◌, [], length, IsOk, IfErr, OnOk, codes};
+ghost use Rattle.node_texts.specs.Messages.MessageTexts.{IsWritable, message_bytes};
+ghost use Rattle.links.specs.Speaking.{bytes_for, questions_for, command_bytes, after_order, login_bytes, login_questions, listen_bytes, listen_questions};
+ghost use Rattle.links.specs.Sessions.Links.{question_of};
+ghost use Rattle.links.specs.declared.sessions.questions.Question.TheVariants as asks;
+
+use crate::sessions::{ASKED_MAX, LinkFault, LinkSession};
+use ballot_law::{Body, Message};
+
+/// How many bytes may be unsent; a connection on which more are is given up.
+pub const UNSENT_MAX: usize = 65_536;
+
+/// With which words a Sentinel logs in to a data node.
+#[derive(Clone, Copy)]
+pub enum Login<'a> {
+    /// It doesn't.
+    Without,
+    /// With this password, as the default user.
+    Pass(&'a [u8]),
+    /// As this user, with this password.
+    User(&'a [u8], &'a [u8]),
+}
+
+/// Puts out what comes after an order to follow a master.
+fn put_after_order(session: &mut LinkSession) -> Result<(), LinkFault>
+    ensures ok { OnOk result (session.new ≡ record session.old {
+      unsent = session.old.unsent ++ after_order;
+      asked = session.old.asked ++ asks.Order ∷ asks.Order ∷ asks.Order ∷ asks.Order ∷ [];
+    }) }
+    ensures few { OnOk result (length session.new.asked ≤ ASKED_MAX) }
+{
+    session.order(&[b"CONFIG", b"REWRITE"])?;
+    session.order(&[b"CLIENT", b"KILL", b"TYPE", b"normal"])?;
+    session.order(&[b"CLIENT", b"KILL", b"TYPE", b"pubsub"])?;
+    session.order(&[b"EXEC"])
+}
+
+/// Puts out an order to follow a master, or none, with what has to come with it.
+fn put_order(session: &mut LinkSession, message: &Message) -> Result<(), LinkFault>
+    requires { IsWritable message.now.body }
+    ensures ok { OnOk result (session.new ≡ record session.old {
+      unsent = session.old.unsent ++ (command_bytes (codes "MULTI" ∷ []) ++ (message_bytes message.now.body ++ after_order));
+      asked = session.old.asked
+          ++ asks.Order ∷ question_of message.now.body ∷ asks.Order ∷ asks.Order ∷ asks.Order ∷ asks.Order ∷ [];
+    }) }
+    ensures few { OnOk result (length session.new.asked ≤ ASKED_MAX) }
+{
+    session.order(&[b"MULTI"])?;
+    session.ask(message)?;
+    put_after_order(session)
+}
+
+/// Puts out what goes over the connection for a message.
+fn put_words(session: &mut LinkSession, message: &Message) -> Result<(), LinkFault>
+    requires { IsWritable message.now.body }
+    ensures ok { OnOk result (session.new ≡ record session.old {
+      unsent = session.old.unsent ++ bytes_for message.now.body;
+      asked = session.old.asked ++ questions_for message.now.body;
+    }) }
+    ensures few { OnOk result (length session.new.asked ≤ ASKED_MAX) }
+{
+    match message.body {
+        Body::ReplicaOf(_) => put_order(session, message),
+        _ => session.ask(message),
+    }
+}
+
+/// `Full` where more is unsent than may be.
+fn is_short(session: &LinkSession) -> Result<(), LinkFault>
+    ensures ok { IsOk result ↔ (length session.now.unsent ≤ UNSENT_MAX) }
+    ensures fault { IfErr result (λ fault. fault ≡ LinkFault.Full) }
+{
+    if session.unsent().len() > UNSENT_MAX {
+        return Err(LinkFault::Full);
+    }
+    Ok(())
+}
+
+/// Puts out a message: an order to follow a master goes with CONFIG REWRITE and CLIENT KILL of normal clients and of subscribers, in one MULTI.
+///
+/// `Full` where too much is unsent with it, or too many answers are awaited, and `NoMemory`: all or a part of it may have been put out then, so the caller gives the
+/// connection up.
+pub(crate) fn put_message(session: &mut LinkSession, message: &Message) -> Result<(), LinkFault>
+    requires { IsWritable message.now.body }
+    ensures ok { OnOk result (session.new ≡ record session.old {
+      unsent = session.old.unsent ++ bytes_for message.now.body;
+      asked = session.old.asked ++ questions_for message.now.body;
+    }) }
+    ensures bounded { OnOk result ((length session.new.unsent ≤ UNSENT_MAX) × (length session.new.asked ≤ ASKED_MAX)) }
+{
+    put_words(session, message)?;
+    is_short(session)
+}
+
+/// Puts out the login.
+fn put_login(session: &mut LinkSession, login: Login<'_>) -> Result<(), LinkFault>
+    ensures ok { OnOk result (session.new ≡ record session.old {
+      unsent = session.old.unsent ++ login_bytes login.entry;
+      asked = session.old.asked ++ login_questions login.entry;
+    }) }
+{
+    match login {
+        Login::Without => Ok(()),
+        Login::Pass(pass) => session.order(&[b"AUTH", pass]),
+        Login::User(user, pass) => session.order(&[b"AUTH", user, pass]),
+    }
+}
+
+/// Puts out that the connection listens to hellos, where it does.
+fn put_listening(session: &mut LinkSession, listens: bool) -> Result<(), LinkFault>
+    ensures ok { OnOk result (session.new ≡ record session.old {
+      unsent = session.old.unsent ++ listen_bytes listens;
+      asked = session.old.asked ++ listen_questions listens;
+    }) }
+{
+    if listens {
+        session.order(&[b"SUBSCRIBE", b"__sentinel__:hello"])
+    } else {
+        Ok(())
+    }
+}
+
+/// Puts out what comes before all messages: the login, and that the connection listens to hellos, where it does.
+///
+/// The answers tell nothing. A fault is as that of `put_message`.
+pub(crate) fn put_first_words(
+    session: &mut LinkSession,
+    login: Login<'_>,
+    listens: bool,
+) -> Result<(), LinkFault>
+    ensures ok { OnOk result (session.new ≡ record session.old {
+      unsent = session.old.unsent ++ (login_bytes login.entry ++ listen_bytes listens);
+      asked = session.old.asked ++ (login_questions login.entry ++ listen_questions listens);
+    }) }
+    ensures bounded { OnOk result (length session.new.unsent ≤ UNSENT_MAX) }
+{
+    put_login(session, login)?;
+    put_listening(session, listens)?;
+    is_short(session)
+}

@@ -1,0 +1,137 @@
+//! When a Sentinel ticks, and whether it stood still.
+
+ghost use Rattle.std.specs.Prelude.{◌≡◌, ◌≤◌, ◌<◌, ◌↔◌, ◌+◌, ◌-◌, ◌*◌, ◌/◌, ◌%◌, ◌^◌, max, min, IsTrue};
+
+/// How long may lie between two turns before this Sentinel takes itself to have stood still, in milliseconds.
+pub const GAP_MS: u64 = 300;
+
+/// The shortest and the longest time between two ticks, in milliseconds.
+pub const TICK_MIN_MS: u64 = 50;
+
+pub const TICK_MAX_MS: u64 = 100;
+
+/// How far apart the turns of two Sentinels are that may begin a campaign, in milliseconds, where few of them share the longest pause: a vote is stored, and asked of the
+/// others, in much less.
+pub const SLOT_MAX_MS: u64 = 200;
+
+/// For how long the ticks are held back at most where a campaign is near, in milliseconds.
+pub const HOLD_MAX_MS: u64 = 1_000;
+
+/// How far apart two ticks may come to be by being held back, in milliseconds: at 2,000 a Sentinel would take its clock to have leapt.
+pub const APART_MAX_MS: u64 = 1_200;
+
+/// How long after the last ticks those that are due are late, in milliseconds.
+pub const LATE_MS: u64 = 800;
+
+/// The turns of a Sentinel, by readings of one clock in milliseconds: `turned` is when the last one ended, `ticked` when the last ticks began, and `tick_due` when the
+/// next ones are due.
+#[derive(Clone, Copy)]
+pub struct TickSchedule {
+    pub turned: u64,
+    pub ticked: u64,
+    pub tick_due: u64,
+}
+
+/// Whether too long a time lies between two turns, by readings of one clock: then nobody else was silent meanwhile.
+pub fn is_gap(turned: u64, now: u64) -> bool
+    ensures { IsTrue result ↔ (GAP_MS < now - turned) }
+{
+    now.saturating_sub(turned) > GAP_MS
+}
+
+/// How far apart the turns of so many Sentinels are.
+fn slot_of(turns: u64) -> u64
+    requires { 0 < turns }
+    ensures slot { result ≡ min SLOT_MAX_MS (HOLD_MAX_MS / turns) }
+    ensures most { turns * result ≤ HOLD_MAX_MS }
+{
+    (HOLD_MAX_MS / turns).min(SLOT_MAX_MS)
+}
+
+/// Which turn the Sentinel at this place has, of so many: turns go by the places in the roster, and a campaign's number moves them on. So Sentinels that know the same number have
+/// different turns.
+pub fn turn_of(place: u16, number: u64, turns: u64) -> u64
+    requires some { 0 < turns }
+    requires few { turns ≤ 64 }
+    ensures turn { result ≡ (place + number % turns) % turns }
+    ensures within { result < turns }
+{
+    (u64::from(place) + number % turns) % turns
+}
+
+/// For how long a Sentinel holds its ticks back whose turn to begin a campaign is this one of so many: so those that find a master down together begin one after the other,
+/// and who begins first has the votes of the others. Half of each turn goes by lot.
+pub fn pause_of(turn: u64, turns: u64, lot: u64) -> u64
+    requires { turn < turns }
+    ensures turn { turn * min SLOT_MAX_MS (HOLD_MAX_MS / turns) ≤ result }
+    ensures lot { result ≤ turn * min SLOT_MAX_MS (HOLD_MAX_MS / turns) + min SLOT_MAX_MS (HOLD_MAX_MS / turns) / 2 }
+    ensures most { result ≤ HOLD_MAX_MS }
+{
+    let slot = slot_of(turns);
+    turn * slot + lot % (slot / 2 + 1)
+}
+
+impl TickSchedule {
+    /// A Sentinel that begins now, and ticks at once.
+    pub fn new(now: u64) -> TickSchedule
+        ensures { result ≡ record { turned = now; ticked = now; tick_due = now } }
+    {
+        TickSchedule {
+            turned: now,
+            ticked: now,
+            tick_due: now,
+        }
+    }
+
+    /// Whether too long a time lies between the last turn and now: then nobody else was silent meanwhile.
+    pub fn stood_still(&self, now: u64) -> bool
+        ensures { IsTrue result ↔ (GAP_MS < now - self.now.turned) }
+    {
+        is_gap(self.turned, now)
+    }
+
+    /// How long it is until the next ticks, in milliseconds.
+    pub fn until_tick(&self, now: u64) -> u64
+        ensures { result ≡ self.now.tick_due - now }
+    {
+        self.tick_due.saturating_sub(now)
+    }
+
+    /// Whether the ticks are due, and the last ones long ago: then nothing is to be heard before them that may be stored, since a store takes long on a slow disk, and at
+    /// 2,000 ms between two ticks the Sentinel would take its clock to have leapt.
+    pub fn is_late(&self, now: u64) -> bool
+        ensures { IsTrue result ↔ ((self.now.tick_due ≤ now) × (LATE_MS < now - self.now.ticked)) }
+    {
+        self.tick_due <= now && now.saturating_sub(self.ticked) > LATE_MS
+    }
+
+    /// A turn ended.
+    pub fn turn(&mut self, now: u64)
+        ensures { self.new ≡ record self.old { turned = now } }
+    {
+        self.turned = now;
+    }
+
+    /// Ticks began at this reading: by lot, the next ones are due 50 to 100 ms later, so that two Sentinels don't tick together for long.
+    pub fn plan_tick(&mut self, now: u64, lot: u64)
+        ensures due { now + TICK_MAX_MS < 2 ^ 64 → (now + TICK_MIN_MS ≤ self.new.tick_due) × (self.new.tick_due ≤ now + TICK_MAX_MS) }
+        ensures ticked { (self.new.turned ≡ self.old.turned) × (self.new.ticked ≡ now) }
+    {
+        let pause = TICK_MIN_MS + lot % (TICK_MAX_MS - TICK_MIN_MS + 1);
+        self.tick_due = now.saturating_add(pause);
+        self.ticked = now;
+    }
+
+    /// A campaign is near: the next ticks are held back for so long from now. What is due later stays so, and no ticks come to be more than 1,200 ms apart by it.
+    pub fn hold(&mut self, now: u64, pause: u64)
+        ensures later { self.old.tick_due ≤ self.new.tick_due }
+        ensures soon { now + pause < 2 ^ 64 → self.new.tick_due ≤ max self.old.tick_due (now + pause) }
+        ensures apart { self.old.ticked + APART_MAX_MS < 2 ^ 64 → self.new.tick_due ≤ max self.old.tick_due (self.old.ticked + APART_MAX_MS) }
+        ensures held { now + pause < 2 ^ 64 → self.old.ticked + APART_MAX_MS < 2 ^ 64 → now + pause ≤ self.old.ticked + APART_MAX_MS → now + pause ≤ self.new.tick_due }
+        ensures turned { (self.new.turned ≡ self.old.turned) × (self.new.ticked ≡ self.old.ticked) }
+    {
+        let held = now.saturating_add(pause);
+        let last = self.ticked.saturating_add(APART_MAX_MS);
+        self.tick_due = self.tick_due.max(held.min(last));
+    }
+}

@@ -1,5 +1,0 @@
-use Rattle.port_courtesies.proofs.Bytes.{set_to, role_bytes}
-use Rattle.port_courtesies.proofs.clients.role.Goals as goal
-
-pub returns : goal.returns
-returns c = set_to c.say_names.result c.say_names.new.out _ _ (role_bytes c.args.masters.now) c.say_names.ensures

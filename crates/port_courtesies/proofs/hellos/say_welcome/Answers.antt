@@ -1,8 +1,0 @@
-use Rattle.std.proofs.Common.{◌∙◌, sym}
-use Rattle.port_courtesies.proofs.Bytes.{set_to, greeting_bytes}
-use Rattle.port_courtesies.proofs.hellos.say_welcome.Goals as goal
-
-pub returns : goal.returns
-returns c =
-    let given = sym c.lacks_password.ensures ∙ c.if-lacks_password.false in
-    set_to c.say_hello.result c.say_hello.new.out _ _ (greeting_bytes c.args.asker.now c.args.admitted c.id.result given c.id.ensures) c.say_hello.ensures

@@ -1,5 +1,0 @@
-use Rattle.port_courtesies.proofs.OwnValues.{own_is_left, own_is_same, common_is_left, refused_or_left}
-use Rattle.port_courtesies.proofs.laws.law_own_values_are_left.Goals as goal
-
-pub returns : goal.returns
-returns c = record { own = own_is_left; same = own_is_same; common = common_is_left; refused = refused_or_left }

@@ -1,5 +1,0 @@
-use Rattle.port_courtesies.proofs.WordingLines.{wide_has_lines}
-use Rattle.port_courtesies.proofs.laws.law_wide_answers_are_values.Goals as goal
-
-pub returns : goal.returns
-returns c = wide_has_lines

@@ -1,5 +1,0 @@
-use Rattle.port_courtesies.proofs.LineLemmas.{place_is_size}
-use Rattle.port_courtesies.proofs.lines.line_size.Goals as goal
-
-pub returns-clause-size : goal.returns-clause-size
-returns-clause-size c = place_is_size c.args.bytes.now c.lf_place.result c.lf_place.ensures

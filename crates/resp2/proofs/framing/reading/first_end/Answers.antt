@@ -1,0 +1,5 @@
+use Rattle.std.proofs.Common.{rules}
+use Rattle.resp2.proofs.framing.reading.first_end.Goals as goal
+
+pub returns : goal.returns
+returns c = search rules

@@ -1,5 +1,0 @@
-use Rattle.std.proofs.Common.{rules}
-use Rattle.resp2_frames.proofs.frames.Frames.skip.Goals as goal
-
-pub returns : goal.returns
-returns c = search rules

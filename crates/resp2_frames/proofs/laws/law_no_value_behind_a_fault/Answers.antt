@@ -1,5 +1,0 @@
-use Rattle.resp2_frames.proofs.Streams.{no_value_behind}
-use Rattle.resp2_frames.proofs.laws.law_no_value_behind_a_fault.Goals as goal
-
-pub returns : goal.returns
-returns c = no_value_behind

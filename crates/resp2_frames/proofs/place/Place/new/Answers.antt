@@ -1,5 +1,0 @@
-use Rattle.resp2_frames.proofs.Passing.{stands_start}
-use Rattle.resp2_frames.proofs.place.Place.new.Goals as goal
-
-pub returns-clause-stands : goal.returns-clause-stands
-returns-clause-stands c = λ bytes. stands_start bytes c.new.result.items c.new.ensures

@@ -1,3 +1,0 @@
-mod Bulks
-mod Following
-mod Texts

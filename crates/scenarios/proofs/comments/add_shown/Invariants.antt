@@ -1,6 +1,0 @@
-use Rattle.std.proofs.Common.{◌≡◌, ◌++◌, map, take}
-use Rattle.scenarios.specs.Lines.{shown}
-use Rattle.scenarios.proofs.comments.add_shown.Given as goal
-
-abbrev pub invariant-loop-byte : goal.invariant-loop-byte
-invariant-loop-byte l = l.text ≡ l.fn.text ++ map shown (take l.byte-index l.fn.bytes)

@@ -1,0 +1,7 @@
+pub mod AtPlaces
+pub mod FewBest
+pub mod Looking
+pub mod Openings
+pub mod PartSteps
+pub mod Sights
+pub mod AnswerRows

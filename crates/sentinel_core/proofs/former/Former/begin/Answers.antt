@@ -1,5 +1,0 @@
-use Rattle.std.proofs.Common.{rules}
-use Rattle.sentinel_core.proofs.former.Former.begin.Goals as goal
-
-pub returns : goal.returns
-returns c = search rules

@@ -1,0 +1,11 @@
+use Rattle.std.proofs.Common.{◌≡◌, length, take}
+use Rattle.ballot_law.specs.Clocks.{clock}
+use Rattle.sentinel_rules.specs.Ticks.{at_places, candidate_of}
+use Rattle.sentinel_core.proofs.inputs.facts.candidates.Given as goal
+
+abbrev pub invariant-loop-k : goal.invariant-loop-k
+invariant-loop-k l =
+    record {
+      long : length l.candidates ≡ 256;
+      filled : take l.k l.candidates ≡ at_places (candidate_of l.state.plan l.state.core l.m (clock l.now)) 0 l.k;
+    }

@@ -1,0 +1,12 @@
+use Rattle.std.proofs.Common.{◌≡◌, length, take}
+use Rattle.ballot_law.specs.Clocks.{clock}
+use Rattle.sentinel_rules.specs.States.{is_node_down}
+use Rattle.sentinel_rules.specs.Ticks.{at_places}
+use Rattle.sentinel_core.proofs.inputs.facts.down_places.Given as goal
+
+abbrev pub invariant-loop-k : goal.invariant-loop-k
+invariant-loop-k l =
+    record {
+      long : length l.down ≡ 256;
+      filled : take l.k l.down ≡ at_places (is_node_down l.state.plan l.state.core l.m (clock l.now)) 0 l.k;
+    }

@@ -1,0 +1,278 @@
+//! The answers to the commands of a Sentinel's port.
+
+ghost use Rattle.std.specs.Prelude.{◌≡◌, ◌≤◌, ◌<◌, ◌↔◌, ◌∷◌, [], true, false, codes, length, map, vec_capacity, IsSome, IfSome};
+ghost use Rattle.ballot_law.specs.declared.messages.Body.TheVariants.{PingText, PortReply};
+ghost use Rattle.ballot_law.specs.declared.messages.TheConstants.{ANSWER_MAX, SHOWN_MAX};
+ghost use Rattle.ballot_law.specs.Clocks.{clock};
+ghost use Rattle.resp2.specs.Framing.Frame.{spelling};
+ghost use Rattle.port_answers.specs.Answers.{masters_frame, no_such_master, ok_line, id_frame, subscribed};
+ghost use Rattle.sentinel_rules.specs.Answers.{master_with_card, asked_of, master_row, all_masters, reply, named, about, address_of, commanded};
+ghost use Rattle.sentinel_rules.specs.Plans.{roster_of, me, master_count};
+ghost use Rattle.sentinel_core.specs.Inputs.Plain.{is_plain, answer_about};
+
+use crate::inputs::rows::{
+    add_masters, add_quorum, add_replicas, add_sentinels, master_row, shown_card, shown_masters,
+};
+use ballot_law::{Addr, Body, Command, Name, RunId, ShortText, Shown, ShownList};
+use port_answers::AnswerText;
+use sentinel_state::{Core, Plan};
+
+/// What a command asks about one master.
+#[derive(Clone, Copy)]
+pub(crate) enum Asked {
+    /// `SENTINEL MASTER`.
+    Whole,
+    /// `SENTINEL REPLICAS`, `SENTINEL SLAVES`.
+    Replicas,
+    /// `SENTINEL SENTINELS`.
+    Sentinels,
+    /// `SENTINEL CKQUORUM`.
+    Quorum,
+}
+
+/// The answer to PING.
+fn pong() -> Body
+    ensures { result ≡ PingText false (codes "PONG") }
+{
+    let text = ShortText::from_slice(b"PONG").unwrap();
+    Body::PingText {
+        is_error: false,
+        text,
+    }
+}
+
+/// The answer with these bytes, which shows these configurations.
+fn reply(text: AnswerText, shown: Vec<Shown>) -> Body
+    ensures { result ≡ PortReply shown.items text }
+{
+    Body::PortReply {
+        shown: ShownList::from_vec(shown),
+        text: text.into_text(),
+    }
+}
+
+/// The answer about a name that no master has.
+#[tactic(auto, using(crate::proofs::InputsLemmas::AnswerRows::unknown_whole))]
+fn no_such_master(text: AnswerText, shown: Vec<Shown>) -> Body
+    requires { text ≡ [] }
+    ensures { result ≡ PortReply shown.items (spelling no_such_master) }
+{
+    let mut text = text;
+    text.add_no_such_master();
+    reply(text, shown)
+}
+
+/// The answer to a command that needs no text: PING, `SENTINEL IS-MASTER-DOWN-BY-ADDR`, which may give a vote, and
+/// `SENTINEL GET-MASTER-ADDR-BY-NAME`. For the others there is none, and nothing changes.
+pub fn answer_plainly(plan: &Plan, core: &mut Core, now: u64, command: &Command) -> Option<Body>
+    ensures plain { IsSome result ↔ (is_plain command.now ≡ true) }
+    ensures core { core.new ≡ (commanded plan.now (clock now) command.now core.old).core }
+    ensures body { IfSome result (λ body. body ≡ (commanded plan.now (clock now) command.now core.old).body) }
+{
+    match *command {
+        Command::Ping => Some(pong()),
+        Command::IsMasterDownByAddr {
+            addr,
+            epoch,
+            candidate,
+        } => Some(answer_down(plan, core, now, addr, epoch, candidate)),
+        Command::GetMasterAddrByName(name) => {
+            Some(Body::AddressAnswer(shown_by_name(plan, core, name)))
+        }
+        Command::Masters
+        | Command::Master(_)
+        | Command::Replicas(_)
+        | Command::Sentinels(_)
+        | Command::MyId
+        | Command::CkQuorum(_)
+        | Command::FlushConfig
+        | Command::Subscribe => None,
+    }
+}
+
+/// The answer to any other command, in the room of these two buffers: `ANSWER_MAX` bytes and `SHOWN_MAX` configurations hold every
+/// answer. No memory is taken.
+pub fn answer_by_text(
+    plan: &Plan,
+    core: &Core,
+    now: u64,
+    command: &Command,
+    text: Vec<u8>,
+    shown: Vec<Shown>,
+) -> Body
+    requires text { ANSWER_MAX ≤ vec_capacity text }
+    requires list { SHOWN_MAX ≤ vec_capacity shown }
+    requires empty { (text.items ≡ []) × (shown.items ≡ []) }
+    requires kind { is_plain command.now ≡ false }
+    ensures body { result ≡ (commanded plan.now (clock now) command.now core.now).body }
+    ensures core { (commanded plan.now (clock now) command.now core.now).core ≡ core.now }
+{
+    let text = AnswerText::from_vec(text);
+    match *command {
+        Command::Masters => answer_masters(plan, core, now, text, shown),
+        Command::Master(name) => answer_about(plan, core, now, name, Asked::Whole, text, shown),
+        Command::Replicas(name) => answer_about(
+            plan,
+            core,
+            now,
+            name,
+            Asked::Replicas,
+            text,
+            shown,
+        ),
+        Command::Sentinels(name) => answer_about(
+            plan,
+            core,
+            now,
+            name,
+            Asked::Sentinels,
+            text,
+            shown,
+        ),
+        Command::MyId => answer_id(plan, text, shown),
+        Command::CkQuorum(name) => answer_about(plan, core, now, name, Asked::Quorum, text, shown),
+        Command::FlushConfig => answer_done(text, shown),
+        Command::Subscribe => answer_subscribed(text, shown),
+        Command::Ping | Command::IsMasterDownByAddr { .. } | Command::GetMasterAddrByName(_) =>
+            unreachable!(),
+    }
+}
+
+/// Whether the master at the address is down, and the vote that a candidate asks for.
+fn answer_down(
+    plan: &Plan,
+    core: &mut Core,
+    now: u64,
+    addr: Addr,
+    epoch: u64,
+    candidate: Option<RunId>,
+) -> Body
+    ensures core { core.new ≡ (asked_of plan.now (clock now) addr epoch candidate (master_with_card core.old.kept.masters addr) core.old).core }
+    ensures body { result ≡ (asked_of plan.now (clock now) addr epoch candidate (master_with_card core.old.kept.masters addr) core.old).body }
+{
+    let Some(master) = core.master_with_card(addr) else {
+        return Body::Answer {
+            master: plan.listing(addr).unwrap_or(0),
+            addr,
+            down: false,
+            leader: None,
+            epoch: 0,
+        };
+    };
+    let down = core.is_master_down(plan, master, now) && !core.is_tilted();
+    let Some(candidate) = candidate else {
+        return Body::Answer {
+            master,
+            addr,
+            down,
+            leader: None,
+            epoch: 0,
+        };
+    };
+    core.ask_vote(plan, master, now, epoch, candidate);
+    Body::Answer {
+        master,
+        addr,
+        down,
+        leader: core.leader(master),
+        epoch: core.voted(master),
+    }
+}
+
+/// The configuration of the master with this name.
+fn shown_by_name(plan: &Plan, core: &Core, name: Option<Name>) -> Option<Shown>
+    ensures { result ≡ address_of core.now (named plan.now name) }
+{
+    match plan.named(name) {
+        Some(master) => Some(shown_card(core, master)),
+        None => None,
+    }
+}
+
+fn answer_masters(plan: &Plan, core: &Core, now: u64, text: AnswerText, shown: Vec<Shown>) -> Body
+    requires text { text ≡ [] }
+    requires room { SHOWN_MAX ≤ vec_capacity shown }
+    requires list { shown.items ≡ [] }
+    ensures { result ≡ reply core.now (all_masters plan.now) (masters_frame (map (master_row plan.now core.now (clock now)) (all_masters plan.now))) }
+{
+    let mut text = text;
+    add_masters(plan, core, now, &mut text);
+    reply(text, shown_masters(plan, core, shown))
+}
+
+/// The answer to what is asked about the master with this name.
+///
+/// Many parameters: the room of the answer is handed in by its two parts, so that no answer takes memory.
+#[tactic(auto, using(crate::proofs::InputsLemmas::AnswerRows::master_whole))]
+fn answer_about(
+    plan: &Plan,
+    core: &Core,
+    now: u64,
+    name: Option<Name>,
+    asked: Asked,
+    text: AnswerText,
+    shown: Vec<Shown>,
+) -> Body
+    requires text { text ≡ [] }
+    requires room { SHOWN_MAX ≤ vec_capacity shown }
+    requires list { shown.items ≡ [] }
+    ensures { result ≡ about core.now (named plan.now name) (answer_about plan.now core.now (clock now) asked) }
+{
+    let Some(m) = plan.named(name) else {
+        return no_such_master(text, shown);
+    };
+    let mut text = text;
+    let mut shown = shown;
+    match asked {
+        Asked::Whole => {
+            text.add_master(&master_row(plan, core, now, m));
+            shown.push_reserved(shown_card(core, m));
+            reply(text, shown)
+        }
+        Asked::Replicas => {
+            add_replicas(plan, core, now, m, &mut text);
+            reply(text, shown)
+        }
+        Asked::Sentinels => {
+            add_sentinels(plan, core, now, &mut text);
+            reply(text, shown)
+        }
+        Asked::Quorum => {
+            add_quorum(plan, core, now, m, &mut text);
+            reply(text, shown)
+        }
+    }
+}
+
+/// The own run id.
+#[tactic(auto, using(crate::proofs::InputsLemmas::AnswerRows::id_whole))]
+fn answer_id(plan: &Plan, text: AnswerText, shown: Vec<Shown>) -> Body
+    requires text { text ≡ [] }
+    ensures { result ≡ PortReply shown.items (spelling (id_frame (me plan.now))) }
+{
+    let mut text = text;
+    text.add_id(plan.me());
+    reply(text, shown)
+}
+
+/// That the connection listens on the channel of notes. Whether it does is the connection's own matter.
+#[tactic(auto, using(crate::proofs::InputsLemmas::AnswerRows::subscribed_whole))]
+fn answer_subscribed(text: AnswerText, shown: Vec<Shown>) -> Body
+    requires text { text ≡ [] }
+    ensures { result ≡ PortReply shown.items (spelling subscribed) }
+{
+    let mut text = text;
+    text.add_subscribed();
+    reply(text, shown)
+}
+
+/// That the command was done.
+#[tactic(auto, using(crate::proofs::InputsLemmas::AnswerRows::ok_whole))]
+fn answer_done(text: AnswerText, shown: Vec<Shown>) -> Body
+    requires text { text ≡ [] }
+    ensures { result ≡ PortReply shown.items (spelling ok_line) }
+{
+    let mut text = text;
+    text.add_ok();
+    reply(text, shown)
+}

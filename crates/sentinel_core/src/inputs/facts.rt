@@ -1,0 +1,216 @@
+//! What a turn of a master's failover looks at: the best replica, which nodes are down, and the votes of its campaign.
+
+ghost use Rattle.std.specs.Prelude.{◌≡◌, ◌≤◌, [], None, IfSome, if◌then◌else◌, length, take};
+ghost use Rattle.ballot_law.specs.declared.rosters.TheConstants.{NODES_MAX};
+ghost use Rattle.ballot_law.specs.Clocks.{clock};
+ghost use Rattle.sentinel_rules.specs.Plans.{me, nodes_of};
+ghost use Rattle.sentinel_rules.specs.States.{card_place, is_node_down};
+ghost use Rattle.sentinel_rules.specs.Ticks.{candidate_of, candidates_of, at_places, down_for, limits_of, best_of, pick_of, count_of};
+ghost use Rattle.sentinel_core.specs.Inputs.Rows.{looks_at_votes, looks_at_best, looks_at_nodes};
+
+use ballot_law::{Addr, NODES_MAX, RunId, clock_of};
+use failover_states::FailoverState;
+use replica_choice::{Candidate, Limits, choose};
+use sentinel_state::{Node, State};
+use std::marker::Model;
+
+/// For how long something has been down, in milliseconds.
+fn down_for(since: Option<u64>, now: u64) -> u64
+    ensures { result ≡ down_for since now }
+{
+    match since {
+        Some(since) => now.saturating_sub(since),
+        None => 0,
+    }
+}
+
+/// Whether each data node of a master is subjectively down, by its place.
+#[derive(Drop)]
+pub(crate) struct DownPlaces {
+    down: [bool; NODES_MAX],
+    count: usize,
+}
+
+impl Model for DownPlaces {
+    ghost use Rattle.std.specs.Prelude.{◌≤◌, Bool, List, take};
+    ghost use Rattle.ballot_law.specs.declared.rosters.TheConstants.{NODES_MAX};
+
+    ghost Value = { List Bool };
+
+    ghost view = { λ places. take places.count places.down };
+
+    ghost invariant = { λ places. places.count ≤ NODES_MAX };
+}
+
+/// Whether the rows of this state look at the votes heard.
+fn looks_at_votes(stage: FailoverState) -> bool
+    ensures { result ≡ looks_at_votes stage }
+{
+    matches!(stage, FailoverState::WaitStart { .. })
+}
+
+/// Whether the rows of this state look at the best replica.
+fn looks_at_best(stage: FailoverState) -> bool
+    ensures { result ≡ looks_at_best stage }
+{
+    matches!(stage, FailoverState::SelectReplica { .. })
+}
+
+/// Whether the rows of this state look at the nodes: which of them are down, and which one the configuration names.
+fn looks_at_nodes(stage: FailoverState) -> bool
+    ensures { result ≡ looks_at_nodes stage }
+{
+    matches!(
+        stage,
+        FailoverState::SendPromotion { .. } | FailoverState::ReconfReplicas { .. }
+    )
+}
+
+impl DownPlaces {
+    /// Of no node.
+    fn none() -> DownPlaces
+        ensures { result ≡ [] }
+    {
+        DownPlaces {
+            down: [false; NODES_MAX],
+            count: 0,
+        }
+    }
+
+    /// One for each data node, in the order of their places.
+    pub(crate) fn as_slice(&self) -> &[bool]
+        ensures { result.now ≡ self.now }
+    {
+        &self.down[..self.count]
+    }
+}
+
+/// What is known of the node at a place as a replica to choose; the node of the configuration, at `card_at`, is none.
+fn candidate(state: &State, m: u16, now: u64, card_at: usize, k: usize) -> Candidate
+    requires { card_at ≡ card_place state.now.plan state.now.core m }
+    ensures { result ≡ candidate_of state.now.plan state.now.core m (clock now) k }
+{
+    let sdown = k == card_at || state.core.is_node_down(&state.plan, m, now, card_at, k);
+    match state.core.kept_node(m, k) {
+        Some(node) => node.candidate(sdown),
+        None => Node::new(0).candidate(sdown),
+    }
+}
+
+/// Each node of a master as a replica to choose, by its place.
+fn candidates(state: &State, m: u16, now: u64, card_at: usize) -> [Candidate; NODES_MAX]
+    requires { card_at ≡ card_place state.now.plan state.now.core m }
+    ensures { take (length (nodes_of state.now.plan m)) result ≡ candidates_of state.now.plan state.now.core m (clock now) }
+{
+    let none = Candidate {
+        sdown: true,
+        priority: 0,
+        link_down_s: 0,
+        last_ping: None,
+        last_info: None,
+        offset: 0,
+        id: None,
+    };
+    let mut candidates = [none; NODES_MAX];
+    for k in 0..state.plan.nodes(m).len() {
+        candidates[k] = candidate(state, m, now, card_at, k);
+    }
+    candidates
+}
+
+/// For how long the master has been down, beside its setting.
+fn limits(state: &State, m: u16, now: u64, card_at: usize) -> Limits
+    requires { card_at ≡ card_place state.now.plan state.now.core m }
+    ensures { result ≡ limits_of state.now.plan state.now.core m (clock now) }
+{
+    let since = state
+        .core
+        .node_down_since(&state.plan, m, now, card_at, card_at);
+    Limits {
+        after_ms: state.plan.settings(m).after_ms,
+        master_down_ms: down_for(since, clock_of(now)),
+    }
+}
+
+/// The best replica of a master to take its place, by its place and its address; none where no replica may.
+fn best(state: &State, m: u16, now: u64) -> Option<(u16, Addr)>
+    ensures { result ≡ best_of state.now.plan state.now.core m (clock now) }
+{
+    let nodes = state.plan.nodes(m);
+    let card_at = state.core.card_place(&state.plan, m);
+    let candidates = candidates(state, m, now, card_at);
+    let limits = limits(state, m, now, card_at);
+    let place = choose(&candidates[..nodes.len()], clock_of(now), limits)?;
+    Some((place as u16, nodes[place]))
+}
+
+/// Whether each data node of a master is subjectively down, by its place.
+fn down_places(state: &State, m: u16, now: u64) -> DownPlaces
+    ensures { result ≡ at_places (is_node_down state.now.plan state.now.core m (clock now)) 0 (length (nodes_of state.now.plan m)) }
+{
+    let card_at = state.core.card_place(&state.plan, m);
+    let mut down = [false; NODES_MAX];
+    let count = state.plan.nodes(m).len();
+    for k in 0..count {
+        down[k] = state.core.is_node_down(&state.plan, m, now, card_at, k);
+    }
+    DownPlaces { down, count }
+}
+
+/// The pick of the votes heard, where the rows of this state look at it.
+pub(crate) fn pick_for(state: &State, m: u16, epoch: u64, stage: FailoverState) -> RunId
+    ensures { result ≡ (if looks_at_votes stage then pick_of state.now.plan state.now.core m epoch else me state.now.plan) }
+{
+    if looks_at_votes(stage) {
+        state.core.pick(&state.plan, m, epoch)
+    } else {
+        state.plan.me()
+    }
+}
+
+/// How many votes heard are for this Sentinel, where the rows of this state look at it.
+pub(crate) fn count_for(state: &State, m: u16, epoch: u64, stage: FailoverState) -> u32
+    ensures { result ≡ (if looks_at_votes stage then count_of state.now.plan state.now.core m epoch else 0) }
+{
+    if looks_at_votes(stage) {
+        state.core.count(&state.plan, m, epoch)
+    } else {
+        0
+    }
+}
+
+/// The best replica, where the rows of this state look at it.
+#[tactic(auto, using(crate::proofs::InputsLemmas::FewBest::best_few))]
+pub(crate) fn best_for(state: &State, m: u16, now: u64, stage: FailoverState) -> Option<(u16, Addr)>
+    ensures value { result ≡ (if looks_at_best stage then best_of state.now.plan state.now.core m (clock now) else None) }
+    ensures few { IfSome result (λ best. best.0 ≤ NODES_MAX) }
+{
+    let _few = state.plan.nodes(m);
+    if looks_at_best(stage) {
+        best(state, m, now)
+    } else {
+        None
+    }
+}
+
+/// The place of the node that the configuration names, where the rows of this state look at it.
+pub(crate) fn card_place_for(state: &State, m: u16, stage: FailoverState) -> u16
+    ensures { result ≡ (if looks_at_nodes stage then card_place state.now.plan state.now.core m else 0) }
+{
+    if looks_at_nodes(stage) {
+        state.core.card_place(&state.plan, m) as u16
+    } else {
+        0
+    }
+}
+
+/// Which data nodes are subjectively down, where the rows of this state look at it.
+pub(crate) fn down_for_rows(state: &State, m: u16, now: u64, stage: FailoverState) -> DownPlaces
+    ensures { result ≡ (if looks_at_nodes stage then at_places (is_node_down state.now.plan state.now.core m (clock now)) 0 (length (nodes_of state.now.plan m)) else []) }
+{
+    if looks_at_nodes(stage) {
+        down_places(state, m, now)
+    } else {
+        DownPlaces::none()
+    }
+}

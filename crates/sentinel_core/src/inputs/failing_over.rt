@@ -1,0 +1,161 @@
+//! The failover of a master: its start, and the row that it takes at each tick.
+
+ghost use Rattle.std.specs.Prelude.{◌≡◌, ◌<◌, ◌≤◌, true, false, IfSome, length};
+ghost use Rattle.ballot_law.specs.declared.rosters.TheConstants.{NODES_MAX};
+ghost use Rattle.ballot_law.specs.Clocks.{clock};
+ghost use Rattle.failover_states.specs.Calls.{choice_of};
+ghost use Rattle.failover_states.specs.Known.{known};
+ghost use Rattle.failover_states.specs.Replicas.{replica_at};
+ghost use Rattle.failover_states.specs.Table.{turned};
+ghost use Rattle.sentinel_rules.specs.Parts.{frames_from};
+ghost use Rattle.sentinel_rules.specs.Plans.{master_count};
+ghost use Rattle.sentinel_rules.specs.States.{failover_of, with_failover};
+ghost use Rattle.sentinel_rules.specs.Ticks.{known_of, turn_of, with_win, promote_frames, order_frames, row_part, start_part, starts_now};
+ghost use Rattle.sentinel_state.specs.Parts.{with_part};
+ghost use Rattle.sentinel_state.specs.Nodes.Room.{added};
+ghost use Rattle.sentinel_core.specs.Inputs.Rows.{is_promotion, looked_at};
+
+use crate::inputs::facts::{best_for, card_place_for, count_for, down_for_rows, pick_for};
+use ballot_law::Win;
+use failover_states::{Act, Facts, FailoverState, Row};
+use sentinel_rules::Frame;
+use sentinel_state::{Core, FrameList, Plan, State};
+
+/// Whether the row tells the choice that it is the master.
+fn is_promotion(row: Option<Row>) -> bool
+    ensures { result ≡ is_promotion row }
+{
+    matches!(row, Some(Row::Promote))
+}
+
+/// Starts a failover where none runs and one is due, and tells whether it did. A failover that starts opens the epoch after the current one
+/// for its campaign, and keeps it.
+pub(crate) fn start_failover(state: &mut State, m: u16, now: u64) -> bool
+    requires { m < master_count state.old.plan }
+    ensures started { result ≡ starts_now state.old.plan state.old.core m (clock now) }
+    ensures state { state.new ≡ with_part state.old (start_part state.old.plan m (clock now) state.old.core) }
+{
+    if state.core.is_failing_over(m) {
+        return false;
+    }
+    let odown = state.core.was_odown(m);
+    let act = turn(state, m, now, odown);
+    if act.row.is_none() {
+        return false;
+    }
+    let epoch = state.core.campaign_epoch(m);
+    state.core.set_current(epoch);
+    true
+}
+
+/// The failover takes the first row that fits: it may give a vote, end an election, tell the choice that it is the master,
+/// and tell replicas to follow the new one.
+pub(crate) fn take_row(state: &mut State, m: u16, now: u64)
+    requires { m < master_count state.old.plan }
+    ensures { state.new ≡ with_part state.old (row_part state.old.plan m (clock now) state.old.core) }
+{
+    let epoch = state.core.campaign_epoch(m);
+    let act = turn(state, m, now, false);
+    promote_choice(state, m, act.row);
+    order_replicas(&state.core, &state.plan, m, &mut state.frames);
+    state.core.give_vote(&state.plan, m, now, epoch, act.vote);
+    note_win(&mut state.core, m, epoch, act.row);
+}
+
+/// A turn of the failover: the facts that its rows don't look at are left out. Without a master with this number nothing was found down.
+fn turn(state: &mut State, m: u16, now: u64, odown: bool) -> Act
+    requires plan { m < master_count state.old.plan }
+    requires odown { odown ≡ true → m < length state.old.core.masters }
+    ensures state { state.new ≡ record state.old {
+      core
+          = with_failover state.old.core m (turn_of state.old.plan state.old.core m (clock now) odown).failover;
+    } }
+    ensures failover { failover_of state.new.core m ≡ (turn_of state.old.plan state.old.core m (clock now) odown).failover }
+    ensures row { result.row ≡ (turn_of state.old.plan state.old.core m (clock now) odown).row }
+    ensures vote { result.vote ≡ (turn_of state.old.plan state.old.core m (clock now) odown).vote }
+{
+    let stage = state.core.stage(m);
+    let down = down_for_rows(state, m, now, stage);
+    let facts = facts(state, m, now, odown, stage, down.as_slice());
+    state.core.take_turn(m, &facts)
+}
+
+/// What a turn of the failover in this state looks at: it is the same with all facts as with those alone that its rows look at.
+fn facts<'a>(
+    state: &State,
+    m: u16,
+    now: u64,
+    odown: bool,
+    stage: FailoverState,
+    down: &'a [bool],
+) -> Facts<'a>
+    requires plan { m < master_count state.now.plan }
+    requires stage { stage ≡ (failover_of state.now.core m).state }
+    requires down { down.now ≡ (looked_at stage (known_of state.now.plan state.now.core m (clock now) odown)).down }
+    ensures turn { turned (failover_of state.now.core m) (known result) ≡ turn_of state.now.plan state.now.core m (clock now) odown }
+    ensures odown { result.odown ≡ odown }
+    ensures few { IfSome result.best (λ best. best.0 ≤ NODES_MAX) }
+{
+    let settings = state.plan.settings(m);
+    let epoch = state.core.campaign_epoch(m);
+    Facts {
+        now,
+        random: state.core.random(),
+        odown,
+        current: state.core.kept().current,
+        voted: state.core.voted(m),
+        own: state.core.leader(m),
+        me: state.plan.me(),
+        need: state.plan.need(m),
+        pick: pick_for(state, m, epoch, stage),
+        count: count_for(state, m, epoch, stage),
+        best: best_for(state, m, now, stage),
+        card_place: card_place_for(state, m, stage),
+        down,
+        timeout: settings.timeout,
+        parallel_syncs: settings.parallel_syncs,
+    }
+}
+
+/// Tells the choice that it is the master, where the row does.
+fn promote_choice(state: &mut State, m: u16, row: Option<Row>)
+    ensures { state.new ≡ record state.old {
+      frames = added state.old.frames
+          (promote_frames state.old.plan m row (choice_of (failover_of state.old.core m).state));
+    } }
+{
+    let choice = state.core.choice(m);
+    let target = state.plan.node_name(m, choice.unwrap_or(0) as usize);
+    state.frames.push_if(
+        is_promotion(row) && choice.is_some(),
+        Frame::PromoteTo(target),
+    );
+}
+
+/// Tells replicas to follow the new master, by address.
+fn order_replicas(core: &Core, plan: &Plan, m: u16, frames: &mut FrameList)
+    ensures { frames.new ≡ added frames.old (frames_from (order_frames plan.now m) 0 (failover_of core.now m).replicas) }
+{
+    for k in 0..core.place_count(m) {
+        order_replica(core, plan, m, k, frames);
+    }
+}
+
+/// Tells the replica at a place to follow the new master, where the last turn does.
+fn order_replica(core: &Core, plan: &Plan, m: u16, k: usize, frames: &mut FrameList)
+    requires { k ≤ NODES_MAX }
+    ensures { frames.new ≡ added frames.old (order_frames plan.now m k (replica_at (failover_of core.now m).replicas k)) }
+{
+    let target = plan.node_name(m, k);
+    let is_ordered = core.is_ordered(m, k as u16);
+    frames.push_if(is_ordered, Frame::FollowTo { target, master: m });
+}
+
+/// An election is noted.
+fn note_win(core: &mut Core, m: u16, epoch: u64, row: Option<Row>)
+    ensures { core.new ≡ with_win m epoch row core.old }
+{
+    if let Some(Row::Elected) = row {
+        core.set_win(Win { master: m, epoch });
+    }
+}

@@ -1,7 +1,0 @@
-pub mod AtPlaces
-mod FewBest
-mod Looking
-mod Openings
-mod PartSteps
-mod Sights
-mod AnswerRows

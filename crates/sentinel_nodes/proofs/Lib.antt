@@ -1,6 +1,0 @@
-mod Few
-mod Fresh
-mod Listed
-mod Sending
-mod SentinelMoves
-mod Wins

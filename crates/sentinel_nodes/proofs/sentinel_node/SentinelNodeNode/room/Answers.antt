@@ -1,5 +1,0 @@
-use Rattle.std.proofs.Common.{rules}
-use Rattle.sentinel_nodes.proofs.sentinel_node.SentinelNodeNode.room.Goals as goal
-
-pub returns : goal.returns
-returns c = search rules

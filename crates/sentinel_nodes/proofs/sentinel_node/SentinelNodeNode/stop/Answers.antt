@@ -1,5 +1,0 @@
-use Rattle.std.proofs.Common.{rules}
-use Rattle.sentinel_nodes.proofs.sentinel_node.SentinelNodeNode.stop.Goals as goal
-
-pub returns-in-New-clause-stops : goal.returns-in-New-clause-stops
-returns-in-New-clause-stops c = search rules

@@ -1,0 +1,60 @@
+-- What a turn of a shared Sentinel shows may be sent.
+use Rattle.std.proofs.Common.{◌≡◌, List, [], ◌∷◌, ◌++◌, sym, ap, subst, drop, length}
+use Rattle.std.specs.List.{AllByRecursion}
+use Rattle.std.specs.Prelude.{All}
+use Rattle.ballot_law.specs.declared.events.Input.{Input}
+use Rattle.ballot_law.specs.declared.messages.Output.{Output}
+use Rattle.boxed_nodes.specs.Sendable.{IsSendableOutput}
+use Rattle.ballot_law.specs.Limits.{IsWithinEvent}
+use Rattle.sentinel_rules.specs.Limits.{OutputsAreWithin, EpochsAreWithin}
+use Rattle.ballot_law.specs.Limits.{IsWithinOutput, ShowsWithin}
+use Rattle.sentinel_conf.specs.Rewritten.{IsKeptPart}
+use Rattle.boxed_nodes.proofs.Sending.{outputs_sendable}
+use Rattle.sentinel_core.proofs.ServingLemmas.Writing.{outputs_writable}
+use Rattle.sentinel_cell.specs.declared.entry.Entry.{Entry}
+use Rattle.sentinel_cell.specs.declared.entry.Outcome.TheVariants.{Stored}
+use Rattle.sentinel_cell.specs.declared.view.View.{View}
+use Rattle.sentinel_cell.specs.Histories.{World, IsGood, IsOutcome, IsStep, IsLegal, after_outcome, replay, next_of}
+use Rattle.sentinel_cell.specs.declared.fault.ActFault.{ActFault}
+use Rattle.sentinel_cell.specs.Standing.{Adds, Faulted}
+use Rattle.sentinel_cell.proofs.Acts.{first_steps, last_step}
+use Rattle.sentinel_cell.proofs.Cards.{good_after, good_replay}
+
+-- of a good world a stored entry
+entry_sendable : OutputsAreWithin → EpochsAreWithin → (w : World) (e : Entry) → IsGood w → IsStep w e → e.outcome ≡ Stored → IsWithinEvent e.input.event →
+    AllByRecursion IsSendableOutput e.outputs
+entry_sendable within limits w e good step stored takeable =
+    let is : IsOutcome w e.input e.outputs e.failures Stored = subst (IsOutcome w e.input e.outputs e.failures) stored step in
+    let kept : IsKeptPart w.plan.conf (next_of w e.input).core.kept =
+    subst (λ (v : World). IsKeptPart v.plan.conf v.core.kept) (ap (after_outcome w e.input e.failures) stored) (good_after w e good step).core.kept in
+    let numbers : All IsWithinOutput (next_of w e.input).outputs = within w.plan w.core e.input.now e.input.event good.plan good.core takeable in
+    let epochs : All ShowsWithin (next_of w e.input).outputs = limits w.plan w.core e.input.now e.input.event good.plan good.core takeable in
+    subst (AllByRecursion IsSendableOutput) (sym is.1) (outputs_sendable (next_of w e.input).outputs numbers epochs
+    (outputs_writable w.plan w.core e.input.now e.input.event kept numbers))
+
+pub added_sendable : OutputsAreWithin → EpochsAreWithin → (start : World) (v w : View) (input : Input) (outputs : List Output) → Adds start v input Stored outputs w →
+    IsWithinEvent input.event → AllByRecursion IsSendableOutput outputs
+added_sendable within limits start v w input outputs a takeable =
+    let e = a.1 in
+    let history : List Entry = v.front ++ a.0 in
+    let legal : IsLegal start (history ++ e ∷ []) = subst (IsLegal start) a.2 a.3 in
+    let good : IsGood (replay start history) = good_replay start history legal.0 (first_steps start history (e ∷ []) legal.1) in
+    let step : IsStep (replay start history) e = last_step start history e legal.1 in
+    let event : IsWithinEvent e.input.event = subst (λ (i : Input). IsWithinEvent i.event) (sym a.6) takeable in
+    subst (AllByRecursion IsSendableOutput) a.8 (entry_sendable within limits (replay start history) e good step a.7 event)
+
+-- where nothing was shown before, all that is shown is what was added
+pub shown_sendable : OutputsAreWithin → EpochsAreWithin → (start : World) (v w : View) (input : Input) (before shown : List Output) → before ≡ [] →
+    Adds start v input Stored (drop (length before) shown) w → IsWithinEvent input.event → AllByRecursion IsSendableOutput shown
+shown_sendable within limits start v w input before shown none a event =
+    added_sendable within limits start v w input shown (subst (λ (b : List Output). Adds start v input Stored (drop (length b) shown) w) none a) event
+
+-- where nothing was shown before, all that a stored turn shows is its own
+pub added_shown : (start : World) (v w : View) (input : Input) (before shown : List Output) → before ≡ [] → Adds start v input Stored (drop (length before) shown) w →
+    Adds start v input Stored shown w
+added_shown start v w input before shown none a = subst (λ (b : List Output). Adds start v input Stored (drop (length b) shown) w) none a
+
+-- so it is at a fault
+pub faulted_shown : (start : World) (v w : View) (input : Input) (fault : ActFault) (before shown : List Output) → before ≡ [] →
+    Faulted start v input (drop (length before) shown) w fault → Faulted start v input shown w fault
+faulted_shown start v w input fault before shown none f = subst (λ (b : List Output). Faulted start v input (drop (length b) shown) w fault) none f

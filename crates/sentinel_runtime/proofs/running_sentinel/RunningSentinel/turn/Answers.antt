@@ -1,0 +1,13 @@
+use Rattle.sentinel_runtime.proofs.Saying.{added_shown, faulted_shown, shown_sendable}
+use Rattle.sentinel_runtime.proofs.running_sentinel.RunningSentinel.turn.Goals as goal
+
+pub returns-in-Ok-clause-sendable : goal.returns-in-Ok-clause-sendable
+returns-in-Ok-clause-sendable g c = shown_sendable c.law_outputs_are_within.ensures.outputs c.law_outputs_are_within.ensures.epochs _
+    c.args.seat.now.seat.view c.act_observed.new.seat.view
+    _ _ _ c.clear.ensures.shown c.in-Ok.ensures.acted c.requires.within
+
+pub returns-in-Ok-clause-added : goal.returns-in-Ok-clause-added
+returns-in-Ok-clause-added g c = (added_shown _ c.args.seat.now.seat.view c.act_observed.new.seat.view _ _ _ c.clear.ensures.shown c.in-Ok.ensures.acted, c.in-Ok.ensures.entry)
+
+pub returns-in-Err-clause-fault : goal.returns-in-Err-clause-fault
+returns-in-Err-clause-fault g c = faulted_shown _ c.args.seat.now.seat.view c.act_observed.new.seat.view _ _ _ _ c.clear.ensures.shown c.in-Err.ensures.acted

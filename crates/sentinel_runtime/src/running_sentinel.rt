@@ -1,0 +1,411 @@
+//! A Sentinel that threads share, with the seats that are known to be of it.
+
+ghost use Rattle.std.specs.Prelude.{◌≡◌, ◌+◌, ◌++◌, ◌<◌, ◌≤◌, [], List, ℕ, Option, Some, None, Ok, Err, OnOk, OnErr, IfOk, IfErr, IfSome, length, false};
+ghost use Rattle.std.specs.List.{AllByRecursion};
+ghost use Rattle.ballot_law.specs.Messages.{sent};
+ghost use Rattle.boxed_nodes.specs.Sendable.{IsSendableOutput};
+ghost use Rattle.sentinel_runtime.specs.Running.{input_of, phase_of, IsLeftByTurns};
+ghost use Rattle.sentinel_runtime.specs.declared.news.TheConstants.{EVENTS_MAX, WAITING_MAX};
+ghost use Rattle.courteous_sessions.specs.Clients.{informed, Takes, NotifiesClient};
+ghost use Rattle.sentinel_cell.specs.declared.entry.Outcome.TheVariants.{Stored};
+ghost use Rattle.sentinel_cell.specs.Standing.{Adds, Faulted};
+ghost use Rattle.sentinel_rules.specs.Plans.{group_size, master_count, roster_of};
+ghost use Rattle.ballot_law.specs.Limits.{IsWithinEvent};
+
+use crate::known_epoch::KnownEpoch;
+use crate::news::{News, NewsLists};
+use crate::notes::{Announcing, tell_all};
+use crate::outlet::{Outlet, send_all};
+use crate::run_state::RunState;
+use crate::sight::{Look, Sight};
+use crate::switches::Switch;
+use crate::ticking::TICK_MS;
+use ballot_law::{Event, Input, NoMemory, Output, Roster};
+use courteous_sessions::{ClientSession, FarRequest};
+use log::kv::With;
+use log::{Log, Span};
+use sentinel_cell::{ActFault, Keeper, Seat, SharedSentinel};
+use sentinel_conf::ConfStore;
+use sentinel_core::ServeFault;
+use sentinel_outbox::Outbox;
+use sentinel_rules::law_outputs_are_within;
+use std::alloc::{AllocError, Global};
+use std::marker::{Brand, PhantomData};
+use std::sync::atomic::{AtomicU64, Ordering};
+use std::sync::{Mutex, Wait};
+
+/// Which Sentinel it is. Only proofs read it.
+pub trait Which {
+    ghost use Rattle.atomic_table.specs.Seated.{TableId};
+
+    ghost cell: { TableId };
+}
+
+impl Which for Brand {
+    ghost use Rattle.std.specs.Prelude.{[]};
+
+    ghost cell = { record { words = 0; slots = 0; views_name = 0; atom = 0; block = 0; offset = 0; slot_names = [] } };
+}
+
+/// A Sentinel of the group, which its threads share. `far` is the last request for a vote whose epoch was too far above the one that is `known`, until it is taken.
+#[derive(Drop)]
+pub struct RunningSentinel<J: Which, S: ConfStore> {
+    cell: SharedSentinel<S>,
+    place: u16,
+    port: u16,
+    news: NewsLists,
+    known: KnownEpoch,
+    far: Mutex<Option<FarRequest>>,
+    halt_noted: AtomicU64,
+    of: PhantomData<J>,
+    ghost is: { cell.id ≡ J.cell },
+}
+
+/// A thread's seat of that Sentinel, with the thread's own room for outputs.
+#[derive(Drop)]
+pub struct ThreadSeat<J: Which> {
+    seat: Seat,
+    outbox: Outbox,
+    sight: Sight,
+    of: PhantomData<J>,
+    ghost is: { seat.cell ≡ J.cell },
+    ghost held: { outbox.held ≡ [] },
+}
+
+/// A seat with room for outputs that is made as it is needed.
+fn with_outbox<J: Which>(alloc: Global, seat: Seat) -> ThreadSeat<J>
+    requires { seat.cell ≡ J.cell }
+    ensures { result.seat ≡ seat }
+{
+    ThreadSeat {
+        seat,
+        outbox: Outbox::new(alloc),
+        sight: Sight::none(),
+        of: PhantomData,
+    }
+}
+
+impl<J: Which> ThreadSeat<J> {
+    /// The seat.
+    fn into_seat(self) -> Seat
+        ensures { result.cell ≡ J.cell }
+    {
+        let ThreadSeat {
+            seat,
+            outbox: _,
+            sight: _,
+            of: _,
+        } = self;
+        seat
+    }
+
+    /// What the last input gave.
+    pub(crate) fn outputs(&self) -> &[Output] {
+        self.outbox.outputs()
+    }
+
+    /// Has the next turn, at this reading of the clock in milliseconds, take down what the Sentinel shows of a master.
+    pub(crate) fn want(&mut self, master: u16, now: u64)
+        ensures { (self.new.seat ≡ self.old.seat) × (self.new.outbox ≡ self.old.outbox) }
+    {
+        self.sight.want(master, now);
+    }
+
+    /// What the last turn took down.
+    pub(crate) fn take_look(&mut self) -> Option<Look>
+        ensures { (self.new.seat ≡ self.old.seat) × (self.new.outbox ≡ self.old.outbox) }
+    {
+        self.sight.take()
+    }
+
+    /// Has the next turn see whether a campaign for this master is near, at this reading of the clock in milliseconds, now or later: whether the Sentinel finds it
+    /// objectively down then, where nothing else is heard, while no failover of it runs.
+    pub fn look_ahead(&mut self, master: u16, at: u64)
+        ensures { (self.new.seat ≡ self.old.seat) × (self.new.outbox ≡ self.old.outbox) }
+    {
+        self.sight.look_ahead(master, at);
+    }
+
+    /// The number of a campaign that has come near since this was asked last: one that is near stays so, and doesn't come again. It is the epoch of the master's
+    /// configuration with the master's own number: the same for all Sentinels that know that configuration.
+    pub fn take_nearness(&mut self) -> Option<u64>
+        ensures { (self.new.seat ≡ self.old.seat) × (self.new.outbox ≡ self.old.outbox) }
+    {
+        self.sight.take_nearness()
+    }
+}
+
+impl<J: Which, S: ConfStore> RunningSentinel<J, S> {
+    /// The Sentinel at this place of the roster, with its first seat. Its clients come to this port, which so many threads serve.
+    pub fn with_seat(
+        alloc: Global,
+        cell: SharedSentinel<S>,
+        seat: Seat,
+        place: u16,
+        port: u16,
+        port_threads: u16,
+    ) -> Result<(RunningSentinel<J, S>, ThreadSeat<J>), AllocError>
+    where
+        S: Drop,
+        requires named { (cell.id ≡ J.cell) × (seat.cell ≡ J.cell) }
+        ensures seat { IfOk result (λ r. r.1.seat ≡ seat) }
+        ensures cell { IfOk result (λ r. (r.0.cell ≡ cell) × (r.0.place ≡ place)) }
+        ensures news { IfOk result (λ r. length r.0.news.lists.items ≡ port_threads) }
+    {
+        let member = RunningSentinel {
+            cell,
+            place,
+            port,
+            news: NewsLists::new(alloc, port_threads)?,
+            known: KnownEpoch::none(),
+            far: Mutex::new(None),
+            halt_noted: AtomicU64::new(0),
+            of: PhantomData,
+        };
+        Ok((member, with_outbox(alloc, seat)))
+    }
+
+    /// Its place in the roster.
+    pub fn place(&self) -> u16
+        ensures { result ≡ self.now.place }
+    {
+        self.place
+    }
+
+    /// How many masters it watches.
+    pub fn masters(&self) -> u16
+        ensures { result ≡ master_count self.now.cell.start.plan }
+    {
+        let roster = self.roster();
+        roster.is_made();
+        roster.masters().len() as u16
+    }
+
+    /// Cuts a seat into as many as it has a share for. The first one of a cell has the share of all that the cell was made for.
+    pub fn seats(
+        &self,
+        alloc: Global,
+        seat: ThreadSeat<J>,
+    ) -> Result<Vec<ThreadSeat<J>>, AllocError>
+        ensures { IfOk result (λ seats. length seats.items ≡ seat.seat.view.share) }
+    {
+        let mut left = Vec::new(alloc);
+        let mut seats = Vec::new(alloc);
+        left.push(seat)?;
+        while let Some(seat) = left.pop() {
+            match self.cell.split(seat.seat) {
+                Ok((one, two)) => {
+                    left.push(with_outbox(alloc, one))?;
+                    left.push(with_outbox(alloc, two))?;
+                }
+                Err((one, _)) => seats.push(with_outbox(alloc, one))?,
+            }
+        }
+        Ok(seats)
+    }
+
+    /// Ends the sharing, with the seats of all threads, which have ended: the Sentinel and its store, as the history of its turns leaves them. None where a seat
+    /// is missing; the Sentinel and its store are gone then.
+    pub fn close(self, mut seats: Vec<ThreadSeat<J>>) -> Option<Keeper<S>>
+    where
+        S: Drop,
+        ensures { IfSome result (IsLeftByTurns S.held S.failure_count self.cell.start) }
+    {
+        let RunningSentinel {
+            cell,
+            place: _,
+            port: _,
+            news: _,
+            known: _,
+            far: _,
+            halt_noted: _,
+            of: _,
+        } = self;
+        let mut whole = seats.pop()?.into_seat();
+        while let Some(seat) = seats.pop() {
+            whole = cell.join(whole, seat.into_seat());
+        }
+        cell.close(whole).ok()
+    }
+
+    /// One input, and how many calls stand before it. The outbox shows what the Sentinel says, once it is stored; at a fault it says
+    /// nothing.
+    fn turn<R: Wait>(
+        &self,
+        rt: &R,
+        seat: &mut ThreadSeat<J>,
+        input: &Input,
+    ) -> Result<u64, ActFault>
+        requires within { IsWithinEvent input.now.event }
+        ensures sendable { OnOk result (AllByRecursion IsSendableOutput seat.new.outbox.shown) }
+        ensures added { IfOk result (λ entry. Adds self.now.cell.start seat.old.seat.view input.entry.now Stored seat.new.outbox.shown seat.new.seat.view
+            × (entry + 1 ≡ length seat.new.seat.view.front)) }
+        ensures fault { IfErr result (λ fault. Faulted self.now.cell.start seat.old.seat.view input.entry.now seat.new.outbox.shown seat.new.seat.view fault) }
+    {
+        law_outputs_are_within();
+        seat.outbox.clear();
+        match self.cell.act_observed(rt, &mut seat.seat, input, &mut seat.outbox, &mut seat.sight) {
+            Ok(reply) => Ok(reply.entry),
+            Err(fault) => Err(fault),
+        }
+    }
+
+    /// One input at a reading of the clock in milliseconds. What the Sentinel says, once it is stored, goes to the outlet, and what it notes to
+    /// the log and to the subscribers of its port. At a fault it says nothing.
+    pub fn carry_out<O: Outlet, R: Wait + Log>(
+        &self,
+        rt: &R,
+        seat: &mut ThreadSeat<J>,
+        outlet: &mut O,
+        now: u64,
+        event: Event,
+    ) -> Result<(), ActFault>
+        requires within { IsWithinEvent event }
+        ensures added { OnOk result (Adds self.now.cell.start seat.old.seat.view (input_of now event) Stored seat.new.outbox.shown seat.new.seat.view) }
+        ensures fault { IfErr result (λ fault. Faulted self.now.cell.start seat.old.seat.view (input_of now event) seat.new.outbox.shown seat.new.seat.view fault) }
+        ensures handed { OnOk result (IfSome (O.handed outlet.old) (λ before. O.handed outlet.new ≡ Some (before ++ sent seat.new.outbox.shown))) }
+        ensures silent { OnErr result (outlet.new ≡ outlet.old) }
+    {
+        let input = Input { now, event };
+        let entry = self.turn(rt, seat, &input)?;
+        self.settle(&mut seat.sight, now);
+        let outputs = seat.outbox.outputs();
+        send_all(outlet, outputs);
+        tell_all(
+            &self.announcing(rt),
+            self.roster(),
+            &input.event,
+            outputs,
+            entry,
+        );
+        Ok(())
+    }
+
+    /// Takes in the current epoch after a turn, by the sight of its seat, where `guard_epochs` was called.
+    fn settle(&self, sight: &mut Sight, now: u64) {
+        if let Some(known) = self.known.current() {
+            self.known.tell(sight.settle(known, now));
+        }
+    }
+
+    /// Whether it is still to be noted that it is halted; a second time it isn't.
+    pub(crate) fn takes_halt_note(&self) -> bool {
+        self.halt_noted.swap(1, Ordering::SeqCst) == 0
+    }
+
+    /// Whether its port is closed: it is halted, which a thread noted, and a halted one closes its port.
+    pub fn is_closed(&self, state: &RunState) -> bool {
+        state.closes_halted() && self.halt_noted.load(Ordering::SeqCst) != 0
+    }
+
+    /// Where its notes go: each names the Sentinel's port.
+    pub fn noting<'a, R: Log>(&self, rt: &'a R) -> Span<'a, &'a R, With<'a, (), u16>> {
+        rt.span("sentinel").with("port", self.port)
+    }
+
+    /// Where its events go.
+    pub(crate) fn announcing<'r, 'n, R>(&'n self, rt: &'r R) -> Announcing<'r, 'n, R> {
+        Announcing {
+            rt,
+            port: self.port,
+            news: &self.news,
+        }
+    }
+
+    /// From now on the threads of its port get other events too than new addresses, as `take_news` has it.
+    pub fn tell_events(&self) {
+        self.news.tell_events();
+    }
+
+    /// From now on a request for a vote in an epoch that is more than `EPOCHS_AHEAD` above what the current one of the Sentinel was 10 to 20 s ago is answered as one of epoch
+    /// 0. `epoch` is the current one of its file, of which the others have heard. Who asks for votes in ever later epochs so leads it no further than the others follow by its
+    /// hellos. One thread alone, that of its ticks, may call `carry_out` from then on. Sessions without courtesies hear each epoch as it is.
+    pub fn guard_epochs(&self, epoch: u64) {
+        self.known.begin(epoch);
+    }
+
+    /// An epoch that the current one of the Sentinel isn't below: that after the last call of `carry_out`, or of `guard_epochs`; none before that.
+    pub fn known_epoch(&self) -> Option<u64> {
+        self.known.current()
+    }
+
+    /// The epoch from which requests for votes count, 10 to 20 s old; none where `guard_epochs` wasn't called.
+    pub fn settled_epoch(&self) -> Option<u64> {
+        self.known.settled()
+    }
+
+    /// The last request for a vote that was answered as one of epoch 0, where one was since this was asked.
+    pub fn take_far<R: Wait>(&self, rt: &R) -> Option<FarRequest> {
+        self.far.lock(rt).take()
+    }
+
+    /// The Sentinels and the masters of the group.
+    pub fn roster(&self) -> &Roster
+        ensures { result.now ≡ roster_of self.now.cell.start.plan }
+    {
+        self.cell.roster()
+    }
+
+    /// How far its ticks stand after those of the first Sentinel, in milliseconds: each Sentinel has its share of the time between two ticks,
+    /// by its place in the roster. So the first one that begins a failover is heard by the others before their own ticks, and has
+    /// their votes; Redis's Sentinel varies its timer for that.
+    pub(crate) fn phase(&self) -> u64
+        ensures { result ≡ phase_of self.now.place (group_size self.now.cell.start.plan) }
+    {
+        let sentinels = self.cell.roster().sentinels().len() as u64;
+        TICK_MS * u64::from(self.place) / sentinels.max(1)
+    }
+
+    /// What there is to tell the subscribers of the port that its thread with this number didn't take yet, in the order in which it came. Each of its threads gets all
+    /// new addresses, but those that come while `WAITING_MAX` wait for it. Once `tell_events` was called it gets all other events that the Sentinel notes as well,
+    /// but the oldest where more than `EVENTS_MAX` wait for it, and those for which there is no memory; before that none is kept. Nothing where the port has no such
+    /// thread.
+    pub fn take_news<R: Wait>(&self, rt: &R, port_thread: u16) -> Vec<News>
+        ensures few { length result.items ≤ WAITING_MAX + EVENTS_MAX }
+        ensures other { length self.now.news.lists.items ≤ port_thread → result.items ≡ [] }
+    {
+        self.news.take(rt, port_thread)
+    }
+
+    /// Tells a session of a note: whether it is told, which joins what it sends. `NoMemory` changes nothing.
+    pub fn notify(&self, session: &mut ClientSession, switch: &Switch) -> Result<bool, NoMemory>
+        ensures told { let roster = roster_of self.now.cell.start.plan in switch.now.note.master < length roster.masters
+            → NotifiesClient roster switch.now.note switch.now.entry session.old result session.new }
+        ensures other { length (roster_of self.now.cell.start.plan).masters ≤ switch.now.note.master → (result ≡ Ok false) × (session.new ≡ session.old) }
+    {
+        let roster = self.cell.roster();
+        if switch.note.master as usize >= roster.masters().len() {
+            return Ok(false);
+        }
+        session.notify(roster, &switch.note, switch.entry)
+    }
+
+    /// Hands a session the next piece of its stream, at a reading of the clock in milliseconds: all that `ClientSession::received` says of it holds of this
+    /// Sentinel. Where `guard_epochs` was called, the session is told before that from which epoch requests for votes count.
+    pub fn receive<R: Wait>(
+        &self,
+        rt: &R,
+        seat: &mut ThreadSeat<J>,
+        session: &mut ClientSession,
+        now: u64,
+        piece: &[u8],
+    ) -> Result<(), ServeFault>
+        ensures { (known : Option ℕ) × Takes self.now.cell.start now piece.now result seat.old.seat.view seat.new.seat.view (informed session.old known) session.new }
+    {
+        self.inform(session);
+        let received = session.received(rt, &self.cell, &mut seat.seat, now, piece);
+        if let Some(request) = session.take_far() {
+            *self.far.lock(rt) = Some(request);
+        }
+        received
+    }
+
+    /// Tells a session from which epoch requests for votes count, where one is known.
+    fn inform(&self, session: &mut ClientSession)
+        ensures { (known : Option ℕ) × (session.new ≡ informed session.old known) }
+    {
+        if let Some(epoch) = self.known.settled() {
+            session.note_epoch(epoch);
+        }
+    }
+}

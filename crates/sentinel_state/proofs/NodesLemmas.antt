@@ -1,0 +1,4 @@
+pub mod MasterNames
+pub mod NodeNumbers
+pub mod PlaceLoops
+pub mod RoomLemmas

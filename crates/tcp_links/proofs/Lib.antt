@@ -1,4 +1,0 @@
-pub mod Hearing
-pub mod Keeping
-pub mod Places
-pub mod Saying

@@ -1,5 +1,0 @@
-use Rattle.std.proofs.Common.{rules}
-use Rattle.tcp_links.proofs.schedule.Schedule.close.Goals as goal
-
-pub returns : goal.returns
-returns c = search rules

@@ -1,0 +1,285 @@
+//! All connections of a Sentinel.
+
+use crate::exchange::{Outgoing, SentinelEnd, TransportEnd, WatchState, exchange};
+use crate::fault_notes::note_fault;
+use crate::logins::Logins;
+use crate::peer_connection::PeerConnection;
+use crate::traffic::PIECE;
+use ballot_law::{NodeName, Roster};
+use links::{Login, RecentFaults, TickSchedule, connection_count, ping_each, place_of, target_at};
+use log::Log;
+use mio::{Events, Poll, Token};
+use sentinel_conf::Conf;
+use sentinel_runtime::RunFault;
+use std::alloc::{AllocError, Global};
+use std::io::{self, ErrorKind};
+use std::net::Net;
+use std::rt::Clock;
+use std::sync::Wait;
+use std::sync::atomic::Ordering;
+use std::thread;
+use std::time::Duration;
+
+/// How many connections the system tells of at once.
+const EVENTS: usize = 256;
+
+/// How long it is between two times at which connections are opened and given up, in milliseconds.
+const KEEP_MS: u64 = 100;
+
+/// How long the connections rest after each turn, in milliseconds: answers to what was asked together are then heard together, and the Sentinel is woken once for them.
+const REST_MS: u64 = 5;
+
+/// How many messages are put out before the connections are heard again.
+const MESSAGES_MAX: u32 = 1_024;
+
+/// The connections of one Sentinel, each at its place (`target_at`); its own place has none.
+#[derive(Drop)]
+pub struct Connections {
+    poll: Poll,
+    told: Events<Global>,
+    wires: Vec<Option<PeerConnection>>,
+    roster: Roster,
+    logins: Logins,
+    near: TransportEnd,
+    faults: RecentFaults,
+    room: Vec<u8>,
+    alloc: Global,
+}
+
+/// The connections of the Sentinel of this conf, none of which is open.
+fn wires_of(alloc: Global, conf: &Conf) -> Result<Vec<Option<PeerConnection>>, AllocError> {
+    let mut wires = Vec::new(alloc);
+    for place in 0..connection_count(conf.roster()) {
+        match target_at(conf.roster(), conf.place(), place) {
+            Some(target) => {
+                let ping_each = pings_of(conf, target.node);
+                wires.push(Some(PeerConnection::new(alloc, target, ping_each)))?;
+            }
+            None => wires.push(None)?,
+        }
+    }
+    Ok(wires)
+}
+
+/// How long it is between two PINGs to this node, in milliseconds: by the settings of its master; for another Sentinel by those of the first one, by which it is down.
+fn pings_of(conf: &Conf, node: NodeName) -> u64 {
+    let master = match node {
+        NodeName::StoreAt(number) => conf
+            .roster()
+            .node_numbered(number)
+            .map_or(0, |at| at.master),
+        _ => 0,
+    };
+    match conf.settings(master) {
+        Some(settings) => ping_each(settings.after_ms),
+        None => ping_each(0),
+    }
+}
+
+/// The login of a node: that of its master's nodes, or that of all other Sentinels.
+fn login_of<'a>(roster: &Roster, logins: &'a Logins, node: NodeName) -> Login<'a> {
+    let NodeName::StoreAt(number) = node else {
+        return logins.of_sentinels();
+    };
+    match roster.node_numbered(number) {
+        Some(at) => logins.of_master(at.master),
+        None => Login::Without,
+    }
+}
+
+impl Connections {
+    /// The connections of the Sentinel of this conf, none of which is open, and the Sentinel's end of them. The error is the system's; `OutOfMemory` is a refused allocation.
+    pub fn new<N: Net>(
+        net: &N,
+        alloc: Global,
+        conf: &Conf,
+        logins: Logins,
+    ) -> io::Result<(Connections, SentinelEnd)> {
+        let Ok(roster) = conf.roster().copy(alloc) else {
+            return Err(io::Error::from(ErrorKind::OutOfMemory));
+        };
+        let poll = Poll::new(net)?;
+        let (near, far) = exchange(alloc, poll.registry(), conf.kept().current)?;
+        let wires = Connections {
+            poll,
+            told: Events::with_capacity(alloc, EVENTS)?,
+            wires: wires_of(alloc, conf)?,
+            roster,
+            logins,
+            near,
+            faults: RecentFaults::new(alloc),
+            room: vec![in alloc; 0; PIECE]?,
+            alloc,
+        };
+        Ok((wires, far))
+    }
+
+    /// Closes connections of no use, opens those that are due, and asks what they ask by themselves, at this reading of the clock.
+    fn keep_all<N: Net>(&mut self, net: &N, now: u64) {
+        for place in 0..self.wires.len() {
+            if let Some(Some(wire)) = self.wires.get_mut(place) {
+                let login = login_of(&self.roster, &self.logins, wire.node());
+                wire.keep(net, self.poll.registry(), Token(place), login, now);
+            }
+        }
+    }
+
+    /// Sends each node a PING, and forgets for how long it was silent: this Sentinel stood still.
+    fn ask_all_anew(&mut self, now: u64) {
+        for wire in self.wires.iter_mut().flatten() {
+            wire.ask_anew(now);
+        }
+    }
+
+    /// Whether a connection may have more to read.
+    fn goes_on(&self) -> bool {
+        self.wires.iter().flatten().any(|wire| wire.goes_on())
+    }
+
+    /// Whether a connection is to be opened now.
+    fn is_due(&self, now: u64) -> bool {
+        self.wires.iter().flatten().any(|wire| wire.is_due(now))
+    }
+
+    /// Waits until the system tells of a connection, or so many milliseconds; not at all where one may have more to read. The error is the system's, where it tells of no
+    /// connection any more.
+    fn wait(&mut self, millis: u64) -> io::Result<()> {
+        let millis = if self.goes_on() { 0 } else { millis };
+        match self
+            .poll
+            .poll(&mut self.told, Some(Duration::from_millis(millis)))
+        {
+            Ok(()) => Ok(()),
+            Err(error) => {
+                self.told.clear();
+                if error.kind() == ErrorKind::Interrupted {
+                    return Ok(());
+                }
+                Err(error)
+            }
+        }
+    }
+
+    /// Serves the connection at this place, of whose end the system told or didn't, at this reading of the clock.
+    fn serve<R: Wait + Log>(&mut self, rt: &R, place: usize, is_ending: bool, now: u64) {
+        if let Some(Some(wire)) = self.wires.get_mut(place) {
+            if is_ending {
+                wire.note_end();
+            }
+            wire.serve(rt, &mut self.near, self.room.as_mut_slice(), now);
+        }
+        self.note_fault(rt, place, now);
+    }
+
+    /// Notes the fault that closed the connection at this place, where none of its node was noted a moment ago.
+    fn note_fault<R: Log>(&mut self, rt: &R, place: usize, now: u64) {
+        let Some(Some(wire)) = self.wires.get_mut(place) else {
+            return;
+        };
+        let Some(fault) = wire.take_fault() else {
+            return;
+        };
+        let target = wire.target();
+        let node = place_of(&self.roster, target.node).unwrap_or(place);
+        if self.faults.takes_note(node, now) {
+            note_fault(rt, target, fault);
+        }
+    }
+
+    /// Serves the connections that may have more to read.
+    fn serve_busy<R: Wait + Log>(&mut self, rt: &R, now: u64) {
+        for place in 0..self.wires.len() {
+            let goes_on = matches!(self.wires.get(place), Some(Some(wire)) if wire.goes_on());
+            if goes_on {
+                self.serve(rt, place, false, now);
+            }
+        }
+    }
+
+    /// The places of the connections of which the system told, and whether it told of the end of one.
+    fn places_told(&self) -> Result<Vec<(usize, bool)>, AllocError> {
+        let mut places = Vec::new(self.alloc);
+        for event in &self.told {
+            let is_ending = event.is_read_closed() || event.is_error();
+            places.push((event.token().0, is_ending))?;
+        }
+        Ok(places)
+    }
+
+    /// Serves the connections of which the last wait told, at this reading of the clock. The error is a refused allocation.
+    fn serve_told<R: Wait + Log>(&mut self, rt: &R, now: u64) -> io::Result<()> {
+        self.serve_busy(rt, now);
+        for (place, is_ending) in self.places_told()? {
+            self.serve(rt, place, is_ending, now);
+        }
+        Ok(())
+    }
+
+    /// Puts out a message on the connection to its target, and sends what can be sent at once. It is lost where that isn't open, and where no connection is to the target.
+    fn put_out(&mut self, outgoing: &Outgoing, now: u64) {
+        let message = outgoing.message();
+        let target = message.target;
+        let Some(place) = place_of(&self.roster, target) else {
+            return;
+        };
+        if let Some(Some(wire)) = self.wires.get_mut(place) {
+            if wire.takes(target) {
+                wire.ask(message, now);
+            }
+        }
+    }
+
+    /// Puts out the messages that wait, at this reading of the clock.
+    fn put_out_all<R: Wait>(&mut self, rt: &R, now: u64) {
+        for _ in 0..MESSAGES_MAX {
+            let Some(outgoing) = self.near.next(rt) else {
+                return;
+            };
+            self.put_out(&outgoing, now);
+        }
+    }
+
+    /// One turn: hears until a message is to go out or the connections are to be kept, does that, and rests.
+    fn turn<R: Wait + Clock + Log, N: Net>(
+        &mut self,
+        rt: &R,
+        net: &N,
+        state: &WatchState,
+        pace: &mut TickSchedule,
+    ) -> io::Result<()> {
+        self.wait(pace.until_tick(state.run.clock.now(rt)))?;
+        self.serve_told(rt, state.run.clock.now(rt))?;
+        let now = state.run.clock.now(rt);
+        if pace.stood_still(now) {
+            state.stood.store(now, Ordering::SeqCst);
+            self.ask_all_anew(now);
+        }
+        self.put_out_all(rt, now);
+        if pace.until_tick(now) == 0 || self.is_due(now) {
+            self.keep_all(net, now);
+            pace.tick_due = now.saturating_add(KEEP_MS);
+        }
+        pace.turn(now);
+        state.turned.store(now, Ordering::SeqCst);
+        thread::sleep(rt, Duration::from_millis(REST_MS));
+        Ok(())
+    }
+
+    /// Keeps the connections, hands on what they hear and puts out what is to go out, until the threads end or the Sentinel is halted. The error is the system's, where
+    /// it tells of no connection any more, or a refused allocation.
+    pub fn run<R: Wait + Clock + Log, N: Net>(
+        &mut self,
+        rt: &R,
+        net: &N,
+        state: &WatchState,
+    ) -> io::Result<()> {
+        let mut pace = TickSchedule::new(state.run.clock.now(rt));
+        for _ in rt.forever() {
+            if state.ending.load(Ordering::SeqCst) != 0 || state.run.has(RunFault::Halted) {
+                return Ok(());
+            }
+            self.turn(rt, net, state, &mut pace)?;
+        }
+        unreachable!()
+    }
+}

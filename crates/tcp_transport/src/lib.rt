@@ -1,0 +1,21 @@
+//! The connections of one Sentinel to the other Sentinels and to its data nodes, with their sockets, by readiness.
+//!
+//! What is decided without a socket is in `links`, what is asked and heard on a connection in `links`. `Connections` are all connections, which one thread has;
+//! `TickLoop` are the ticks of the Sentinel and what it hears, which another has, so that a store doesn't stop the connections. Their ends are made together, by `Connections::new`.
+#![tactic(auto)]
+
+mod connections;
+mod exchange;
+mod far_hellos;
+mod fault_notes;
+mod hello_notes;
+mod logins;
+mod peer_connection;
+mod replica_notes;
+mod tick_loop;
+mod traffic;
+
+pub use connections::Connections;
+pub use exchange::{SentinelEnd, WatchState};
+pub use logins::Logins;
+pub use tick_loop::TickLoop;

@@ -1,0 +1,342 @@
+//! One connection with its socket.
+
+ghost use Rattle.std.specs.Prelude.{◌≡◌, ◌↔◌, IsTrue, false};
+ghost use Rattle.std.specs.List.{AllByRecursion};
+ghost use Rattle.node_texts.specs.Messages.MessageTexts.{IsWritable};
+ghost use Rattle.ballot_law.specs.Limits.{IsWithinEvent};
+
+use crate::exchange::TransportEnd;
+use crate::traffic::{Unheard, hear, send};
+use ballot_law::{Addr, Body, Event, Message, NodeName};
+use links::{FLOW_MS, LinkFault, Login, NodeLink, RateLimit, Stage, Target, is_refusal};
+use log::{Log, warn};
+use mio::net::TcpStream;
+use mio::{Interest, Registry, Token};
+use std::alloc::Global;
+use std::io::ErrorKind;
+use std::net::{Ipv4Addr, Net, SocketAddr};
+use std::sync::Wait;
+
+/// How many reads a connection makes before the next one has its turn.
+const READS_MAX: u32 = 16;
+
+/// How long it is from an order to follow a master, or none, to the question what came of it, in milliseconds. The node's clients are sent away by that order, other Sentinels among
+/// them, and what comes of it is told by a hello: so they have as long to listen again.
+const LOOK_MS: u64 = 100;
+
+/// A connection to a node, with its socket where it is open or being opened. `goes_on` is whether it may have more to read, `is_ending` whether the system told of its end, `is_refused` whether the node refused who asks
+/// when it was heard last, `look_at` when it is to be asked what came of an order, `fault` the fault of what came that closed it last, and `shut_until` until when it stays closed, since too much came on it.
+#[derive(Drop)]
+pub(crate) struct PeerConnection {
+    link: NodeLink,
+    stream: Option<TcpStream>,
+    goes_on: bool,
+    is_ending: bool,
+    is_refused: bool,
+    look_at: Option<u64>,
+    fault: Option<LinkFault>,
+    flow: RateLimit,
+    shut_until: u64,
+    alloc: Global,
+}
+
+/// A socket's address.
+fn socket_of(addr: Addr) -> SocketAddr {
+    SocketAddr::from((Ipv4Addr::from(addr.ip), addr.port))
+}
+
+/// Begins to connect, and has the system tell of it under this token; none where it can't.
+fn connected<N: Net>(net: &N, registry: &Registry, token: Token, addr: Addr) -> Option<TcpStream> {
+    let mut stream = TcpStream::connect(net, socket_of(addr)).ok()?;
+    let interest = Interest::READABLE | Interest::WRITABLE;
+    registry.register(&mut stream, token, interest).ok()?;
+    Some(stream)
+}
+
+/// Whether the socket stands, once the system has told of it: `None` where it isn't known yet.
+fn is_connected(stream: &TcpStream) -> Option<bool> {
+    match stream.take_error() {
+        Ok(None) => {}
+        _ => return Some(false),
+    }
+    if stream.peer_addr().is_ok() {
+        return Some(true);
+    }
+    None
+}
+
+/// Hands these events on to the Sentinel, in their order. They are those of one read, so there are few.
+fn hand_on_all<R: Wait>(rt: &R, near: &mut TransportEnd, mut events: Vec<Event>, now: u64)
+    requires { AllByRecursion IsWithinEvent events.items }
+{
+    while !events.is_empty() {
+        let event = events.remove(0);
+        near.hand_on(rt, event, now);
+    }
+}
+
+impl PeerConnection {
+    /// A connection that isn't open, and is to be opened at once, with so many milliseconds between two PINGs.
+    pub(crate) fn new(alloc: Global, target: Target, ping_each: u64) -> PeerConnection {
+        PeerConnection {
+            link: NodeLink::new(alloc, target, ping_each),
+            stream: None,
+            goes_on: false,
+            is_ending: false,
+            is_refused: false,
+            look_at: None,
+            fault: None,
+            flow: RateLimit::new(),
+            shut_until: 0,
+            alloc,
+        }
+    }
+
+    /// The node that it is to.
+    pub(crate) fn node(&self) -> NodeName
+        ensures { result ≡ self.now.link.target.node }
+    {
+        self.link.target().node
+    }
+
+    /// Whether it takes the messages of this node.
+    pub(crate) fn takes(&self, node: NodeName) -> bool
+        ensures { IsTrue result ↔ ((self.now.link.target.node ≡ node) × (self.now.link.target.listens ≡ false)) }
+    {
+        let target = self.link.target();
+        target.node == node && !target.listens
+    }
+
+    /// Whether it is to be opened now.
+    pub(crate) fn is_due(&self, now: u64) -> bool {
+        self.shut_until <= now && self.link.schedule().is_due(now)
+    }
+
+    /// The fault of what came that closed it since this was asked last.
+    pub(crate) fn take_fault(&mut self) -> Option<LinkFault> {
+        self.fault.take()
+    }
+
+    /// The node that it is to, and at which address.
+    pub(crate) fn target(&self) -> Target {
+        self.link.target()
+    }
+
+    /// Whether it may have more to read.
+    pub(crate) fn goes_on(&self) -> bool {
+        self.goes_on
+    }
+
+    /// The system told that the node ends it, or that it broke: it is read to its end.
+    pub(crate) fn note_end(&mut self) {
+        self.is_ending = true;
+    }
+
+    /// Drops the socket where the connection is closed.
+    fn settle(&mut self) {
+        if self.link.schedule().stage == Stage::Closed {
+            self.stream = None;
+            self.goes_on = false;
+        }
+    }
+
+    /// Begins to open it.
+    fn open<N: Net>(
+        &mut self,
+        net: &N,
+        registry: &Registry,
+        token: Token,
+        login: Login<'_>,
+        now: u64,
+    ) {
+        if self.link.open(login, now).is_err() {
+            return;
+        }
+        self.is_ending = false;
+        self.stream = connected(net, registry, token, self.link.target().addr);
+        if self.stream.is_none() {
+            self.link.close(now);
+        }
+    }
+
+    /// Closes it where it is given up, opens it where that is due, and asks what it asks by itself.
+    pub(crate) fn keep<N: Net>(
+        &mut self,
+        net: &N,
+        registry: &Registry,
+        token: Token,
+        login: Login<'_>,
+        now: u64,
+    ) {
+        if self.link.stale(now).is_some() {
+            self.link.close(now);
+            self.settle();
+        }
+        if self.is_due(now) {
+            self.open(net, registry, token, login, now);
+        }
+        self.ask_due(now);
+    }
+
+    /// Asks what it asks by itself, and sends what it can. A fault has closed it.
+    fn ask_due(&mut self, now: u64) {
+        let _ = self.link.ask_due(now);
+        if let Some(at) = self.look_at {
+            if at <= now {
+                let _ = self.link.look(now);
+                self.look_at = None;
+            }
+        }
+        self.send_out(now);
+    }
+
+    /// What was silent so far counts no more, and it sends a PING: this Sentinel stood still.
+    pub(crate) fn ask_anew(&mut self, now: u64) {
+        self.link.excuse(now);
+        let _ = self.link.ping(now);
+        self.send_out(now);
+    }
+
+    /// Puts out a message where it is open, and sends what it can; else the message is lost, and so is a PING where the connection has sent one a moment ago. What came of an order to
+    /// follow a master, or none, is asked soon. A fault has closed it.
+    pub(crate) fn ask(&mut self, message: &Message, now: u64)
+        requires writable { IsWritable message.now.body }
+        requires target { (self.old.link.target.node ≡ message.now.target) × (self.old.link.target.listens ≡ false) }
+    {
+        if let Body::Ping = message.body {
+            return self.ask_due(now);
+        }
+        let _ = self.link.ask(message, now);
+        if let Body::ReplicaOf(_) = message.body {
+            self.look_at = Some(now.saturating_add(LOOK_MS));
+        }
+        self.send_out(now);
+    }
+
+    /// Sends what is unsent, where it is open. A socket that takes no more closes it.
+    fn send_out(&mut self, now: u64) {
+        if self.link.schedule().is_open() {
+            let whole = match &mut self.stream {
+                Some(stream) => send(&mut self.link, stream),
+                None => false,
+            };
+            if !whole {
+                self.link.close(now);
+            }
+        }
+        self.settle();
+    }
+
+    /// With which words of the file a Sentinel logs in to its node.
+    fn login_words(&self) -> (&'static str, &'static str) {
+        match self.link.target().node {
+            NodeName::SentinelAt(_) => ("sentinel sentinel-pass", "sentinel sentinel-user"),
+            _ => ("sentinel auth-pass", "sentinel auth-user"),
+        }
+    }
+
+    /// Notes that the node refuses who asks, where it didn't before, by the piece that came.
+    fn note_refusal<R: Log>(&mut self, rt: &R, piece: &[u8]) {
+        let is_refused = is_refusal(piece);
+        if is_refused && !self.is_refused {
+            let addr = self.link.target().addr;
+            let (ip, port) = (Ipv4Addr::from(addr.ip), addr.port);
+            let (pass, user) = self.login_words();
+            warn!(rt; target: "tcp_wires::wire",
+                "{ip}:{port} refuses this Sentinel: see its password and user (`{pass}`, `{user}`), and what that user may do"
+            );
+        }
+        self.is_refused = is_refused;
+    }
+
+    /// Reads one piece, and hands on what it tells: how long it is; the error says why none was taken, or that more comes than a node has to say: then the connection is shut for a second, so that
+    /// what other nodes say isn't lost beside it.
+    #[tactic(auto, using(crate::proofs::Hearing::all_within_told))]
+    fn read_once<R: Wait + Log>(
+        &mut self,
+        rt: &R,
+        near: &mut TransportEnd,
+        room: &mut [u8],
+        now: u64,
+    ) -> Result<usize, ErrorKind> {
+        let Some(stream) = &mut self.stream else {
+            return Err(ErrorKind::NotConnected);
+        };
+        let mut events = Vec::new(self.alloc);
+        let heard = hear(&mut self.link, stream, room, now, &mut events);
+        let is_flooded = self.flow.add(now, events.len() as u64);
+        hand_on_all(rt, near, events, now);
+        if is_flooded {
+            self.shut_until = now.saturating_add(FLOW_MS);
+            return Err(ErrorKind::InvalidData);
+        }
+        match heard {
+            Ok(count) => {
+                self.note_refusal(rt, room);
+                Ok(count)
+            }
+            Err(Unheard::Stream(kind)) => Err(kind),
+            Err(Unheard::Fault(fault)) => {
+                self.fault = Some(fault);
+                Err(ErrorKind::InvalidData)
+            }
+        }
+    }
+
+    /// Reads what came, and hands on what that tells: whether the socket is whole. After many reads the next connection has its turn. A read that gave less than it asked for took all that
+    /// was there: what comes later is told by the system, an end that it told of before isn't.
+    fn read_in<R: Wait + Log>(
+        &mut self,
+        rt: &R,
+        near: &mut TransportEnd,
+        room: &mut [u8],
+        now: u64,
+    ) -> bool {
+        self.goes_on = false;
+        for _ in 0..READS_MAX {
+            match self.read_once(rt, near, room, now) {
+                Ok(count) if count < room.len() && !self.is_ending => return true,
+                Ok(_) | Err(ErrorKind::Interrupted) => {}
+                Err(ErrorKind::WouldBlock) => return true,
+                Err(_) => return false,
+            }
+        }
+        self.goes_on = true;
+        true
+    }
+
+    /// Whether it is open, once the system has told of it; a socket that can't be had closes it.
+    fn has_reached(&mut self, now: u64) -> bool {
+        if self.link.schedule().is_open() {
+            return true;
+        }
+        let Some(stream) = &self.stream else {
+            return false;
+        };
+        match is_connected(stream) {
+            Some(true) => self.link.reach(now),
+            Some(false) => self.link.close(now),
+            None => {}
+        }
+        self.link.schedule().is_open()
+    }
+
+    /// Goes on once the system has told of it: reads what came, hands on what that tells, and sends what is unsent and due. Where the node ends a connection that had lasted,
+    /// it is to be opened again at once.
+    pub(crate) fn serve<R: Wait + Log>(
+        &mut self,
+        rt: &R,
+        near: &mut TransportEnd,
+        room: &mut [u8],
+        now: u64,
+    ) {
+        let is_lasting = self.link.schedule().is_lasting(now);
+        if self.has_reached(now) && !self.read_in(rt, near, room, now) {
+            self.link.close(now);
+            if is_lasting {
+                self.link.forgive();
+            }
+        }
+        self.ask_due(now);
+    }
+}

@@ -1,0 +1,359 @@
+//! What the thread that ticks a Sentinel does until it ends.
+
+ghost use Rattle.std.specs.Prelude.{◌≡◌, ℕ, true, false};
+ghost use Rattle.sentinel_runtime.specs.Running.{input_of};
+ghost use Rattle.sentinel_runtime.specs.Ticking.{Took};
+ghost use Rattle.ballot_law.specs.Limits.{IsWithinEvent};
+ghost use Rattle.tcp_transport.specs.Hearing.{is_lost};
+
+use crate::exchange::{Hearing, SentinelEnd, WatchState};
+use crate::far_hellos::is_lost;
+use crate::hello_notes::{Hearer, HelloNotes};
+use crate::replica_notes::ReplicaNotes;
+use ballot_law::{Event, Text};
+use links::{TickSchedule, is_gap, pause_of, turn_of, without_names};
+use log::Log;
+use sentinel_conf::ConfStore;
+use sentinel_runtime::{Outlet, RunFault, RunningSentinel, ThreadSeat, Ticker, Which, hear};
+use std::alloc::Global;
+use std::rt::Clock;
+use std::sync::Wait;
+use std::sync::atomic::Ordering;
+
+/// How long a Sentinel hears after it or its connections stood still, before it ticks again, in milliseconds.
+const CATCH_UP_MS: u64 = 150;
+
+/// How many events it hears at once before it looks at its clock.
+const EVENTS_MAX: u32 = 1_024;
+
+/// How many events it keeps for later at most.
+const LATER_MAX: usize = 4_096;
+
+/// How long it waits for an event at most before it looks at its clock, in milliseconds.
+const WAIT_MAX_MS: u64 = 100;
+
+/// When a Sentinel ticks, and what its ticks showed. One thread has them, with its end of the connections. `stood_still` is whether it stood still since its last ticks, and `later`
+/// has what it hears only after the next ones, oldest first; `has_ticked` is whether these were since.
+#[derive(Drop)]
+pub struct TickLoop {
+    far: SentinelEnd,
+    ticker: Ticker,
+    pace: TickSchedule,
+    stood_still: bool,
+    hellos: HelloNotes,
+    replicas: ReplicaNotes,
+    later: Vec<Hearing>,
+    has_ticked: bool,
+}
+
+/// Whether what an event tells may be stored: a new configuration.
+fn may_be_stored(event: &Event) -> bool {
+    matches!(event, Event::HelloRead { .. } | Event::InfoRead { .. })
+}
+
+/// The master that another Sentinel finds down, as its answer says.
+fn found_down(event: &Event) -> Option<u16> {
+    match event {
+        Event::Answered {
+            master,
+            down: true,
+            ..
+        } => Some(*master),
+        _ => None,
+    }
+}
+
+/// What was heard, without the name by which a replica may know its master; as it is where there is no memory.
+fn without_name(alloc: Global, event: Event) -> Event
+    requires { IsWithinEvent event }
+    ensures { IsWithinEvent result }
+{
+    match event {
+        Event::InfoRead { node, text } => {
+            let text = match without_names(alloc, text.as_slice()) {
+                Ok(Some(bytes)) => Text::from_vec(bytes),
+                _ => text,
+            };
+            Event::InfoRead { node, text }
+        }
+        event => event,
+    }
+}
+
+/// Has the Sentinel take an event, which comes with the epoch that is known, unless it is lost before the Sentinel hears it: whether it goes on.
+fn hear_near<J: Which, S: ConfStore, O: Outlet, R: Wait + Clock + Log>(
+    rt: &R,
+    state: &WatchState,
+    member: &RunningSentinel<J, S>,
+    seat: &mut ThreadSeat<J>,
+    outlet: &mut O,
+    came: (Option<u64>, Event),
+) -> bool
+    requires { IsWithinEvent came.1 }
+    ensures lost { is_lost came.0 came.1 ≡ true → (result ≡ true) × (seat.new ≡ seat.old) × (outlet.new ≡ outlet.old) }
+    ensures heard { is_lost came.0 came.1 ≡ false
+        → (now : ℕ) × Took member.now.cell.start seat.old.seat.view (input_of now came.1) seat.new.outbox.shown seat.new.seat.view result }
+{
+    let (known, event) = came;
+    if is_lost(known, &event) {
+        return true;
+    }
+    hear(rt, &state.run, member, seat, outlet, event)
+}
+
+/// Who hears a hello now.
+fn hearer<'a, J: Which, S: ConfStore>(member: &'a RunningSentinel<J, S>, now: u64) -> Hearer<'a> {
+    Hearer {
+        roster: member.roster(),
+        own: member.place(),
+        now,
+        known: member.known_epoch(),
+    }
+}
+
+/// A number by lot: the part of a second that the clock shows, in nanoseconds.
+fn lot<R: Clock>(rt: &R, state: &WatchState) -> u64 {
+    u64::from(state.run.clock.elapsed(rt).subsec_nanos())
+}
+
+impl TickLoop {
+    /// Nothing was heard yet at this reading of the clock, and the ticks are due at once.
+    pub fn new<J: Which, S: ConfStore>(
+        alloc: Global,
+        member: &RunningSentinel<J, S>,
+        far: SentinelEnd,
+        now: u64,
+    ) -> TickLoop {
+        TickLoop {
+            far,
+            ticker: Ticker::new(alloc, member),
+            pace: TickSchedule::new(now),
+            stood_still: false,
+            hellos: HelloNotes::new(now),
+            replicas: ReplicaNotes::new(alloc),
+            later: Vec::new(alloc),
+            has_ticked: false,
+        }
+    }
+
+    /// Holds the ticks back where a campaign has come near, until the Sentinel has its turn: that goes by its place, and moves on with each configuration of the master.
+    fn hold<J: Which, S: ConfStore, R: Clock>(
+        &mut self,
+        rt: &R,
+        state: &WatchState,
+        member: &RunningSentinel<J, S>,
+        seat: &mut ThreadSeat<J>,
+    ) {
+        if let Some(number) = seat.take_nearness() {
+            let roster = member.roster();
+            roster.is_made();
+            let turns = (roster.sentinels().len() as u64).max(1);
+            let turn = turn_of(member.place(), number, turns);
+            let pause = pause_of(turn, turns, lot(rt, state));
+            self.pace.hold(state.run.clock.now(rt), pause);
+        }
+    }
+
+    /// Notes what an event shows that the Sentinel's file doesn't have.
+    fn note_heard<R: Log>(&mut self, rt: &R, by: Hearer<'_>, event: &Event) {
+        match event {
+            Event::HelloRead { text } => self.hellos.hear(rt, by, text),
+            Event::InfoRead { node, text } => {
+                self.replicas.hear(rt, by.roster, *node, by.now, text)
+            }
+            _ => {}
+        }
+    }
+
+    /// Has the Sentinel take an event: whether it goes on. An answer may bring a campaign near.
+    fn hear_one<J: Which, S: ConfStore, R: Wait + Clock + Log>(
+        &mut self,
+        rt: &R,
+        state: &WatchState,
+        member: &RunningSentinel<J, S>,
+        seat: &mut ThreadSeat<J>,
+        event: Event,
+    ) -> bool
+        requires { IsWithinEvent event }
+    {
+        if let Some(master) = found_down(&event) {
+            seat.look_ahead(master, self.pace.tick_due);
+        }
+        let by = hearer(member, state.run.clock.now(rt));
+        self.note_heard(&member.noting(rt), by, &event);
+        let event = without_name(self.far.alloc(), event);
+        let mut outlet = self.far.outlet(rt);
+        let goes_on = hear_near(rt, state, member, seat, &mut outlet, (by.known, event));
+        self.hold(rt, state, member, seat);
+        goes_on
+    }
+
+    /// Has the Sentinel take an event, or keeps it for later, where ticks are late and it may be stored: whether it goes on. It is lost where too many are kept.
+    fn hear_or_keep<J: Which, S: ConfStore, R: Wait + Clock + Log>(
+        &mut self,
+        rt: &R,
+        state: &WatchState,
+        member: &RunningSentinel<J, S>,
+        seat: &mut ThreadSeat<J>,
+        event: Event,
+    ) -> bool
+        requires { IsWithinEvent event }
+    {
+        if may_be_stored(&event) && self.pace.is_late(state.run.clock.now(rt)) {
+            if self.later.len() < LATER_MAX {
+                drop(self.later.push(Hearing::of(event)));
+            }
+            return true;
+        }
+        self.hear_one(rt, state, member, seat, event)
+    }
+
+    /// Has the Sentinel take what it kept for later, once it has ticked or ticks aren't late: whether it goes on.
+    fn hear_kept<J: Which, S: ConfStore, R: Wait + Clock + Log>(
+        &mut self,
+        rt: &R,
+        state: &WatchState,
+        member: &RunningSentinel<J, S>,
+        seat: &mut ThreadSeat<J>,
+    ) -> bool {
+        for _ in 0..EVENTS_MAX {
+            if self.later.is_empty() {
+                self.has_ticked = false;
+                return true;
+            }
+            if !self.has_ticked && self.pace.is_late(state.run.clock.now(rt)) {
+                return true;
+            }
+            let event = self.later.remove(0).into_event();
+            if !self.hear_one(rt, state, member, seat, event) {
+                return false;
+            }
+        }
+        true
+    }
+
+    /// Has the Sentinel take what its connections heard: it waits for the first event so many milliseconds at most, and for no other: whether it goes on.
+    fn hear_all<J: Which, S: ConfStore, R: Wait + Clock + Log>(
+        &mut self,
+        rt: &R,
+        state: &WatchState,
+        member: &RunningSentinel<J, S>,
+        seat: &mut ThreadSeat<J>,
+        millis: u64,
+    ) -> bool {
+        if !self.hear_kept(rt, state, member, seat) {
+            return false;
+        }
+        let mut wait = millis;
+        for _ in 0..EVENTS_MAX {
+            let Some(event) = self.far.next(rt, wait) else {
+                return true;
+            };
+            wait = 0;
+            if !self.hear_or_keep(rt, state, member, seat, event) {
+                return false;
+            }
+        }
+        true
+    }
+
+    /// A turn ended: whether the connections, or all of the program, stood still before it is kept. A long store alone is no such time: what was heard meanwhile waits, and is heard
+    /// before the ticks.
+    fn end_turn<R: Clock>(&mut self, rt: &R, state: &WatchState) {
+        let now = state.run.clock.now(rt);
+        let turned = state.turned.load(Ordering::SeqCst);
+        let stood = state.stood.load(Ordering::SeqCst);
+        let both = self.pace.stood_still(now) && self.pace.turned <= stood;
+        self.stood_still |= both || is_gap(turned, now);
+        self.pace.turn(now);
+    }
+
+    /// Hears until the ticks are due, which may come to be later meanwhile: whether it goes on.
+    fn hear_until_due<J: Which, S: ConfStore, R: Wait + Clock + Log>(
+        &mut self,
+        rt: &R,
+        state: &WatchState,
+        member: &RunningSentinel<J, S>,
+        seat: &mut ThreadSeat<J>,
+    ) -> bool {
+        for _ in 0..u64::MAX {
+            let left = self.pace.until_tick(state.run.clock.now(rt));
+            if !self.hear_all(rt, state, member, seat, left.min(WAIT_MAX_MS)) {
+                return false;
+            }
+            self.end_turn(rt, state);
+            if left == 0 {
+                return true;
+            }
+        }
+        true
+    }
+
+    /// Ticks each master, and plans the next ticks: whether the Sentinel goes on.
+    fn tick<J: Which, S: ConfStore, R: Wait + Clock + Log>(
+        &mut self,
+        rt: &R,
+        state: &WatchState,
+        member: &RunningSentinel<J, S>,
+        seat: &mut ThreadSeat<J>,
+    ) -> bool {
+        let began = state.run.clock.now(rt);
+        let mut outlet = self.far.outlet(rt);
+        let goes_on = self
+            .ticker
+            .tick_all(rt, &state.run, member, seat, &mut outlet);
+        self.stood_still = false;
+        self.has_ticked = true;
+        self.pace.plan_tick(began, lot(rt, state));
+        self.hold(rt, state, member, seat);
+        let now = state.run.clock.now(rt);
+        self.pace.turn(now);
+        self.hellos.look(&member.noting(rt), member.roster(), now);
+        if let Some(request) = member.take_far(rt) {
+            self.hellos
+                .hear_far_request(&member.noting(rt), request, member.settled_epoch(), now);
+        }
+        goes_on
+    }
+
+    /// Hears until the next ticks are due, and ticks each master: whether the Sentinel goes on. Where it or its connections stood still, it hears what was asked anew
+    /// before it ticks. It does so once: on a machine that is always late it would never tick else.
+    fn turn<J: Which, S: ConfStore, R: Wait + Clock + Log>(
+        &mut self,
+        rt: &R,
+        state: &WatchState,
+        member: &RunningSentinel<J, S>,
+        seat: &mut ThreadSeat<J>,
+    ) -> bool {
+        if !self.hear_until_due(rt, state, member, seat) {
+            return false;
+        }
+        if self.stood_still {
+            self.pace.tick_due = state.run.clock.now(rt).saturating_add(CATCH_UP_MS);
+            if !self.hear_until_due(rt, state, member, seat) {
+                return false;
+            }
+        }
+        self.tick(rt, state, member, seat)
+    }
+
+    /// Has the Sentinel take what its connections hear, and ticks each master 50 to 100 ms after its last tick, until the threads end or the Sentinel is halted, by
+    /// whichever thread.
+    pub fn run<J: Which, S: ConfStore, R: Wait + Clock + Log>(
+        &mut self,
+        rt: &R,
+        state: &WatchState,
+        member: &RunningSentinel<J, S>,
+        seat: &mut ThreadSeat<J>,
+    ) {
+        for _ in rt.forever() {
+            if state.ending.load(Ordering::SeqCst) != 0 || state.run.has(RunFault::Halted) {
+                return;
+            }
+            if !self.turn(rt, state, member, seat) {
+                return;
+            }
+        }
+        unreachable!()
+    }
+}

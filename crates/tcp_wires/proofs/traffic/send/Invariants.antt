@@ -1,6 +1,0 @@
-use Rattle.tcp_wires.specs.Traffic.{Sends}
-use Rattle.tcp_wires.proofs.traffic.send.Given as goal
-
--- what was written so far is what is gone of the front
-abbrev pub invariant-loop : goal.invariant-loop
-invariant-loop g l = Sends (g.T.Write.contents l.fn.stream) (g.T.Write.contents l.stream) l.fn.link l.link

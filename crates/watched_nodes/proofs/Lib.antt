@@ -1,4 +1,0 @@
-pub mod MasterNames
-mod NodeNumbers
-pub mod PlaceLoops
-pub mod RoomLemmas

@@ -1,6 +1,0 @@
-use Rattle.std.proofs.Common.{arith}
-use Rattle.std.proofs.lemmas.Grind.{common_steps}
-use Rattle.watched_nodes.proofs.nodes.Node.hear_pong.Goals as goal
-
-pub returns-in-Other : goal.returns-in-Other
-returns-in-Other c = grind (arith, common_steps)

@@ -1,6 +1,0 @@
-use Rattle.std.proofs.Common.{◌≡◌, ◌++◌, map, take, drop}
-use Rattle.sentinel_rules.specs.News.{hello_soon}
-use Rattle.watched_nodes.proofs.nodes.greet_soon.Given as goal
-
-abbrev pub invariant-loop-node : goal.invariant-loop-node
-invariant-loop-node l = l.nodes ≡ map hello_soon (take l.node-index l.initial.nodes) ++ drop l.node-index l.initial.nodes

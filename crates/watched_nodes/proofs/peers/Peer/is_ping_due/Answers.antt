@@ -1,6 +1,0 @@
-use Rattle.std.proofs.Common.{arith}
-use Rattle.std.proofs.lemmas.Grind.{common_steps}
-use Rattle.watched_nodes.proofs.peers.Peer.is_ping_due.Goals as goal
-
-pub returns-then-place : goal.returns-then-place
-returns-then-place c = grind (arith, common_steps)

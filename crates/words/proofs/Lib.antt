@@ -1,5 +1,0 @@
-pub mod NumberLemmas
-pub mod DotLemmas
-pub mod HexLemmas
-pub mod PartDigits
-pub mod HexTables
