@@ -1,11 +1,16 @@
-//! What an operator is told of conf files: every fault, warnings, what the files of a group make and in what they differ, and such files mended.
+//! What an operator is told of conf files: every fault, warnings, what the files of a group make and in what they differ, such files mended, and the files of a new group.
 #![tactic(auto)]
 
+mod creation;
 mod errors;
 mod group;
 mod repair;
 mod warnings;
 
+pub use creation::{
+    NewGroup, NewGroupFault, is_password, new_group_texts, node_address, sentinel_address,
+    shared_address,
+};
 pub use errors::{
     Claim, Collision, Owner, add_notes, collision_of, faults_of, foreign_line,
     law_first_fault_is_told, sentence, zero_quorum_line,

@@ -57,6 +57,63 @@ fn new_id<'a>(alloc: Global) -> Command<'a> {
     Command::new(alloc, "new-id").about("Prints a run id for a new file, made of random digits")
 }
 
+/// The addresses of a new group.
+fn new_group_addresses<'a>(alloc: Global, group: Command<'a>) -> Result<Command<'a>, AllocError> {
+    let master = Arg::new(alloc, "master")
+        .long("master")
+        .required(true)
+        .num_args(2)
+        .value_names(&["name", "ip:port"])
+        .help("The name and the address of the master");
+    let replica = Arg::new(alloc, "replica")
+        .long("replica")
+        .required(true)
+        .num_args(1..)
+        .action(ArgAction::Append)
+        .value_name("ip:port")
+        .help("The address of each replica");
+    let sentinel = Arg::new(alloc, "sentinel")
+        .long("sentinel")
+        .required(true)
+        .num_args(1..)
+        .action(ArgAction::Append)
+        .value_name("ip[:port]")
+        .help("The address of each Sentinel; its port is 26379 where it isn't said");
+    group.arg(master)?.arg(replica)?.arg(sentinel)
+}
+
+/// The words of `new-group`.
+fn new_group<'a>(alloc: Global) -> Result<Command<'a>, AllocError> {
+    let folder = Arg::new(alloc, "folder").required(true).help(
+        "The folder for the files, which is made; one that is there has to be empty",
+    );
+    let quorum = Arg::new(alloc, "quorum")
+        .long("quorum")
+        .value_name("number")
+        .value_parser(value_parser!(u32))
+        .help(
+            "How many Sentinels have to find the master down; more than half of them where it isn't said",
+        );
+    let down_after = Arg::new(alloc, "down-after")
+        .long("down-after")
+        .value_name("ms")
+        .value_parser(value_parser!(u32).range(1..=4_294_967_295))
+        .help(
+            "After how many milliseconds without an answer a node is down; 5000 where it isn't said",
+        );
+    let password = Arg::new(alloc, "auth-pass-file")
+        .long("auth-pass-file")
+        .value_name("file")
+        .help("The file with the password of the data nodes, a line");
+    let group = Command::new(alloc, "new-group")
+        .about("Writes the sentinel.conf of each Sentinel of a new group, with new run ids")
+        .arg(folder)?;
+    new_group_addresses(alloc, group)?
+        .arg(quorum)?
+        .arg(down_after)?
+        .arg(password)
+}
+
 /// How many threads serve a port.
 fn port_threads<'a>(alloc: Global) -> Arg<'a> {
     Arg::new(alloc, "port-threads")
@@ -168,6 +225,7 @@ pub(crate) fn command<'a>(alloc: Global) -> Result<Command<'a>, AllocError> {
         .subcommand_required(true)
         .subcommand(answer(alloc)?)?
         .subcommand(check(alloc)?)?
+        .subcommand(new_group(alloc)?)?
         .subcommand(new_id(alloc))?
         .subcommand(replay(alloc)?)?
         .subcommand(serve(alloc)?)?

@@ -1,5 +1,6 @@
 //! The program `sentinel_group`: `answer` serves the commands of standard input on standard output, `serve` runs a group with its ports,
-//! `watch` runs one Sentinel over real Redis servers, `replay` plays a story of a group, `check` tells what group files make, `new-id` prints a run id for a new one.
+//! `watch` runs one Sentinel over real Redis servers, `replay` plays a story of a group, `check` tells what group files make, `new-id` prints a run id for a new one,
+//! `new-group` writes the files of a new group.
 #![tactic(auto)]
 
 mod checking;
@@ -10,6 +11,8 @@ mod group_files;
 mod locks;
 mod mending;
 mod new_files;
+mod new_folders;
+mod new_groups;
 mod new_ids;
 mod noted_store;
 mod redis_text;
@@ -27,6 +30,7 @@ use crate::conf_paths::ConfPath;
 use crate::failures::fail;
 use crate::group_files::file_of;
 use crate::locks::{lock_file, refuse_lock};
+use crate::new_groups::new_group;
 use crate::new_ids::new_id;
 use crate::replaying::replay;
 use crate::serving::{serve as serve_group, tell_end};
@@ -109,6 +113,7 @@ fn main(rt: HostRuntime) -> ExitCode {
     match command.try_get_matches_from(words.as_slice()) {
         Ok(matches) => match matches.subcommand() {
             Some(("check", words)) => check(rt, words),
+            Some(("new-group", words)) => new_group(rt, words),
             Some(("new-id", _)) => new_id(rt),
             Some(("replay", words)) => replay(&rt, words),
             Some(("serve", words)) => {

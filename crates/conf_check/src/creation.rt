@@ -1,0 +1,9 @@
+//! The files of a new group, from the words of an operator.
+//!
+//! `new_group_texts` gives one text for each Sentinel, and what it gives was read again and is one group: `AreFilesOfOneGroup` is its contract.
+
+mod addresses;
+mod texts;
+
+pub use addresses::{node_address, sentinel_address, shared_address};
+pub use texts::{NewGroup, NewGroupFault, is_password, new_group_texts};
