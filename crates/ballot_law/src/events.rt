@@ -42,6 +42,11 @@ pub enum Event {
     HelloRead {
         text: Text,
     },
+    /// A connection to this node was refused, reset, or given up since nothing came on it. Strict Sentinels take no
+    /// notice of it.
+    Disconnected {
+        node: NodeName,
+    },
     /// A data node gets this priority, this replication offset, and a link to its master that has been down for so many
     /// seconds, or is up at 0. None is above 2^63 - 1.
     Become {

@@ -3,6 +3,7 @@
 ghost use Rattle.std.specs.Prelude.{◌≡◌, ◌≢◌, ◌≤◌, ◌⊎◌, ℕ, [], None, true, false, IfOk, IfSome};
 ghost use Rattle.slab.specs.Slab.{get, slab_len};
 ghost use Rattle.courteous_sessions.specs.Clients.{begun, listens_of, owes_password, unsent_of};
+ghost use Rattle.sentinel_rules.specs.Profiles.{is_redis};
 ghost use Rattle.client_port.specs.Admitting.{admitting, has_own_seat};
 ghost use Rattle.client_port.specs.declared.standing.Look.TheVariants.{Goes};
 
@@ -179,7 +180,7 @@ impl Clients {
 
     /// A session of the next connection.
     fn next_session(&self) -> Result<ClientSession, NoMemory>
-        ensures { IfOk result (λ session. session ≡ admitting self.now.terms.password (begun self.now.room.courteous self.now.next_id)) }
+        ensures { IfOk result (λ session. session ≡ admitting self.now.terms.password (begun (is_redis self.now.room.profile) self.now.next_id)) }
     {
         let mut session = ClientSession::new(self.alloc, self.room.courteous(), self.next_id);
         if !self.terms.password.as_slice().is_empty() {

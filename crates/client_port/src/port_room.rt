@@ -2,6 +2,10 @@
 
 ghost use Rattle.std.specs.Prelude.{◌≡◌, ◌≤◌, ◌<◌, ◌+◌, ◌*◌, ◌↔◌, IsTrue, false};
 ghost use Rattle.client_port.specs.declared.port_room.TheConstants.{SEATS_MAX};
+ghost use Rattle.sentinel_rules.specs.declared.profiles.Profile.{Profile};
+ghost use Rattle.sentinel_rules.specs.Profiles.{is_redis};
+
+use sentinel_rules::Profile;
 
 /// How many connections a port keeps at most in all of its threads, unless it is opened for more; a further one is
 /// closed.
@@ -12,49 +16,58 @@ pub const CONNECTIONS_MAX: usize = 256;
 pub const SEATS_MAX: usize = 11_264;
 
 /// How many threads serve each port, one at least, and how many connections each of them keeps at most: no more than
-/// `SEATS_MAX` in all; and whether these have courtesies.
+/// `SEATS_MAX` in all; and the profile of the Sentinel, by which these have courtesies or not.
 #[derive(Clone, Copy)]
 pub struct PortRoom {
     threads: u16,
     each: usize,
-    courteous: bool,
+    profile: Profile,
     ghost some: { 0 < threads },
     ghost whole: { each * threads ≤ SEATS_MAX },
 }
 
 impl PortRoom {
-    /// Equal parts of the connections of a port, without courtesies, for so many threads; for one where there are to be none.
+    /// Equal parts of the connections of a port of a strict Sentinel for so many threads; for one where there are to be
+    /// none.
     pub(crate) fn of(most: usize, threads: u16) -> PortRoom
         requires { most ≤ SEATS_MAX }
         ensures within { result.each * result.threads ≤ most }
         ensures full { most < (result.each + 1) * result.threads }
         ensures threads { 0 < threads → result.threads ≡ threads }
-        ensures plain { result.courteous ≡ false }
+        ensures plain { result.profile ≡ Profile.Strict }
     {
         let threads = threads.max(1);
         PortRoom {
             threads,
             each: most / threads as usize,
-            courteous: false,
+            profile: Profile::Strict,
         }
     }
 
-    /// The same room, for connections with courtesies or without: what `courteous_sessions` answers them.
-    pub fn with_courtesies(self, courteous: bool) -> PortRoom
-        ensures { result ≡ record self { courteous = courteous } }
+    /// The same room, for the port of a Sentinel of this profile.
+    pub fn with_profile(self, profile: Profile) -> PortRoom
+        ensures { result ≡ record self { profile = profile } }
     {
         PortRoom {
             threads: self.threads,
             each: self.each,
-            courteous,
+            profile,
         }
     }
 
-    /// Whether the connections have courtesies.
-    pub(crate) fn courteous(&self) -> bool
-        ensures { result ≡ self.now.courteous }
+    /// The profile of the Sentinel.
+    pub fn profile(&self) -> Profile
+        ensures { result ≡ self.now.profile }
     {
-        self.courteous
+        self.profile
+    }
+
+    /// Whether the connections have courtesies, as `courteous_sessions` has them: those of a Sentinel of Redis's
+    /// profile do.
+    pub(crate) fn courteous(&self) -> bool
+        ensures { result ≡ is_redis self.now.profile }
+    {
+        self.profile.is_redis()
     }
 
     /// How many threads serve a port.

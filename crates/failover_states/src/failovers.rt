@@ -139,6 +139,20 @@ impl Failover {
         self.last_start = Some(clock_of(at));
     }
 
+    /// The moment of the last start; none where none is kept.
+    pub fn last_start(&self) -> Option<u64>
+        ensures { result ≡ self.now.last_start }
+    {
+        self.last_start
+    }
+
+    /// Forgets the last start, as where the master is another one now: the next failover waits for none.
+    pub fn forget_start(&mut self)
+        ensures { self.new ≡ record self.old { last_start = None } }
+    {
+        self.last_start = None;
+    }
+
     /// Sets the moment at which the next [`Failover::promoted`] counts as seen, 0 at first.
     pub fn at(&mut self, now: u64)
         ensures { self.new ≡ record self.old { moment = clock now } }

@@ -53,6 +53,7 @@ fn is_free(event: &Event) -> bool
         Event::Pinged { .. } => true,
         Event::InfoRead { .. } => true,
         Event::HelloRead { .. } => false,
+        Event::Disconnected { .. } => true,
         Event::Become { .. } => true,
         Event::Handed(_) => false,
     }

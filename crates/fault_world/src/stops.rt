@@ -48,6 +48,7 @@ fn copy_of_event(alloc: Global, event: &Event) -> Result<Event, NoMemory>
         Event::HelloRead { text } => Ok(Event::HelloRead {
             text: Text::from_slice(alloc, text.as_slice())?,
         }),
+        Event::Disconnected { node } => Ok(Event::Disconnected { node: *node }),
         Event::Become {
             priority,
             offset,

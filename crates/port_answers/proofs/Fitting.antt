@@ -21,20 +21,20 @@ fits frame most size room =
     record { short = short; whole = bounded_all ANSWER_MAX (spelling frame) short }
 
 pub master_fits : MasterFits
-master_fits row h = fits (master_frame row) 560 (master_size row h) (omega arith)
+master_fits row h = fits (master_frame row) 573 (master_size row h) (omega arith)
 
 pub masters_fit : MastersFit
 masters_fit rows few all =
-    fits (masters_frame rows) (length rows * 560 + 23) (rows_array master_frame IsMasterRow 560 master_size rows (omega arith) all) (omega arith)
+    fits (masters_frame rows) (length rows * 573 + 23) (rows_array master_frame IsMasterRow 573 master_size rows (omega arith) all) (omega arith)
 
 pub replicas_fit : ReplicasFit
 replicas_fit rows few all =
-    fits (replicas_frame rows) (length rows * 228 + 23) (rows_array replica_frame IsReplicaRow 228 replica_size rows (omega arith) all) (omega arith)
+    fits (replicas_frame rows) (length rows * 241 + 23) (rows_array replica_frame IsReplicaRow 241 replica_size rows (omega arith) all) (omega arith)
 
 pub sentinels_fit : SentinelsFit
 sentinels_fit rows few all =
-    fits (sentinels_frame rows) (length rows * 210 + 23)
-    (rows_array sentinel_frame (λ (row : SentinelRow). IsPlace row.addr) 210 sentinel_size rows (omega arith) all) (omega arith)
+    fits (sentinels_frame rows) (length rows * 223 + 23)
+    (rows_array sentinel_frame (λ (row : SentinelRow). IsPlace row.addr) 223 sentinel_size rows (omega arith) all) (omega arith)
 
 fault_fits : (refusal : CommandFault) → Fits (command_fault refusal)
 fault_fits NotACommand = fits (command_fault NotACommand) 100 (omega arith) (omega arith)

@@ -25,19 +25,29 @@ port_size n h = length-decimal-le 5 n (omega arith) (omega arith) (omega arith)
 addr_size : (addr : Addr) → IsPlace addr → length (addr_text addr) ≤ 21
 addr_size addr h = omega (arith, length-append (ip_text addr.ip) (58 ∷ decimal addr.port), ip_size addr.ip h.ip, port_size addr.port h.port)
 
-master_flags_size : (down odown failing_over : Bool) → length (master_flags down odown failing_over) ≤ 41
-master_flags_size true true true = omega arith
-master_flags_size true true false = omega arith
-master_flags_size true false true = omega arith
-master_flags_size true false false = omega arith
-master_flags_size false true true = omega arith
-master_flags_size false true false = omega arith
-master_flags_size false false true = omega arith
-master_flags_size false false false = omega arith
+master_flags_size : (down odown disconnected failing_over : Bool) → length (master_flags down odown disconnected failing_over) ≤ 54
+master_flags_size true true true true = omega arith
+master_flags_size true true true false = omega arith
+master_flags_size true true false true = omega arith
+master_flags_size true true false false = omega arith
+master_flags_size true false true true = omega arith
+master_flags_size true false true false = omega arith
+master_flags_size true false false true = omega arith
+master_flags_size true false false false = omega arith
+master_flags_size false true true true = omega arith
+master_flags_size false true true false = omega arith
+master_flags_size false true false true = omega arith
+master_flags_size false true false false = omega arith
+master_flags_size false false true true = omega arith
+master_flags_size false false true false = omega arith
+master_flags_size false false false true = omega arith
+master_flags_size false false false false = omega arith
 
-node_flags_size : (down : Bool) (kind : List ℕ) → length (node_flags down kind) ≤ length kind + 7
-node_flags_size true kind = omega arith
-node_flags_size false kind = omega arith
+node_flags_size : (down disconnected : Bool) (kind : List ℕ) → length (node_flags down disconnected kind) ≤ length kind + 20
+node_flags_size true true kind = omega (arith, length-append kind (44 ∷ codes "disconnected"))
+node_flags_size true false kind = omega arith
+node_flags_size false true kind = omega (arith, length-append kind (44 ∷ codes "disconnected"))
+node_flags_size false false kind = omega arith
 
 -- ---- fields
 
@@ -91,12 +101,12 @@ fields_array n fields most h all room =
     at_most (length (42 ∷ ((decimal n ++ line_end) ++ fields_text fields))) (2 + fields_room fields + 3) most
     (array_size n (fields_text fields) 2 (fields_room fields) (two_digits n h) (fields_size fields all)) (omega arith)
 
-pub master_size : (row : MasterRow) → IsMasterRow row → length (spelling (master_frame row)) ≤ 560
+pub master_size : (row : MasterRow) → IsMasterRow row → length (spelling (master_frame row)) ≤ 573
 master_size row h =
     let name = h.name in
     let ip = ip_size row.addr.ip h.addr.ip in
     let port = port_size row.addr.port h.addr.port in
-    let flags = master_flags_size row.down row.odown row.failing_over in
+    let flags = master_flags_size row.down row.odown row.disconnected row.failing_over in
     let replicas = decimal_short row.replicas h.replicas in
     let others = decimal_short row.others h.others in
     let quorum = decimal_short row.quorum h.quorum in
@@ -117,14 +127,14 @@ master_size row h =
         ),
       ),
     ) in
-    fields_array 22 (master_fields row) 560 (omega arith) (
+    fields_array 22 (master_fields row) 573 (omega arith) (
       short (codes "name") row.name (omega arith) (omega arith),
       (
         short (codes "ip") (ip_text row.addr.ip) (omega arith) (omega arith),
         (
           short (codes "port") (decimal row.addr.port) (omega arith) (omega arith),
           (
-            short (codes "flags") (master_flags row.down row.odown row.failing_over) (omega arith) (omega arith),
+            short (codes "flags") (master_flags row.down row.odown row.disconnected row.failing_over) (omega arith) (omega arith),
             (
               short (codes "num-slaves") (decimal row.replicas) (omega arith) (omega arith),
               (short (codes "num-other-sentinels") (decimal row.others) (omega arith) (omega arith), settings),
@@ -134,22 +144,22 @@ master_size row h =
       ),
     ) (omega arith)
 
-pub replica_size : (row : ReplicaRow) → IsReplicaRow row → length (spelling (replica_frame row)) ≤ 228
+pub replica_size : (row : ReplicaRow) → IsReplicaRow row → length (spelling (replica_frame row)) ≤ 241
 replica_size row h =
     let addr = addr_size row.addr h.addr in
     let ip = ip_size row.addr.ip h.addr.ip in
     let port = port_size row.addr.port h.addr.port in
-    let flags = node_flags_size row.down (codes "slave") in
+    let flags = node_flags_size row.down row.disconnected (codes "slave") in
     let priority = decimal_short row.priority h.priority in
     let offset = decimal_short row.offset h.offset in
-    fields_array 12 (replica_fields row) 228 (omega arith) (
+    fields_array 12 (replica_fields row) 241 (omega arith) (
       short (codes "name") (addr_text row.addr) (omega arith) (omega arith),
       (
         short (codes "ip") (ip_text row.addr.ip) (omega arith) (omega arith),
         (
           short (codes "port") (decimal row.addr.port) (omega arith) (omega arith),
           (
-            short (codes "flags") (node_flags row.down (codes "slave")) (omega arith) (omega arith),
+            short (codes "flags") (node_flags row.down row.disconnected (codes "slave")) (omega arith) (omega arith),
             (
               short (codes "slave-priority") (decimal row.priority) (omega arith) (omega arith),
               (short (codes "slave-repl-offset") (decimal row.offset) (omega arith) (omega arith), tt),
@@ -159,13 +169,13 @@ replica_size row h =
       ),
     ) (omega arith)
 
-pub sentinel_size : (row : SentinelRow) → IsPlace row.addr → length (spelling (sentinel_frame row)) ≤ 210
+pub sentinel_size : (row : SentinelRow) → IsPlace row.addr → length (spelling (sentinel_frame row)) ≤ 223
 sentinel_size row h =
     let id = length-id_text row.id in
     let ip = ip_size row.addr.ip h.ip in
     let port = port_size row.addr.port h.port in
-    let flags = node_flags_size row.down (codes "sentinel") in
-    fields_array 10 (sentinel_fields row) 210 (omega arith) (
+    let flags = node_flags_size row.down row.disconnected (codes "sentinel") in
+    fields_array 10 (sentinel_fields row) 223 (omega arith) (
       short (codes "name") (id_text row.id) (omega arith) (omega arith),
       (
         short (codes "ip") (ip_text row.addr.ip) (omega arith) (omega arith),
@@ -173,7 +183,7 @@ sentinel_size row h =
           short (codes "port") (decimal row.addr.port) (omega arith) (omega arith),
           (
             short (codes "runid") (id_text row.id) (omega arith) (omega arith),
-            (short (codes "flags") (node_flags row.down (codes "sentinel")) (omega arith) (omega arith), tt),
+            (short (codes "flags") (node_flags row.down row.disconnected (codes "sentinel")) (omega arith) (omega arith), tt),
           ),
         ),
       ),

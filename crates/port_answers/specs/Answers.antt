@@ -44,14 +44,17 @@ abbrev pub flag : Bool → List ℕ → List (List ℕ)
 flag true name = name ∷ []
 flag false name = []
 
--- the kind of the node, and that it is down before it
-abbrev pub node_flags : Bool → List ℕ → List ℕ
-node_flags down kind = joined (flag down (codes "s_down") ++ kind ∷ [])
+-- the kind of the node, that it is down before it, and that the connection to it was lost behind it
+abbrev pub node_flags : (down disconnected : Bool) → List ℕ → List ℕ
+node_flags down disconnected kind = joined (flag down (codes "s_down") ++ kind ∷ flag disconnected (codes "disconnected"))
 
 -- a master also shows that enough Sentinels find it down, and that its failover runs
-abbrev pub master_flags : (down odown failing_over : Bool) → List ℕ
-master_flags down odown failing_over =
-    joined (flag down (codes "s_down") ++ (flag odown (codes "o_down") ++ codes "master" ∷ flag failing_over (codes "failover_in_progress")))
+abbrev pub master_flags : (down odown disconnected failing_over : Bool) → List ℕ
+master_flags down odown disconnected failing_over =
+    joined
+    (flag down (codes "s_down")
+    ++ (flag odown (codes "o_down")
+    ++ codes "master" ∷ (flag disconnected (codes "disconnected") ++ flag failing_over (codes "failover_in_progress"))))
 
 -- ---- rows
 
@@ -60,7 +63,7 @@ master_fields row =
     (codes "name", row.name)
     ∷ (codes "ip", ip_text row.addr.ip)
     ∷ (codes "port", decimal row.addr.port)
-    ∷ (codes "flags", master_flags row.down row.odown row.failing_over)
+    ∷ (codes "flags", master_flags row.down row.odown row.disconnected row.failing_over)
     ∷ (codes "num-slaves", decimal row.replicas)
     ∷ (codes "num-other-sentinels", decimal row.others)
     ∷ (codes "quorum", decimal row.quorum)
@@ -78,7 +81,7 @@ replica_fields row =
     (codes "name", addr_text row.addr)
     ∷ (codes "ip", ip_text row.addr.ip)
     ∷ (codes "port", decimal row.addr.port)
-    ∷ (codes "flags", node_flags row.down (codes "slave"))
+    ∷ (codes "flags", node_flags row.down row.disconnected (codes "slave"))
     ∷ (codes "slave-priority", decimal row.priority)
     ∷ (codes "slave-repl-offset", decimal row.offset)
     ∷ []
@@ -92,7 +95,7 @@ sentinel_fields row =
     ∷ (codes "ip", ip_text row.addr.ip)
     ∷ (codes "port", decimal row.addr.port)
     ∷ (codes "runid", id_text row.id)
-    ∷ (codes "flags", node_flags row.down (codes "sentinel"))
+    ∷ (codes "flags", node_flags row.down row.disconnected (codes "sentinel"))
     ∷ []
 
 abbrev pub sentinel_frame : SentinelRow → Frame

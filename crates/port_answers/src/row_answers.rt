@@ -1,6 +1,6 @@
 //! The answers that show rows.
 
-ghost use Rattle.std.specs.Prelude.{◌≡◌, ◌++◌, codes};
+ghost use Rattle.std.specs.Prelude.{◌≡◌, ◌++◌, true, false, codes};
 ghost use Rattle.resp2.specs.Framing.Frame.{spelling};
 ghost use Rattle.port_answers.specs.Room.{bounded};
 ghost use Rattle.port_answers.specs.Answers.{node_flags, master_flags, header, master_frame, replica_frame, sentinel_frame};
@@ -17,9 +17,9 @@ const REPLICA_ITEMS: u64 = 12;
 /// How many bulk strings show a Sentinel.
 const SENTINEL_ITEMS: u64 = 10;
 
-/// The flags of a master.
-fn master_flags(down: bool, odown: bool, failing_over: bool) -> &'static [u8]
-    ensures { result.now ≡ master_flags down odown failing_over }
+/// The flags of a master to which there is a connection.
+fn connected_flags(down: bool, odown: bool, failing_over: bool) -> &'static [u8]
+    ensures { result.now ≡ master_flags down odown false failing_over }
 {
     match (down, odown, failing_over) {
         (false, false, false) => b"master",
@@ -33,21 +33,53 @@ fn master_flags(down: bool, odown: bool, failing_over: bool) -> &'static [u8]
     }
 }
 
-/// The flags of a replica.
-fn replica_flags(down: bool) -> &'static [u8]
-    ensures { result.now ≡ node_flags down (codes "slave") }
+/// The flags of a master to which the connection was lost.
+fn lost_flags(down: bool, odown: bool, failing_over: bool) -> &'static [u8]
+    ensures { result.now ≡ master_flags down odown true failing_over }
 {
-    if down { b"s_down,slave" } else { b"slave" }
+    match (down, odown, failing_over) {
+        (false, false, false) => b"master,disconnected",
+        (false, false, true) => b"master,disconnected,failover_in_progress",
+        (false, true, false) => b"o_down,master,disconnected",
+        (false, true, true) => b"o_down,master,disconnected,failover_in_progress",
+        (true, false, false) => b"s_down,master,disconnected",
+        (true, false, true) => b"s_down,master,disconnected,failover_in_progress",
+        (true, true, false) => b"s_down,o_down,master,disconnected",
+        (true, true, true) => b"s_down,o_down,master,disconnected,failover_in_progress",
+    }
+}
+
+/// The flags of a master.
+fn master_flags(row: &MasterRow) -> &'static [u8]
+    ensures { result.now ≡ master_flags row.now.down row.now.odown row.now.disconnected row.now.failing_over }
+{
+    if row.disconnected {
+        return lost_flags(row.down, row.odown, row.failing_over);
+    }
+    connected_flags(row.down, row.odown, row.failing_over)
+}
+
+/// The flags of a replica.
+fn replica_flags(down: bool, disconnected: bool) -> &'static [u8]
+    ensures { result.now ≡ node_flags down disconnected (codes "slave") }
+{
+    match (down, disconnected) {
+        (false, false) => b"slave",
+        (false, true) => b"slave,disconnected",
+        (true, false) => b"s_down,slave",
+        (true, true) => b"s_down,slave,disconnected",
+    }
 }
 
 /// The flags of a Sentinel.
-fn sentinel_flags(down: bool) -> &'static [u8]
-    ensures { result.now ≡ node_flags down (codes "sentinel") }
+fn sentinel_flags(down: bool, disconnected: bool) -> &'static [u8]
+    ensures { result.now ≡ node_flags down disconnected (codes "sentinel") }
 {
-    if down {
-        b"s_down,sentinel"
-    } else {
-        b"sentinel"
+    match (down, disconnected) {
+        (false, false) => b"sentinel",
+        (false, true) => b"sentinel,disconnected",
+        (true, false) => b"s_down,sentinel",
+        (true, true) => b"s_down,sentinel,disconnected",
     }
 }
 
@@ -67,7 +99,7 @@ impl AnswerText {
         self.add_count(MASTER_ITEMS);
         self.add_field(b"name", row.name.as_slice());
         self.add_addr(row.addr);
-        let flags = master_flags(row.down, row.odown, row.failing_over);
+        let flags = master_flags(row);
         self.add_field(b"flags", flags);
         self.add_number(b"num-slaves", row.replicas);
         self.add_number(b"num-other-sentinels", row.others);
@@ -86,7 +118,7 @@ impl AnswerText {
         self.add_bulk(b"name");
         self.add_addr_text(row.addr);
         self.add_addr(row.addr);
-        self.add_field(b"flags", replica_flags(row.down));
+        self.add_field(b"flags", replica_flags(row.down, row.disconnected));
         self.add_number(b"slave-priority", row.priority);
         self.add_number(b"slave-repl-offset", row.offset);
     }
@@ -99,6 +131,6 @@ impl AnswerText {
         self.add_run_id(b"name", row.id);
         self.add_addr(row.addr);
         self.add_run_id(b"runid", row.id);
-        self.add_field(b"flags", sentinel_flags(row.down));
+        self.add_field(b"flags", sentinel_flags(row.down, row.disconnected));
     }
 }

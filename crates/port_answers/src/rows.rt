@@ -13,6 +13,8 @@ pub struct MasterRow {
     pub down: bool,
     /// Whether enough Sentinels agree that the master is down.
     pub odown: bool,
+    /// Whether this Sentinel has lost its connection to the master, and heard nothing of it since.
+    pub disconnected: bool,
     /// Whether this Sentinel runs a failover of the master.
     pub failing_over: bool,
     /// How many replicas of the master are known.
@@ -38,6 +40,8 @@ pub struct ReplicaRow {
     pub addr: Addr,
     /// Whether this Sentinel finds the replica down.
     pub down: bool,
+    /// Whether this Sentinel has lost its connection to the replica, and heard nothing of it since.
+    pub disconnected: bool,
     /// The priority that the replica gave for its own promotion; the smaller goes first, and 0 is never promoted.
     pub priority: u64,
     /// How many bytes of the replication stream the replica has processed.
@@ -53,4 +57,6 @@ pub struct SentinelRow {
     pub addr: Addr,
     /// Whether this Sentinel finds the other one down.
     pub down: bool,
+    /// Whether this Sentinel has lost its connection to the other one, and heard nothing of it since.
+    pub disconnected: bool,
 }

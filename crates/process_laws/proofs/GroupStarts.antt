@@ -272,7 +272,7 @@ module _ {X : Type 0} (conf_of : X → ConfPlan) (first : X) (rest : List X) (so
   opens : (i : ℕ) → i < n → OpensAt roster begin i (conf_at (slot i))
   opens i low = (
     low,
-    λ now.
+    λ profile now.
         record {
           place = refl;
           roster_is = roster_at i low;

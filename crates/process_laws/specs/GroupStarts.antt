@@ -8,12 +8,13 @@ use Rattle.conf_check.specs.declared.group.report.NamedConf.{NamedConf}
 use Rattle.conf_check.specs.Group.Groups.{IsOneGroup}
 use Rattle.sentinel_conf.specs.Facts.{IsSoundConf}
 use Rattle.sentinel_conf.specs.Meaning.{ConfPlan}
+use Rattle.sentinel_rules.specs.declared.profiles.Profile.{Profile}
 use Rattle.process_laws.specs.Actions.{IsOpened, at_first, opened_by}
 
--- at the start this file opens the Sentinel at this place, at any reading of the clock
+-- at the start this file opens the Sentinel at this place, of any profile, at any reading of the clock
 abbrev pub OpensAt : Roster → Group → (i : ℕ) → ConfPlan → Type 0
 OpensAt roster start i conf =
-    (i < size roster) × ((now : ℕ) → IsOpened roster i (at_first start i).file now (opened_by (record { conf = conf; place = i }) now))
+    (i < size roster) × ((profile : Profile) (now : ℕ) → IsOpened roster i (at_first start i).file now (opened_by (record { conf = conf; place = i; profile = profile }) now))
 
 -- Files of one group, each of which was read, make a start: with their roster, with all its data nodes, and so that each Sentinel's file holds what its
 -- own one of these holds. Each of them opens a Sentinel there, and each Sentinel is opened by one of them

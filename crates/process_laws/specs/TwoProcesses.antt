@@ -24,6 +24,7 @@ use Rattle.ballot_law.specs.Worlds.{World as Group, Ready, started}
 use Rattle.sentinel_cell.specs.declared.entry.Entry.{Entry}
 use Rattle.sentinel_cell.specs.declared.entry.Outcome.TheVariants.{Stored, Refused}
 use Rattle.sentinel_conf.specs.declared.settings.TheConstants.{DEFAULT_SETTINGS}
+use Rattle.sentinel_rules.specs.declared.profiles.Profile.TheVariants.{Strict}
 use Rattle.sentinel_rules.specs.Plans.{Plan}
 use Rattle.sentinel_rules.specs.Worked.{id_a, id_b, local, mymaster, members_from, kept_with, kept_at_epoch, tick_at, ask_at, answer_at, pong_at, replica_at, master_at}
 use Rattle.process_laws.specs.Actions.{Action, Opened, Took, Told, AreActions, actions_after, all_said, all_elected, at_first, opened_by}
@@ -73,6 +74,7 @@ plan_at place id kept =
             kept = kept;
           };
       place = place;
+      profile = Strict;
     }
 
 abbrev pub opens : (place : ℕ) → RunId → Kept → (now : ℕ) → Action

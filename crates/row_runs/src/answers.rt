@@ -3,7 +3,7 @@
 ghost use Rattle.std.specs.Prelude.{◌≤◌, vec_capacity};
 
 use crate::commands::{fault_of, value_of};
-use crate::given::{address, id, is_down, number, number_32};
+use crate::given::{address, id, is_down, is_lost, number, number_32};
 use crate::told::{Told, Unplayed};
 use ballot_law::{ANSWER_MAX, Name};
 use port_answers::{AnswerText, MasterRow, ReplicaRow, SentinelRow};
@@ -37,6 +37,7 @@ fn master(words: &[Vec<u8>]) -> Result<MasterRow, Unplayed> {
         addr: address(ip, port)?,
         down: is_failing,
         odown: is_failing,
+        disconnected: is_lost(state),
         failing_over: is_failing,
         replicas: number(replicas)?,
         others: number(others)?,
@@ -58,6 +59,7 @@ fn add_replicas(answers: &mut AnswerText, words: &[Vec<u8>]) -> Result<(), Unpla
         answers.add_replica(&ReplicaRow {
             addr: address(ip, port)?,
             down: is_down(state)?,
+            disconnected: is_lost(state),
             priority: number(priority)?,
             offset: number(offset)?,
         });
@@ -76,6 +78,7 @@ fn add_sentinels(answers: &mut AnswerText, words: &[Vec<u8>]) -> Result<(), Unpl
             id: id(own_id)?,
             addr: address(ip, port)?,
             down: is_down(state)?,
+            disconnected: is_lost(state),
         });
     }
     Ok(())

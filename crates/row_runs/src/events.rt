@@ -80,6 +80,7 @@ pub(crate) fn event(alloc: Global, words: &[Vec<u8>]) -> Result<Event, Unplayed>
             node: node(of)?,
             reply: PingReply::Pong,
         }),
+        ("lost", [of]) => Ok(Event::Disconnected { node: node(of)? }),
         ("info", [of, bytes]) => Ok(Event::InfoRead {
             node: node(of)?,
             text: Text::from_slice(alloc, bytes)?,

@@ -109,10 +109,15 @@ pub(crate) fn run_id(hi: &[u8], lo: &[u8]) -> Result<RunId, Unplayed> {
 /// Whether a word says `down`, where it may say `up`.
 pub(crate) fn is_down(word: &[u8]) -> Result<bool, Unplayed> {
     match word {
-        b"down" => Ok(true),
-        b"up" => Ok(false),
+        b"down" | b"gone" => Ok(true),
+        b"up" | b"lost" => Ok(false),
         _ => Err(Unplayed::WrongWords),
     }
+}
+
+/// Whether the connection to a node in this state was lost: it may be down too.
+pub(crate) fn is_lost(word: &[u8]) -> bool {
+    matches!(word, b"lost" | b"gone")
 }
 
 /// Whether these words have this one among them.

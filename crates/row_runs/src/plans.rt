@@ -5,7 +5,7 @@ use crate::given::{addr, number, number_16, says, text};
 use crate::told::{Told, Unplayed};
 use ballot_law::NodeName;
 use sentinel_conf::read;
-use sentinel_rules::Frame;
+use sentinel_rules::{Frame, Profile};
 use sentinel_state::{Core, FrameList, Plan};
 use std::alloc::Global;
 
@@ -23,7 +23,7 @@ pub(crate) struct Plans {
 /// The plan of a file.
 fn plan_of(alloc: Global, file: &[u8]) -> Result<Box<Plan>, Unplayed> {
     match read(alloc, file) {
-        Ok(conf) => Ok(Box::new(alloc, Plan::new(conf))?),
+        Ok(conf) => Ok(Box::new(alloc, Plan::new(conf, Profile::Strict))?),
         Err(_) => Err(Unplayed::NoMemory),
     }
 }

@@ -17,6 +17,7 @@ use resp2::{OutText, push_bulk, push_size};
 use sentinel_conf::{ConfStore, read};
 use sentinel_core::{Sentinel, ServeFault, Served};
 use sentinel_outbox::{Outbox, ReleaseFault, StoreFault, TakeFault, Took};
+use sentinel_rules::Profile;
 use std::alloc::Global;
 use std::io::{Cursor, Read, Write};
 
@@ -39,8 +40,8 @@ pub(crate) struct Lone {
     ghost ready: { is_ready ≡ true → sentinel.value.phase ≡ Ready },
 }
 
-/// A Sentinel that opens with this file, at this reading of its clock.
-fn opened(alloc: Global, file: &[u8], now: u64) -> Result<Box<Sentinel>, Unplayed>
+/// A Sentinel of this profile that opens with this file, at this reading of its clock.
+fn opened(alloc: Global, file: &[u8], profile: Profile, now: u64) -> Result<Box<Sentinel>, Unplayed>
     ensures { IfOk result (λ sentinel. sentinel.value.phase ≡ Ready) }
 {
     let conf = match read(alloc, file) {
@@ -48,7 +49,7 @@ fn opened(alloc: Global, file: &[u8], now: u64) -> Result<Box<Sentinel>, Unplaye
         Err(fault) if fault.kind == ConfKind::NoMemory => return Err(Unplayed::NoMemory),
         Err(_) => return Err(Unplayed::WrongWords),
     };
-    let Ok(sentinel) = Sentinel::open(alloc, conf, now) else {
+    let Ok(sentinel) = Sentinel::open_as(alloc, conf, profile, now) else {
         return Err(Unplayed::NoMemory);
     };
     Ok(Box::new(alloc, sentinel)?)
@@ -56,9 +57,9 @@ fn opened(alloc: Global, file: &[u8], now: u64) -> Result<Box<Sentinel>, Unplaye
 
 impl Lone {
     /// Opens it with this file, at this reading of its clock, with an outbox without room.
-    fn open(alloc: Global, file: &[u8], now: u64) -> Result<Lone, Unplayed> {
+    fn open(alloc: Global, file: &[u8], profile: Profile, now: u64) -> Result<Lone, Unplayed> {
         let store = CountedFile::holding(alloc, file)?;
-        let sentinel = opened(alloc, file, now)?;
+        let sentinel = opened(alloc, file, profile, now)?;
         let card = sentinel.address_now(0);
         Ok(Lone {
             alloc,
@@ -71,9 +72,19 @@ impl Lone {
         })
     }
 
-    /// Opens one in a box.
+    /// Opens a strict one in a box.
     pub(crate) fn boxed(alloc: Global, file: &[u8], now: u64) -> Result<Box<Lone>, Unplayed> {
-        let lone = Lone::open(alloc, file, now)?;
+        Lone::boxed_as(alloc, file, Profile::Strict, now)
+    }
+
+    /// Opens one of this profile in a box.
+    fn boxed_as(
+        alloc: Global,
+        file: &[u8],
+        profile: Profile,
+        now: u64,
+    ) -> Result<Box<Lone>, Unplayed> {
+        let lone = Lone::open(alloc, file, profile, now)?;
         Ok(Box::new(alloc, lone)?)
     }
 
@@ -109,7 +120,8 @@ impl Lone {
     fn start_again(&mut self, now: u64) -> Result<(), Unplayed> {
         self.is_ready = false;
         self.sentinel.stop();
-        self.sentinel = opened(self.alloc, self.file.text(), now)?;
+        let profile = self.sentinel.plan().profile();
+        self.sentinel = opened(self.alloc, self.file.text(), profile, now)?;
         self.is_ready = true;
         self.outbox.drop_held();
         self.card = self.sentinel.address_now(0);
@@ -369,6 +381,12 @@ impl Sentinels {
         match (call, words) {
             ("open", [file, now]) => {
                 let mut lone = Lone::boxed(self.alloc, file, number(now)?)?;
+                lone.make_room()?;
+                self.lone = Some(lone);
+                told.ok()
+            }
+            ("open-as-redis", [file, now]) => {
+                let mut lone = Lone::boxed_as(self.alloc, file, Profile::Redis, number(now)?)?;
                 lone.make_room()?;
                 self.lone = Some(lone);
                 told.ok()

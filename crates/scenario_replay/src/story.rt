@@ -20,6 +20,7 @@ use conf_lines::{ConfFault, ConfKind};
 use fault_world::{FaultWorld, ScenarioFault, read_scenario, with_stop};
 use resp2::OutText;
 use sentinel_conf::{Conf, read};
+use sentinel_rules::Profile;
 use std::alloc::Global;
 
 /// What a story prints.
@@ -46,10 +47,11 @@ pub struct Stop {
     pub now: u64,
 }
 
-/// A scenario with the files of its Sentinels.
+/// A scenario with the files of its Sentinels, and their profile.
 #[derive(Drop)]
 pub struct Story {
     alloc: Global,
+    profile: Profile,
     text: Vec<u8>,
     files: Vec<Vec<u8>>,
     first: Option<Conf>,
@@ -75,12 +77,13 @@ fn add(nodes: &mut Vec<Box<dyn Node>>, node: Box<dyn Node>) -> Result<(), NoMemo
     Ok(())
 }
 
-/// A Sentinel that is ready at clock 0 with what this file holds. A file of a story was read before: only a refused allocation can refuse it.
-fn sentinel_of(alloc: Global, file: &[u8]) -> Result<Box<SentinelNode>, NoMemory>
+/// A Sentinel of this profile that is ready at clock 0 with what this file holds. A file of a story was read before:
+/// only a refused allocation can refuse it.
+fn sentinel_of(alloc: Global, file: &[u8], profile: Profile) -> Result<Box<SentinelNode>, NoMemory>
     ensures fresh { IfOk result (λ node. IsFresh (⟦<SentinelNode as Node>⟧.is_known node.value) (⟦<SentinelNode as Node>⟧.shows node.value)) }
     ensures begins { IfOk result (λ node. BeginsWith file.now (⟦<SentinelNode as Node>⟧.name node.value) (⟦<SentinelNode as Node>⟧.shows node.value)) }
 {
-    let Ok(node) = SentinelNode::new(alloc, file, 0) else {
+    let Ok(node) = SentinelNode::new_as(alloc, file, profile, 0) else {
         return Err(NoMemory);
     };
     Ok(Box::new(alloc, node)?)
@@ -125,7 +128,8 @@ fn tell_stopped(
 }
 
 impl Story {
-    /// The story of a scenario, with no Sentinel yet, or the scenario's first fault.
+    /// The story of a scenario, with no Sentinel yet, which is to be played by strict ones, or the scenario's first
+    /// fault.
     pub fn new(alloc: Global, text: Vec<u8>) -> Result<Story, ScenarioFault>
         ensures story { IfOk result (λ story. story.text ≡ text) }
         ensures fault { IfErr result (IsScenarioFault text.items) }
@@ -133,10 +137,18 @@ impl Story {
         let _steps = read_scenario(alloc, text.as_slice())?;
         Ok(Story {
             alloc,
+            profile: Profile::Strict,
             text,
             files: Vec::new(alloc),
             first: None,
         })
+    }
+
+    /// Has the story be played by Sentinels of this profile.
+    pub fn set_profile(&mut self, profile: Profile)
+        ensures { self.new ≡ record self.old { profile = profile } }
+    {
+        self.profile = profile;
     }
 
     /// Adds the Sentinel of a file. The fault is the file's first, and then the story is as it was. The group is that of the first file.
@@ -188,7 +200,8 @@ impl Story {
         for number in 0..seats.count() {
             match seats.at(number) {
                 Some(Seat::Sentinel(place)) => {
-                    add(&mut nodes, sentinel_of(self.alloc, &self.files[place])?)?;
+                    let node = sentinel_of(self.alloc, &self.files[place], self.profile)?;
+                    add(&mut nodes, node)?;
                 }
                 Some(Seat::Store(number)) => {
                     if let Some(node) = DataNode::new(conf, number) {

@@ -11,6 +11,7 @@ use Rattle.ballot_law.specs.Ballots.{card_of}
 use Rattle.ballot_law.specs.Orders.{same_addr, same_id}
 use Rattle.ballot_law.specs.Rosters.{no_id}
 use Rattle.sentinel_conf.specs.Rewritten.{rewritten, IsKeptPart}
+use Rattle.sentinel_rules.specs.declared.profiles.Profile.TheVariants.{Strict}
 use Rattle.sentinel_rules.specs.Plans.{Plan, addr_at, master_count}
 use Rattle.sentinel_rules.specs.States.{Core}
 use Rattle.sentinel_rules.specs.Facts.{IsSoundPlan, IsSound}
@@ -43,7 +44,12 @@ abbrev pub no_kept_part : Kept
 no_kept_part = record { current = 0; masters = [] }
 
 abbrev pub no_plan : Plan
-no_plan = record { conf = record { kept_lines = []; roster = record { sentinels = []; masters = [] }; id = no_id; port = 0; settings = []; kept = no_kept_part }; place = 0 }
+no_plan =
+    record {
+      conf = record { kept_lines = []; roster = record { sentinels = []; masters = [] }; id = no_id; port = 0; settings = []; kept = no_kept_part };
+      place = 0;
+      profile = Strict;
+    }
 
 abbrev pub no_core : Core
 no_core = record { kept = no_kept_part; masters = []; peers = []; clock = record { last = 0; entered = None }; random = 0; won = None }

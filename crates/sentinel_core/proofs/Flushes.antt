@@ -2,7 +2,7 @@
 use Rattle.std.proofs.Common.{◌≡◌, true, refl}
 use Rattle.ballot_law.specs.declared.commands.Command.TheVariants as command
 use Rattle.ballot_law.specs.declared.events.Event.{Event}
-use Rattle.ballot_law.specs.declared.events.Event.TheVariants.{Tick, Command as Commanded, Answered, Pinged, InfoRead, HelloRead, Become, Handed}
+use Rattle.ballot_law.specs.declared.events.Event.TheVariants.{Tick, Command as Commanded, Answered, Pinged, InfoRead, HelloRead, Disconnected, Become, Handed}
 use Rattle.ballot_law.specs.Worlds.{IsFlush}
 use Rattle.sentinel_core.specs.Sentinels.{is_flush}
 
@@ -23,6 +23,7 @@ flush_told (Answered _ _ _ _ _ _) f = elim f [ ]
 flush_told (Pinged _ _) f = elim f [ ]
 flush_told (InfoRead _ _) f = elim f [ ]
 flush_told (HelloRead _) f = elim f [ ]
+flush_told (Disconnected _) f = elim f [ ]
 flush_told (Become _ _ _) f = elim f [ ]
 flush_told (Handed _) f = elim f [ ]
 
@@ -43,5 +44,6 @@ flush_is (Answered voter m addr down leader epoch) e = cc
 flush_is (Pinged node reply) e = cc
 flush_is (InfoRead node text) e = cc
 flush_is (HelloRead text) e = cc
+flush_is (Disconnected node) e = cc
 flush_is (Become priority offset link_down) e = cc
 flush_is (Handed message) e = cc

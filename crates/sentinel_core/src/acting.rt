@@ -19,7 +19,7 @@ ghost use Rattle.sentinel_rules.specs.Takes.{next, next_at, part_of, answer_to};
 ghost use Rattle.sentinel_state.specs.Parts.{with_part};
 
 use crate::inputs::{
-    answer_by_text, answer_plainly, hear_answer, hear_pong, take_hello, take_info, tick,
+    answer_by_text, answer_plainly, hear_answer, hear_loss, hear_pong, take_hello, take_info, tick,
 };
 use crate::undo::Undo;
 use ballot_law::{Body, Command, Event, Hello, Input, Message, NodeName, Note, Output};
@@ -153,7 +153,8 @@ fn told_of(plan: &Plan, hello: &Result<Hello, TextFault>) -> Option<u16>
     }
 }
 
-/// Has the state take an event that is no command, and takes down what it may overwrite of what is kept.
+/// Has the state take an event that is no command (`act_on` answers these itself), and takes down what it may overwrite
+/// of what is kept.
 fn hear(state: &mut State, now: u64, event: &Event, former: &mut Undo)
     ensures former { former.new ≡ former_of state.old.core.kept (concerned state.old.plan event.now state.old.core.kept) }
     ensures state { state.new ≡ with_part state.old (part_of state.old.plan (clock now) event.now state.old.core) }
@@ -188,7 +189,10 @@ fn hear(state: &mut State, now: u64, event: &Event, former: &mut Undo)
             former.begin(kept, None);
             hear_pong(state, *node, now, *reply);
         }
-        // Not reached: `act_on` answers commands itself.
+        Event::Disconnected { node } => {
+            former.begin(kept, None);
+            hear_loss(state, *node);
+        }
         Event::Command { command, .. } => {
             former.begin(kept, asked_about(command, &state.core));
         }

@@ -18,5 +18,5 @@ mod ticks;
 pub use commands::{answer_by_text, answer_plainly};
 pub use hellos::take_hello;
 pub use infos::take_info;
-pub use replies::{hear_answer, hear_pong};
+pub use replies::{hear_answer, hear_loss, hear_pong};
 pub use ticks::tick;

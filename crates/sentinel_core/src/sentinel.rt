@@ -21,7 +21,7 @@ use sentinel_outbox::{
     OpenFault, Outbox, Phase, ReleaseFault, Room, StoreFault, Stores, TakeFault, Took,
 };
 use sentinel_rules::{
-    law_ignored_inputs_change_nothing, law_inputs_are_steps, law_inputs_change_one_card,
+    Profile, law_ignored_inputs_change_nothing, law_inputs_are_steps, law_inputs_change_one_card,
     law_opening_is_sound,
 };
 use sentinel_state::{Core, FrameList, Plan, State};
@@ -85,10 +85,28 @@ fn is_flush(event: &Event) -> bool
 }
 
 impl Sentinel {
-    /// Opens a Sentinel with what its file says, at a reading of its clock in milliseconds: what the file holds is kept, the
-    /// last votes among it, and nothing else. `NoMemory` drops the conf.
+    /// Opens a Sentinel of the strict profile with what its file says, at a reading of its clock in milliseconds: what
+    /// the file holds is kept, the last votes among it, and nothing else. `NoMemory` drops the conf.
     pub fn open(alloc: Global, conf: Conf, now: u64) -> Result<Sentinel, OpenFault>
         ensures plan { IfOk result (λ sentinel. sentinel.plan.conf ≡ conf) }
+        ensures profile { IfOk result (λ sentinel. sentinel.plan.profile ≡ Profile.Strict) }
+        ensures place { IfOk result (λ sentinel. (sentinel.plan.place < group_size sentinel.plan) × (me sentinel.plan ≡ conf.id)) }
+        ensures core { IfOk result (λ sentinel. sentinel.core ≡ opened sentinel.plan now) }
+        ensures stored { IfOk result (λ sentinel. sentinel.stored ≡ conf.kept) }
+        ensures phase { IfOk result (λ sentinel. sentinel.phase ≡ Phase.Ready) }
+    {
+        Sentinel::open_as(alloc, conf, Profile::Strict, now)
+    }
+
+    /// Opens a Sentinel by the rules of a profile, which stays that of this Sentinel; else as [`Sentinel::open`].
+    pub fn open_as(
+        alloc: Global,
+        conf: Conf,
+        profile: Profile,
+        now: u64,
+    ) -> Result<Sentinel, OpenFault>
+        ensures plan { IfOk result (λ sentinel. sentinel.plan.conf ≡ conf) }
+        ensures profile { IfOk result (λ sentinel. sentinel.plan.profile ≡ profile) }
         ensures place { IfOk result (λ sentinel. (sentinel.plan.place < group_size sentinel.plan) × (me sentinel.plan ≡ conf.id)) }
         ensures core { IfOk result (λ sentinel. sentinel.core ≡ opened sentinel.plan now) }
         ensures stored { IfOk result (λ sentinel. sentinel.stored ≡ conf.kept) }
@@ -99,7 +117,7 @@ impl Sentinel {
         let Ok(file) = ConfText::room_for(alloc, &conf) else {
             return Err(OpenFault::NoMemory);
         };
-        let plan = Plan::new(conf);
+        let plan = Plan::new(conf, profile);
         let Ok(core) = Core::open(alloc, &plan, now) else {
             return Err(OpenFault::NoMemory);
         };

@@ -1,6 +1,7 @@
 //! The words of the command line, by `clap`.
 
 use crate::failures::fail;
+use clap::builder::ValueParser;
 use clap::error::ErrorKind;
 use clap::{Arg, ArgAction, ArgMatches, Command, Error, value_parser};
 use sentinel_core::ServeFault;
@@ -15,6 +16,9 @@ pub(crate) const REFUSED_WORDS: u8 = 2;
 
 /// The version of the program, as `--version` prints it.
 const VERSION: &str = "0.1.0";
+
+/// The profiles of the Sentinels of a story.
+const PROFILES: [&str; 2] = ["strict", "redis"];
 
 /// The files of a group.
 fn conf_files<'a>(alloc: Global) -> Arg<'a> {
@@ -205,6 +209,13 @@ fn replay<'a>(alloc: Global) -> Result<Command<'a>, AllocError> {
         .help(
             "Prints the scenario again, with each message and each line of the report as a comment",
         );
+    let profile = Arg::new(alloc, "profile")
+        .long("profile")
+        .value_name("name")
+        .value_parser(ValueParser::Names(&PROFILES))
+        .help(
+            "By which rules the Sentinels work: strict, or redis as for watch; strict where it isn't said",
+        );
     let scenario = Arg::new(alloc, "scenario")
         .required(true)
         .help("The steps of the story, one a line");
@@ -213,6 +224,7 @@ fn replay<'a>(alloc: Global) -> Result<Command<'a>, AllocError> {
             "Plays a story of a whole group, and prints who was elected and which addresses were told",
         )
         .arg(trace)?
+        .arg(profile)?
         .arg(scenario)?
         .arg(conf_files(alloc))
 }

@@ -4,6 +4,7 @@ use crate::failures::{fail, refuse_conf, refuse_file, refuse_scenario, refuse_st
 use clap::ArgMatches;
 use scenario_replay::{Printed, Story};
 use sentinel_core::ServeFault;
+use sentinel_rules::Profile;
 use std::fs;
 use std::io::{ErrorKind, Write};
 use std::process::ExitCode;
@@ -35,14 +36,23 @@ fn story_of(rt: &HostRuntime, scenario: &str, confs: &[&str]) -> Result<Story, E
     Ok(story)
 }
 
+/// By which rules the Sentinels of the story work, as the words say: strict ones where they don't.
+fn profile_of(words: &ArgMatches) -> Profile {
+    match words.get_str("profile") {
+        Some("redis") => Profile::Redis,
+        _ => Profile::Strict,
+    }
+}
+
 /// Plays the story, and prints what it brought, or its trace.
 pub(crate) fn replay(rt: &HostRuntime, words: &ArgMatches) -> ExitCode {
     let scenario = words.get_str("scenario").unwrap_or("");
     let confs = words.get_strs("conf").unwrap_or(&[]);
-    let story = match story_of(rt, scenario, confs) {
+    let mut story = match story_of(rt, scenario, confs) {
         Ok(story) => story,
         Err(status) => return status,
     };
+    story.set_profile(profile_of(words));
     let printed = if words.get_flag("trace") {
         Printed::Trace
     } else {

@@ -14,6 +14,7 @@ use data_node_port::descriptors_of;
 use log::Log;
 use sentinel_conf::ConfStore;
 use sentinel_core::ServeFault;
+use sentinel_rules::Profile;
 use sentinel_runner::{Group, OrderedFault, PortSettings, ServesNodes, WithPorts, WithoutPorts};
 use std::io::{Input, IsTerminal};
 use std::net::Net;
@@ -65,6 +66,14 @@ where
     group.run_by_orders_with(noting, ports, &mut noting.reader(), &ending)
 }
 
+/// By which rules the Sentinels work: by Redis's for clients of any kind, as the words say.
+fn profile_of(words: &ArgMatches) -> Profile {
+    if words.get_flag("compatible") {
+        return Profile::Redis;
+    }
+    Profile::Strict
+}
+
 /// Runs the group of these files; with `--real-nodes` its data nodes listen at their addresses.
 fn run<R>(
     rt: HostRuntime,
@@ -79,7 +88,7 @@ where
     let alloc = rt.alloc();
     let port = PortSettings {
         threads: port_threads_of(words),
-        courtesies: words.get_flag("compatible"),
+        profile: profile_of(words),
     };
     let GroupFiles { confs, stores } = files;
     if let (true, Some(conf)) = (words.get_flag("real-nodes"), confs.first()) {

@@ -16,6 +16,7 @@ use client_port::{Admission, PortAddress};
 use log::{LevelFilter, Log};
 use sentinel_conf::{Conf, FileText, WatchConf, WatchFault, WatchKind, read, read_watch};
 use sentinel_core::ServeFault;
+use sentinel_rules::Profile;
 use sentinel_runner::{GroupFault, PortSettings, Watch, WatchSettings};
 use std::alloc::{AllocError, Global};
 use std::net::{Ipv4Addr, Net, SocketAddr};
@@ -138,11 +139,12 @@ fn taken_settings(
     })
 }
 
-/// How its port is served: by as many threads as the words say, and with courtesies, since whoever comes to it may be a client library of any kind.
+/// How its port is served: by as many threads as the words say, and by Redis's rules, since whoever comes to it may be
+/// a client library of any kind.
 fn port_of(words: &ArgMatches) -> PortSettings {
     PortSettings {
         threads: port_threads_of(words),
-        courtesies: true,
+        profile: Profile::Redis,
     }
 }
 

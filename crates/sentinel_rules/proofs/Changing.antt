@@ -9,7 +9,7 @@ use Rattle.ballot_law.specs.declared.cards.Kept.{Kept}
 use Rattle.ballot_law.specs.declared.commands.Command.{Command}
 use Rattle.ballot_law.specs.declared.commands.Command.TheVariants.{Ping, IsMasterDownByAddr, GetMasterAddrByName, Masters, Master, Replicas, Sentinels, MyId, CkQuorum, FlushConfig, Subscribe}
 use Rattle.ballot_law.specs.declared.events.Event.{Event}
-use Rattle.ballot_law.specs.declared.events.Event.TheVariants.{Tick, Command as Commanded, Answered as AnswerCame, Pinged, InfoRead, HelloRead, Become, Handed}
+use Rattle.ballot_law.specs.declared.events.Event.TheVariants.{Tick, Command as Commanded, Answered as AnswerCame, Pinged, InfoRead, HelloRead, Disconnected, Become, Handed}
 use Rattle.ballot_law.specs.declared.messages.NodeName.{NodeName}
 use Rattle.ballot_law.specs.declared.messages.NodeName.TheVariants.{SentinelAt, StoreAt, ClientAt, PortAt}
 use Rattle.ballot_law.specs.declared.replies.Hello.{Hello}
@@ -34,9 +34,10 @@ use Rattle.ballot_law.specs.declared.node_places.NodePlace.{NodePlace}
 use Rattle.sentinel_rules.specs.Plans.{Plan, roster_of, me, group_size, master_count, node_named}
 use Rattle.sentinel_rules.specs.States.{Core, master_of, node_of, failover_of, card_place, is_failing_over, is_tilted, is_master_down, with_master, with_failover, with_current, with_card}
 use Rattle.sentinel_rules.specs.Parts.{Part, quiet, part_if}
-use Rattle.sentinel_rules.specs.Votes.{book_of, with_book, marked, mark_for, requested}
+use Rattle.sentinel_rules.specs.Profiles.{is_redis, election_ms, marked_at, marked, rest_of, rested}
+use Rattle.sentinel_rules.specs.Votes.{book_of, with_book, mark_for, requested}
 use Rattle.sentinel_rules.specs.Ticks.{peers_part, nodes_part, odown_part, ask_part, ask_candidate, ask_frames, is_ask_due, with_vote, with_win, turn_of, campaign_epoch, row_part, after_start, start_turn, starts_now, start_part, failover_part, judging_part, master_part, with_reading, tick}
-use Rattle.sentinel_rules.specs.News.{at_same_address, at_new_address, card_taken, is_heeded, is_newer, raised_to, adopted, hello_of_known, hello_heeded, hello_read, reported, vote_heard, answer_of, answered, pinged_at, pinged, info_kept, is_master_role, promotion, has_followed, reconfiguration, correction, is_reconfiguring, judged, info_at_node, info_of_node, info_read}
+use Rattle.sentinel_rules.specs.News.{at_same_address, at_new_address, card_taken, is_heeded, is_newer, raised_to, adopted, hello_of_known, hello_heeded, hello_read, reported, vote_heard, answer_of, answered, pinged_at, peer_lost, lost_at, connection_lost, disconnected, pinged, info_kept, is_master_role, promotion, has_followed, reconfiguration, correction, is_reconfiguring, judged, info_at_node, info_of_node, info_read}
 use Rattle.sentinel_rules.specs.Answers.{asked_of, master_with_card, commanded}
 use Rattle.sentinel_rules.specs.Takes.{next, next_at, cleared}
 use Rattle.sentinel_rules.specs.Changes.{ChangesAt, ChangesOne, InputsChangeAt, InputsChangeOne, asked_about, concerned, listed_by, told_of}
@@ -71,7 +72,7 @@ booked m book core k apart = other_entry core.kept book.current m k (record (kep
 
 mark_touches : (plan : Plan) (m now : ℕ) (candidate : RunId) (core : Core) → Touches m core (mark_for plan m now candidate core)
 mark_touches plan m now candidate core =
-    by_test m core (same_id candidate (me plan)) core (with_failover core m (marked now core.random (failover_of core m))) (stays m core) (λ k apart. refl)
+    by_test m core (same_id candidate (me plan)) core (with_failover core m (marked (marked_at plan core m now) (failover_of core m))) (stays m core) (λ k apart. refl)
 
 voted : (plan : Plan) (m now epoch : ℕ) (candidate : RunId) (core : Core) →
     Touches m core (mark_for plan m now candidate (with_book core m (asked (book_of core m) epoch candidate)))
@@ -100,15 +101,21 @@ win_touches m epoch None core = stays m core
 win_touches m epoch (Some Elected) core = λ k apart. refl
 win_touches m epoch (Some _) core = stays m core
 
+rest_touches : (plan : Plan) (m now : ℕ) (rest : Option ℕ) (core : Core) → Touches m core (rested plan m now rest core)
+rest_touches plan m now None core = stays m core
+rest_touches plan m now (Some rest) core = λ k apart. refl
+
 row_touches : (plan : Plan) (m now : ℕ) (core : Core) → Touches m core (row_part plan m now core).core
 row_touches plan m now core =
     let turn : Turn = turn_of plan core m now false in
     let epoch : ℕ = campaign_epoch core m in
     let first : Core = with_failover core m turn.failover in
     let second : Core = with_vote plan m now epoch turn.vote first in
-    chained m core second (with_win m epoch turn.row second)
-    (chained m core first second (λ k apart. refl) (vote_touches plan m now epoch turn.vote first))
-    (win_touches m epoch turn.row second)
+    let third : Core = with_win m epoch turn.row second in
+    let rest : Option ℕ = rest_of plan.profile turn.row (election_ms plan m) in
+    chained m core third (rested plan m now rest third)
+    (chained m core second third (chained m core first second (λ k apart. refl) (vote_touches plan m now epoch turn.vote first)) (win_touches m epoch turn.row second))
+    (rest_touches plan m now rest third)
 
 begun : (m : ℕ) (turn : Turn) (core : Core) → Touches m core (after_start m turn core)
 begun m turn core =
@@ -160,24 +167,24 @@ tick_touches plan m random now core =
 carded : (m : ℕ) (card : Card) (core : Core) → Touches m core (with_card core m card)
 carded m card core k apart = other_entry core.kept core.kept.current m k (record (kept_of core.kept m) { card = card }) apart
 
-taken : (m now : ℕ) (card : Card) (core : Core) → Touches m core (card_taken m now card core).core
-taken m now card core =
+taken : (plan : Plan) (m now : ℕ) (card : Card) (core : Core) → Touches m core (card_taken plan m now card core).core
+taken plan m now card core =
     by_part m core (same_addr (card_of core.kept m).addr card.addr)
     (quiet (with_card (with_master core m (at_same_address (master_of core m))) m card))
-    (record { core = with_card (with_master core m (at_new_address now (master_of core m))) m card; frames = _ })
+    (record { core = with_card (with_master core m (at_new_address plan.profile now (master_of core m))) m card; frames = _ })
     (carded m card (with_master core m (at_same_address (master_of core m))))
-    (carded m card (with_master core m (at_new_address now (master_of core m))))
+    (carded m card (with_master core m (at_new_address plan.profile now (master_of core m))))
 
-adopted_touches : (m now : ℕ) (card : Card) (core : Core) → Touches m core (adopted m now card core).core
-adopted_touches m now card core =
+adopted_touches : (plan : Plan) (m now : ℕ) (card : Card) (core : Core) → Touches m core (adopted plan m now card core).core
+adopted_touches plan m now card core =
     let first : Core = with_failover (raised_to card.epoch core) m (ended (failover_of core m)) in
-    chained m core first (card_taken m now card first).core (λ k apart. refl) (taken m now card first)
+    chained m core first (card_taken plan m now card first).core (λ k apart. refl) (taken plan m now card first)
 
 known_touches : (plan : Plan) (m now : ℕ) (hello : Hello) (core : Core) → Touches m core (hello_of_known plan m now hello core).core
 known_touches plan m now hello core =
     let first : Core = raised_to hello.current core in
     chained m core first (hello_of_known plan m now hello core).core (λ k apart. refl)
-    (if_part m first (is_newer plan first m hello.card) (adopted m now hello.card) (adopted_touches m now hello.card first))
+    (if_part m first (is_newer plan first m hello.card) (adopted plan m now hello.card) (adopted_touches plan m now hello.card first))
 
 -- of the master that is concerned, if one is
 abbrev At : Option ℕ → Core → Core → Type 0
@@ -247,14 +254,30 @@ ping_at plan (StoreAt number) now reply core = node_at now reply (node_named pla
 ping_at plan (ClientAt number) now reply core = same None core
 ping_at plan (PortAt number) now reply core = same None core
 
-promotion_touches : (plan : Plan) (m k now : ℕ) (info : Info) (state : FailoverState) (core : Core) → Touches m core (promotion m k now info state core).core
+no_at : (at : Option NodePlace) (core : Core) → At None core (lost_at at core)
+no_at None core = same None core
+no_at (Some at) core = λ k apart. refl
+
+lost_at_none : (plan : Plan) (node : NodeName) (core : Core) → At None core (connection_lost plan node core)
+lost_at_none plan (SentinelAt place) core =
+    at_by_test None core (nat_lt place (group_size plan) && not (place == plan.place))
+    (record core { peers = Rattle.std.specs.Prelude.slice_set core.peers place (peer_lost (Rattle.sentinel_rules.specs.States.peer_of core place)) }) core (λ k apart. refl)
+    (same None core)
+lost_at_none plan (StoreAt number) core = no_at (node_named plan (StoreAt number)) core
+lost_at_none plan (ClientAt number) core = same None core
+lost_at_none plan (PortAt number) core = same None core
+
+loss_at : (plan : Plan) (node : NodeName) (core : Core) → At None core (disconnected plan node core)
+loss_at plan node core = at_by_test None core (is_redis plan.profile) (connection_lost plan node core) core (lost_at_none plan node core) (same None core)
+
+promotion_touches : (plan : Plan) (m k now : ℕ) (info : Info) (state : FailoverState) (core : Core) → Touches m core (promotion plan m k now info state core).core
 promotion_touches plan m k now info (WaitPromotion epoch choice former) core =
     let first : Core = with_failover core m (promoted (WaitPromotion epoch choice former) (record (failover_of core m) { moment = now })) in
     let card : Card = record { epoch = epoch; addr = choice.addr } in
     if_part m core ((k == choice.place) && is_master_role info.role)
-    (λ c. card_taken m now (record { epoch = epoch; addr = choice.addr })
+    (λ c. card_taken plan m now (record { epoch = epoch; addr = choice.addr })
     (with_failover c m (promoted (WaitPromotion epoch choice former) (record (failover_of c m) { moment = now }))))
-    (chained m core first (card_taken m now card first).core (λ k apart. refl) (taken m now card first))
+    (chained m core first (card_taken plan m now card first).core (λ k apart. refl) (taken plan m now card first))
 promotion_touches plan m k now info _ core = stays m core
 
 reconfiguration_touches : (m k : ℕ) (info : Info) (core : Core) → Touches m core (reconfiguration m k info core).core
@@ -265,9 +288,9 @@ reconfiguration_touches m k info core =
 judged_touches : (plan : Plan) (m k now : ℕ) (info : Info) (core : Core) → Touches m core (judged plan m k now info core).core
 judged_touches plan m k now info core =
     by_part m core (is_failing_over core m)
-    (if is_reconfiguring (failover_of core m).state then reconfiguration m k info core else promotion m k now info (failover_of core m).state core)
+    (if is_reconfiguring (failover_of core m).state then reconfiguration m k info core else promotion plan m k now info (failover_of core m).state core)
     (part_if (not (k == card_place plan core m)) core (correction plan m k now info))
-    (by_part m core (is_reconfiguring (failover_of core m).state) (reconfiguration m k info core) (promotion m k now info (failover_of core m).state core)
+    (by_part m core (is_reconfiguring (failover_of core m).state) (reconfiguration m k info core) (promotion plan m k now info (failover_of core m).state core)
     (reconfiguration_touches m k info core) (promotion_touches plan m k now info (failover_of core m).state core))
     (if_part m core (not (k == card_place plan core m)) (correction plan m k now info) (λ j apart. refl))
 
@@ -315,6 +338,7 @@ input_at plan now (AnswerCame voter m addr down leader epoch) core = answer_at p
 input_at plan now (Pinged node reply) core = ping_at plan node now reply core
 input_at plan now (InfoRead node text) core = read_at plan node now (info_of text) core
 input_at plan now (HelloRead text) core = hello_at plan now (hello_of text) core
+input_at plan now (Disconnected node) core = loss_at plan node core
 input_at plan now (Become priority offset link_down) core = same None core
 input_at plan now (Handed message) core = same None core
 

@@ -13,7 +13,7 @@ use Rattle.replica_choice.specs.declared.candidates.Limits.{Limits}
 use Rattle.replica_choice.specs.Choices.{is_eligible, is_better, candidate_at, no_candidate, with_place, choice_below, choice_of}
 use Rattle.ballot_law.proofs.CountedVotes.{both, eqb-same}
 use Rattle.sentinel_rules.specs.Plans.{Plan, master_count, nodes_of, addr_at, node_place}
-use Rattle.sentinel_rules.specs.States.{Core, card_place, is_node_down}
+use Rattle.sentinel_rules.specs.States.{Core, node_of, card_place, is_node_down}
 use Rattle.sentinel_rules.specs.Ticks.{at_places, candidate_of, candidates_of, limits_of, best_of}
 use Rattle.sentinel_rules.specs.Answers.{numbers_from}
 use Rattle.sentinel_rules.specs.Facts.{IsSoundPlan}
@@ -134,9 +134,12 @@ best_awaited plan core m now p lt = known (choice_of (candidates_of plan core m 
         let inside : k < length (nodes_of plan m) = subst (λ (c : ℕ). k < c) long is.0 in
         let there : candidate_at (candidates_of plan core m now) k ≡ candidate_of plan core m now k =
         at_place (candidate_of plan core m now) 0 (length (nodes_of plan m)) k k no_candidate inside (omega arith) in
-        let not_down : (eqb k (card_place plan core m) || is_node_down plan core m now k) ≡ false =
+        let not_down : ((eqb k (card_place plan core m) || is_node_down plan core m now k) || (node_of core m k).lost) ≡ false =
         up now (limits_of plan core m now) (candidate_of plan core m now k) (subst (λ (c : Candidate). is_eligible now (limits_of plan core m now) c ≡ true) there is.1) in
-        let apart : k ≡ card_place plan core m → ⊥ = eqb-false k (card_place plan core m) (or_parts (eqb k (card_place plan core m)) (is_node_down plan core m now k) not_down).0 in
+        let up_or_card : (eqb k (card_place plan core m) || is_node_down plan core m now k) ≡ false =
+        (or_parts (eqb k (card_place plan core m) || is_node_down plan core m now k) (node_of core m k).lost not_down).0 in
+        let apart : k ≡ card_place plan core m → ⊥ = eqb-false k (card_place plan core m)
+                (or_parts (eqb k (card_place plan core m)) (is_node_down plan core m now k) up_or_card).0 in
         record {
           listed = inside;
           addressed = refl;

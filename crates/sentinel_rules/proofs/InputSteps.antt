@@ -10,7 +10,7 @@ use Rattle.ballot_law.specs.declared.cards.KeptMaster.{KeptMaster}
 use Rattle.ballot_law.specs.declared.commands.Command.{Command}
 use Rattle.ballot_law.specs.declared.commands.Command.TheVariants.{Ping, IsMasterDownByAddr, GetMasterAddrByName, Masters, Master, Replicas, Sentinels, MyId, CkQuorum, FlushConfig, Subscribe}
 use Rattle.ballot_law.specs.declared.events.Event.{Event}
-use Rattle.ballot_law.specs.declared.events.Event.TheVariants.{Tick, Command as Commanded, Answered as AnswerCame, Pinged, InfoRead, HelloRead, Become, Handed}
+use Rattle.ballot_law.specs.declared.events.Event.TheVariants.{Tick, Command as Commanded, Answered as AnswerCame, Pinged, InfoRead, HelloRead, Disconnected, Become, Handed}
 use Rattle.ballot_law.specs.declared.messages.Body.{Body}
 use Rattle.ballot_law.specs.declared.messages.Body.TheVariants.{Answer, PingText, AddressAnswer}
 use Rattle.ballot_law.specs.declared.messages.NodeName.{NodeName}
@@ -26,7 +26,7 @@ use Rattle.sentinel_rules.specs.Plans.{Plan, roster_of, me, master_count}
 use Rattle.sentinel_rules.specs.States.{Core, is_tilted, is_master_down}
 use Rattle.sentinel_rules.specs.Parts.{Part, quiet, send, shown_of}
 use Rattle.sentinel_rules.specs.Votes.{requested}
-use Rattle.sentinel_rules.specs.News.{answered, pinged, info_read, hello_read}
+use Rattle.sentinel_rules.specs.News.{answered, pinged, disconnected, info_read, hello_read}
 use Rattle.sentinel_rules.specs.Answers.{Answered, master_with_card, asked_at, asked_of, master_row, replica_rows, sentinel_rows, all_masters, quorum_frame, reply, named, about, address_of, commanded}
 use Rattle.sentinel_rules.specs.Takes.{Next, next_at, shown_after, answer_to, cleared}
 use Rattle.sentinel_rules.specs.Ticks.{tick}
@@ -34,11 +34,11 @@ use Rattle.sentinel_rules.specs.Facts.{IsSoundPlan, IsSound}
 use Rattle.ballot_law.specs.Limits.{IsWithinEvent}
 use Rattle.sentinel_rules.specs.Steps.{IsPartsOf, IsTake, InputsAreSteps}
 use Rattle.sentinel_rules.proofs.SoundTicks.{tick_keeps}
-use Rattle.sentinel_rules.proofs.SoundNews.{hello_keeps, answered_sound, pinged_sound, info_keeps}
+use Rattle.sentinel_rules.proofs.SoundNews.{hello_keeps, answered_sound, pinged_sound, disconnected_sound, info_keeps}
 use Rattle.sentinel_rules.proofs.SoundInputs.{commanded_sound}
 use Rattle.sentinel_rules.proofs.Framing.{sound_alike}
 use Rattle.sentinel_rules.proofs.StepsTo.{Stepped, StepsTo}
-use Rattle.sentinel_rules.proofs.StepNews.{stay_steps, within_core, requested_steps, hello_steps, answered_steps, pinged_steps, info_steps}
+use Rattle.sentinel_rules.proofs.StepNews.{stay_steps, within_core, requested_steps, hello_steps, answered_steps, pinged_steps, disconnected_steps, info_steps}
 use Rattle.sentinel_rules.proofs.StepTicks.{tick_steps}
 use Rattle.sentinel_rules.proofs.ShownOutputs.{AreNamed, frames_right, silent, showing, answer_right, shown_right}
 use Rattle.sentinel_rules.proofs.NamedFrames.{tick_frames, hello_frames, info_frames}
@@ -195,6 +195,9 @@ input_by plan core parts now (InfoRead node text) p s is h =
 input_by plan core parts now (HelloRead text) p s is h =
     take_of_part plan core parts (HelloRead text) 2 (hello_read plan now (hello_of text) (cleared core)) (omega arith) p is
     (hello_keeps plan now text (cleared core) s).sound (hello_steps plan now text (cleared core) s) (hello_frames plan now (hello_of text) (cleared core))
+input_by plan core parts now (Disconnected node) p s is h =
+    take_of_part plan core parts (Disconnected node) 0 (quiet (disconnected plan node (cleared core))) (omega arith) p is
+    (disconnected_sound plan node (cleared core) s) (disconnected_steps plan (Disconnected node) node (cleared core) s) tt
 input_by plan core parts now (Become priority offset link_down) p s is h =
     take_of_part plan core parts (Become priority offset link_down) 0 (quiet (cleared core)) (omega arith) p is s
     (stay_steps plan (Become priority offset link_down) 0 (cleared core)) tt

@@ -7,7 +7,7 @@ use Rattle.ballot_law.specs.declared.addresses.RunId.{RunId}
 use Rattle.ballot_law.specs.declared.commands.Command.{Command}
 use Rattle.ballot_law.specs.declared.commands.Command.TheVariants as command
 use Rattle.ballot_law.specs.declared.events.Event.{Event}
-use Rattle.ballot_law.specs.declared.events.Event.TheVariants.{Tick, Command as Commanded, Answered as AnswerCame, Pinged, InfoRead, HelloRead, Become, Handed}
+use Rattle.ballot_law.specs.declared.events.Event.TheVariants.{Tick, Command as Commanded, Answered as AnswerCame, Pinged, InfoRead, HelloRead, Disconnected, Become, Handed}
 use Rattle.ballot_law.specs.declared.messages.Body.{Body}
 use Rattle.ballot_law.specs.declared.messages.Body.TheVariants as body
 use Rattle.ballot_law.specs.declared.messages.Message.{Message}
@@ -88,6 +88,7 @@ within_at plan now (AnswerCame voter m addr down leader epoch) core p s f = All-
 within_at plan now (Pinged node reply) core p s f = All-nil IsWithinOutput
 within_at plan now (InfoRead node text) core p s f = frames_within plan (part_of plan now (InfoRead node text) core).core (part_of plan now (InfoRead node text) core).frames p s f
 within_at plan now (HelloRead text) core p s f = frames_within plan (part_of plan now (HelloRead text) core).core (part_of plan now (HelloRead text) core).frames p s f
+within_at plan now (Disconnected node) core p s f = All-nil IsWithinOutput
 within_at plan now (Become priority offset link_down) core p s f = All-nil IsWithinOutput
 within_at plan now (Handed message) core p s f = All-nil IsWithinOutput
 

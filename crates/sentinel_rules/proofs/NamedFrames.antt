@@ -3,7 +3,7 @@ use Rattle.std.proofs.Common.{◌≡◌, ℕ, zero, suc, ◌<◌, refl, Bool, tr
 use Rattle.std.specs.Prelude.{Result, Ok, Err, not, nat_lt, ◌==◌, ◌&&◌, if◌then◌else◌}
 use Rattle.std.proofs.lemmas.Bool.{ltb-true}
 use Rattle.ballot_law.specs.declared.cards.Card.{Card}
-use Rattle.ballot_law.specs.declared.events.Event.TheVariants.{Tick, Command, Answered, Pinged, InfoRead, HelloRead, Become, Handed}
+use Rattle.ballot_law.specs.declared.events.Event.TheVariants.{Tick, Command, Answered, Pinged, InfoRead, HelloRead, Disconnected, Become, Handed}
 use Rattle.ballot_law.specs.declared.messages.NodeName.{NodeName}
 use Rattle.ballot_law.specs.declared.messages.NodeName.TheVariants.{SentinelAt}
 use Rattle.ballot_law.specs.declared.replies.Hello.{Hello}
@@ -107,11 +107,11 @@ frames_either : (plan : Plan) (test : Bool) (a b : Part) → AreNamed plan a.fra
 frames_either plan true a b f g = f
 frames_either plan false a b f g = g
 
-taken_frames : (plan : Plan) (m now : ℕ) (card : Card) (core : Core) → m < master_count plan → AreNamed plan (card_taken m now card core).frames
+taken_frames : (plan : Plan) (m now : ℕ) (card : Card) (core : Core) → m < master_count plan → AreNamed plan (card_taken plan m now card core).frames
 taken_frames plan m now card core lt =
     frames_either plan (same_addr (card_of core.kept m).addr card.addr)
     (quiet (with_card (with_master core m (at_same_address (master_of core m))) m card))
-    (puts (with_card (with_master core m (at_new_address now (master_of core m))) m card) (NoteOf m (card_of core.kept m).addr ∷ []))
+    (puts (with_card (with_master core m (at_new_address plan.profile now (master_of core m))) m card) (NoteOf m (card_of core.kept m).addr ∷ []))
     tt
     (lt, tt)
 
@@ -119,7 +119,7 @@ heeded_frames : (plan : Plan) (now : ℕ) (m : Option ℕ) (hello : Hello) (core
     AreNamed plan (hello_heeded plan now m hello core).frames
 heeded_frames plan now None hello core found = tt
 heeded_frames plan now (Some m) hello core found =
-    named_if plan (is_newer plan (raised_to hello.current core) m hello.card) (raised_to hello.current core) (adopted m now hello.card)
+    named_if plan (is_newer plan (raised_to hello.current core) m hello.card) (raised_to hello.current core) (adopted plan m now hello.card)
     (λ h. taken_frames plan m now hello.card _ (named_master (roster_of plan) hello.master m found).0)
 
 pub hello_frames : (plan : Plan) (now : ℕ) (read : Result Hello TextFault) (core : Core) → AreNamed plan (hello_read plan now read core).frames
@@ -129,10 +129,10 @@ hello_frames plan now (Ok hello) core =
     (λ h. heeded_frames plan now (master_named (roster_of plan) hello.master) hello core refl)
 
 promotion_frames : (plan : Plan) (m k now : ℕ) (info : Info) (state : FailoverState) (core : Core) → m < master_count plan →
-    AreNamed plan (promotion m k now info state core).frames
+    AreNamed plan (promotion plan m k now info state core).frames
 promotion_frames plan m k now info (WaitPromotion epoch choice former) core lt =
     named_if plan ((k == choice.place) && is_master_role info.role) core
-    (λ c. card_taken m now (record { epoch = epoch; addr = choice.addr })
+    (λ c. card_taken plan m now (record { epoch = epoch; addr = choice.addr })
     (with_failover c m (promoted (WaitPromotion epoch choice former) (record (failover_of c m) { moment = now }))))
     (λ h. taken_frames plan m now (record { epoch = epoch; addr = choice.addr })
     (with_failover core m (promoted (WaitPromotion epoch choice former) (record (failover_of core m) { moment = now }))) lt)
@@ -141,9 +141,9 @@ promotion_frames plan m k now info _ core lt = tt
 judged_frames : (plan : Plan) (m k now : ℕ) (info : Info) (core : Core) → m < master_count plan → AreNamed plan (judged plan m k now info core).frames
 judged_frames plan m k now info core lt =
     frames_either plan (is_failing_over core m)
-    (if is_reconfiguring (failover_of core m).state then reconfiguration m k info core else promotion m k now info (failover_of core m).state core)
+    (if is_reconfiguring (failover_of core m).state then reconfiguration m k info core else promotion plan m k now info (failover_of core m).state core)
     (part_if (not (k == card_place plan core m)) core (correction plan m k now info))
-    (frames_either plan (is_reconfiguring (failover_of core m).state) (reconfiguration m k info core) (promotion m k now info (failover_of core m).state core)
+    (frames_either plan (is_reconfiguring (failover_of core m).state) (reconfiguration m k info core) (promotion plan m k now info (failover_of core m).state core)
     (named_if plan (has_followed info (card_of core.kept m).addr) core (λ c. quiet (with_failover c m (reconfigured (failover_of c m).state (failover_of c m) k))) (λ h. tt))
     (promotion_frames plan m k now info (failover_of core m).state core lt))
     (named_if plan (not (k == card_place plan core m)) core (correction plan m k now info)
@@ -175,5 +175,6 @@ hellos_name_masters plan now (Answered voter m addr down leader epoch) core = tt
 hellos_name_masters plan now (Pinged node reply) core = tt
 hellos_name_masters plan now (InfoRead node text) core = info_frames plan node now (info_of text) core
 hellos_name_masters plan now (HelloRead text) core = hello_frames plan now (hello_of text) core
+hellos_name_masters plan now (Disconnected node) core = tt
 hellos_name_masters plan now (Become priority offset link_down) core = tt
 hellos_name_masters plan now (Handed message) core = tt

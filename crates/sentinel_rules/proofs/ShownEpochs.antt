@@ -11,7 +11,7 @@ use Rattle.ballot_law.specs.declared.cards.TheConstants.{MAX_EPOCH}
 use Rattle.ballot_law.specs.declared.commands.Command.{Command}
 use Rattle.ballot_law.specs.declared.commands.Command.TheVariants as command
 use Rattle.ballot_law.specs.declared.events.Event.{Event}
-use Rattle.ballot_law.specs.declared.events.Event.TheVariants.{Tick, Command as Commanded, Answered as AnswerCame, Pinged, InfoRead, HelloRead, Become, Handed}
+use Rattle.ballot_law.specs.declared.events.Event.TheVariants.{Tick, Command as Commanded, Answered as AnswerCame, Pinged, InfoRead, HelloRead, Disconnected, Become, Handed}
 use Rattle.ballot_law.specs.declared.messages.Body.{Body}
 use Rattle.ballot_law.specs.declared.messages.Body.TheVariants.{AddressAnswer}
 use Rattle.ballot_law.specs.Ballots.{no_kept, card_of, voted_of}
@@ -117,6 +117,7 @@ shows_at plan now (AnswerCame voter m addr down leader epoch) core h = All-nil S
 shows_at plan now (Pinged node reply) core h = All-nil ShowsWithin
 shows_at plan now (InfoRead node text) core h = frames_show plan (part_of plan now (InfoRead node text) core).core (part_of plan now (InfoRead node text) core).frames h
 shows_at plan now (HelloRead text) core h = frames_show plan (part_of plan now (HelloRead text) core).core (part_of plan now (HelloRead text) core).frames h
+shows_at plan now (Disconnected node) core h = All-nil ShowsWithin
 shows_at plan now (Become priority offset link_down) core h = All-nil ShowsWithin
 shows_at plan now (Handed message) core h = All-nil ShowsWithin
 

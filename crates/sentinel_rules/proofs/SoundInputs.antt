@@ -7,7 +7,7 @@ use Rattle.ballot_law.specs.declared.cards.TheConstants.{MAX_EPOCH}
 use Rattle.ballot_law.specs.declared.commands.Command.{Command}
 use Rattle.ballot_law.specs.declared.commands.Command.TheVariants.{Ping, IsMasterDownByAddr, GetMasterAddrByName, Masters, Master, Replicas, Sentinels, MyId, CkQuorum, FlushConfig, Subscribe}
 use Rattle.ballot_law.specs.declared.events.Event.{Event}
-use Rattle.ballot_law.specs.declared.events.Event.TheVariants.{Tick, Command as Commanded, Answered as AnswerCame, Pinged, InfoRead, HelloRead, Become, Handed}
+use Rattle.ballot_law.specs.declared.events.Event.TheVariants.{Tick, Command as Commanded, Answered as AnswerCame, Pinged, InfoRead, HelloRead, Disconnected, Become, Handed}
 use Rattle.ballot_law.specs.Clocks.{clock}
 use Rattle.ballot_law.specs.OwnVotes.{grants, asked}
 use Rattle.node_texts.specs.Infos.{info_of}
@@ -23,7 +23,7 @@ use Rattle.ballot_law.specs.Limits.{IsWithinEvent}
 use Rattle.sentinel_rules.specs.Room.{InputsKeepFew}
 use Rattle.sentinel_rules.proofs.Framing.{sound_alike}
 use Rattle.sentinel_rules.proofs.SoundTicks.{keeps_more, tick_keeps, book_sound, mark_sound}
-use Rattle.sentinel_rules.proofs.SoundNews.{hello_keeps, answered_sound, pinged_sound, info_keeps}
+use Rattle.sentinel_rules.proofs.SoundNews.{hello_keeps, answered_sound, pinged_sound, disconnected_sound, info_keeps}
 
 pub requested_sound : (plan : Plan) (m now epoch : ℕ) (candidate : RunId) (core : Core) → epoch ≤ MAX_EPOCH → IsSound plan core →
     IsSound plan (requested plan m now epoch candidate core)
@@ -70,6 +70,7 @@ at_keeps plan core now (AnswerCame voter m addr down leader epoch) p s h = (answ
 at_keeps plan core now (Pinged node reply) p s h = (pinged_sound plan node now reply core s, omega arith)
 at_keeps plan core now (InfoRead node text) p s h = let f = keeps_more plan 1 FRAMES_MAX _ (omega arith) (info_keeps plan node now (info_of text) core s) in (f.sound, f.few)
 at_keeps plan core now (HelloRead text) p s h = let f = keeps_more plan 1 FRAMES_MAX _ (omega arith) (hello_keeps plan now text core s) in (f.sound, f.few)
+at_keeps plan core now (Disconnected node) p s h = (disconnected_sound plan node core s, omega arith)
 at_keeps plan core now (Become priority offset link_down) p s h = (s, omega arith)
 at_keeps plan core now (Handed message) p s h = (s, omega arith)
 

@@ -36,8 +36,9 @@ use Rattle.ballot_law.specs.declared.node_places.NodePlace.{NodePlace}
 use Rattle.sentinel_rules.specs.Plans.{Plan, roster_of, group_size, master_count, settings_at, nodes_of, node_name, node_named}
 use Rattle.sentinel_rules.specs.States.{Core, MasterState, NodeState, master_of, node_of, peer_of, failover_of, card_place, is_failing_over, is_tilted, with_master, with_node, with_failover, with_card}
 use Rattle.sentinel_rules.specs.Parts.{Part, quiet, puts, part_if}
-use Rattle.sentinel_rules.specs.News.{hello_soon, moved, at_same_address, at_new_address, card_taken, is_heeded, is_newer, raised_to, adopted, hello_of_known, hello_heeded, hello_read, reported, vote_heard, answer_of, answered, node_pinged, peer_pinged, pinged_at, pinged, with_info, is_master_role, promotion, has_followed, reconfiguration, Wrong, wrong_of, can_be_followed, is_role_overdue, is_address_overdue, anew, correction, is_reconfiguring, judged, info_kept, info_at_node, info_of_node, info_read}
+use Rattle.sentinel_rules.specs.News.{hello_soon, moved, at_same_address, at_new_address, card_taken, is_heeded, is_newer, raised_to, adopted, hello_of_known, hello_heeded, hello_read, reported, vote_heard, answer_of, answered, node_pinged, peer_pinged, pinged_at, pinged, node_lost, peer_lost, lost_at, connection_lost, disconnected, with_info, is_master_role, promotion, has_followed, reconfiguration, Wrong, wrong_of, can_be_followed, is_role_overdue, is_address_overdue, anew, correction, is_reconfiguring, judged, info_kept, info_at_node, info_of_node, info_read}
 use Rattle.sentinel_rules.specs.Facts.{IsSound, IsAwaited, awaited}
+use Rattle.sentinel_rules.specs.Profiles.{is_redis}
 use Rattle.sentinel_rules.proofs.KeptParts.{kept_at, kept_with, kept_raised, other_entry}
 use Rattle.sentinel_rules.proofs.Framing.{sound_at, sound_master, sound_current, sound_alike, nodes_with, master_same}
 use Rattle.sentinel_rules.proofs.Turns.{IsSoundFailover, ended_sound}
@@ -77,7 +78,7 @@ pub card_keeps : (plan : Plan) (m now : ℕ) (card : Card) (core : Core) → IsS
     → (m < master_count plan → card.epoch ≤ core.kept.current)
     → (m < master_count plan → Contains (nodes_of plan m) card.addr)
     → (m < master_count plan → awaited (failover_of core m).state ≡ None)
-    → KeepsSound plan 1 (card_taken m now card core)
+    → KeepsSound plan 1 (card_taken plan m now card core)
 card_keeps plan m now card core s low there none = known (same_addr (card_of core.kept m).addr card.addr)
   where
     carded : IsSound plan (with_card core m card)
@@ -87,11 +88,11 @@ card_keeps plan m now card core s low there none = known (same_addr (card_of cor
     same = at_same_address (master_of core m)
 
     new : MasterState
-    new = at_new_address now (master_of core m)
+    new = at_new_address plan.profile now (master_of core m)
 
     known : (b : Bool) → KeepsSound plan 1
         (if b then quiet (with_card (with_master core m (at_same_address (master_of core m))) m card)
-        else puts (with_card (with_master core m (at_new_address now (master_of core m))) m card) (NoteOf m (card_of core.kept m).addr ∷ []))
+        else puts (with_card (with_master core m (at_new_address plan.profile now (master_of core m))) m card) (NoteOf m (card_of core.kept m).addr ∷ []))
     known true =
         keeps_quiet plan 1 (with_card (with_master core m same) m card)
         (sound_master plan (with_card core m card) m same carded
@@ -99,8 +100,16 @@ card_keeps plan m now card core s low there none = known (same_addr (card_of cor
     known false =
         record {
           sound = sound_master plan (with_card core m card) m new carded
-              (λ lt. master_alike plan (with_card core m card).kept m (master_of core m) new (carded.each m lt) refl (length-map (master_of core m).reports (λ _. None))
-              (length-map (master_of core m).nodes (moved now)) refl);
+              (λ lt. let i = carded.each m lt in
+              record {
+                heard = i.heard;
+                reports = length-map (master_of core m).reports (λ _. None) ∙ i.reports;
+                nodes = length-map (master_of core m).nodes (moved now) ∙ i.nodes;
+                replicas = i.replicas;
+                own = i.own;
+                epoch = i.epoch;
+                choice = i.choice;
+              });
           few = omega arith;
         }
 
@@ -112,7 +121,7 @@ raised_sound plan epoch core h s =
     sound_current plan core (max core.kept.current epoch) s (omega arith) (kept_raised plan.conf core.kept (max core.kept.current epoch) (omega arith) high s.kept)
 
 pub adopted_keeps : (plan : Plan) (m now : ℕ) (card : Card) (core : Core) → card.epoch ≤ MAX_EPOCH → Contains (nodes_of plan m) card.addr → IsSound plan core →
-    KeepsSound plan 1 (adopted m now card core)
+    KeepsSound plan 1 (adopted plan m now card core)
 adopted_keeps plan m now card core h there s =
     card_keeps plan m now card (with_failover high m end) stopped (λ lt. omega arith) (λ lt. there)
     (λ lt. ap (λ (master : MasterState). awaited master.failover.state)
@@ -132,7 +141,7 @@ adopted_keeps plan m now card core h there s =
 known_keeps : (plan : Plan) (m now : ℕ) (text : List ℕ) (hello : Hello) (core : Core) → SpellsHello text hello → IsSound plan core →
     KeepsSound plan 1 (hello_of_known plan m now hello core)
 known_keeps plan m now text hello core spelled s =
-    keeps_if plan 1 (is_newer plan high m hello.card) high (adopted m now hello.card) t
+    keeps_if plan 1 (is_newer plan high m hello.card) high (adopted plan m now hello.card) t
     (λ h. adopted_keeps plan m now hello.card high spelled.is_hello.epoch
     (Contains-from_any {eq = same_addr} same_addr-equal hello.card.addr (nodes_of plan m)
     (both (nat_lt (card_of high.kept m).epoch hello.card.epoch) (list_any (same_addr hello.card.addr) (nodes_of plan m)) h).1) t)
@@ -240,13 +249,34 @@ pinged_sound plan (StoreAt number) now reply core s = pinged_at_sound plan now r
 pinged_sound plan (ClientAt number) now reply core s = s
 pinged_sound plan (PortAt number) now reply core s = s
 
+-- Connections that were lost
+
+lost_at_sound : (plan : Plan) (at : Option NodePlace) (core : Core) → IsSound plan core → IsSound plan (lost_at at core)
+lost_at_sound plan None core s = s
+lost_at_sound plan (Some at) core s = node_sound plan core at.master at.place (node_lost (node_of core at.master at.place)) s
+
+lost_sound : (plan : Plan) (node : NodeName) (core : Core) → IsSound plan core → IsSound plan (connection_lost plan node core)
+lost_sound plan (SentinelAt place) core s =
+    sound_cond plan (nat_lt place (group_size plan) && not (place == plan.place)) (record core { peers = slice_set core.peers place (peer_lost (peer_of core place)) })
+    core
+    (λ h. sound_alike plan core (record core { peers = slice_set core.peers place (peer_lost (peer_of core place)) }) refl refl
+    (length-set core.peers place (peer_lost (peer_of core place))) s)
+    (λ h. s)
+lost_sound plan (StoreAt number) core s = lost_at_sound plan (node_named plan (StoreAt number)) core s
+lost_sound plan (ClientAt number) core s = s
+lost_sound plan (PortAt number) core s = s
+
+pub disconnected_sound : (plan : Plan) (node : NodeName) (core : Core) → IsSound plan core → IsSound plan (disconnected plan node core)
+disconnected_sound plan node core s =
+    sound_cond plan (is_redis plan.profile) (connection_lost plan node core) core (λ h. lost_sound plan node core s) (λ h. s)
+
 -- INFO
 
 promotion_keeps : (plan : Plan) (m k now : ℕ) (info : Info) (state : FailoverState) (core : Core) → (failover_of core m).state ≡ state → IsSound plan core →
-    KeepsSound plan 1 (promotion m k now info state core)
+    KeepsSound plan 1 (promotion plan m k now info state core)
 promotion_keeps plan m k now info (WaitPromotion epoch choice former) core e s =
     keeps_if plan 1 ((k == choice.place) && is_master_role info.role) core
-    (λ c. card_taken m now (record { epoch = epoch; addr = choice.addr })
+    (λ c. card_taken plan m now (record { epoch = epoch; addr = choice.addr })
     (with_failover c m (promoted (WaitPromotion epoch choice former) (record (failover_of c m) { moment = now })))) s
     (λ h. card_keeps plan m now (record { epoch = epoch; addr = choice.addr }) (with_failover core m f)
     (sound_failover plan core m f s (λ lt. record { replicas = length-map (failover_of core m).replicas forgotten ∙ (s.each m lt).replicas; epoch = low lt; choice = tt }))
@@ -293,9 +323,9 @@ keeps_cond plan room false a b f g = g
 judged_keeps : (plan : Plan) (m k now : ℕ) (info : Info) (core : Core) → IsSound plan core → KeepsSound plan 1 (judged plan m k now info core)
 judged_keeps plan m k now info core s =
     keeps_cond plan 1 (is_failing_over core m)
-    (if is_reconfiguring (failover_of core m).state then reconfiguration m k info core else promotion m k now info (failover_of core m).state core)
+    (if is_reconfiguring (failover_of core m).state then reconfiguration m k info core else promotion plan m k now info (failover_of core m).state core)
     (part_if (not (k == card_place plan core m)) core (correction plan m k now info))
-    (keeps_cond plan 1 (is_reconfiguring (failover_of core m).state) (reconfiguration m k info core) (promotion m k now info (failover_of core m).state core)
+    (keeps_cond plan 1 (is_reconfiguring (failover_of core m).state) (reconfiguration m k info core) (promotion plan m k now info (failover_of core m).state core)
     (reconfiguration_keeps plan m k info core s) (promotion_keeps plan m k now info (failover_of core m).state core refl s))
     (keeps_if plan 1 (not (k == card_place plan core m)) core (correction plan m k now info) s (λ h. correction_keeps plan m k now info core s))
 

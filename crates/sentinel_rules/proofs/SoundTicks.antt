@@ -26,8 +26,9 @@ use Rattle.sentinel_rules.specs.declared.frames.Frame.TheVariants.{PingTo, InfoT
 use Rattle.sentinel_rules.specs.Plans.{Plan, me, group_size, master_count, nodes_of, node_name}
 use Rattle.sentinel_rules.specs.States.{Core, MasterState, NodeState, master_of, failover_of, is_idle, is_failing_over, is_tilted, is_master_down, is_odown_at, with_master, with_failover, with_current}
 use Rattle.sentinel_rules.specs.Parts.{Part, quiet, puts, then_part, part_if, frame_if, changed_from, frames_from}
-use Rattle.sentinel_rules.specs.Votes.{book_of, with_book, marked, mark_for}
-use Rattle.sentinel_rules.specs.Ticks.{is_peer_due, peer_after, peer_frames, peers_part, Sending, sending_of, is_ping_due, is_info_due, is_hello_due, node_after, node_frames, nodes_part, campaign_epoch, known_of, turn_of, with_vote, with_win, promote_frames, order_frames, row_part, after_start, start_turn, starts_now, start_part, is_ask_due, ask_candidate, ask_frames, ask_part, odown_part, failover_part, judging_part, master_part, with_reading, tick}
+use Rattle.sentinel_rules.specs.Profiles.{election_ms, marked_at, marked, rest_of, rested_at, rested}
+use Rattle.sentinel_rules.specs.Votes.{book_of, with_book, mark_for}
+use Rattle.sentinel_rules.specs.Ticks.{is_peer_due, peer_after, peer_frames, peers_part, Sending, sending_of, is_ping_due, is_info_due, is_hello_due, node_after, node_frames, nodes_part, campaign_epoch, known_of, turn_of, with_vote, with_win, promote_frames, order_frames, row_part, after_start, is_start_due, start_turn, starts_now, start_part, is_ask_due, ask_candidate, ask_frames, ask_part, odown_part, failover_part, judging_part, master_part, with_reading, tick}
 use Rattle.sentinel_rules.specs.Facts.{IsSoundPlan, IsSound, IsSoundMaster, IsAwaited, awaited}
 use Rattle.sentinel_rules.proofs.KeptParts.{kept_at, kept_with, kept_raised, other_entry, own_entry as own}
 use Rattle.sentinel_rules.proofs.Framing.{sound_at, sound_master, sound_current, sound_alike, master_with, nodes_with, master_later}
@@ -233,10 +234,16 @@ book_sound plan core m epoch candidate h s =
 pub mark_sound : (plan : Plan) (m now : ℕ) (candidate : RunId) (core : Core) → IsSound plan core → IsSound plan (mark_for plan m now candidate core)
 mark_sound plan m now candidate core s = known (same_id candidate (me plan))
   where
-    known : (b : Bool) → IsSound plan (if b then core else with_failover core m (marked now core.random (failover_of core m)))
+    known : (b : Bool) → IsSound plan (if b then core else with_failover core m (marked (marked_at plan core m now) (failover_of core m)))
     known true = s
-    known false = sound_failover plan core m (marked now core.random (failover_of core m)) s
+    known false = sound_failover plan core m (marked (marked_at plan core m now) (failover_of core m)) s
         (λ lt. let f = own_failover plan core m s lt in record { replicas = f.replicas; epoch = f.epoch; choice = f.choice })
+
+pub rested_sound : (plan : Plan) (m now : ℕ) (rest : Option ℕ) (core : Core) → IsSound plan core → IsSound plan (rested plan m now rest core)
+rested_sound plan m now None core s = s
+rested_sound plan m now (Some rest) core s =
+    sound_failover plan core m (marked (rested_at plan core m now rest) (failover_of core m)) s
+    (λ lt. let f = own_failover plan core m s lt in record { replicas = f.replicas; epoch = f.epoch; choice = f.choice })
 
 -- The row of a failover
 
@@ -286,10 +293,12 @@ row_keeps plan m now core p lt busy s =
     let promotes : List Frame = promote_frames plan m turn.row (chosen_place turn.failover.state) in
     let orders : List Frame = frames_from (order_frames plan m) 0 turn.failover.replicas in
     record {
-      sound = win_sound plan m epoch turn.row (with_vote plan m now epoch turn.vote (with_failover core m turn.failover))
+      sound = rested_sound plan m now (rest_of plan.profile turn.row (election_ms plan m))
+          (with_win m epoch turn.row (with_vote plan m now epoch turn.vote (with_failover core m turn.failover)))
+          (win_sound plan m epoch turn.row (with_vote plan m now epoch turn.vote (with_failover core m turn.failover))
           (vote_sound plan m now epoch turn.vote (with_failover core m turn.failover)
           (campaign_within core.kept (epoch_of (failover_of core m).state) s.kept.current (s.each m lt).epoch)
-          (sound_failover plan core m turn.failover s (λ l. f)));
+          (sound_failover plan core m turn.failover s (λ l. f))));
       few = let a : length promotes ≤ 1 = promote_few plan m turn.row (chosen_place turn.failover.state) in
           let b : length orders ≤ length turn.failover.replicas =
           one_each (order_frames plan m) (λ k replica. one_frame replica.ordered (FollowTo (node_name plan m k) m)) 0 turn.failover.replicas in
@@ -329,7 +338,7 @@ start_sound : (plan : Plan) (m now : ℕ) (core : Core) → IsSound plan core �
 start_sound plan m now core s idle = subst (λ (f : Failover). IsSound plan (after_start m (turned f k) core)) (sym (as_idle (failover_of core m) idle)) from_idle
   where
     k : Known
-    k = known_of plan core m now (master_of core m).odown
+    k = known_of plan core m now (is_start_due plan core m now)
 
     f : Failover
     f = record (failover_of core m) { state = Idle }

@@ -36,8 +36,9 @@ use Rattle.ballot_law.specs.NodePlaces.{node_numbered}
 use Rattle.sentinel_rules.specs.Plans.{Plan, roster_of, me, group_size, master_count, settings_at, nodes_of, node_named}
 use Rattle.sentinel_rules.specs.States.{Core, MasterState, NodeState, master_of, node_of, peer_of, failover_of, card_place, is_failing_over, is_tilted, with_master, with_node, with_failover, with_current, with_card}
 use Rattle.sentinel_rules.specs.Parts.{Part, quiet, puts, part_if}
-use Rattle.sentinel_rules.specs.Votes.{book_of, with_book, marked, mark_for, requested}
-use Rattle.sentinel_rules.specs.News.{at_same_address, at_new_address, card_taken, is_heeded, is_newer, raised_to, adopted, hello_of_known, hello_heeded, hello_read, reported, vote_heard, answer_of, answered, node_pinged, peer_pinged, pinged_at, pinged, with_info, is_master_role, promotion, has_followed, reconfiguration, Wrong, wrong_of, can_be_followed, is_role_overdue, is_address_overdue, anew, correction, is_reconfiguring, judged, info_kept, info_at_node, info_of_node, info_read}
+use Rattle.sentinel_rules.specs.Profiles.{is_redis, marked_at, marked, rested_at, rested}
+use Rattle.sentinel_rules.specs.Votes.{book_of, with_book, mark_for, requested}
+use Rattle.sentinel_rules.specs.News.{at_same_address, at_new_address, card_taken, is_heeded, is_newer, raised_to, adopted, hello_of_known, hello_heeded, hello_read, reported, vote_heard, answer_of, answered, node_pinged, peer_pinged, pinged_at, pinged, node_lost, peer_lost, lost_at, connection_lost, disconnected, with_info, is_master_role, promotion, has_followed, reconfiguration, Wrong, wrong_of, can_be_followed, is_role_overdue, is_address_overdue, anew, correction, is_reconfiguring, judged, info_kept, info_at_node, info_of_node, info_read}
 use Rattle.sentinel_rules.specs.Facts.{IsSound}
 use Rattle.sentinel_rules.specs.Steps.{campaign_in, IsOpenOf}
 use Rattle.sentinel_rules.proofs.Framing.{master_same, master_other}
@@ -89,9 +90,21 @@ mark_twin plan m now candidate core lt = known (same_id candidate (me plan))
     self : IsTwin m core core (campaign_in (failover_of core m).state)
     self = record { kept = refl; won = refl; count = refl; others = λ k apart. refl; heard = refl; runs = refl }
 
-    known : (b : Bool) → IsTwin m core (if b then core else with_failover core m (marked now core.random (failover_of core m))) (campaign_in (failover_of core m).state)
+    known : (b : Bool) → IsTwin m core (if b then core else with_failover core m (marked (marked_at plan core m now) (failover_of core m))) (campaign_in (failover_of core m).state)
     known true = self
-    known false = twin_master core m (record (master_of core m) { failover = marked now core.random (failover_of core m) }) lt refl
+    known false = twin_master core m (record (master_of core m) { failover = marked (marked_at plan core m now) (failover_of core m) }) lt refl
+
+-- where the next campaign is put off, nothing that the model sees changes
+pub rested_twin : (plan : Plan) (m now : ℕ) (rest : Option ℕ) (core : Core) → m < length core.masters →
+    IsTwin m core (rested plan m now rest core) (campaign_in (failover_of core m).state)
+rested_twin plan m now None core lt = record { kept = refl; won = refl; count = refl; others = λ k apart. refl; heard = refl; runs = refl }
+rested_twin plan m now (Some rest) core lt =
+    twin_master core m (record (master_of core m) { failover = marked (rested_at plan core m now rest) (failover_of core m) }) lt refl
+
+pub rested_count : (plan : Plan) (m now : ℕ) (rest : Option ℕ) (core : Core) → length (rested plan m now rest core).masters ≡ length core.masters
+rested_count plan m now None core = refl
+rested_count plan m now (Some rest) core =
+    length-set core.masters m (record (master_of core m) { failover = marked (rested_at plan core m now rest) (failover_of core m) })
 
 granted : (b : Bool) (book : Book) (epoch : ℕ) (candidate : RunId) → b ≡ true →
     (if b then record { current = epoch; voted = epoch; leader = Some candidate } else raised book epoch) ≡ (let x : Book =
@@ -188,15 +201,15 @@ adopt_steps plan event m card core lt inside shows newer there =
 
 -- what is forgotten at the nodes is nothing to the model
 pub taken_steps : (plan : Plan) (event : Event) (m now : ℕ) (card : Card) (core : Core) → m < length core.masters →
-    StepsTo plan event 0 (with_card core m card) (card_taken m now card core).core
+    StepsTo plan event 0 (with_card core m card) (card_taken plan m now card core).core
 taken_steps plan event m now card core lt =
     steps_part plan event 0 (with_card core m card) (same_addr (card_of core.kept m).addr card.addr)
     (quiet (with_card (with_master core m (at_same_address (master_of core m))) m card))
-    (puts (with_card (with_master core m (at_new_address now (master_of core m))) m card) _)
+    (puts (with_card (with_master core m (at_new_address plan.profile now (master_of core m))) m card) _)
     (λ h. twin_steps plan event 0 m (with_card core m card) (with_card (with_master core m (at_same_address (master_of core m))) m card) lt
     (twin_master (with_card core m card) m (at_same_address (master_of core m)) lt refl))
-    (λ h. twin_steps plan event 0 m (with_card core m card) (with_card (with_master core m (at_new_address now (master_of core m))) m card) lt
-    (twin_master (with_card core m card) m (at_new_address now (master_of core m)) lt refl))
+    (λ h. twin_steps plan event 0 m (with_card core m card) (with_card (with_master core m (at_new_address plan.profile now (master_of core m))) m card) lt
+    (twin_master (with_card core m card) m (at_new_address plan.profile now (master_of core m)) lt refl))
 
 -- Hellos
 
@@ -204,9 +217,9 @@ known_steps : (plan : Plan) (m now : ℕ) (text : List ℕ) (hello : Hello) (cor
     IsSound plan core → StepsTo plan (HelloRead text) 2 core (hello_of_known plan m now hello core).core
 known_steps plan m now text hello core spelled names s =
     steps_then plan (HelloRead text) 1 1 core high (hello_of_known plan m now hello core).core (raised_steps plan (HelloRead text) hello.current core)
-    (steps_if plan (HelloRead text) 1 (is_newer plan high m hello.card) high (adopted m now hello.card)
+    (steps_if plan (HelloRead text) 1 (is_newer plan high m hello.card) high (adopted plan m now hello.card)
     (λ h. let parts = both (nat_lt (card_of high.kept m).epoch hello.card.epoch) (list_any (same_addr hello.card.addr) (nodes_of plan m)) h in
-    steps_then plan (HelloRead text) 1 0 high (with_card (stopped_core high m hello.card) m hello.card) (adopted m now hello.card high).core
+    steps_then plan (HelloRead text) 1 0 high (with_card (stopped_core high m hello.card) m hello.card) (adopted plan m now hello.card high).core
     (adopt_steps plan (HelloRead text) m hello.card high lt inside (record { hello = hello; text = text; read = refl; spelled = spelled; names = names; shows = refl })
     (ltb-true (card_of high.kept m).epoch hello.card.epoch parts.0) parts.1)
     (taken_steps plan (HelloRead text) m now hello.card (stopped_core high m hello.card) stopped_lt)))
@@ -378,6 +391,27 @@ pinged_at_steps plan event now reply None core f s = stay_steps plan event 0 cor
 pinged_at_steps plan event now reply (Some at) core f s = node_steps plan event at.master at.place (node_pinged now reply (node_of core at.master at.place)) core
     (within_core plan core at.master s (f at refl))
 
+lost_at_steps : (plan : Plan) (event : Event) (at : Option NodePlace) (core : Core) → ((a : NodePlace) → at ≡ Some a → a.master < master_count plan) → IsSound plan core →
+    StepsTo plan event 0 core (lost_at at core)
+lost_at_steps plan event None core f s = stay_steps plan event 0 core
+lost_at_steps plan event (Some at) core f s = node_steps plan event at.master at.place (node_lost (node_of core at.master at.place)) core
+    (within_core plan core at.master s (f at refl))
+
+lost_steps : (plan : Plan) (event : Event) (node : NodeName) (core : Core) → IsSound plan core → StepsTo plan event 0 core (connection_lost plan node core)
+lost_steps plan event (SentinelAt place) core s =
+    steps_cond plan event 0 core (nat_lt place (group_size plan) && not (place == plan.place))
+    (record core { peers = slice_set core.peers place (peer_lost (peer_of core place)) }) core
+    (λ h. same_steps plan event 0 core (record core { peers = slice_set core.peers place (peer_lost (peer_of core place)) }) refl refl refl)
+    (λ h. stay_steps plan event 0 core)
+lost_steps plan event (StoreAt number) core s = lost_at_steps plan event (node_named plan (StoreAt number)) core (λ at e. named_within plan (StoreAt number) at e) s
+lost_steps plan event (ClientAt number) core s = stay_steps plan event 0 core
+lost_steps plan event (PortAt number) core s = stay_steps plan event 0 core
+
+-- a connection that was lost is nothing to the model
+pub disconnected_steps : (plan : Plan) (event : Event) (node : NodeName) (core : Core) → IsSound plan core → StepsTo plan event 0 core (disconnected plan node core)
+disconnected_steps plan event node core s =
+    steps_cond plan event 0 core (is_redis plan.profile) (connection_lost plan node core) core (λ h. lost_steps plan event node core s) (λ h. stay_steps plan event 0 core)
+
 pub pinged_steps : (plan : Plan) (event : Event) (node : NodeName) (now : ℕ) (reply : PingReply) (core : Core) → IsSound plan core →
     StepsTo plan event 0 core (pinged plan node now reply core)
 pinged_steps plan event (SentinelAt place) now reply core s =
@@ -393,12 +427,12 @@ pinged_steps plan event (PortAt number) now reply core s = stay_steps plan event
 -- INFO
 
 promotion_steps : (plan : Plan) (event : Event) (m k now : ℕ) (info : Info) (state : FailoverState) (core : Core) → m < length core.masters → m < master_count plan →
-    (failover_of core m).state ≡ state → StepsTo plan event 1 core (promotion m k now info state core).core
+    (failover_of core m).state ≡ state → StepsTo plan event 1 core (promotion plan m k now info state core).core
 promotion_steps plan event m k now info (WaitPromotion epoch choice former) core lt inside e =
     steps_if plan event 1 ((k == choice.place) && is_master_role info.role) core
-    (λ c. card_taken m now (record { epoch = epoch; addr = choice.addr })
+    (λ c. card_taken plan m now (record { epoch = epoch; addr = choice.addr })
     (with_failover c m (promoted (WaitPromotion epoch choice former) (record (failover_of c m) { moment = now }))))
-    (λ h. steps_then plan event 1 0 core (with_card told m card) (card_taken m now card told).core
+    (λ h. steps_then plan event 1 0 core (with_card told m card) (card_taken plan m now card told).core
     (steps_then plan event 0 1 core told (with_card told m card)
     (twin_steps plan event 0 m core told lt (twin_state m core told (campaign_in f.state) (campaign_in (failover_of core m).state)
     (sym (ap (λ (st : FailoverState). campaign_in st) e)) (twin_master core m (record (master_of core m) { failover = f }) lt refl)))
@@ -439,9 +473,9 @@ judged_steps : (plan : Plan) (event : Event) (m k now : ℕ) (info : Info) (core
     StepsTo plan event 1 core (judged plan m k now info core).core
 judged_steps plan event m k now info core lt inside =
     steps_part plan event 1 core (is_failing_over core m)
-    (if is_reconfiguring (failover_of core m).state then reconfiguration m k info core else promotion m k now info (failover_of core m).state core)
+    (if is_reconfiguring (failover_of core m).state then reconfiguration m k info core else promotion plan m k now info (failover_of core m).state core)
     (part_if (not (k == card_place plan core m)) core (correction plan m k now info))
-    (λ h. steps_part plan event 1 core (is_reconfiguring (failover_of core m).state) (reconfiguration m k info core) (promotion m k now info (failover_of core m).state core)
+    (λ h. steps_part plan event 1 core (is_reconfiguring (failover_of core m).state) (reconfiguration m k info core) (promotion plan m k now info (failover_of core m).state core)
     (λ h2. reconfiguration_steps plan event m k info core lt)
     (λ h2. promotion_steps plan event m k now info (failover_of core m).state core lt inside refl))
     (λ h. steps_if plan event 1 (not (k == card_place plan core m)) core (correction plan m k now info)

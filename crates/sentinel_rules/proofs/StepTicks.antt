@@ -25,8 +25,9 @@ use Rattle.failover_states.specs.Table.{Turn, turned, turn_in, table, quieted, e
 use Rattle.sentinel_rules.specs.Plans.{Plan, roster_of, me, group_size, master_count, nodes_of}
 use Rattle.sentinel_rules.specs.States.{Core, MasterState, master_of, failover_of, is_failing_over, is_tilted, is_master_down, is_odown_at, with_master, with_failover, with_current}
 use Rattle.sentinel_rules.specs.Parts.{Part, quiet, puts, then_part, part_if, changed_from, frames_from}
+use Rattle.sentinel_rules.specs.Profiles.{election_ms, rest_of, rested}
 use Rattle.sentinel_rules.specs.Votes.{book_of, mark_for}
-use Rattle.sentinel_rules.specs.Ticks.{peer_after, peers_part, sending_of, node_after, nodes_part, campaign_epoch, known_of, with_vote, with_win, row_part, after_start, start_turn, starts_now, start_part, is_ask_due, ask_frames, ask_candidate, ask_part, odown_part, failover_part, judging_part, master_part, with_reading, tick}
+use Rattle.sentinel_rules.specs.Ticks.{peer_after, peers_part, sending_of, node_after, nodes_part, campaign_epoch, known_of, turn_of, with_vote, with_win, row_part, after_start, is_start_due, start_turn, starts_now, start_part, is_ask_due, ask_frames, ask_candidate, ask_part, odown_part, failover_part, judging_part, master_part, with_reading, tick}
 use Rattle.sentinel_rules.specs.Facts.{IsSoundPlan, IsSound, IsAwaited}
 use Rattle.sentinel_rules.specs.Steps.{campaign_in, IsOpenOf, IsPartsOf}
 use Rattle.sentinel_rules.proofs.KeptParts.{own_entry}
@@ -37,7 +38,7 @@ use Rattle.sentinel_rules.proofs.Turns.{Best, turn_by, turn_vote}
 use Rattle.sentinel_rules.proofs.Choices.{same_addr-same, best_awaited}
 use Rattle.sentinel_rules.proofs.SoundTicks.{keeps_if, row_keeps, busy_is, idle_is, as_idle, start_within, start_keeps, peers_keeps, nodes_keeps, odown_keeps}
 use Rattle.sentinel_rules.proofs.StepsTo.{StepsTo, steps_then, steps_more, kept_as, IsTwin, twin_then, twin_steps, twin_master, twin_state, same_steps, drop_steps, choose_steps, win_steps, open_steps, voted_core, cast_steps}
-use Rattle.sentinel_rules.proofs.StepNews.{stay_steps, steps_if, within_core, mark_twin, voted_is}
+use Rattle.sentinel_rules.proofs.StepNews.{stay_steps, steps_if, within_core, mark_twin, rested_twin, rested_count, voted_is}
 
 -- Votes that are counted
 
@@ -341,7 +342,23 @@ module _ (plan : Plan) (event : Event) (m now : ℕ) (core : Core) (p : IsSoundP
 
   -- a vote at most, and a step of the campaign at most
   pub row_steps : ((failover_of core m).state ≡ Idle → ⊥) → StepsTo plan event 2 core (row_part plan m now core).core
-  row_steps busy = turn_by_state (failover_of core m).state refl busy
+  row_steps busy =
+      steps_then plan event 2 0 core won (row_part plan m now core).core (turn_by_state (failover_of core m).state refl busy)
+      (twin_steps plan event 0 m won (rested plan m now rest won) won_lt (rested_twin plan m now rest won won_lt))
+    where
+      turn : Turn
+      turn = turn_of plan core m now false
+
+      rest : Option ℕ
+      rest = rest_of plan.profile turn.row (election_ms plan m)
+
+      -- before the next one's beginning is put off
+      won : Core
+      won = with_win m (campaign_epoch core m) turn.row (with_vote plan m now (campaign_epoch core m) turn.vote (with_failover core m turn.failover))
+
+      won_lt : m < length won.masters
+      won_lt = subst (λ (n : ℕ). m < n) (rested_count plan m now rest won)
+          (within_core plan (row_part plan m now core).core m (row_keeps plan m now core p inside busy s).sound inside)
 
 -- A start
 
@@ -351,7 +368,7 @@ start_steps plan event m now core s inside idle = subst (λ (x : Failover). Step
     from_idle
   where
     k : Known
-    k = known_of plan core m now (master_of core m).odown
+    k = known_of plan core m now (is_start_due plan core m now)
 
     f : Failover
     f = record (failover_of core m) { state = Idle }

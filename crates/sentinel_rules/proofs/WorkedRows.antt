@@ -6,7 +6,7 @@ use Rattle.std.specs.Fmt.{digits}
 use Rattle.std.specs.Str.{is_utf8, chars}
 use Rattle.ballot_law.specs.Words.{hex}
 use Rattle.failover_states.specs.Replicas.{told, is_due, is_next}
-use Rattle.sentinel_rules.specs.Worked.{OneVoteAnEpoch, QuestionsRaiseNothing, NothingOfNobody, VoteAfterARestart, ShortAnswers, AFailover, FailoverGoesOn, ATickInFull, HelloInBytes, VotesOfAnotherEpoch, VoteThatWasNotStored, NoEpochIsLeft, AdoptionEndsAFailover, OnlyNewerIsAdopted, NothingIsJudgedInTilt, AVoteDelaysTheOwnCampaign, ReplicasOneByOne, AFormerMasterFollows, AReplicaOfAnotherFollows, ShownInAFailover}
+use Rattle.sentinel_rules.specs.Worked.{OneVoteAnEpoch, QuestionsRaiseNothing, NothingOfNobody, VoteAfterARestart, ShortAnswers, AFailover, FailoverGoesOn, ATickInFull, HelloInBytes, VotesOfAnotherEpoch, VoteThatWasNotStored, NoEpochIsLeft, AdoptionEndsAFailover, OnlyNewerIsAdopted, NothingIsJudgedInTilt, AVoteDelaysTheOwnCampaign, ReplicasOneByOne, AFormerMasterFollows, AReplicaOfAnotherFollows, ShownInAFailover, ASwitchForgetsTheStart, ALostCandidateHoldsNobodyBack}
 
 -- what is unfolded to compute texts and failovers that are written out
 unfoldable pub on_literals : ⊤
@@ -86,6 +86,14 @@ nothing_is_judged_in_tilt = refl
 pub a_vote_delays_the_own_campaign : AVoteDelaysTheOwnCampaign
 unfolding on_literals
 a_vote_delays_the_own_campaign = refl
+
+pub a_switch_forgets_the_start : ASwitchForgetsTheStart
+unfolding on_literals
+a_switch_forgets_the_start = record { strict = refl; redis = refl }
+
+pub a_lost_candidate_holds_nobody_back : ALostCandidateHoldsNobodyBack
+unfolding on_literals
+a_lost_candidate_holds_nobody_back = refl
 
 pub replicas_one_by_one : ReplicasOneByOne
 unfolding on_literals

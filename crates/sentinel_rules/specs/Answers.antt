@@ -20,7 +20,7 @@ use Rattle.port_answers.specs.declared.rows.SentinelRow.{SentinelRow}
 use Rattle.port_answers.specs.Answers.{master_frame, masters_frame, replicas_frame, sentinels_frame, no_such_master, ok_line, quorum_reached, no_quorum, id_frame, subscribed}
 use Rattle.sentinel_rules.specs.declared.assumed.TheConstants.{ASSUMED_INFO}
 use Rattle.sentinel_rules.specs.Plans.{Plan, roster_of, me, group_size, master_count, settings_at, nodes_of, addr_at}
-use Rattle.sentinel_rules.specs.States.{Core, node_of, card_place, is_failing_over, is_tilted, is_node_down, is_master_down, is_peer_down, is_odown_at}
+use Rattle.sentinel_rules.specs.States.{Core, node_of, peer_of, card_place, is_failing_over, is_tilted, is_node_down, is_master_down, is_peer_down, is_odown_at}
 use Rattle.sentinel_rules.specs.Parts.{shown_of}
 use Rattle.sentinel_rules.specs.Votes.{book_of, requested}
 
@@ -62,6 +62,7 @@ master_row plan core now m =
       addr = (card_of core.kept m).addr;
       down = is_master_down plan core m now;
       odown = is_odown_at plan core m now;
+      disconnected = (node_of core m (card_place plan core m)).lost;
       failing_over = is_failing_over core m;
       replicas = length (nodes_of plan m) - 1;
       others = group_size plan - 1;
@@ -76,7 +77,13 @@ master_row plan core now m =
 abbrev pub replica_row : Plan → Core → (now m k : ℕ) → ReplicaRow
 replica_row plan core now m k =
     let info = unwrap_or (node_of core m k).info ASSUMED_INFO in
-    record { addr = addr_at plan m k; down = is_node_down plan core m now k; priority = info.priority; offset = info.offset }
+    record {
+      addr = addr_at plan m k;
+      down = is_node_down plan core m now k;
+      disconnected = (node_of core m k).lost;
+      priority = info.priority;
+      offset = info.offset;
+    }
 
 abbrev pub sentinel_row : Plan → Core → (now place : ℕ) → SentinelRow
 sentinel_row plan core now place =
@@ -84,6 +91,7 @@ sentinel_row plan core now place =
       id = id_of (roster_of plan) place;
       addr = (Rattle.std.specs.Prelude.slice_index_or (roster_of plan).sentinels place no_member).addr;
       down = is_peer_down plan core now place;
+      disconnected = (peer_of core place).lost;
     }
 
 -- the places below a number, but for one

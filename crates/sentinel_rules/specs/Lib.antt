@@ -1,6 +1,7 @@
 pub mod Plans
 pub mod States
 pub mod Parts
+pub mod Profiles
 pub mod Votes
 pub mod Ticks
 pub mod News

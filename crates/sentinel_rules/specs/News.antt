@@ -25,11 +25,13 @@ use Rattle.failover_states.specs.Failovers.{ended}
 use Rattle.failover_states.specs.Calls.{promoted, reconfigured}
 use Rattle.node_texts.specs.declared.faults.TextFault.{TextFault}
 use Rattle.sentinel_rules.specs.declared.periods.TheConstants.{WRONG_ROLE_MS}
+use Rattle.sentinel_rules.specs.declared.profiles.Profile.{Profile}
 use Rattle.sentinel_rules.specs.declared.frames.Frame.TheVariants.{FollowTo, NoteOf}
 use Rattle.ballot_law.specs.declared.node_places.NodePlace.{NodePlace}
 use Rattle.sentinel_rules.specs.Plans.{Plan, roster_of, me, group_size, master_count, settings_at, nodes_of, node_name, node_named}
 use Rattle.sentinel_rules.specs.States.{Core, MasterState, NodeState, PeerState, master_of, node_of, peer_of, failover_of, card_place, is_failing_over, is_tilted, is_master_down, with_master, with_node, with_failover, with_current, with_card}
 use Rattle.sentinel_rules.specs.Parts.{Part, quiet, puts, part_if, frame_if}
+use Rattle.sentinel_rules.specs.Profiles.{is_redis, start_at_new_address}
 
 -- A configuration is taken
 
@@ -44,15 +46,21 @@ moved now node = record node { watch = after_change now node.watch; hello_sent =
 abbrev pub at_same_address : MasterState → MasterState
 at_same_address master = record master { nodes = map hello_soon master.nodes }
 
-abbrev pub at_new_address : (now : ℕ) → MasterState → MasterState
-at_new_address now master = record master { nodes = map (moved now) master.nodes; reports = without_reports master.reports }
+abbrev pub at_new_address : Profile → (now : ℕ) → MasterState → MasterState
+at_new_address profile now master =
+    record master {
+      nodes = map (moved now) master.nodes;
+      reports = without_reports master.reports;
+      failover = record master.failover { last_start = start_at_new_address profile master.failover.last_start };
+    }
 
--- the hellos are due at once; where the address changes too, what was said of the old one is forgotten, and a note tells of it
-abbrev pub card_taken : (m now : ℕ) → Card → Core → Part
-card_taken m now card core =
+-- the hellos are due at once; where the address changes too, what was said of the old one is forgotten, by the profile when this Sentinel last began too, and a
+-- note tells of it
+abbrev pub card_taken : Plan → (m now : ℕ) → Card → Core → Part
+card_taken plan m now card core =
     let old = (card_of core.kept m).addr in
     if same_addr old card.addr then quiet (with_card (with_master core m (at_same_address (master_of core m))) m card)
-    else puts (with_card (with_master core m (at_new_address now (master_of core m))) m card) (NoteOf m old ∷ [])
+    else puts (with_card (with_master core m (at_new_address plan.profile now (master_of core m))) m card) (NoteOf m old ∷ [])
 
 -- Hellos
 
@@ -69,15 +77,15 @@ abbrev pub raised_to : (epoch : ℕ) → Core → Core
 raised_to epoch core = with_current core (max core.kept.current epoch)
 
 -- the configuration is taken, the current epoch is not below its epoch, and a failover of the master ends
-abbrev pub adopted : (m now : ℕ) → Card → Core → Part
-adopted m now card core =
-    card_taken m now card (with_failover (raised_to card.epoch core) m (ended (failover_of core m)))
+abbrev pub adopted : Plan → (m now : ℕ) → Card → Core → Part
+adopted plan m now card core =
+    card_taken plan m now card (with_failover (raised_to card.epoch core) m (ended (failover_of core m)))
 
 -- a greater current epoch raises the own one; a newer configuration is adopted
 abbrev pub hello_of_known : Plan → (m now : ℕ) → Hello → Core → Part
 hello_of_known plan m now hello core =
     let raised = raised_to hello.current core in
-    part_if (is_newer plan raised m hello.card) raised (adopted m now hello.card)
+    part_if (is_newer plan raised m hello.card) raised (adopted plan m now hello.card)
 
 abbrev pub hello_heeded : Plan → (now : ℕ) → Option ℕ → Hello → Core → Part
 hello_heeded plan now None hello core = quiet core
@@ -123,10 +131,11 @@ node_pinged now reply node =
     record node {
       watch = after_reply now reply node.watch;
       last_ping = if is_valid reply then Some now else node.last_ping;
+      lost = false;
     }
 
 abbrev pub peer_pinged : (now : ℕ) → PingReply → PeerState → PeerState
-peer_pinged now reply peer = record peer { watch = after_reply now reply peer.watch }
+peer_pinged now reply peer = record peer { watch = after_reply now reply peer.watch; lost = false }
 
 abbrev pub pinged_at : (now : ℕ) → PingReply → Option NodePlace → Core → Core
 pinged_at now reply None core = core
@@ -142,6 +151,32 @@ pinged plan (StoreAt number) now reply core = pinged_at now reply (node_named pl
 pinged plan (ClientAt number) now reply core = core
 pinged plan (PortAt number) now reply core = core
 
+-- Connections that were lost
+
+abbrev pub node_lost : NodeState → NodeState
+node_lost node = record node { lost = true }
+
+abbrev pub peer_lost : PeerState → PeerState
+peer_lost peer = record peer { lost = true }
+
+abbrev pub lost_at : Option NodePlace → Core → Core
+lost_at None core = core
+lost_at (Some at) core = with_node core at.master at.place (node_lost (node_of core at.master at.place))
+
+-- one to a data node, or to another Sentinel
+abbrev pub connection_lost : Plan → (node : NodeName) → Core → Core
+connection_lost plan (SentinelAt place) core =
+    if nat_lt place (group_size plan) && not (place == plan.place)
+    then record core { peers = slice_set core.peers place (peer_lost (peer_of core place)) }
+    else core
+connection_lost plan (StoreAt number) core = lost_at (node_named plan (StoreAt number)) core
+connection_lost plan (ClientAt number) core = core
+connection_lost plan (PortAt number) core = core
+
+-- Redis knows of each node whether it has a connection to it: it promotes none without, and shows it. A strict Sentinel knows what nodes say, and nothing of connections
+abbrev pub disconnected : Plan → (node : NodeName) → Core → Core
+disconnected plan node core = if is_redis plan.profile then connection_lost plan node core else core
+
 -- INFO
 
 abbrev pub is_master_role : DataRole → Bool
@@ -150,17 +185,17 @@ is_master_role Replica = false
 
 -- the INFO, its moment and its role are kept
 abbrev pub with_info : (now : ℕ) → Info → NodeState → NodeState
-with_info now info node = record node { info = Some info; info_at = Some now; watch = after_role now info.role node.watch }
+with_info now info node = record node { info = Some info; info_at = Some now; watch = after_role now info.role node.watch; lost = false }
 
 -- the chosen replica says that it is the master: the campaign's epoch and its address are the configuration
-abbrev pub promotion : (m k now : ℕ) → Info → FailoverState → Core → Part
-promotion m k now info (WaitPromotion epoch choice former) core =
+abbrev pub promotion : Plan → (m k now : ℕ) → Info → FailoverState → Core → Part
+promotion plan m k now info (WaitPromotion epoch choice former) core =
     part_if
     ((k == choice.place) && is_master_role info.role)
     core
-    (λ c. card_taken m now (record { epoch = epoch; addr = choice.addr })
+    (λ c. card_taken plan m now (record { epoch = epoch; addr = choice.addr })
     (with_failover c m (promoted (WaitPromotion epoch choice former) (record (failover_of c m) { moment = now }))))
-promotion m k now info state core = quiet core
+promotion plan m k now info state core = quiet core
 
 abbrev pub follows : Option Addr → Addr → Bool
 follows None addr = false
@@ -245,7 +280,7 @@ abbrev pub judged : Plan → (m k now : ℕ) → Info → Core → Part
 judged plan m k now info core =
     if is_failing_over core m
     then (if is_reconfiguring (failover_of core m).state then reconfiguration m k info core
-    else promotion m k now info (failover_of core m).state core)
+    else promotion plan m k now info (failover_of core m).state core)
     else part_if (not (k == card_place plan core m)) core (correction plan m k now info)
 
 abbrev pub info_kept : (m k now : ℕ) → Info → Core → Core

@@ -1,4 +1,4 @@
--- What doesn't change while a Sentinel runs: what its file says, and its own place in the roster.
+-- What doesn't change while a Sentinel runs: what its file says, its own place in the roster, and by which rules it works.
 use Rattle.std.specs.Prelude.{ℕ, zero, suc, ◌+◌, ◌-◌, nat_lt, Option, Some, None, unwrap_or, List, [], ◌∷◌, length, slice_index_or, position, if◌then◌else◌}
 use Rattle.ballot_law.specs.declared.addresses.Addr.{Addr}
 use Rattle.ballot_law.specs.declared.addresses.RunId.{RunId}
@@ -11,10 +11,12 @@ use Rattle.ballot_law.specs.Rosters.{Roster, master_at, id_of, size, no_addr}
 use Rattle.sentinel_conf.specs.declared.settings.Settings.{Settings}
 use Rattle.sentinel_conf.specs.declared.settings.TheConstants.{DEFAULT_SETTINGS}
 use Rattle.sentinel_conf.specs.Meaning.{ConfPlan}
+use Rattle.sentinel_rules.specs.declared.profiles.Profile.{Profile}
 
 pub record Plan : Type 0 where
   pub conf : ConfPlan
   pub place : ℕ
+  pub profile : Profile
 
 abbrev pub roster_of : Plan → Roster
 roster_of plan = plan.conf.roster

@@ -19,7 +19,7 @@ use Rattle.failover_states.specs.Replicas.{untouched}
 use Rattle.sentinel_rules.specs.Plans.{Plan, roster_of, group_size, settings_at, node_place}
 
 -- of a data node: its watch, when its last valid reply to a PING came, its last INFO and when it came, when it was last sent a
--- PING, an INFO and a hello, and since when it has been wrong: as a master, or with another master
+-- PING, an INFO and a hello, since when it has been wrong: as a master, or with another master; and whether of a connection to it was last heard that it was lost
 pub record NodeState : Type 0 where
   pub watch : WatchState
   pub last_ping : Option ℕ
@@ -30,11 +30,13 @@ pub record NodeState : Type 0 where
   pub hello_sent : Option ℕ
   pub wrong_role : Option ℕ
   pub wrong_address : Option ℕ
+  pub lost : Bool
 
--- of a Sentinel: its watch, and when it was last sent a PING
+-- of a Sentinel: its watch, when it was last sent a PING, and whether of a connection to it was last heard that it was lost
 pub record PeerState : Type 0 where
   pub watch : WatchState
   pub ping_sent : Option ℕ
+  pub lost : Bool
 
 -- of a master: the votes heard, by the voter's place; the failover; what the other Sentinels last said, by place; its nodes; when
 -- the other Sentinels were last asked; whether it was objectively down at its last tick
@@ -69,10 +71,11 @@ new_node now =
       hello_sent = None;
       wrong_role = None;
       wrong_address = None;
+      lost = false;
     }
 
 abbrev pub new_peer : (now : ℕ) → PeerState
-new_peer now = record { watch = opened_at now; ping_sent = None }
+new_peer now = record { watch = opened_at now; ping_sent = None; lost = false }
 
 abbrev pub no_failover : (nodes : ℕ) → Failover
 no_failover nodes = record { state = Idle; entered = 0; last_start = None; replicas = replicate nodes untouched; moment = 0 }

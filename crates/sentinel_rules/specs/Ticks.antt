@@ -24,8 +24,9 @@ use Rattle.sentinel_rules.specs.declared.periods.TheConstants.{PING_MS, INFO_MS,
 use Rattle.sentinel_rules.specs.declared.frames.Frame.{Frame}
 use Rattle.sentinel_rules.specs.declared.frames.Frame.TheVariants.{PingTo, InfoTo, HelloTo, AskTo, PromoteTo, FollowTo}
 use Rattle.sentinel_rules.specs.Plans.{Plan, roster_of, me, master_count, settings_at, nodes_of, addr_at, node_name}
-use Rattle.sentinel_rules.specs.States.{Core, NodeState, PeerState, master_of, node_of, failover_of, with_master, with_failover, with_current, card_place, is_failing_over, is_tilted, node_down_since, is_node_down, is_master_down, is_odown_at}
+use Rattle.sentinel_rules.specs.States.{Core, NodeState, PeerState, master_of, node_of, failover_of, with_master, with_failover, with_current, card_place, is_failing_over, is_tilted, is_node_down, is_master_down, is_odown_at}
 use Rattle.sentinel_rules.specs.Parts.{Part, quiet, puts, then_part, part_if, frame_if, changed_from, frames_from}
+use Rattle.sentinel_rules.specs.Profiles.{may_begin, patience, with_pause, master_down_ms}
 use Rattle.sentinel_rules.specs.Votes.{book_of, with_book, mark_for}
 
 -- What is due
@@ -117,13 +118,13 @@ nodes_part plan m now core =
 
 -- The failover
 
--- the node of the configuration is no candidate
+-- the node of the configuration is no candidate; one that is down, or to which the connection was lost, may not be chosen
 abbrev pub candidate_of : Plan → Core → (m now k : ℕ) → Candidate
 candidate_of plan core m now k =
     let node = node_of core m k in
     let info = unwrap_or node.info ASSUMED_INFO in
     record {
-      sdown = (k == card_place plan core m) || is_node_down plan core m now k;
+      sdown = ((k == card_place plan core m) || is_node_down plan core m now k) || node.lost;
       priority = info.priority;
       link_down_s = info.link_down_s;
       last_ping = node.last_ping;
@@ -140,16 +141,12 @@ at_places f place (suc count) = f place ∷ at_places f (place + 1) count
 abbrev pub candidates_of : Plan → Core → (m now : ℕ) → List Candidate
 candidates_of plan core m now = at_places (candidate_of plan core m now) 0 (length (nodes_of plan m))
 
-abbrev pub down_for : Option ℕ → (now : ℕ) → ℕ
-down_for None now = 0
-down_for (Some since) now = age since now
-
 -- for how long the master has been down, beside its setting
 abbrev pub limits_of : Plan → Core → (m now : ℕ) → Limits
 limits_of plan core m now =
     record {
       after_ms = (settings_at plan m).after_ms;
-      master_down_ms = down_for (node_down_since plan core m now (card_place plan core m)) now;
+      master_down_ms = master_down_ms plan core m now;
     }
 
 -- the best replica, by its place and its address
@@ -185,7 +182,7 @@ known_of plan core m now odown =
       best = best_of plan core m now;
       card_place = card_place plan core m;
       down = at_places (is_node_down plan core m now) 0 (length (nodes_of plan m));
-      timeout = (settings_at plan m).timeout;
+      timeout = patience plan core m now;
       parallel_syncs = (settings_at plan m).parallel_syncs;
     }
 
@@ -212,13 +209,13 @@ promote_frames plan m row choice = []
 abbrev pub order_frames : Plan → (m k : ℕ) → ReplicaOrder → List Frame
 order_frames plan m k replica = frame_if replica.ordered (FollowTo (node_name plan m k) m)
 
--- the first row that fits
+-- the first row that fits; one that ends the failover may have the next one wait
 abbrev pub row_part : Plan → (m now : ℕ) → Core → Part
 row_part plan m now core =
     let turn = turn_of plan core m now false in
     let epoch = campaign_epoch core m in
     puts
-    (with_win m epoch turn.row (with_vote plan m now epoch turn.vote (with_failover core m turn.failover)))
+    (with_pause plan m now turn.row (with_win m epoch turn.row (with_vote plan m now epoch turn.vote (with_failover core m turn.failover))))
     (promote_frames plan m turn.row (chosen_place turn.failover.state)
     ++ frames_from (order_frames plan m) 0 turn.failover.replicas)
 
@@ -227,8 +224,12 @@ abbrev pub after_start : (m : ℕ) → Turn → Core → Core
 after_start m turn core =
     let after = with_failover core m turn.failover in if is_some turn.row then with_current after (next_epoch (book_of core m)) else after
 
+-- the master was objectively down when that was last computed, and the own campaign may begin
+abbrev pub is_start_due : Plan → Core → (m now : ℕ) → Bool
+is_start_due plan core m now = (master_of core m).odown && may_begin plan core m now
+
 abbrev pub start_turn : Plan → Core → (m now : ℕ) → Turn
-start_turn plan core m now = turn_of plan core m now (master_of core m).odown
+start_turn plan core m now = turn_of plan core m now (is_start_due plan core m now)
 
 abbrev pub starts_now : Plan → Core → (m now : ℕ) → Bool
 starts_now plan core m now = not (is_failing_over core m) && is_some (start_turn plan core m now).row

@@ -1,14 +1,12 @@
 -- What a vote does to a Sentinel.
-use Rattle.std.specs.Prelude.{ℕ, ◌+◌, ◌%◌, Some, slice_set, if◌then◌else◌}
+use Rattle.std.specs.Prelude.{ℕ, slice_set, if◌then◌else◌}
 use Rattle.ballot_law.specs.declared.addresses.RunId.{RunId}
 use Rattle.ballot_law.specs.Ballots.{kept_of, voted_of}
-use Rattle.ballot_law.specs.Clocks.{clock}
 use Rattle.ballot_law.specs.Orders.{same_id}
 use Rattle.ballot_law.specs.OwnVotes.{Book, grants, asked}
-use Rattle.failover_states.specs.declared.periods.TheConstants.{SPREAD_MS}
-use Rattle.failover_states.specs.Failovers.{Failover}
 use Rattle.sentinel_rules.specs.Plans.{Plan, me}
 use Rattle.sentinel_rules.specs.States.{Core, failover_of, with_failover}
+use Rattle.sentinel_rules.specs.Profiles.{marked_at, marked}
 
 -- the own vote for a master, which the file is to hold
 abbrev pub book_of : Core → (m : ℕ) → Book
@@ -24,14 +22,10 @@ with_book core m book =
           };
     }
 
--- a failover counts as started now, and a random part of a second later
-abbrev pub marked : (now random : ℕ) → Failover → Failover
-marked now random f = record f { last_start = Some (clock (now + random % SPREAD_MS)) }
-
--- a vote for another candidate counts as a start of its failover, so that the own one waits
+-- a vote for another candidate counts as a start, so that the own campaign waits
 abbrev pub mark_for : Plan → (m now : ℕ) → RunId → Core → Core
 mark_for plan m now candidate core =
-    if same_id candidate (me plan) then core else with_failover core m (marked now core.random (failover_of core m))
+    if same_id candidate (me plan) then core else with_failover core m (marked (marked_at plan core m now) (failover_of core m))
 
 -- a request for a vote: the vote is given, or the current epoch raised at most
 abbrev pub requested : Plan → (m now epoch : ℕ) → RunId → Core → Core

@@ -28,6 +28,7 @@ use Rattle.node_texts.specs.declared.faults.TextFault.TheVariants.{FieldCount, E
 use Rattle.node_texts.specs.Hellos.{hello_of}
 use Rattle.sentinel_conf.specs.declared.settings.Settings.{Settings}
 use Rattle.sentinel_conf.specs.declared.settings.TheConstants.{DEFAULT_SETTINGS}
+use Rattle.sentinel_rules.specs.declared.profiles.Profile.TheVariants.{Strict, Redis}
 use Rattle.sentinel_rules.specs.Plans.{Plan, roster_of}
 use Rattle.sentinel_rules.specs.States.{Core, opened, master_of, failover_of}
 use Rattle.sentinel_rules.specs.Votes.{book_of}
@@ -88,6 +89,7 @@ plan_of digit others ports settings kept =
             kept = kept;
           };
       place = 0;
+      profile = Strict;
     }
 
 -- four Sentinels and a master without replicas, as without a file
@@ -508,6 +510,30 @@ AVoteDelaysTheOwnCampaign =
     ∷ (9000, asks 2 (Some id_a))
     ∷ []
 
+-- Profiles
+
+abbrev pub of_redis : Plan → Plan
+of_redis plan = record plan { profile = Redis }
+
+-- when the failover is over a strict Sentinel knows when it began, and one of Redis's profile forgot it at the new address
+pub record ASwitchForgetsTheStart : Type 0 where
+  pub strict : (failover_of (core_of failover_plan failover_inputs) 0).last_start ≡ Some 7000
+  pub redis : (failover_of (core_of (of_redis failover_plan) failover_inputs) 0).last_start ≡ None
+
+-- the candidate that was voted for at 6,050 never replied, and is down: a Sentinel of Redis's profile begins at the next tick, for an election that may last for
+-- one second
+abbrev pub ALostCandidateHoldsNobodyBack : Type 0
+ALostCandidateHoldsNobodyBack =
+    rare_from
+    (of_redis short_timeout_plan)
+    (core_of (of_redis short_timeout_plan) (ticks_from 1000 5 ++ (6000, Tick 0 1950) ∷ []))
+    (ask_at 6050 6379 1 (Some id_b) ∷ answer_at 6100 1 None 0 ∷ ticks_from 7000 3)
+    ≡ (6050, answer (Answer 0 (local 6379) true (Some id_b) 1))
+    ∷ (7000, asks 2 (Some id_a))
+    ∷ (8000, asks 2 (Some id_a))
+    ∷ (9000, asks 2 None)
+    ∷ []
+
 -- Replicas
 
 -- a master and four replicas
@@ -582,6 +608,7 @@ pub record ShownInAFailover : Type 0 where
         addr = local 6379;
         down = true;
         odown = true;
+        disconnected = false;
         failing_over = true;
         replicas = 2;
         others = 2;
@@ -593,10 +620,12 @@ pub record ShownInAFailover : Type 0 where
       }
   pub replicas :
       replica_rows failover_plan (failing_at 7100) 7100 0
-      ≡ record { addr = local 6380; down = false; priority = 100; offset = 100 }
-      ∷ record { addr = local 6381; down = false; priority = 100; offset = 200 }
+      ≡ record { addr = local 6380; down = false; disconnected = false; priority = 100; offset = 100 }
+      ∷ record { addr = local 6381; down = false; disconnected = false; priority = 100; offset = 200 }
       ∷ []
   pub sentinels :
       sentinel_rows failover_plan (failing_at 7100) 7100
-      ≡ record { id = id_b; addr = local 26380; down = true } ∷ record { id = id_c; addr = local 26381; down = true } ∷ []
+      ≡ record { id = id_b; addr = local 26380; down = true; disconnected = false }
+      ∷ record { id = id_c; addr = local 26381; down = true; disconnected = false }
+      ∷ []
   pub usable : usable_count failover_plan (failing_at 7100) 7100 ≡ 1

@@ -1,17 +1,18 @@
 //! What a Sentinel does with each input, as definitions: the rules of one whole Sentinel, apart from the code that keeps them.
 //!
 //! `specs/` reads from below: `Plans` (what doesn't change), `States` (what is kept, and what is down), `Parts` (what is put out),
-//! `Votes`, `Ticks`, `News` (hellos, answers, replies, INFO), `Answers` (the commands of the port), `Takes` (one input as a whole),
-//! `Facts` (what is known of each plan and core), `Steps` (an input by steps of the ballot model), `Room`, `Named` and `Limits` (how
-//! much is put out, of which masters, and with which numbers), `Changes` (what an input changes of what is kept), `Ignored` (what
-//! changes nothing), `Worked` (whole runs, computed).
-//! `docs/RULES.md` says the same in words.
+//! `Profiles` (where the profiles differ), `Votes`, `Ticks`, `News` (hellos, answers, replies, INFO), `Answers` (the
+//! commands of the port), `Takes` (one input as a whole), `Facts` (what is known of each plan and core), `Steps` (an
+//! input by steps of the ballot model), `Room`, `Named` and `Limits` (how much is put out, of which masters, and with
+//! which numbers), `Changes` (what an input changes of what is kept), `Ignored` (what changes nothing), `Worked` (whole
+//! runs, computed). `docs/RULES.md` says the same in words.
 #![tactic(auto)]
 
 mod assumed;
 mod frames;
 mod laws;
 mod periods;
+mod profiles;
 mod worked;
 
 pub use assumed::ASSUMED_INFO;
@@ -21,8 +22,12 @@ pub use laws::{
     law_inputs_change_one_card, law_inputs_keep_sound, law_opening_is_sound,
     law_outputs_are_within,
 };
-pub use periods::{ASK_MS, BUSY_INFO_MS, HELLO_MS, INFO_MS, PING_MS, WRONG_ROLE_MS, law_periods};
+pub use periods::{
+    ASK_MS, BUSY_INFO_MS, HELLO_MS, HOLD_MS, INFO_MS, LINK_MAX_S, PING_MS, QUIET_MS, WRONG_ROLE_MS,
+    law_periods,
+};
+pub use profiles::Profile;
 pub use worked::{
-    law_example_answers, law_example_failover, law_example_no_failover, law_example_replicas,
-    law_example_tilt, law_example_votes,
+    law_example_answers, law_example_failover, law_example_no_failover, law_example_profiles,
+    law_example_replicas, law_example_tilt, law_example_votes,
 };

@@ -1,7 +1,9 @@
 //! How often a Sentinel sends what, and how long it bears what is wrong, in milliseconds.
 
 ghost use Rattle.std.specs.Prelude.{◌≡◌};
-ghost use Rattle.sentinel_rules.specs.declared.periods.TheConstants.{ASK_MS, BUSY_INFO_MS, HELLO_MS, INFO_MS, PING_MS, WRONG_ROLE_MS};
+ghost use Rattle.sentinel_rules.specs.declared.periods.TheConstants.{ASK_MS, BUSY_INFO_MS, HELLO_MS, INFO_MS, PING_MS, WRONG_ROLE_MS, LINK_MAX_S, HOLD_MS, QUIET_MS};
+ghost use Rattle.std.specs.Prelude.{◌+◌};
+ghost use Rattle.failover_states.specs.declared.periods.TheConstants.{ELECTION_MS, SPREAD_MS};
 
 /// The greatest time between two PINGs; it is shorter where the master's `down-after-milliseconds` is below it.
 pub const PING_MS: u64 = 1_000;
@@ -21,6 +23,16 @@ pub const ASK_MS: u64 = 1_000;
 /// How long a node may say that it is a master though it isn't.
 pub const WRONG_ROLE_MS: u64 = 8_000;
 
+/// The greatest time for which the link of a replica counts as having been down where the master hasn't replied since
+/// the start, in seconds.
+pub const LINK_MAX_S: u64 = 4_294_967_295;
+
+/// The longest time for which a campaign is put off in the profile of Redis: an election's and a pause.
+pub const HOLD_MS: u64 = 11_000;
+
+/// How long ago the last reply to a PING came, at least, of a choice that counts as gone where its connection was lost.
+pub const QUIET_MS: u64 = 1_000;
+
 /// These periods as numbers. Definitions and code cite them by name.
 pub fn law_periods()
     ensures ping { PING_MS ≡ 1000 }
@@ -29,4 +41,7 @@ pub fn law_periods()
     ensures hello { HELLO_MS ≡ 2000 }
     ensures ask { ASK_MS ≡ 1000 }
     ensures wrong_role { WRONG_ROLE_MS ≡ 8000 }
+    ensures hold { HOLD_MS ≡ ELECTION_MS + SPREAD_MS }
+    ensures quiet { QUIET_MS ≡ 1000 }
+    ensures link { LINK_MAX_S ≡ 4294967295 }
 {}

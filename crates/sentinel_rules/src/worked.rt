@@ -21,6 +21,8 @@ ghost use Rattle.sentinel_rules.specs.Worked.{
   AFormerMasterFollows,
   AReplicaOfAnotherFollows,
   ShownInAFailover,
+  ASwitchForgetsTheStart,
+  ALostCandidateHoldsNobodyBack,
 };
 
 /// Votes: one in an epoch, to the first that asks; a question without a candidate raises no epoch; after a restart the vote is known as
@@ -62,6 +64,12 @@ pub fn law_example_replicas()
     ensures replicas_one_by_one { ReplicasOneByOne }
     ensures a_former_master_follows { AFormerMasterFollows }
     ensures a_replica_of_another_follows { AReplicaOfAnotherFollows }
+{}
+
+/// What the profiles differ in: the last start at a new address, and a vote for a candidate that is down.
+pub fn law_example_profiles()
+    ensures a_switch_forgets_the_start { ASwitchForgetsTheStart }
+    ensures a_lost_candidate_holds_nobody_back { ALostCandidateHoldsNobodyBack }
 {}
 
 /// After a jump of the clock nothing is judged for 30 seconds.

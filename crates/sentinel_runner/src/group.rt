@@ -19,6 +19,7 @@ use conf_check::is_one_group;
 use crossbeam_channel::Receiver;
 use log::Log;
 use sentinel_conf::{Conf, ConfStore};
+use sentinel_rules::Profile;
 use sentinel_runtime::{GroupClock, RunFault, RunState};
 use std::alloc::Global;
 use std::io::Read;
@@ -78,8 +79,8 @@ fn are_one_group<S>(confs: &[Conf], stores: &[S]) -> bool
 }
 
 impl<S: ConfStore + Drop> Group<S> {
-    /// Opens each Sentinel with the store at its place in the list, and its port for one thread and without courtesies, and makes the data nodes of the
-    /// roster and the links.
+    /// Opens each Sentinel with the store at its place in the list, and its port for one thread, strict, and makes the
+    /// data nodes of the roster and the links.
     ///
     /// `NotOneRoster` comes exactly where the confs aren't those of one group, or there is another number of stores.
     pub fn open<R: Net + Clock + Log>(
@@ -94,7 +95,7 @@ impl<S: ConfStore + Drop> Group<S> {
     {
         let port = PortSettings {
             threads: 1,
-            courtesies: false,
+            profile: Profile::Strict,
         };
         Self::open_with(rt, alloc, confs, stores, port, 0)
     }

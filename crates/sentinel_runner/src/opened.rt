@@ -11,6 +11,7 @@ use log::{Log, warn};
 use sentinel_cell::{Seat, SharedSentinel};
 use sentinel_conf::{Conf, ConfStore};
 use sentinel_core::Sentinel;
+use sentinel_rules::Profile;
 use std::alloc::Global;
 use std::io::{self, ErrorKind};
 use std::net::Net;
@@ -23,9 +24,9 @@ pub const PORT_THREADS_MAX: u16 = 16;
 pub struct PortSettings {
     /// How many threads serve each port: what is below 1 counts as 1, and what is above `PORT_THREADS_MAX` as that.
     pub threads: u16,
-    /// Whether clients are answered what client libraries send beside a Sentinel's commands, as `courteous_sessions` has it; else they are answered what
-    /// `port_sessions` answers.
-    pub courtesies: bool,
+    /// By which rules the Sentinels work. Those of Redis's profile also answer clients what client libraries send
+    /// beside a Sentinel's commands, as `courteous_sessions` has it; strict ones answer what `port_sessions` answers.
+    pub profile: Profile,
 }
 
 impl PortSettings {
@@ -76,7 +77,7 @@ pub(crate) fn room_of<R: Net>(
     port: PortSettings,
     own: u64,
 ) -> Result<PortRoom, GroupFault>
-    ensures courtesies { IfOk result (λ room. room.courteous ≡ port.courtesies) }
+    ensures profile { IfOk result (λ room. room.profile ≡ port.profile) }
     ensures roster { IfErr result (λ fault. fault ≢ NotOneRoster) }
 {
     let room = match connections_beside(rt, alloc, ports, port.threads_of_each(), own) {
@@ -86,7 +87,7 @@ pub(crate) fn room_of<R: Net>(
     if room.is_empty() {
         return Err(GroupFault::PortRefused);
     }
-    Ok(room.with_courtesies(port.courtesies))
+    Ok(room.with_profile(port.profile))
 }
 
 impl<S: ConfStore + Drop> Opened<S> {
@@ -105,7 +106,7 @@ impl<S: ConfStore + Drop> Opened<S> {
     {
         let number = conf.port();
         match Port::open(rt, alloc, number, room) {
-            Ok(ports) => Self::with_port(alloc, conf, store, ports, room.threads(), beside, 0),
+            Ok(ports) => Self::with_port(alloc, conf, store, ports, room, beside, 0),
             Err(error) => {
                 if error.kind() != ErrorKind::OutOfMemory {
                     warn!(rt; "port {number} of 127.0.0.1 can't be had");
@@ -115,27 +116,29 @@ impl<S: ConfStore + Drop> Opened<S> {
         }
     }
 
-    /// Opens the Sentinel of this conf at this reading of the clock, with what each of the `threads` threads of its port serves, and a seat for each of them and
-    /// for the `beside` other threads. Many parameters: each is what the Sentinel begins with.
+    /// Opens the Sentinel of this conf, of the profile of its port's room, at this reading of the clock, with what each
+    /// thread of the port serves, and a seat for each of them and for the `beside` other threads. Many parameters: each
+    /// is what the Sentinel begins with.
     pub(crate) fn with_port(
         alloc: Global,
         conf: Conf,
         store: S,
         ports: (Port, Vec<Port>),
-        threads: u16,
+        room: PortRoom,
         beside: u16,
         now: u64,
     ) -> Result<Opened<S>, GroupFault>
         requires room { S.failure_count store < 2 ^ 64 - 1 }
-        requires threads { length ports.1.items + 1 ≡ threads }
+        requires threads { length ports.1.items + 1 ≡ room.threads }
         ensures roster { IfErr result (λ fault. fault ≢ NotOneRoster) }
         ensures seats { IfOk result (λ opened. opened.beside ≡ beside) }
     {
         let (port, others) = ports;
         let (number, place) = (conf.port(), conf.place());
-        let Ok(sentinel) = Sentinel::open(alloc, conf, now) else {
+        let Ok(sentinel) = Sentinel::open_as(alloc, conf, room.profile(), now) else {
             return Err(GroupFault::NoMemory);
         };
+        let threads = room.threads();
         let seats = u64::from(threads) + u64::from(beside);
         let Ok((cell, seat)) = SharedSentinel::new(alloc, sentinel, store, seats) else {
             return Err(GroupFault::NoMemory);

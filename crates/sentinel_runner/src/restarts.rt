@@ -285,8 +285,7 @@ impl<S: ConfStore + Drop> Restarts<S> {
                 return Err(why);
             }
         };
-        let threads = self.room.threads();
-        match Opened::with_port(self.alloc, conf, store, ports, threads, BESIDE, now) {
+        match Opened::with_port(self.alloc, conf, store, ports, self.room, BESIDE, now) {
             Ok(opened) => Ok(Some(Restart { opened })),
             Err(_) => Ok(None),
         }

@@ -98,7 +98,7 @@ fn room_of<R: Net>(
     admission: &Admission,
 ) -> Result<PortRoom, GroupFault>
     ensures threads { IfOk result (λ room. 0 < port.threads → port.threads ≤ PORT_THREADS_MAX → room.threads ≡ port.threads) }
-    ensures courtesies { IfOk result (λ room. room.courteous ≡ port.courtesies) }
+    ensures profile { IfOk result (λ room. room.profile ≡ port.profile) }
     ensures roster { IfErr result (λ fault. fault ≢ NotOneRoster) }
 {
     let own = connection_count(conf.roster()) as u64;
@@ -110,7 +110,7 @@ fn room_of<R: Net>(
     if room.is_empty() {
         return Err(GroupFault::PortRefused);
     }
-    Ok(room.with_courtesies(port.courtesies))
+    Ok(room.with_profile(port.profile))
 }
 
 /// Notes how many clients the port has room for, where a file lets so many in.
@@ -192,7 +192,7 @@ impl<S: ConfStore + Drop> Watch<S> {
         let ports = port_of(rt, alloc, sockets, room, &admission)?;
         prove_store(alloc, &conf, &mut store)?;
         note_room(rt, conf.port(), wanted, &admission);
-        let opened = Opened::with_port(alloc, conf, store, ports, room.threads(), BESIDE, 0)?;
+        let opened = Opened::with_port(alloc, conf, store, ports, room, BESIDE, 0)?;
         let state = WatchState {
             run: RunState::new(GroupClock::start(rt)),
             turned: AtomicU64::new(0),

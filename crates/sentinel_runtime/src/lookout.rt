@@ -266,7 +266,8 @@ impl Seen {
         }
     }
 
-    /// Notes what keeps the Sentinel from a failover of a master that is objectively down.
+    /// Notes what keeps the Sentinel from a failover of a master that is objectively down. One of Redis's profile waits
+    /// for some seconds at most, of which nothing is noted.
     fn note_hindrance<R: Log + Wait>(
         &mut self,
         to: &Announcing<'_, '_, R>,
@@ -278,6 +279,9 @@ impl Seen {
         }
         if !look.flags.agreed || look.flags.failing_over {
             return;
+        }
+        if !look.is_strict {
+            return self.note_spent(to, look, master);
         }
         let pause = look.timeout.saturating_mul(TIMEOUTS);
         match self.started {

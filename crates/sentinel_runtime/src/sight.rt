@@ -32,13 +32,15 @@ pub(crate) struct Vote {
 
 /// What a Sentinel shows of a master: whether its clock isn't to be trusted, the configuration, what it finds of the master, how far its own failover has come, its vote,
 /// and which of the master's replicas, by their places among its nodes, and of the other Sentinels, by their places in the roster, are down; `at` which reading of its clock
-/// that was, its run id and its current epoch, and the master's `failover-timeout`, in milliseconds.
+/// that was, its run id and its current epoch, the master's `failover-timeout`, in milliseconds, and whether it is
+/// strict.
 #[derive(Clone, Copy)]
 pub(crate) struct Look {
     pub(crate) at: u64,
     pub(crate) me: RunId,
     pub(crate) current: u64,
     pub(crate) timeout: u64,
+    pub(crate) is_strict: bool,
     pub(crate) is_tilted: bool,
     pub(crate) card: Card,
     pub(crate) flags: Flags,
@@ -127,6 +129,7 @@ impl Look {
             me: plan.me(),
             current: core.kept().current,
             timeout: plan.settings(m).timeout,
+            is_strict: !plan.profile().is_redis(),
             is_tilted: core.is_tilted(),
             card: core.card(m),
             flags: flags_of(plan, core, now, m),

@@ -3,11 +3,13 @@
 ghost use Rattle.std.specs.Prelude.{◌≡◌};
 ghost use Rattle.ballot_law.specs.Clocks.{clock};
 ghost use Rattle.sentinel_rules.specs.News.{at_same_address, at_new_address};
+ghost use Rattle.sentinel_rules.specs.Profiles.{start_at_new_address};
 ghost use Rattle.sentinel_rules.specs.States.{master_of, with_master};
 
 use crate::cores::Core;
 use crate::masters::Master;
-use crate::nodes::{greet_soon, move_all};
+use crate::nodes::{Plan, greet_soon, move_all};
+use sentinel_rules::Profile;
 
 impl Master {
     /// The configuration changed, the address stayed.
@@ -17,12 +19,26 @@ impl Master {
         greet_soon(&mut self.nodes);
     }
 
-    /// The configuration names another address: what was said of the old one is forgotten.
-    fn relocate(&mut self, now: u64)
-        ensures { self.new ≡ at_new_address (clock now) self.old }
+    /// By the profile the last start is forgotten at a new address.
+    fn forget_start(&mut self, profile: Profile)
+        ensures { self.new ≡ record self.old {
+          failover = record self.old.failover { last_start = start_at_new_address profile self.old.failover.last_start };
+        } }
+    {
+        match profile {
+            Profile::Strict => {}
+            Profile::Redis => self.failover.forget_start(),
+        }
+    }
+
+    /// The configuration names another address: what was said of the old one is forgotten, by the profile when this
+    /// Sentinel last began too.
+    fn relocate(&mut self, profile: Profile, now: u64)
+        ensures { self.new ≡ at_new_address profile (clock now) self.old }
     {
         move_all(&mut self.nodes, now);
         self.reports.clear();
+        self.forget_start(profile);
     }
 }
 
@@ -37,11 +53,11 @@ impl Core {
     }
 
     /// A master's configuration names another address.
-    pub fn relocate(&mut self, m: u16, now: u64)
-        ensures { self.new ≡ with_master self.old m (at_new_address (clock now) (master_of self.old m)) }
+    pub fn relocate(&mut self, plan: &Plan, m: u16, now: u64)
+        ensures { self.new ≡ with_master self.old m (at_new_address plan.now.profile (clock now) (master_of self.old m)) }
     {
         if let Some(master) = self.masters.get_mut(m as usize) {
-            master.relocate(now);
+            master.relocate(plan.profile(), now);
         }
     }
 }

@@ -96,7 +96,7 @@ fn opened_kept(alloc: Global, plan: &Plan) -> Result<Kept, AllocError>
 }
 
 /// Whether no failover is under way.
-fn is_idle(stage: FailoverState) -> bool
+pub(crate) fn is_idle(stage: FailoverState) -> bool
     ensures { result ≡ is_idle stage }
 {
     match stage {
@@ -305,6 +305,16 @@ impl Core {
         match self.kept_node(m, k) {
             Some(node) => node.info,
             None => None,
+        }
+    }
+
+    /// Whether of a connection to a data node was last heard that it was lost.
+    pub fn is_lost(&self, m: u16, k: usize) -> bool
+        ensures { result ≡ (node_of self.now m k).lost }
+    {
+        match self.kept_node(m, k) {
+            Some(node) => node.lost,
+            None => false,
         }
     }
 

@@ -10,6 +10,7 @@ mod cores;
 mod failovers;
 mod masters;
 mod nodes;
+mod pauses;
 mod reports;
 mod sending;
 mod states;

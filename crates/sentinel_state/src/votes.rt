@@ -4,13 +4,16 @@ ghost use Rattle.std.specs.Prelude.{◌≡◌};
 ghost use Rattle.ballot_law.specs.Ballots.{kept_of};
 ghost use Rattle.ballot_law.specs.Clocks.{clock};
 ghost use Rattle.sentinel_rules.specs.News.{vote_heard};
+ghost use Rattle.sentinel_rules.specs.Profiles.{marked_at};
 ghost use Rattle.sentinel_rules.specs.Ticks.{with_vote, pick_of, count_of};
 ghost use Rattle.sentinel_rules.specs.Votes.{book_of, with_book, mark_for, requested};
 
 use crate::cores::Core;
 use crate::nodes::Plan;
+use crate::pauses::election_ms;
 use ballot_law::{RunId, clock_of};
 use failover_states::SPREAD_MS;
+use sentinel_rules::Profile;
 use vote_book::VoteBook;
 
 impl Core {
@@ -39,14 +42,25 @@ impl Core {
         }
     }
 
-    /// A vote for another Sentinel counts as a start of its failover, a random part of a second from now.
+    /// What is kept as the last start at a vote for another candidate.
+    fn mark_at(&self, plan: &Plan, m: u16, now: u64) -> u64
+        ensures { result ≡ marked_at plan.now self.now m (clock now) }
+    {
+        let at = clock_of(now);
+        match plan.profile() {
+            Profile::Strict => at + self.random % SPREAD_MS,
+            Profile::Redis => at + election_ms(plan, m) + self.pause(plan),
+        }
+    }
+
+    /// A vote for another Sentinel counts as a start, so that the own campaign waits.
     fn mark_for(&mut self, plan: &Plan, m: u16, now: u64, candidate: RunId)
         ensures { self.new ≡ mark_for plan.now m (clock now) candidate self.old }
     {
         if candidate.is_same(&plan.me()) {
             return;
         }
-        let at = clock_of(now) + self.random % SPREAD_MS;
+        let at = self.mark_at(plan, m, now);
         if let Some(master) = self.masters.get_mut(m as usize) {
             master.failover.mark(at);
         }

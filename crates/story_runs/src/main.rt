@@ -1,9 +1,10 @@
 //! Plays the stories that its words name, and says of each whether it prints the lines that are beside it, and whether its trace, played
 //! as a story, prints them too. Where a trace is beside it, its own trace has to be that one.
 //!
-//! A word is the path of a story's files without their endings. The Sentinels of a story are the conf files of its folder. After the word
-//! `stops:` each story is run again and again, with each Sentinel stopped and started after each of its steps, and leaving the old text of
-//! its file and the new one. It says how many runs these were, and how often they broke the laws of a group.
+//! A word is the path of a story's files without their endings. The Sentinels of a story are the conf files of its
+//! folder, of Redis's profile where the folder's name begins with it. After the word `stops:` each story is run again
+//! and again, with each Sentinel stopped and started after each of its steps, and leaving the old text of its file and
+//! the new one. It says how many runs these were, and how often they broke the laws of a group.
 //!
 //! After the word `calls:` each story is played by the public calls of a world, once step by step and once by one call with a stop at its end;
 //! a call that lacked memory is made once more on what it left. After the word `refused:` a word is a folder whose conf files make no group: it
@@ -24,6 +25,7 @@ use fault_world::{WorldFault, read_scenario};
 use resp2::OutText;
 use scenario_replay::{Printed, ReplayFault, Story};
 use sentinel_conf::{Conf, read};
+use sentinel_rules::Profile;
 use std::alloc::Global;
 use std::{env, fs, io};
 
@@ -49,9 +51,18 @@ fn files_of(rt: &HostRuntime, folder: &str) -> Option<Vec<Vec<u8>>> {
     Some(files)
 }
 
+/// By which rules the Sentinels of the folder work: by Redis's where its name begins so.
+fn profile_of(folder: &str) -> Profile {
+    if folder.as_bytes().starts_with(b"redis_profile") {
+        return Profile::Redis;
+    }
+    Profile::Strict
+}
+
 /// A story of these bytes, with the Sentinels of the folder, and how many these are.
 fn story_of(rt: &HostRuntime, folder: &str, text: Vec<u8>) -> Option<(Story, u16)> {
     let mut story = Story::new(rt.alloc(), text).ok()?;
+    story.set_profile(profile_of(folder));
     let mut sentinels: u16 = 0;
     for conf in CONFS {
         if let Some(file) = bytes_of(rt, folder, conf) {

@@ -5,7 +5,7 @@ use crate::fault_notes::note_fault;
 use crate::logins::Logins;
 use crate::peer_connection::PeerConnection;
 use crate::traffic::PIECE;
-use ballot_law::{NodeName, Roster};
+use ballot_law::{Event, NodeName, Roster};
 use links::{Login, RecentFaults, TickSchedule, connection_count, ping_each, place_of, target_at};
 use log::Log;
 use mio::{Events, Poll, Token};
@@ -114,12 +114,17 @@ impl Connections {
         Ok((wires, far))
     }
 
-    /// Closes connections of no use, opens those that are due, and asks what they ask by themselves, at this reading of the clock.
-    fn keep_all<N: Net>(&mut self, net: &N, now: u64) {
+    /// Closes connections of no use, opens those that are due, asks what they ask by themselves, and tells the Sentinel
+    /// which were lost, at this reading of the clock.
+    fn keep_all<R: Wait, N: Net>(&mut self, rt: &R, net: &N, now: u64) {
         for place in 0..self.wires.len() {
             if let Some(Some(wire)) = self.wires.get_mut(place) {
-                let login = login_of(&self.roster, &self.logins, wire.node());
+                let node = wire.node();
+                let login = login_of(&self.roster, &self.logins, node);
                 wire.keep(net, self.poll.registry(), Token(place), login, now);
+                if wire.take_loss(now) {
+                    self.near.hand_on(rt, Event::Disconnected { node }, now);
+                }
             }
         }
     }
@@ -256,7 +261,7 @@ impl Connections {
         }
         self.put_out_all(rt, now);
         if pace.until_tick(now) == 0 || self.is_due(now) {
-            self.keep_all(net, now);
+            self.keep_all(rt, net, now);
             pace.tick_due = now.saturating_add(KEEP_MS);
         }
         pace.turn(now);

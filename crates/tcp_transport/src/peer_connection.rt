@@ -25,7 +25,9 @@ const READS_MAX: u32 = 16;
 const LOOK_MS: u64 = 100;
 
 /// A connection to a node, with its socket where it is open or being opened. `goes_on` is whether it may have more to read, `is_ending` whether the system told of its end, `is_refused` whether the node refused who asks
-/// when it was heard last, `look_at` when it is to be asked what came of an order, `fault` the fault of what came that closed it last, and `shut_until` until when it stays closed, since too much came on it.
+/// when it was heard last, `look_at` when it is to be asked what came of an order, `fault` the fault of what came that
+/// closed it last, and `shut_until` until when it stays closed, since too much came on it, `is_lost` whether it was
+/// told to be lost since it was open last.
 #[derive(Drop)]
 pub(crate) struct PeerConnection {
     link: NodeLink,
@@ -37,6 +39,7 @@ pub(crate) struct PeerConnection {
     fault: Option<LinkFault>,
     flow: RateLimit,
     shut_until: u64,
+    is_lost: bool,
     alloc: Global,
 }
 
@@ -88,6 +91,7 @@ impl PeerConnection {
             fault: None,
             flow: RateLimit::new(),
             shut_until: 0,
+            is_lost: false,
             alloc,
         }
     }
@@ -110,6 +114,21 @@ impl PeerConnection {
     /// Whether it is to be opened now.
     pub(crate) fn is_due(&self, now: u64) -> bool {
         self.shut_until <= now && self.link.schedule().is_due(now)
+    }
+
+    /// Whether it is lost, which wasn't told since it was open last: it was refused, reset or given up, and isn't
+    /// opened again at once. One that hears hellos tells nothing.
+    pub(crate) fn take_loss(&mut self, now: u64) -> bool {
+        let schedule = self.link.schedule();
+        if schedule.is_open() {
+            self.is_lost = false;
+        }
+        let is_shut = schedule.stage == Stage::Closed && !self.is_due(now);
+        if !is_shut || self.is_lost || self.link.target().listens {
+            return false;
+        }
+        self.is_lost = true;
+        true
     }
 
     /// The fault of what came that closed it since this was asked last.

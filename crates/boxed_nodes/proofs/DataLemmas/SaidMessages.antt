@@ -4,7 +4,7 @@ use Rattle.std.specs.List.{AllByRecursion, All}
 use Rattle.std.proofs.lemmas.List.Elements.{All-from_recursion}
 use Rattle.std.specs.Prelude.{codes}
 use Rattle.ballot_law.specs.declared.events.Event.{Event}
-use Rattle.ballot_law.specs.declared.events.Event.TheVariants.{Tick, Command, Answered, Pinged, InfoRead, HelloRead, Become, Handed}
+use Rattle.ballot_law.specs.declared.events.Event.TheVariants.{Tick, Command, Answered, Pinged, InfoRead, HelloRead, Disconnected, Become, Handed}
 use Rattle.ballot_law.specs.declared.messages.Body.{Body}
 use Rattle.ballot_law.specs.declared.messages.Body.TheVariants.{Ask, Answer, Ping, PingText, InfoAsk, InfoText, Publish, HelloText, ReplicaOf, AddressAsk, AddressAnswer, PortReply, RoleAsk, RoleText, Done}
 use Rattle.ballot_law.specs.declared.messages.Message.{Message}
@@ -117,6 +117,7 @@ by_recursion k count server (Answered voter master addr down leader epoch) = tt
 by_recursion k count server (Pinged node answer) = tt
 by_recursion k count server (InfoRead node text) = tt
 by_recursion k count server (HelloRead text) = tt
+by_recursion k count server (Disconnected node) = tt
 by_recursion k count server (Become priority offset link_down) = tt
 
 pub all_passable : (k count : ℕ) (server : Server) (event : Event) → All (IsPassable (StoreAt k) event) (said (StoreAt k) count server event)
@@ -134,6 +135,7 @@ all_of_store k count server (Answered voter master addr down leader epoch) = tt
 all_of_store k count server (Pinged node answer) = tt
 all_of_store k count server (InfoRead node text) = tt
 all_of_store k count server (HelloRead text) = tt
+all_of_store k count server (Disconnected node) = tt
 all_of_store k count server (Become priority offset link_down) = tt
 
 -- ---- all may be sent
@@ -173,4 +175,5 @@ all_sendable k count server (Answered voter master addr down leader epoch) s h =
 all_sendable k count server (Pinged node answer) s h = tt
 all_sendable k count server (InfoRead node text) s h = tt
 all_sendable k count server (HelloRead text) s h = tt
+all_sendable k count server (Disconnected node) s h = tt
 all_sendable k count server (Become priority offset link_down) s h = tt

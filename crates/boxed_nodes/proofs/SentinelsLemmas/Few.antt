@@ -7,7 +7,7 @@ use Rattle.ballot_law.specs.declared.addresses.RunId.{RunId}
 use Rattle.ballot_law.specs.declared.commands.Command.{Command}
 use Rattle.ballot_law.specs.declared.commands.Command.TheVariants.{Ping, IsMasterDownByAddr, GetMasterAddrByName, Masters, Master, Replicas, Sentinels, MyId, CkQuorum, FlushConfig, Subscribe}
 use Rattle.ballot_law.specs.declared.events.Event.{Event}
-use Rattle.ballot_law.specs.declared.events.Event.TheVariants.{Tick, Command as Commanded, Answered as AnswerCame, Pinged, InfoRead, HelloRead, Become, Handed}
+use Rattle.ballot_law.specs.declared.events.Event.TheVariants.{Tick, Command as Commanded, Answered as AnswerCame, Pinged, InfoRead, HelloRead, Disconnected, Become, Handed}
 use Rattle.ballot_law.specs.declared.messages.Body.{Body}
 use Rattle.ballot_law.specs.declared.messages.Output.{Output}
 use Rattle.ballot_law.specs.Clocks.{clock}
@@ -68,6 +68,7 @@ outputs_at plan now (AnswerCame voter m addr down leader epoch) core p = tt
 outputs_at plan now (Pinged node reply) core p = tt
 outputs_at plan now (InfoRead node text) core p = frames_few plan (part_of plan now (InfoRead node text) core).core (part_of plan now (InfoRead node text) core).frames
 outputs_at plan now (HelloRead text) core p = frames_few plan (part_of plan now (HelloRead text) core).core (part_of plan now (HelloRead text) core).frames
+outputs_at plan now (Disconnected node) core p = tt
 outputs_at plan now (Become priority offset link_down) core p = tt
 outputs_at plan now (Handed message) core p = tt
 

@@ -7,7 +7,7 @@ use Rattle.ballot_law.specs.declared.cards.Shown.{Shown}
 use Rattle.ballot_law.specs.declared.commands.Command.{Command}
 use Rattle.ballot_law.specs.declared.commands.Command.TheVariants.{Ping, IsMasterDownByAddr, GetMasterAddrByName, Masters, Master, Replicas, Sentinels, MyId, CkQuorum, FlushConfig, Subscribe}
 use Rattle.ballot_law.specs.declared.events.Event.{Event}
-use Rattle.ballot_law.specs.declared.events.Event.TheVariants.{Tick, Command as Commanded, Answered as AnswerCame, Pinged, InfoRead, HelloRead, Become, Handed}
+use Rattle.ballot_law.specs.declared.events.Event.TheVariants.{Tick, Command as Commanded, Answered as AnswerCame, Pinged, InfoRead, HelloRead, Disconnected, Become, Handed}
 use Rattle.ballot_law.specs.declared.messages.Body.{Body}
 use Rattle.ballot_law.specs.declared.messages.Body.TheVariants.{AddressAnswer}
 use Rattle.ballot_law.specs.declared.replies.Hello.{Hello}
@@ -101,6 +101,7 @@ outputs_at plan now (InfoRead node text) core = frames_listed plan (part_of plan
     (hellos_name_masters plan now (InfoRead node text) core)
 outputs_at plan now (HelloRead text) core = frames_listed plan (part_of plan now (HelloRead text) core).core (part_of plan now (HelloRead text) core).frames
     (hellos_name_masters plan now (HelloRead text) core)
+outputs_at plan now (Disconnected node) core = tt
 outputs_at plan now (Become priority offset link_down) core = tt
 outputs_at plan now (Handed message) core = tt
 

@@ -101,6 +101,7 @@ pub(crate) fn say(
         | Event::Pinged { .. }
         | Event::InfoRead { .. }
         | Event::HelloRead { .. }
+        | Event::Disconnected { .. }
         | Event::Become { .. } => {}
     }
 }

@@ -23,7 +23,7 @@ use conf_lines::{ConfFault, ConfKind};
 use sentinel_conf::{FILE_MAX, MemoryStore, law_read_again, read};
 use sentinel_core::Sentinel;
 use sentinel_outbox::{OpenFault, Outbox, ReleaseFault, Room, StoreFault, TakeFault, Took};
-use sentinel_rules::{law_opening_is_sound, law_outputs_are_within};
+use sentinel_rules::{Profile, law_opening_is_sound, law_outputs_are_within};
 use std::alloc::Global;
 
 /// A Sentinel with its file in memory.
@@ -41,13 +41,34 @@ pub struct SentinelNode {
 impl SentinelNode {
     ghost use Rattle.sentinel_core.specs.Sentinels.{IsWhole};
 
-    /// A Sentinel with this file, ready at this reading of its clock with what the file holds, or the first fault of the file.
+    /// A strict Sentinel with this file, ready at this reading of its clock with what the file holds, or the first
+    /// fault of the file.
     pub fn new(alloc: Global, bytes: &[u8], now: u64) -> Result<SentinelNode, ConfFault>
         ensures text { IfOk result (λ node. node.file.text ≡ bytes.now) }
         ensures read { IfOk result (λ node. conf_of_bytes bytes.now ≡ Ok node.sentinel.plan.conf) }
         ensures core { IfOk result (λ node. node.sentinel.core ≡ opened node.sentinel.plan now) }
         ensures stored { IfOk result (λ node. node.sentinel.stored ≡ node.sentinel.plan.conf.kept) }
         ensures ready { IfOk result (λ node. node.sentinel.phase ≡ phase.Ready) }
+        ensures profile { IfOk result (λ node. node.sentinel.plan.profile ≡ Profile.Strict) }
+        ensures fresh { IfOk result (λ node. IsFresh (λ roster. roster_of node.sentinel.plan ≡ roster) (IsImageOf node.sentinel node.file.text)) }
+        ensures fault { IfErr result (λ fault. (fault ≡ record { line = 0; kind = ConfKind.NoMemory }) ⊎ (conf_of_bytes bytes.now ≡ Err fault)) }
+    {
+        SentinelNode::new_as(alloc, bytes, Profile::Strict, now)
+    }
+
+    /// A Sentinel of this profile, which stays its own after a stop too; else as [`SentinelNode::new`].
+    pub fn new_as(
+        alloc: Global,
+        bytes: &[u8],
+        profile: Profile,
+        now: u64,
+    ) -> Result<SentinelNode, ConfFault>
+        ensures text { IfOk result (λ node. node.file.text ≡ bytes.now) }
+        ensures read { IfOk result (λ node. conf_of_bytes bytes.now ≡ Ok node.sentinel.plan.conf) }
+        ensures core { IfOk result (λ node. node.sentinel.core ≡ opened node.sentinel.plan now) }
+        ensures stored { IfOk result (λ node. node.sentinel.stored ≡ node.sentinel.plan.conf.kept) }
+        ensures ready { IfOk result (λ node. node.sentinel.phase ≡ phase.Ready) }
+        ensures profile { IfOk result (λ node. node.sentinel.plan.profile ≡ profile) }
         ensures fresh { IfOk result (λ node. IsFresh (λ roster. roster_of node.sentinel.plan ≡ roster) (IsImageOf node.sentinel node.file.text)) }
         ensures fault { IfErr result (λ fault. (fault ≡ record { line = 0; kind = ConfKind.NoMemory }) ⊎ (conf_of_bytes bytes.now ≡ Err fault)) }
     {
@@ -57,7 +78,7 @@ impl SentinelNode {
         let Ok(file) = MemoryStore::with_room(alloc, bytes, FILE_MAX) else {
             return Err(no_memory());
         };
-        let Ok(sentinel) = Sentinel::open(alloc, conf, now) else {
+        let Ok(sentinel) = Sentinel::open_as(alloc, conf, profile, now) else {
             return Err(no_memory());
         };
         sentinel.is_whole();
@@ -269,7 +290,8 @@ impl Node for SentinelNode {
         let Ok(conf) = read(self.alloc, self.file.text()) else {
             return Err(OpenFault::NoMemory);
         };
-        let sentinel = Sentinel::open(self.alloc, conf, now)?;
+        let profile = self.sentinel.plan().profile();
+        let sentinel = Sentinel::open_as(self.alloc, conf, profile, now)?;
         self.sentinel = sentinel;
         self.file.begin_again();
         self.is_whole();

@@ -10,9 +10,9 @@ use Rattle.failover_states.specs.Known.{Known}
 use Rattle.failover_states.specs.Table.{turned, table, quieted}
 use Rattle.vote_book.specs.Elections.{next_epoch}
 use Rattle.sentinel_rules.specs.Plans.{Plan}
-use Rattle.sentinel_rules.specs.States.{Core, master_of, failover_of, is_failing_over}
+use Rattle.sentinel_rules.specs.States.{Core, failover_of, is_failing_over}
 use Rattle.sentinel_rules.specs.Votes.{book_of}
-use Rattle.sentinel_rules.specs.Ticks.{known_of, start_turn}
+use Rattle.sentinel_rules.specs.Ticks.{known_of, is_start_due, start_turn}
 use Rattle.sentinel_rules.proofs.SoundTicks.{idle_is}
 use Rattle.sentinel_rules.proofs.Turns.{turn_by}
 
@@ -24,7 +24,7 @@ pub start_opens : (plan : Plan) (core : Core) (m now : ℕ) → is_failing_over 
 start_opens plan core m now idle = from (failover_of core m) (idle_is (failover_of core m).state (idle_not (is_failing_over core m) idle))
   where
     k : Known
-    k = known_of plan core m now (master_of core m).odown
+    k = known_of plan core m now (is_start_due plan core m now)
 
     Q : Option Row → Failover → Type 0
     Q row f = is_some row ≡ true → unwrap_or (epoch_of f.state) 0 ≡ next_epoch (book_of core m)

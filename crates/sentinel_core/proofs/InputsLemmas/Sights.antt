@@ -16,7 +16,8 @@ use Rattle.vote_book.specs.Elections.{next_epoch}
 use Rattle.sentinel_rules.specs.Parts.{Part, quiet, part_if}
 use Rattle.sentinel_rules.specs.Plans.{Plan, me, node_place, settings_at}
 use Rattle.sentinel_rules.specs.States.{Core, MasterState, NodeState, no_master, no_node, master_of, failover_of, is_failing_over, is_master_down, with_master, with_failover, with_current}
-use Rattle.sentinel_rules.specs.Votes.{book_of, with_book, marked, mark_for}
+use Rattle.sentinel_rules.specs.Profiles.{election_ms, marked_at, marked, rest_of, rested_at, rested}
+use Rattle.sentinel_rules.specs.Votes.{book_of, with_book, mark_for}
 use Rattle.sentinel_rules.specs.Ticks.{campaign_epoch, turn_of, with_vote, with_win, row_part, after_start, start_turn, start_part}
 use Rattle.sentinel_state.specs.declared.states.State.{State}
 use Rattle.sentinel_state.specs.Parts.{with_part}
@@ -53,9 +54,9 @@ book_alike m core book = (
 mark_alike : (plan : Plan) (m now : ℕ) (candidate : RunId) (core : Core) → LooksAlike m core (mark_for plan m now candidate core)
 mark_alike plan m now candidate core = by_test (same_id candidate (me plan))
   where
-    by_test : (b : Bool) → LooksAlike m core (if b then core else with_failover core m (marked now core.random (failover_of core m)))
+    by_test : (b : Bool) → LooksAlike m core (if b then core else with_failover core m (marked (marked_at plan core m now) (failover_of core m)))
     by_test true = alike m core
-    by_test false = failover_alike m core (marked now core.random (failover_of core m))
+    by_test false = failover_alike m core (marked (marked_at plan core m now) (failover_of core m))
 
 vote_alike : (plan : Plan) (m now epoch : ℕ) (vote : Option RunId) (core : Core) → LooksAlike m core (with_vote plan m now epoch vote core)
 vote_alike plan m now epoch None core = alike m core
@@ -69,15 +70,22 @@ win_alike m epoch None core = alike m core
 win_alike m epoch (Some Elected) core = alike m core
 win_alike m epoch (Some _) core = alike m core
 
+rest_alike : (plan : Plan) (m now : ℕ) (rest : Option ℕ) (core : Core) → LooksAlike m core (rested plan m now rest core)
+rest_alike plan m now None core = alike m core
+rest_alike plan m now (Some rest) core = failover_alike m core (marked (rested_at plan core m now rest) (failover_of core m))
+
 row_alike : (plan : Plan) (m now : ℕ) (core : Core) → LooksAlike m core (row_part plan m now core).core
 row_alike plan m now core =
     let turn : Turn = turn_of plan core m now Bool.false in
     let epoch : ℕ = campaign_epoch core m in
     let first : Core = with_failover core m turn.failover in
     let second : Core = with_vote plan m now epoch turn.vote first in
-    chained m core second (with_win m epoch turn.row second)
-    (chained m core first second (failover_alike m core turn.failover) (vote_alike plan m now epoch turn.vote first))
-    (win_alike m epoch turn.row second)
+    let third : Core = with_win m epoch turn.row second in
+    let rest : Option ℕ = rest_of plan.profile turn.row (election_ms plan m) in
+    chained m core third (rested plan m now rest third)
+    (chained m core second third (chained m core first second (failover_alike m core turn.failover) (vote_alike plan m now epoch turn.vote first))
+    (win_alike m epoch turn.row second))
+    (rest_alike plan m now rest third)
 
 begun_alike : (m : ℕ) (turn : Turn) (core : Core) → LooksAlike m core (after_start m turn core)
 begun_alike m turn core = by_test (is_some turn.row)

@@ -4,7 +4,7 @@ use Rattle.std.specs.List.{AllByRecursion}
 use Rattle.std.specs.Prelude.{All}
 use Rattle.std.proofs.lemmas.List.Elements.{All-head, All-tail}
 use Rattle.ballot_law.specs.declared.events.Event.{Event}
-use Rattle.ballot_law.specs.declared.events.Event.TheVariants.{Tick, Command as Commanded, Answered as AnswerCame, Pinged, InfoRead, HelloRead, Become, Handed}
+use Rattle.ballot_law.specs.declared.events.Event.TheVariants.{Tick, Command as Commanded, Answered as AnswerCame, Pinged, InfoRead, HelloRead, Disconnected, Become, Handed}
 use Rattle.ballot_law.specs.Clocks.{clock}
 use Rattle.node_texts.specs.Messages.MessageTexts.{IsWritableOutput}
 use Rattle.sentinel_core.proofs.ServingLemmas.Answering.{command_writable}
@@ -45,6 +45,7 @@ outputs_at plan now (Pinged node reply) core kept within = tt
 outputs_at plan now (InfoRead node text) core kept within = frames_writable plan (part_of plan now (InfoRead node text) core).core
     (part_of plan now (InfoRead node text) core).frames within
 outputs_at plan now (HelloRead text) core kept within = frames_writable plan (part_of plan now (HelloRead text) core).core (part_of plan now (HelloRead text) core).frames within
+outputs_at plan now (Disconnected node) core kept within = tt
 outputs_at plan now (Become priority offset link_down) core kept within = tt
 outputs_at plan now (Handed message) core kept within = tt
 

@@ -12,13 +12,13 @@ use sentinel_state::State;
 /// Takes a configuration of a master: its nodes are sent hellos at the next tick, and where the address is a new one, what was said
 /// of the old one is forgotten and a note tells of the change.
 pub(crate) fn take_card(state: &mut State, m: u16, now: u64, card: Card)
-    ensures { state.new ≡ with_part state.old (card_taken m (clock now) card state.old.core) }
+    ensures { state.new ≡ with_part state.old (card_taken state.old.plan m (clock now) card state.old.core) }
 {
     let old = state.core.card(m).addr;
     if old.is_same(&card.addr) {
         state.core.stay(m);
     } else {
-        state.core.relocate(m, now);
+        state.core.relocate(&state.plan, m, now);
         state.frames.push(Frame::NoteOf { master: m, old });
     }
     state.core.set_card(m, card);

@@ -1,17 +1,19 @@
 //! What a turn of a master's failover looks at: the best replica, which nodes are down, and the votes of its campaign.
 
-ghost use Rattle.std.specs.Prelude.{◌≡◌, ◌≤◌, [], None, IfSome, if◌then◌else◌, length, take};
+ghost use Rattle.std.specs.Prelude.{◌≡◌, ◌≤◌, [], None, IfSome, if◌then◌else◌, is_some, length, take};
 ghost use Rattle.ballot_law.specs.declared.rosters.TheConstants.{NODES_MAX};
 ghost use Rattle.ballot_law.specs.Clocks.{clock};
 ghost use Rattle.sentinel_rules.specs.Plans.{me, nodes_of};
-ghost use Rattle.sentinel_rules.specs.States.{card_place, is_node_down};
-ghost use Rattle.sentinel_rules.specs.Ticks.{candidate_of, candidates_of, at_places, down_for, limits_of, best_of, pick_of, count_of};
+ghost use Rattle.sentinel_rules.specs.States.{card_place, is_node_down, node_of};
+ghost use Rattle.sentinel_rules.specs.Ticks.{candidate_of, candidates_of, at_places, limits_of, best_of, pick_of, count_of};
+ghost use Rattle.sentinel_rules.specs.Profiles.{link_at, lesser, least_link_ms, down_for, master_down_ms};
 ghost use Rattle.sentinel_core.specs.Inputs.Rows.{looks_at_votes, looks_at_best, looks_at_nodes};
 
 use ballot_law::{Addr, NODES_MAX, RunId, clock_of};
 use failover_states::FailoverState;
 use replica_choice::{Candidate, Limits, choose};
-use sentinel_state::{Node, State};
+use sentinel_rules::{LINK_MAX_S, Profile};
+use sentinel_state::State;
 use std::marker::Model;
 
 /// For how long something has been down, in milliseconds.
@@ -90,11 +92,11 @@ fn candidate(state: &State, m: u16, now: u64, card_at: usize, k: usize) -> Candi
     requires { card_at ≡ card_place state.now.plan state.now.core m }
     ensures { result ≡ candidate_of state.now.plan state.now.core m (clock now) k }
 {
-    let sdown = k == card_at || state.core.is_node_down(&state.plan, m, now, card_at, k);
-    match state.core.kept_node(m, k) {
-        Some(node) => node.candidate(sdown),
-        None => Node::new(0).candidate(sdown),
-    }
+    let node = state.core.node(m, k);
+    let is_out = k == card_at
+        || state.core.is_node_down(&state.plan, m, now, card_at, k)
+        || node.lost;
+    node.candidate(is_out)
 }
 
 /// Each node of a master as a replica to choose, by its place.
@@ -118,17 +120,82 @@ fn candidates(state: &State, m: u16, now: u64, card_at: usize) -> [Candidate; NO
     candidates
 }
 
+/// The lesser of two, where there is one.
+fn lesser(one: Option<u64>, other: Option<u64>) -> Option<u64>
+    ensures { result ≡ lesser one other }
+{
+    match (one, other) {
+        (Some(one), Some(other)) => Some(one.min(other)),
+        (Some(one), None) => Some(one),
+        (None, other) => other,
+    }
+}
+
+/// For how many seconds the link of the replica at a place has been down, where it has told; `card_at` is the place of
+/// the node that the configuration names.
+fn link_at(state: &State, m: u16, card_at: usize, k: usize) -> Option<u64>
+    requires { card_at ≡ card_place state.now.plan state.now.core m }
+    ensures { result ≡ link_at state.now.plan state.now.core m k }
+{
+    if k == card_at {
+        return None;
+    }
+    match state.core.info(m, k) {
+        Some(info) => Some(info.link_down_s),
+        None => None,
+    }
+}
+
+/// For how long the link of the replica has been down that lost it last.
+fn least_link_ms(state: &State, m: u16, card_at: usize) -> u64
+    requires { card_at ≡ card_place state.now.plan state.now.core m }
+    ensures { result ≡ least_link_ms state.now.plan state.now.core m }
+{
+    let mut least = None;
+    for k in 0..state.plan.nodes(m).len() {
+        least = lesser(least, link_at(state, m, card_at, k));
+    }
+    least.unwrap_or(0).min(LINK_MAX_S) * 1_000
+}
+
+/// Whether the node at a place has replied to a PING since this Sentinel's start.
+fn has_replied(state: &State, m: u16, k: usize) -> bool
+    ensures { result ≡ is_some (node_of state.now.core m k).last_ping }
+{
+    match state.core.kept_node(m, k) {
+        Some(node) => node.last_ping.is_some(),
+        None => false,
+    }
+}
+
+/// For how long the master has been down, as a replica's link is judged by it.
+fn master_down_ms(state: &State, m: u16, now: u64, card_at: usize) -> u64
+    requires { card_at ≡ card_place state.now.plan state.now.core m }
+    ensures { result ≡ master_down_ms state.now.plan state.now.core m (clock now) }
+{
+    let since = state
+        .core
+        .node_down_since(&state.plan, m, now, card_at, card_at);
+    let found = down_for(since, clock_of(now));
+    match state.plan.profile() {
+        Profile::Strict => found,
+        Profile::Redis => {
+            if has_replied(state, m, card_at) {
+                return found;
+            }
+            found.max(least_link_ms(state, m, card_at))
+        }
+    }
+}
+
 /// For how long the master has been down, beside its setting.
 fn limits(state: &State, m: u16, now: u64, card_at: usize) -> Limits
     requires { card_at ≡ card_place state.now.plan state.now.core m }
     ensures { result ≡ limits_of state.now.plan state.now.core m (clock now) }
 {
-    let since = state
-        .core
-        .node_down_since(&state.plan, m, now, card_at, card_at);
     Limits {
         after_ms: state.plan.settings(m).after_ms,
-        master_down_ms: down_for(since, clock_of(now)),
+        master_down_ms: master_down_ms(state, m, now, card_at),
     }
 }
 

@@ -10,7 +10,7 @@ ghost use Rattle.failover_states.specs.Table.{turned};
 ghost use Rattle.sentinel_rules.specs.Parts.{frames_from};
 ghost use Rattle.sentinel_rules.specs.Plans.{master_count};
 ghost use Rattle.sentinel_rules.specs.States.{failover_of, with_failover};
-ghost use Rattle.sentinel_rules.specs.Ticks.{known_of, turn_of, with_win, promote_frames, order_frames, row_part, start_part, starts_now};
+ghost use Rattle.sentinel_rules.specs.Ticks.{known_of, turn_of, with_win, promote_frames, order_frames, row_part, is_start_due, start_part, starts_now};
 ghost use Rattle.sentinel_state.specs.Parts.{with_part};
 ghost use Rattle.sentinel_state.specs.Nodes.Room.{added};
 ghost use Rattle.sentinel_core.specs.Inputs.Rows.{is_promotion, looked_at};
@@ -28,6 +28,14 @@ fn is_promotion(row: Option<Row>) -> bool
     matches!(row, Some(Row::Promote))
 }
 
+/// Whether the master was objectively down when that was last looked at, and the own campaign may begin.
+fn is_start_due(state: &State, m: u16, now: u64) -> bool
+    ensures value { result ≡ is_start_due state.now.plan state.now.core m (clock now) }
+    ensures here { result ≡ true → m < length state.now.core.masters }
+{
+    state.core.was_odown(m) && state.core.may_begin(&state.plan, m, now)
+}
+
 /// Starts a failover where none runs and one is due, and tells whether it did. A failover that starts opens the epoch after the current one
 /// for its campaign, and keeps it.
 pub(crate) fn start_failover(state: &mut State, m: u16, now: u64) -> bool
@@ -38,7 +46,7 @@ pub(crate) fn start_failover(state: &mut State, m: u16, now: u64) -> bool
     if state.core.is_failing_over(m) {
         return false;
     }
-    let odown = state.core.was_odown(m);
+    let odown = is_start_due(state, m, now);
     let act = turn(state, m, now, odown);
     if act.row.is_none() {
         return false;
@@ -60,6 +68,7 @@ pub(crate) fn take_row(state: &mut State, m: u16, now: u64)
     order_replicas(&state.core, &state.plan, m, &mut state.frames);
     state.core.give_vote(&state.plan, m, now, epoch, act.vote);
     note_win(&mut state.core, m, epoch, act.row);
+    state.core.rest_after(&state.plan, m, now, act.row);
 }
 
 /// A turn of the failover: the facts that its rows don't look at are left out. Without a master with this number nothing was found down.
@@ -112,7 +121,7 @@ fn facts<'a>(
         best: best_for(state, m, now, stage),
         card_place: card_place_for(state, m, stage),
         down,
-        timeout: settings.timeout,
+        timeout: state.core.patience(&state.plan, m, now),
         parallel_syncs: settings.parallel_syncs,
     }
 }

@@ -30,7 +30,7 @@ fn raise(core: &mut Core, m: u16, epoch: u64)
 
 /// Adopts a newer configuration: a failover of the master ends.
 fn adopt(state: &mut State, m: u16, now: u64, card: Card)
-    ensures { state.new ≡ with_part state.old (adopted m (clock now) card state.old.core) }
+    ensures { state.new ≡ with_part state.old (adopted state.old.plan m (clock now) card state.old.core) }
 {
     raise(&mut state.core, m, card.epoch);
     state.core.end_failover(m);

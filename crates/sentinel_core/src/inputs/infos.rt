@@ -105,7 +105,7 @@ fn keep_info(core: &mut Core, m: u16, k: u16, now: u64, info: &Info)
 /// Takes the INFO of a node while a failover runs that may await a promotion: where the chosen replica says that it is a master, the
 /// campaign's epoch and the replica's address are the master's configuration.
 fn hear_promotion(state: &mut State, m: u16, k: u16, now: u64, info: &Info)
-    ensures { state.new ≡ with_part state.old (promotion m k (clock now) info.now (failover_of state.old.core m).state state.old.core) }
+    ensures { state.new ≡ with_part state.old (promotion state.old.plan m k (clock now) info.now (failover_of state.old.core m).state state.old.core) }
 {
     if let FailoverState::WaitPromotion { epoch, choice, .. } = state.core.stage(m)
         && k == choice.place

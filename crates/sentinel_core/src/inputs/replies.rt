@@ -1,8 +1,8 @@
-//! Answers of other Sentinels, and replies to PING.
+//! Answers of other Sentinels, replies to PING, and connections that were lost.
 
 ghost use Rattle.std.specs.Prelude.{◌≡◌};
 ghost use Rattle.ballot_law.specs.Clocks.{clock};
-ghost use Rattle.sentinel_rules.specs.News.{answered, pinged_at, pinged};
+ghost use Rattle.sentinel_rules.specs.News.{answered, pinged_at, pinged, lost_at, connection_lost, disconnected};
 ghost use Rattle.sentinel_rules.specs.Plans.{node_named};
 
 use ballot_law::{Addr, NodeName, PingReply, RunId};
@@ -73,5 +73,54 @@ pub fn hear_pong(state: &mut State, node: NodeName, now: u64, reply: PingReply)
         NodeName::SentinelAt(place) => hear_peer(state, place, now, reply),
         NodeName::StoreAt(_) => hear_node(state, node, now, reply),
         NodeName::ClientAt(_) | NodeName::PortAt(_) => {}
+    }
+}
+
+/// A connection to a data node was lost; to one that isn't of the roster nothing is kept.
+fn lose_node(state: &mut State, node: NodeName)
+    ensures { state.new ≡ record state.old {
+      core
+          = lost_at (node_named state.old.plan node) state.old.core;
+    } }
+{
+    if let Some(at) = state.plan.node_named(node) {
+        let place = at.place as usize;
+        let mut node = state.core.node(at.master, place);
+        node.lose();
+        state.core.set_node(at.master, place, node);
+    }
+}
+
+/// A connection to the Sentinel at a place was lost.
+fn lose_peer(state: &mut State, place: u16)
+    ensures { state.new ≡ record state.old {
+      core
+          = connection_lost state.old.plan (NodeName.SentinelAt place) state.old.core;
+    } }
+{
+    if state.plan.is_other(place) {
+        let mut peer = state.core.peer(place as usize);
+        peer.lose();
+        state.core.set_peer(place as usize, peer);
+    }
+}
+
+/// A connection to a node was lost. One that is neither a data node nor another Sentinel of the roster changes nothing.
+fn lose_connection(state: &mut State, node: NodeName)
+    ensures { state.new ≡ record state.old { core = connection_lost state.old.plan node state.old.core } }
+{
+    match node {
+        NodeName::SentinelAt(place) => lose_peer(state, place),
+        NodeName::StoreAt(_) => lose_node(state, node),
+        NodeName::ClientAt(_) | NodeName::PortAt(_) => {}
+    }
+}
+
+/// Takes it that a connection to a node was lost; by the strict rules this changes nothing.
+pub fn hear_loss(state: &mut State, node: NodeName)
+    ensures { state.new ≡ record state.old { core = disconnected state.old.plan node state.old.core } }
+{
+    if state.plan.profile().is_redis() {
+        lose_connection(state, node);
     }
 }

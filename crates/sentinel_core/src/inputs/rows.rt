@@ -47,12 +47,14 @@ pub(crate) fn master_row(plan: &Plan, core: &Core, now: u64, m: u16) -> MasterRo
 {
     let card = core.card(m);
     let settings = plan.settings(m);
-    let down = core.is_master_down(plan, m, now);
+    let card_at = core.card_place(plan, m);
+    let down = core.is_node_down(plan, m, now, card_at, card_at);
     MasterRow {
         name: plan.name(m),
         addr: card.addr,
         down,
         odown: core.is_odown(plan, m, now, down),
+        disconnected: core.is_lost(m, card_at),
         failing_over: core.is_failing_over(m),
         replicas: (plan.node_count(m) as u64).saturating_sub(1),
         others: u64::from(plan.group_size()).saturating_sub(1),
@@ -74,6 +76,7 @@ fn replica_row(plan: &Plan, core: &Core, now: u64, m: u16, card_at: usize, k: us
     ReplicaRow {
         addr: plan.addr_at(m, k),
         down: core.is_node_down(plan, m, now, card_at, k),
+        disconnected: core.is_lost(m, k),
         priority: info.priority,
         offset: info.offset,
     }
@@ -89,6 +92,7 @@ fn sentinel_row(plan: &Plan, core: &Core, now: u64, place: usize) -> SentinelRow
         id,
         addr,
         down: core.is_peer_down(plan, now, place),
+        disconnected: core.peer(place).lost,
     }
 }
 

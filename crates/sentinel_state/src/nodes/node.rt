@@ -3,7 +3,7 @@
 ghost use Rattle.std.specs.Prelude.{◌≡◌, map, unwrap_or};
 ghost use Rattle.ballot_law.specs.Clocks.{clock};
 ghost use Rattle.sentinel_rules.specs.declared.assumed.TheConstants.{ASSUMED_INFO};
-ghost use Rattle.sentinel_rules.specs.News.{hello_soon, moved, node_pinged, with_info};
+ghost use Rattle.sentinel_rules.specs.News.{hello_soon, moved, node_lost, node_pinged, with_info};
 ghost use Rattle.sentinel_rules.specs.States.{new_node};
 
 use ballot_law::{Info, PingReply, clock_of};
@@ -28,6 +28,8 @@ pub struct Node {
     /// Since when it has said that it is a master though it isn't, or followed another master.
     pub wrong_role: Option<u64>,
     pub wrong_address: Option<u64>,
+    /// Whether of a connection to it was last heard that it was lost.
+    pub lost: bool,
 }
 
 impl Model for Node {
@@ -45,6 +47,7 @@ impl Model for Node {
       hello_sent = node.hello_sent;
       wrong_role = node.wrong_role;
       wrong_address = node.wrong_address;
+      lost = node.lost;
     } };
 
     ghost inverse = { λ node. record {
@@ -57,6 +60,7 @@ impl Model for Node {
       hello_sent = node.hello_sent;
       wrong_role = node.wrong_role;
       wrong_address = node.wrong_address;
+      lost = node.lost;
     } };
 }
 
@@ -75,6 +79,7 @@ impl Node {
             hello_sent: None,
             wrong_role: None,
             wrong_address: None,
+            lost: false,
         }
     }
 
@@ -83,6 +88,7 @@ impl Node {
         ensures { self.new ≡ node_pinged (clock now) reply self.old }
     {
         self.watch.heard(now, reply);
+        self.lost = false;
         match reply {
             PingReply::Pong | PingReply::Loading | PingReply::MasterDown => {
                 self.last_ping = Some(clock_of(now));
@@ -98,6 +104,14 @@ impl Node {
         self.info = Some(*info);
         self.info_at = Some(clock_of(now));
         self.watch.reported(now, info.role);
+        self.lost = false;
+    }
+
+    /// A connection to it was lost.
+    pub fn lose(&mut self)
+        ensures { self.new ≡ node_lost self.old }
+    {
+        self.lost = true;
     }
 
     /// It is sent a hello at the next tick.

@@ -2,18 +2,20 @@
 
 ghost use Rattle.std.specs.Prelude.{◌≡◌};
 ghost use Rattle.ballot_law.specs.Clocks.{clock};
-ghost use Rattle.sentinel_rules.specs.News.{peer_pinged};
+ghost use Rattle.sentinel_rules.specs.News.{peer_lost, peer_pinged};
 ghost use Rattle.sentinel_rules.specs.States.{new_peer};
 
 use ballot_law::PingReply;
 use down_detector::Watch;
 use std::marker::Model;
 
-/// What is kept of a Sentinel of the roster: its watch, and when it was last sent a PING.
+/// What is kept of a Sentinel of the roster: its watch, when it was last sent a PING, and whether of a connection to it
+/// was last heard that it was lost.
 #[derive(Clone, Copy)]
 pub struct Peer {
     pub watch: Watch,
     pub ping_sent: Option<u64>,
+    pub lost: bool,
 }
 
 impl Model for Peer {
@@ -21,9 +23,9 @@ impl Model for Peer {
 
     ghost Value = { PeerState };
 
-    ghost view = { λ peer. record { watch = peer.watch; ping_sent = peer.ping_sent } };
+    ghost view = { λ peer. record { watch = peer.watch; ping_sent = peer.ping_sent; lost = peer.lost } };
 
-    ghost inverse = { λ peer. record { watch = peer.watch; ping_sent = peer.ping_sent } };
+    ghost inverse = { λ peer. record { watch = peer.watch; ping_sent = peer.ping_sent; lost = peer.lost } };
 }
 
 impl Peer {
@@ -34,6 +36,7 @@ impl Peer {
         Peer {
             watch: Watch::new(now),
             ping_sent: None,
+            lost: false,
         }
     }
 
@@ -42,5 +45,13 @@ impl Peer {
         ensures { self.new ≡ peer_pinged (clock now) reply self.old }
     {
         self.watch.heard(now, reply);
+        self.lost = false;
+    }
+
+    /// A connection to it was lost.
+    pub fn lose(&mut self)
+        ensures { self.new ≡ peer_lost self.old }
+    {
+        self.lost = true;
     }
 }

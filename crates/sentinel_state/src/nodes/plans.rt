@@ -8,17 +8,20 @@ ghost use Rattle.ballot_law.specs.Rosters.{no_member, master_at, master_named, n
 ghost use Rattle.sentinel_rules.specs.Answers.{named};
 ghost use Rattle.sentinel_rules.specs.News.{is_heeded};
 ghost use Rattle.ballot_law.specs.NodePlaces.{first_number, node_numbered};
+ghost use Rattle.sentinel_rules.specs.Profiles.{candidate_place};
 ghost use Rattle.sentinel_rules.specs.Plans.{roster_of, me, group_size, master_count, settings_at, nodes_of, addr_at, node_place, node_name, node_named};
 
 use ballot_law::{Addr, Hello, Member, Name, NodeName, NodePlace, Roster, RunId};
 use sentinel_conf::{Conf, DEFAULT_SETTINGS, Settings};
+use sentinel_rules::Profile;
 use std::marker::Model;
 
-/// What a Sentinel's file says, and the Sentinel's place in the roster.
+/// What a Sentinel's file says, the Sentinel's place in the roster, and by which rules it works.
 #[derive(Drop)]
 pub struct Plan {
     conf: Conf,
     place: u16,
+    profile: Profile,
 }
 
 impl Model for Plan {
@@ -29,7 +32,7 @@ impl Model for Plan {
 
     ghost Value = { PlanModel };
 
-    ghost view = { λ plan. record { conf = plan.conf; place = plan.place } };
+    ghost view = { λ plan. record { conf = plan.conf; place = plan.place; profile = plan.profile } };
 
     ghost invariant = { λ plan. IsSoundConf plan.conf
         × (plan.place < length plan.conf.roster.sentinels)
@@ -45,13 +48,18 @@ fn position_of(nodes: &[Addr], addr: Addr) -> Option<usize>
 }
 
 impl Plan {
-    /// The plan of this conf, with no memory taken.
-    pub fn new(conf: Conf) -> Plan
-        ensures { result.conf ≡ conf }
+    /// The plan of this conf, by the rules of this profile, with no memory taken.
+    pub fn new(conf: Conf, profile: Profile) -> Plan
+        ensures conf { result.conf ≡ conf }
+        ensures profile { result.profile ≡ profile }
     {
         let place = conf.place();
         let _sound = conf.roster();
-        Plan { conf, place }
+        Plan {
+            conf,
+            place,
+            profile,
+        }
     }
 
     /// What the file says.
@@ -75,6 +83,13 @@ impl Plan {
         self.place
     }
 
+    /// By which rules the Sentinel works.
+    pub fn profile(&self) -> Profile
+        ensures { result ≡ self.now.profile }
+    {
+        self.profile
+    }
+
     /// The own address.
     pub fn addr(&self) -> Addr
         ensures { result ≡ (slice_index_or (roster_of self.now).sentinels self.now.place no_member).addr }
@@ -93,6 +108,7 @@ impl Plan {
     pub fn group_size(&self) -> u16
         ensures value { result ≡ group_size self.now }
         ensures few { result ≤ SENTINELS_MAX }
+        ensures own { self.now.place < result }
     {
         self.conf.roster().sentinels().len() as u16
     }
@@ -218,6 +234,24 @@ impl Plan {
     {
         let sentinels = self.roster().sentinels();
         sentinels.iter().any(|member| id.is_same(&member.id))
+    }
+
+    /// The first place of a run id among the Sentinels.
+    fn place_of(&self, id: RunId) -> Option<usize>
+        ensures { result ≡ position (λ member. same_id id member.id) (roster_of self.now).sentinels }
+    {
+        let sentinels = self.roster().sentinels();
+        sentinels.iter().position(|member| id.is_same(&member.id))
+    }
+
+    /// The place of the candidate of a vote among the Sentinels; none where it is unknown, or none of them.
+    pub fn candidate_place(&self, candidate: Option<RunId>) -> Option<usize>
+        ensures { result ≡ candidate_place self.now candidate }
+    {
+        match candidate {
+            Some(id) => self.place_of(id),
+            None => None,
+        }
     }
 
     /// Whether a hello comes from another Sentinel of the roster. A Sentinel is known by its run id alone.

@@ -6,6 +6,7 @@ use crate::tests::clients::{ADDRESS, ADDRESS_AND_FAULT, connected};
 use crate::tests::confs::{free_port, text_of_one};
 use log::Log;
 use sentinel_conf::{Conf, MemoryStore, read};
+use sentinel_rules::Profile;
 use sentinel_runner::{Group, GroupFault, PortSettings};
 use std::alloc::Global;
 use std::io::{self, Read, Write};
@@ -114,7 +115,7 @@ fn two_threads_of_a_port_answer(rt: HostRuntime) -> Result<(), Fail> {
     let (confs, stores) = one(alloc, text.as_str()).ok_or("no conf")?;
     let settings = PortSettings {
         threads: 2,
-        courtesies: false,
+        profile: Profile::Strict,
     };
     let Ok(group) = Group::open_with(&rt, alloc, confs, stores, settings, 0) else {
         return Err(Fail::from("no group"));

@@ -5,8 +5,8 @@ use Rattle.failover_states.specs.Calls.{epoch_of}
 use Rattle.failover_states.specs.Failovers.{Failover}
 use Rattle.vote_book.specs.Elections.{next_epoch}
 use Rattle.sentinel_rules.specs.Parts.{quiet}
-use Rattle.sentinel_rules.specs.States.{Core, master_of, is_failing_over, with_current, with_failover}
-use Rattle.sentinel_rules.specs.Ticks.{turn_of, start_turn, start_part, after_start}
+use Rattle.sentinel_rules.specs.States.{Core, is_failing_over, with_current, with_failover}
+use Rattle.sentinel_rules.specs.Ticks.{turn_of, is_start_due, start_turn, start_part, after_start}
 use Rattle.sentinel_rules.specs.Votes.{book_of}
 use Rattle.sentinel_state.specs.declared.states.State.{State}
 use Rattle.sentinel_state.specs.Parts.{with_part}
@@ -33,7 +33,7 @@ returns-clause-state c =
     let now = clock c.args.now in
     let epoch = c.campaign_epoch-epoch.result in
     let turn = λ (odown : Bool). turn_of old.plan old.core m now odown in
-    let odown : c.was_odown-odown.result ≡ (master_of old.core m).odown = c.was_odown-odown.ensures.value in
+    let odown : c.is_start_due-odown.result ≡ is_start_due old.plan old.core m now = c.is_start_due-odown.ensures.value in
     let idle : is_failing_over old.core m ≡ false = sym c.is_failing_over.ensures ∙ c.if-is_failing_over.false in
     let starts : is_some (start_turn old.plan old.core m now).row ≡ true
     = ap is_some (sym (c.turn-act.ensures.row ∙ ap (λ b. (turn b).row) odown)) ∙ c.is_none.ensures ∙ ap not c.if-is_none.false in

@@ -17,6 +17,7 @@ returns c =
       hello_sent = i.hello_sent;
       wrong_role = i.wrong_role;
       wrong_address = i.wrong_address;
+      lost = i.lost;
     } in
     ap (λ watch. let n : NodeState = record node { watch = watch; hello_sent = None; wrong_role = None; wrong_address = None } in n) c.card_changed.ensures.kept
     ∙ ap (moved (clock c.args.now)) c.self.view_is

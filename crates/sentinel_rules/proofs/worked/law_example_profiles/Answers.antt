@@ -1,0 +1,8 @@
+use Rattle.sentinel_rules.proofs.WorkedRows.{a_switch_forgets_the_start, a_lost_candidate_holds_nobody_back}
+use Rattle.sentinel_rules.proofs.worked.law_example_profiles.Goals as goal
+
+pub returns-clause-a_switch_forgets_the_start : goal.returns-clause-a_switch_forgets_the_start
+returns-clause-a_switch_forgets_the_start c = a_switch_forgets_the_start
+
+pub returns-clause-a_lost_candidate_holds_nobody_back : goal.returns-clause-a_lost_candidate_holds_nobody_back
+returns-clause-a_lost_candidate_holds_nobody_back c = a_lost_candidate_holds_nobody_back

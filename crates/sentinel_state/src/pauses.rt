@@ -1,0 +1,201 @@
+//! When the own campaign may begin, and how long a failover waits: what the profiles differ in.
+
+ghost use Rattle.std.specs.Prelude.{◌≡◌, ◌≤◌, ◌<◌, IfSome};
+ghost use Rattle.ballot_law.specs.declared.rosters.TheConstants.{SENTINELS_MAX};
+ghost use Rattle.ballot_law.specs.Clocks.{clock};
+ghost use Rattle.failover_states.specs.declared.periods.TheConstants.{ELECTION_MS};
+ghost use Rattle.failover_states.specs.Calls.{choice_of};
+ghost use Rattle.sentinel_rules.specs.Profiles.{election_ms, turn_place, pause_of, is_held, is_down_for, is_peer_lost, is_leader_lost, may_begin, is_quiet, is_gone, is_choice_lost, patience, rest_after, rest_of, rested_at, with_pause};
+ghost use Rattle.sentinel_rules.specs.States.{failover_of, node_of};
+
+use crate::cores::{Core, is_idle};
+use crate::nodes::Plan;
+use ballot_law::clock_of;
+use failover_states::{ELECTION_MS, Row, SPREAD_MS};
+use sentinel_rules::{HOLD_MS, Profile, QUIET_MS};
+
+/// How long an election for a master may last.
+pub(crate) fn election_ms(plan: &Plan, m: u16) -> u64
+    ensures value { result ≡ election_ms plan.now m }
+    ensures most { result ≤ ELECTION_MS }
+{
+    ELECTION_MS.min(plan.settings(m).timeout)
+}
+
+/// Whether the moment from which the own campaign may begin is yet to come.
+fn is_held(from: Option<u64>, now: u64) -> bool
+    ensures { result ≡ is_held from now }
+{
+    match from {
+        Some(from) => now < from && from.saturating_sub(now) <= HOLD_MS,
+        None => false,
+    }
+}
+
+/// Whether something is down, and has been for so long.
+fn is_down_for(since: Option<u64>, pause: u64, now: u64) -> bool
+    ensures { result ≡ is_down_for since pause now }
+{
+    match since {
+        Some(since) => now.saturating_sub(since) >= pause,
+        None => false,
+    }
+}
+
+/// Whether the last reply to a PING came longer ago than a PING and its reply take.
+fn is_quiet(at: Option<u64>, now: u64) -> bool
+    ensures { result ≡ is_quiet at now }
+{
+    match at {
+        Some(at) => now.saturating_sub(at) > QUIET_MS,
+        None => true,
+    }
+}
+
+/// For how long no other failover begins after one that ended by this row, where it puts the next one off.
+fn rest_after(row: Row, election: u64) -> Option<u64>
+    requires { election ≤ ELECTION_MS }
+    ensures value { result ≡ rest_after row election }
+    ensures most { IfSome result (λ rest. rest ≤ ELECTION_MS) }
+{
+    match row {
+        Row::ElectionTimeout | Row::ChoiceTimeout | Row::PromotionTimeout => Some(0),
+        Row::NoReplica => Some(election),
+        _ => None,
+    }
+}
+
+/// For how long no other failover begins after a turn that took this row, by the profile.
+fn rest_of(profile: Profile, row: Option<Row>, election: u64) -> Option<u64>
+    requires { election ≤ ELECTION_MS }
+    ensures value { result ≡ rest_of profile row election }
+    ensures most { IfSome result (λ rest. rest ≤ ELECTION_MS) }
+{
+    match (profile, row) {
+        (Profile::Redis, Some(row)) => rest_after(row, election),
+        _ => None,
+    }
+}
+
+impl Core {
+    /// Which turn this Sentinel has among those that begin anew.
+    fn turn_place(&self, plan: &Plan) -> u64
+        ensures value { result ≡ turn_place plan.now self.now }
+        ensures few { result < SENTINELS_MAX }
+    {
+        let count = u64::from(plan.group_size());
+        (u64::from(plan.place()) + self.kept.current % count) % count
+    }
+
+    /// This Sentinel's pause before it begins anew: a random part of what its turn has of a second.
+    pub(crate) fn pause(&self, plan: &Plan) -> u64
+        ensures value { result ≡ pause_of plan.now self.now }
+        ensures most { result ≤ 64999 }
+    {
+        let turn = self.turn_place(plan);
+        (turn * SPREAD_MS + self.random % SPREAD_MS) / u64::from(plan.group_size())
+    }
+
+    /// What is kept as the last start of a master's failover.
+    fn last_start(&self, m: u16) -> Option<u64>
+        ensures { result ≡ (failover_of self.now m).last_start }
+    {
+        match self.masters.get(m as usize) {
+            Some(master) => master.failover.last_start(),
+            None => None,
+        }
+    }
+
+    /// Whether the Sentinel at this place is another one, which is down and has been for this one's pause.
+    fn is_peer_lost(&self, plan: &Plan, now: u64, place: Option<usize>) -> bool
+        ensures { result ≡ is_peer_lost plan.now self.now (clock now) place }
+    {
+        match place {
+            Some(place) => {
+                let after_ms = plan.settings(0).after_ms;
+                let since = self.peer(place).watch.sdown_since(now, after_ms, false);
+                place != plan.place() as usize
+                    && is_down_for(since, self.pause(plan), clock_of(now))
+            }
+            None => false,
+        }
+    }
+
+    /// Whether the candidate that this Sentinel voted for last is down.
+    fn is_leader_lost(&self, plan: &Plan, m: u16, now: u64) -> bool
+        ensures { result ≡ is_leader_lost plan.now self.now m (clock now) }
+    {
+        self.is_peer_lost(plan, now, plan.candidate_place(self.leader(m)))
+    }
+
+    /// Whether the own campaign for a master may begin, as far as the failover table leaves it open.
+    pub fn may_begin(&self, plan: &Plan, m: u16, now: u64) -> bool
+        ensures { result ≡ may_begin plan.now self.now m (clock now) }
+    {
+        match plan.profile() {
+            Profile::Strict => true,
+            Profile::Redis => {
+                !is_held(self.last_start(m), clock_of(now)) || self.is_leader_lost(plan, m, now)
+            }
+        }
+    }
+
+    /// Whether the connection to a data node was lost, and nothing has been heard of the node for a while.
+    fn is_gone(&self, m: u16, now: u64, k: usize) -> bool
+        ensures { result ≡ is_gone (clock now) (node_of self.now m k) }
+    {
+        let node = self.node(m, k);
+        node.lost && is_quiet(node.last_ping, clock_of(now))
+    }
+
+    /// Whether the replica that a master's failover chose is down, or gone.
+    fn is_choice_lost(&self, plan: &Plan, m: u16, now: u64) -> bool
+        ensures { result ≡ is_choice_lost plan.now self.now m (clock now) (choice_of (failover_of self.now m).state) }
+    {
+        match self.choice(m) {
+            Some(k) => {
+                let card_at = self.card_place(plan, m);
+                self.is_node_down(plan, m, now, card_at, k as usize)
+                    || self.is_gone(m, now, k as usize)
+            }
+            None => false,
+        }
+    }
+
+    /// The `failover-timeout` that the rows of the failover table go by.
+    pub fn patience(&self, plan: &Plan, m: u16, now: u64) -> u64
+        ensures { result ≡ patience plan.now self.now m (clock now) }
+    {
+        let timeout = plan.settings(m).timeout;
+        match plan.profile() {
+            Profile::Strict => timeout,
+            Profile::Redis => {
+                if is_idle(self.stage(m)) || self.is_choice_lost(plan, m, now) {
+                    return 0;
+                }
+                timeout
+            }
+        }
+    }
+
+    /// The moment from which the own campaign may begin, where it is put off for so long.
+    fn rested_at(&self, plan: &Plan, m: u16, now: u64, rest: u64) -> u64
+        requires { rest ≤ ELECTION_MS }
+        ensures { result ≡ rested_at plan.now self.now m (clock now) rest }
+    {
+        let kept = self.last_start(m).unwrap_or(0);
+        kept.max(clock_of(now) + rest + self.pause(plan))
+    }
+
+    /// Puts the next campaign for a master off where a turn ended the failover by this row without a new configuration.
+    pub fn rest_after(&mut self, plan: &Plan, m: u16, now: u64, row: Option<Row>)
+        ensures { self.new ≡ with_pause plan.now m (clock now) row self.old }
+    {
+        if let Some(rest) = rest_of(plan.profile(), row, election_ms(plan, m)) {
+            let at = self.rested_at(plan, m, now, rest);
+            if let Some(master) = self.masters.get_mut(m as usize) {
+                master.failover.mark(at);
+            }
+        }
+    }
+}
