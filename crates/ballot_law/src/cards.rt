@@ -68,8 +68,8 @@ pub struct KeptMaster {
     pub card: Card,
     /// The line `leader-epoch`: the epoch of the last vote for this master, 0 where none was given.
     pub voted: u64,
-    /// The line `leader-id`: the candidate of that vote, none in epoch 0. A file can know the epoch of a vote without its candidate, as
-    /// those of Redis do.
+    /// The line `leader-id`: the candidate of that vote, none in epoch 0. A file can know the epoch of a vote without
+    /// its candidate, as those of Redis do.
     pub candidate: Option<RunId>,
 }
 

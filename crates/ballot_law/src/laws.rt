@@ -22,8 +22,8 @@ pub fn law_one_address()
     ensures { OneAddress }
 {}
 
-/// At no step of a run does the epoch of a master's configuration fall in a Sentinel's file, and a Sentinel that is ready
-/// for its next input has the configurations of its file ("Sentinel persistent state" in the Redis Sentinel
+/// At no step of a run does the epoch of a master's configuration fall in a Sentinel's file, and a Sentinel that is
+/// ready for its next input has the configurations of its file ("Sentinel persistent state" in the Redis Sentinel
 /// documentation). `each_step` says it of a step after any run, `whole_run` of all steps of one.
 pub fn law_never_falls()
     ensures each_step { NeverFalls }
@@ -36,16 +36,16 @@ pub fn law_runs_join()
     ensures of_steps { StepsJoin }
 {}
 
-/// The laws speak of something: there is a run of three Sentinels and a data node in which a Sentinel is elected, chooses
-/// another address, and another Sentinel then shows that address in the epoch of the election.
+/// The laws speak of something: there is a run of three Sentinels and a data node in which a Sentinel is elected,
+/// chooses another address, and another Sentinel then shows that address in the epoch of the election.
 pub fn law_failover_happens()
     ensures { FailoverHappens }
 {}
 
-/// The model allows what goes wrong in a group: there is a run from a start after votes, with a Sentinel and a data node
-/// stopped, in which stores are refused and leave either text, a question of a client comes twice, FLUSHCONFIG is refused,
-/// and a Sentinel answers while it stores and while it is halted. What was elected, voted and said in it stands word for
-/// word in `specs/Refusals.antt`.
+/// The model allows what goes wrong in a group: there is a run from a start after votes, with a Sentinel and a data
+/// node stopped, in which stores are refused and leave either text, a question of a client comes twice, FLUSHCONFIG is
+/// refused, and a Sentinel answers while it stores and while it is halted. What was elected, voted and said in it
+/// stands word for word in `specs/Refusals.antt`.
 pub fn law_refusals_happen()
     ensures { RefusalsHappen }
 {}
@@ -55,8 +55,9 @@ pub fn law_elected_may_win()
     ensures { ElectedMayWin }
 {}
 
-/// The limits of a group as numbers. Definitions and code cite them by name: a group of 64 Sentinels, 16 masters, 256 data nodes
-/// of each, names of 64 bytes, epochs up to 2^48 - 1; an input puts out at most 1,536 outputs and an answer of 65,536 bytes.
+/// The limits of a group as numbers. Definitions and code cite them by name: a group of 64 Sentinels, 16 masters, 256
+/// data nodes of each, names of 64 bytes, epochs up to 2^48 - 1; an input puts out at most 1,536 outputs and an answer
+/// of 65,536 bytes.
 pub fn law_limits()
     ensures sentinels { SENTINELS_MAX ≡ 64 }
     ensures masters { MASTERS_MAX ≡ 16 }

@@ -82,8 +82,8 @@ pub struct Note {
     pub card: Card,
 }
 
-/// The greatest number of outputs that one input of a Sentinel gives: a tick sends at most 63 PINGs and 63 questions to Sentinels,
-/// three messages and one order to each of 256 nodes, and one promotion.
+/// The greatest number of outputs that one input of a Sentinel gives: a tick sends at most 63 PINGs and 63 questions to
+/// Sentinels, three messages and one order to each of 256 nodes, and one promotion.
 pub const OUTPUTS_MAX: usize = 1_536;
 
 /// The greatest number of bytes of an answer of a Sentinel's port: that of a RESP2 value.

@@ -327,9 +327,9 @@ fn judge(alloc: Global, sentinels: &[Member], masters: &[Watched]) -> Result<(),
 }
 
 impl Roster {
-    /// The roster of these members in order, each of them once: the Sentinels by run id, the masters by the bytes of their names,
-    /// the data nodes of each by address. Or the first fault that fits, with the members dropped. A refused allocation may stand
-    /// in place of any other answer.
+    /// The roster of these members in order, each of them once: the Sentinels by run id, the masters by the bytes of
+    /// their names, the data nodes of each by address. Or the first fault that fits, with the members dropped. A
+    /// refused allocation may stand in place of any other answer.
     #[tactic(auto, using(crate::proofs::Placing::in_order_len))]
     pub fn new(
         alloc: Global,
@@ -346,8 +346,8 @@ impl Roster {
         Ok(Roster { sentinels, masters })
     }
 
-    /// What each roster is: made of members of which no fault fits, and so within its limits, with no run id and no name twice. No memory
-    /// is taken.
+    /// What each roster is: made of members of which no fault fits, and so within its limits, with no run id and no
+    /// name twice. No memory is taken.
     pub fn is_made(&self)
         ensures made { IsRoster self.now }
         ensures ids { HasDistinctIds self.now }

@@ -45,7 +45,8 @@ fn are_same_masters(some: &[Watched], others: &[Watched]) -> bool
 }
 
 impl Roster {
-    /// Whether the other is the same roster: the same Sentinels, and the same masters with the same data nodes and quorums.
+    /// Whether the other is the same roster: the same Sentinels, and the same masters with the same data nodes and
+    /// quorums.
     pub fn is_same(&self, other: &Roster) -> bool
         ensures { IsTrue result ↔ (self.now ≡ other.now) }
     {

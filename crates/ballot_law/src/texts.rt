@@ -10,8 +10,8 @@ use crate::padding::padded;
 use std::alloc::Global;
 use std::marker::Model;
 
-/// A text of any length, as a bulk string of RESP2, the text of a message or the text of a file. Contracts see the list of
-/// its bytes.
+/// A text of any length, as a bulk string of RESP2, the text of a message or the text of a file. Contracts see the list
+/// of its bytes.
 #[derive(Clone, Drop)]
 pub struct Text {
     bytes: Vec<u8>,

@@ -17,8 +17,8 @@
 //! `use Rattle.bounded_list.specs.BoundedLists as lists`.
 //!
 //! The facts stand in `proofs::Bounded` and take the limit first. `bounded_more` and `added_both` join two parts,
-//! `two_adds` two calls that add, `bounded_all` says that what has room is whole. A function that adds twice is proved by
-//! `#[tactic(auto, using(crate::proofs::Bounded::added_both))]`.
+//! `two_adds` two calls that add, `bounded_all` says that what has room is whole. A function that adds twice is proved
+//! by `#[tactic(auto, using(crate::proofs::Bounded::added_both))]`.
 #![tactic(auto)]
 
 mod lists;

@@ -1,12 +1,13 @@
 //! Nodes of a group behind one interface, so that Sentinels, data nodes and clients stand in boxes side by side.
 //!
-//! `Node` is what a world asks of a node: it takes an input, stores, releases, stops and starts, and tells what it is. In the model of
-//! the whole group a node stands for images of one Sentinel or of another node, and each call moves each of these as the model moves a
-//! node. The definitions read from below: `Images` (what a node is to the model, and what each call makes of it), `Sendable` (what may
-//! be sent and taken), `Moves` (what each call ensures).
+//! `Node` is what a world asks of a node: it takes an input, stores, releases, stops and starts, and tells what it is.
+//! In the model of the whole group a node stands for images of one Sentinel or of another node, and each call moves
+//! each of these as the model moves a node. The definitions read from below: `Images` (what a node is to the model, and
+//! what each call makes of it), `Sendable` (what may be sent and taken), `Moves` (what each call ensures).
 //!
-//! A node that isn't a Sentinel has nothing to store, so its turns are the same whatever it says: `Turn` answers the calls of `Node` by
-//! how far the node has come with its last input alone (`Turns`: the images for which such a node stands).
+//! A node that isn't a Sentinel has nothing to store, so its turns are the same whatever it says: `Turn` answers the
+//! calls of `Node` by how far the node has come with its last input alone (`Turns`: the images for which such a node
+//! stands).
 #![tactic(auto)]
 
 mod calls;

@@ -25,8 +25,8 @@ pub enum Turn {
 }
 
 impl Turn {
-    /// Takes the turn of an input, for which the outbox has to have this room. The fault is that of the turn, and `NoRoom` is told of a
-    /// ready node alone; then nothing has changed.
+    /// Takes the turn of an input, for which the outbox has to have this room. The fault is that of the turn, and
+    /// `NoRoom` is told of a ready node alone; then nothing has changed.
     pub fn take(&mut self, outbox: &Outbox, room: &Room) -> Result<(), TakeFault>
         ensures was { OnOk result (self.old ≡ Ready) }
         ensures is { OnOk result (self.new ≡ Pending) }

@@ -40,7 +40,8 @@ pub struct DataNodes {
     ghost few: { length nodes.items ≤ NODE_COUNT_MAX },
 }
 
-/// Has a node take an input. The outbox shows what it says, which is nothing where it is stopped or where there is no memory.
+/// Has a node take an input. The outbox shows what it says, which is nothing where it is stopped or where there is no
+/// memory.
 #[tactic(auto, using(crate::proofs::Shown::said_or_not))]
 fn carry_out(node: &mut DataNode, input: &Input, outbox: &mut Outbox)
     requires takeable { IsTakeable input.now.event }
@@ -136,8 +137,8 @@ impl DataNodes {
         }
     }
 
-    /// What the node with this number tells a client that asks it for INFO: what it keeps. None where it is stopped, where there is no such node, and
-    /// where there is no memory.
+    /// What the node with this number tells a client that asks it for INFO: what it keeps. None where it is stopped,
+    /// where there is no such node, and where there is no memory.
     pub fn shown(&mut self, number: u16, now: u64) -> Option<Info>
         ensures obeys { ObeysAt number (Take (Handed (client_question number))) self.old.nodes.items self.new.nodes.items }
         ensures info { IfSome result (ShownBy self.old.nodes.items number) }
@@ -147,7 +148,8 @@ impl DataNodes {
         ask_info(node, number, now, &mut self.outbox)
     }
 
-    /// Has the node with this number follow the master at the address, or nobody, as a client that sends it REPLICAOF does. Its `+OK` goes to nobody.
+    /// Has the node with this number follow the master at the address, or nobody, as a client that sends it REPLICAOF
+    /// does. Its `+OK` goes to nobody.
     pub fn follow(&mut self, number: u16, now: u64, follows: Option<Addr>)
         ensures { ObeysAt number (Take (Handed (client_order number follows))) self.old.nodes.items self.new.nodes.items }
     {

@@ -6,8 +6,8 @@ ghost use Rattle.ballot_law.specs.Limits.{IsWithinEvent};
 use ballot_law::Event;
 use std::marker::Model;
 
-/// A message on its way to a Sentinel, as the event that it is there. The epoch of a command in it is at most `MAX_EPOCH`, so the Sentinel
-/// may take it. Contracts see the event.
+/// A message on its way to a Sentinel, as the event that it is there. The epoch of a command in it is at most
+/// `MAX_EPOCH`, so the Sentinel may take it. Contracts see the event.
 #[derive(Drop)]
 pub struct Delivery {
     event: Event,

@@ -19,8 +19,9 @@ pub enum Dispatch {
     ToNode(NodeOrder),
 }
 
-/// Where a message goes and as what: to the Sentinel that it names, as the event that it is there, or to the data node that it names, as it is.
-/// None where a Sentinel can't take it, and where its target isn't reached by a link. `NoMemory` leaves nothing.
+/// Where a message goes and as what: to the Sentinel that it names, as the event that it is there, or to the data node
+/// that it names, as it is. None where a Sentinel can't take it, and where its target isn't reached by a link.
+/// `NoMemory` leaves nothing.
 pub fn dispatch_of(alloc: Global, message: &Message) -> Result<Option<Dispatch>, NoMemory>
     requires sendable { IsSendable message.now }
     ensures dispatched { IfOk result (λ dispatch. dispatch ≡ dispatched message.now) }

@@ -12,7 +12,8 @@ use sentinel_runtime::Outlet;
 use std::alloc::{AllocError, Global};
 use std::sync::Wait;
 
-/// The ends at which messages go in: a channel for each Sentinel that is connected, by its place in the roster, and one for all data nodes.
+/// The ends at which messages go in: a channel for each Sentinel that is connected, by its place in the roster, and one
+/// for all data nodes.
 #[derive(Drop)]
 pub struct Links {
     sentinels: Vec<Option<Sender<Delivery>>>,
@@ -21,7 +22,8 @@ pub struct Links {
 }
 
 impl Links {
-    /// The links of a group with so many Sentinels, none of which is connected, and the end at which orders of the data nodes come out.
+    /// The links of a group with so many Sentinels, none of which is connected, and the end at which orders of the data
+    /// nodes come out.
     pub fn open(alloc: Global, sentinels: usize) -> Result<(Links, Receiver<NodeOrder>), AllocError>
         ensures count { IfOk result (λ r. length r.0.sentinels.items ≡ sentinels) }
         ensures none { IfOk result (λ r. All (λ end. end ≡ None) r.0.sentinels.items) }
@@ -39,7 +41,8 @@ impl Links {
         Ok((links, nodes))
     }
 
-    /// Connects the Sentinel at this place of the roster: the end at which what is for it comes out. An earlier end gets nothing more.
+    /// Connects the Sentinel at this place of the roster: the end at which what is for it comes out. An earlier end
+    /// gets nothing more.
     pub fn connect(&mut self, place: u16) -> Result<Receiver<Delivery>, AllocError>
         ensures connected { OnOk result (place < length self.old.sentinels.items → slice_index_or self.new.sentinels.items place None ≢ None) }
         ensures count { length self.new.sentinels.items ≡ length self.old.sentinels.items }
@@ -58,8 +61,8 @@ impl Links {
         self.nodes.clone()
     }
 
-    /// Puts a message into the channel of its target. It is lost where that isn't connected, where there is no such node, and where its end is
-    /// gone.
+    /// Puts a message into the channel of its target. It is lost where that isn't connected, where there is no such
+    /// node, and where its end is gone.
     fn dispatch<R: Wait>(&self, rt: &R, dispatch: Dispatch) {
         match dispatch {
             Dispatch::ToSentinel(place, delivery) => {
@@ -79,8 +82,8 @@ impl Links {
     }
 }
 
-/// The channels of a group as the place where messages go. A message is lost where it isn't for its target, where there is no such node, where
-/// its end is gone, and where there is no memory.
+/// The channels of a group as the place where messages go. A message is lost where it isn't for its target, where there
+/// is no such node, where its end is gone, and where there is no memory.
 #[derive(Clone, Copy)]
 pub struct ChannelOutlet<'a, R: Wait> {
     links: &'a Links,

@@ -11,8 +11,8 @@ use std::marker::Model;
 /// The greatest priority, offset or link down time of a data node.
 pub const GREATEST: u64 = 9_223_372_036_854_775_807;
 
-/// An event that a data node may take: what is handed over was sent, and the numbers of a change are at most 2^63 - 1. Contracts see the
-/// event.
+/// An event that a data node may take: what is handed over was sent, and the numbers of a change are at most 2^63 - 1.
+/// Contracts see the event.
 #[derive(Drop)]
 pub struct Takeable {
     event: Event,
@@ -51,7 +51,8 @@ pub enum Action {
     Start,
 }
 
-/// What the data node with this number is to do. The numbers go master by master in the roster's order, each master's nodes by address.
+/// What the data node with this number is to do. The numbers go master by master in the roster's order, each master's
+/// nodes by address.
 #[derive(Drop)]
 pub struct NodeOrder {
     pub number: u16,
@@ -71,7 +72,8 @@ impl NodeOrder {
         }
     }
 
-    /// The data node gets a priority, a replication offset, and a link to its master that has been down for so many seconds, or is up at
+    /// The data node gets a priority, a replication offset, and a link to its master that has been down for so many
+    /// seconds, or is up at
     /// 0. None where one of them is above 2^63 - 1.
     pub fn becoming(number: u16, priority: u64, offset: u64, link_down: u64) -> Option<NodeOrder>
         ensures order { result ≢ None → result ≡ Some (becoming number priority offset link_down) }

@@ -28,7 +28,8 @@ impl SharedNodes {
         }
     }
 
-    /// What the node with this number shows; none where it is stopped, where there is no such node, and where there is no memory.
+    /// What the node with this number shows; none where it is stopped, where there is no such node, and where there is
+    /// no memory.
     pub fn shown<R: Wait + Clock>(&self, rt: &R, state: &RunState, number: u16) -> Option<Info>
         ensures { IfSome result IsInfo }
     {

@@ -16,8 +16,8 @@ use std::time::Duration;
 /// How long a link waits for a message before it looks whether the group ends, in milliseconds.
 const LINK_MS: u64 = 50;
 
-/// Ticks each master every 100 ms, in the Sentinel's own part of them, until `ending` isn't 0 or the Sentinel is halted. Many parameters: each is
-/// what this thread alone has, or what it shares with another set of threads.
+/// Ticks each master every 100 ms, in the Sentinel's own part of them, until `ending` isn't 0 or the Sentinel is
+/// halted. Many parameters: each is what this thread alone has, or what it shares with another set of threads.
 pub fn run_timer<J: Which, S: ConfStore, R: Wait + Clock + Log>(
     rt: &R,
     alloc: Global,
@@ -41,8 +41,8 @@ pub fn run_timer<J: Which, S: ConfStore, R: Wait + Clock + Log>(
     }
 }
 
-/// Has the Sentinel take each message that comes, until `ending` isn't 0, the Sentinel is halted, or nobody is left who could send.
-/// Many parameters: as those of `run_timer`.
+/// Has the Sentinel take each message that comes, until `ending` isn't 0, the Sentinel is halted, or nobody is left who
+/// could send. Many parameters: as those of `run_timer`.
 pub fn run_link<J: Which, S: ConfStore, R: Wait + Clock + Log>(
     rt: &R,
     state: &RunState,

@@ -23,7 +23,8 @@ use std::marker::Model;
 
 /// A client's stream with courtesies: it says of each value whether the session is to have it or what it is answered.
 ///
-/// Contracts see the bytes that came and aren't taken yet, or the fault that was answered; what is known of the connection; and the last answer.
+/// Contracts see the bytes that came and aren't taken yet, or the fault that was answered; what is known of the
+/// connection; and the last answer.
 #[derive(Drop)]
 pub struct CommandReader {
     alloc: Global,
@@ -109,8 +110,8 @@ impl CommandReader {
         self.asker.want_password(password);
     }
 
-    /// Adds the next piece of the stream, of any length. `NoMemory` leaves it unchanged. Any other fault is one that `next` has answered before, and
-    /// the piece is dropped.
+    /// Adds the next piece of the stream, of any length. `NoMemory` leaves it unchanged. Any other fault is one that
+    /// `next` has answered before, and the piece is dropped.
     pub fn feed(&mut self, piece: &[u8]) -> Result<(), FrameFault>
         ensures held { Feeds self.old.held piece.now result self.new.held }
         ensures asker { self.new.asker ≡ self.old.asker }
@@ -118,7 +119,8 @@ impl CommandReader {
         self.frames.feed(piece)
     }
 
-    /// Drops the bytes that came and aren't taken yet, or the fault that was answered, as where the connection ends. No memory is taken.
+    /// Drops the bytes that came and aren't taken yet, or the fault that was answered, as where the connection ends. No
+    /// memory is taken.
     pub fn drop_held(&mut self)
         ensures { self.new ≡ record self.old { held = reading [] } }
     {
@@ -132,12 +134,13 @@ impl CommandReader {
         self.text = OutText::new(self.alloc);
     }
 
-    /// Takes the first whole value of the bytes that came; `None` where more bytes are needed. A line that begins with no byte of a kind of RESP2 is the array
-    /// of its words, as Redis splits it into words.
+    /// Takes the first whole value of the bytes that came; `None` where more bytes are needed. A line that begins with
+    /// no byte of a kind of RESP2 is the array of its words, as Redis splits it into words.
     ///
-    /// `NoMemory`: memory was refused, and nothing changed. Any other fault is one of the bytes, and every later call answers it again. `BadKind` is also that of
-    /// a line of more than 65,536 bytes, of one whose quotes are wrong, of one whose array a stream may not hold, with more than 1,024 words or more than 65,536
-    /// bytes in RESP2, and of one that begins with POST or Host: as a request of HTTP.
+    /// `NoMemory`: memory was refused, and nothing changed. Any other fault is one of the bytes, and every later call
+    /// answers it again. `BadKind` is also that of a line of more than 65,536 bytes, of one whose quotes are wrong, of
+    /// one whose array a stream may not hold, with more than 1,024 words or more than 65,536 bytes in RESP2, and of one
+    /// that begins with POST or Host: as a request of HTTP.
     pub fn next(&mut self) -> Result<Option<Value>, FrameFault>
         ensures exact { Answers view self.old.held result self.new.held }
         // With each value fewer bytes are held.
@@ -149,10 +152,11 @@ impl CommandReader {
         next_value(self.alloc, &mut self.frames)
     }
 
-    /// Takes the first value of the bytes that came, where it is PING, a question for the address of a master or the question whether a master is down, spelled so that
-    /// it is read where it stands: `resp2::next_common` tells how. Where the client gave the password that is wanted (`is_stranger`), the Sentinel's rules answer
-    /// such a command as it is, and nothing changes of the connection. `None` leaves all unchanged: any other value, less than a whole one, or a fault may
-    /// stand there, and `next` tells. No memory is taken.
+    /// Takes the first value of the bytes that came, where it is PING, a question for the address of a master or the
+    /// question whether a master is down, spelled so that it is read where it stands: `resp2::next_common` tells how.
+    /// Where the client gave the password that is wanted (`is_stranger`), the Sentinel's rules answer such a command as
+    /// it is, and nothing changes of the connection. `None` leaves all unchanged: any other value, less than a whole
+    /// one, or a fault may stand there, and `next` tells. No memory is taken.
     pub fn next_common(&mut self) -> Option<Command>
         ensures taken { IfSome result (TakesCommon self.old.held self.new.held) }
         ensures common { IfSome result IsCommon }
@@ -166,9 +170,10 @@ impl CommandReader {
         next_common(&mut self.frames)
     }
 
-    /// Attends to a value: what becomes of it. `Left`: the session is to have it. `Widens`: the same, and `widen` makes the answer out of the one that the session
-    /// gives. `AsksMasters`: it is INFO, whose answer `inform` makes. `Said`: the text is its answer, of no bytes after an array without items, as an empty line
-    /// is one; else the text is empty.
+    /// Attends to a value: what becomes of it. `Left`: the session is to have it. `Widens`: the same, and `widen` makes
+    /// the answer out of the one that the session gives. `AsksMasters`: it is INFO, whose answer `inform` makes.
+    /// `Said`: the text is its answer, of no bytes after an array without items, as an empty line is one; else the text
+    /// is empty.
     ///
     /// `NoMemory`: memory was refused; the connection is to be closed.
     pub fn attend_to(&mut self, value: &Value) -> Result<Courtesy, NoMemory>
@@ -180,8 +185,8 @@ impl CommandReader {
         courtesy_of(self.alloc, &mut self.asker, value, &mut self.text)
     }
 
-    /// Has the text be the answer to this value, which is INFO, where the Sentinel answers SENTINEL MASTERS with `masters`. `NoMemory`: memory was refused; the
-    /// connection is to be closed.
+    /// Has the text be the answer to this value, which is INFO, where the Sentinel answers SENTINEL MASTERS with
+    /// `masters`. `NoMemory`: memory was refused; the connection is to be closed.
     pub fn inform(&mut self, value: &Value, masters: &Value) -> Result<(), NoMemory>
         ensures text { OnOk result (self.new.text ≡ spelling (info (view value.now) (view masters.now))) }
         ensures asker { self.new.asker ≡ self.old.asker }
@@ -190,8 +195,8 @@ impl CommandReader {
         info(self.alloc, value, masters, &mut self.text)
     }
 
-    /// Has the text be the answer to this value, which `Widens`, where the Sentinel answers it with `answer`. `NoMemory`: memory was refused, or the value is no
-    /// such one; the connection is to be closed.
+    /// Has the text be the answer to this value, which `Widens`, where the Sentinel answers it with `answer`.
+    /// `NoMemory`: memory was refused, or the value is no such one; the connection is to be closed.
     pub fn widen(&mut self, value: &Value, answer: &Value) -> Result<(), NoMemory>
         ensures text { OnOk result (self.new.text ≡ spelling (wide self.old.asker (view value.now) (view answer.now))) }
         ensures asker { self.new.asker ≡ self.old.asker }

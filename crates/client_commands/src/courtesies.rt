@@ -154,8 +154,8 @@ fn rename(
     Ok(())
 }
 
-/// Has the connection carry out a command with these words: the answer, where it is known, the name that the command gives the connection, and whether its
-/// client gave the password then.
+/// Has the connection carry out a command with these words: the answer, where it is known, the name that the command
+/// gives the connection, and whether its client gave the password then.
 fn execute(
     alloc: Global,
     asker: &mut ClientInfo,
@@ -229,8 +229,8 @@ fn answer_known(
     Ok(kind_of(verb))
 }
 
-/// What becomes of a value that the rules of the Sentinel answer, the answer being told in other words where there are some: it is left to them, once
-/// the client gave the password that is wanted.
+/// What becomes of a value that the rules of the Sentinel answer, the answer being told in other words where there are
+/// some: it is left to them, once the client gave the password that is wanted.
 fn leave(
     asker: &ClientInfo,
     wording: Option<Wording>,
@@ -250,7 +250,8 @@ fn leave(
     }
 }
 
-/// What becomes of these words, which the Sentinel's rules call unknown or refuse for their number. Before the password that is wanted AUTH and HELLO alone are looked up.
+/// What becomes of these words, which the Sentinel's rules call unknown or refuse for their number. Before the password
+/// that is wanted AUTH and HELLO alone are looked up.
 #[tactic(auto, using(crate::proofs::Lookups::known_is, crate::proofs::Lookups::refused_kind, crate::proofs::Lookups::refused_text, crate::proofs::Lookups::refused_name))]
 fn answer_words(
     alloc: Global,
@@ -318,12 +319,14 @@ fn reply_to(
     answer_words(alloc, asker, is_miscounted(&asked), words.as_slice(), out)
 }
 
-/// What becomes of a value of a connection, by the table in docs/CLIENTS.md: `out` is the answer where one is told, and empty elsewhere. The
-/// connection has the name that the value gives it, and it is known whether its client gave the password; all else that is known of it stays. One value has at
-/// most one answer, and one that the Sentinel's rules answer, be it by a command or by the fault of a word, is left to them, once the client gave the
-/// password that is wanted. An array without items has no answer: it is `Said`, and `out` is empty.
+/// What becomes of a value of a connection, by the table in docs/CLIENTS.md: `out` is the answer where one is told, and
+/// empty elsewhere. The connection has the name that the value gives it, and it is known whether its client gave the
+/// password; all else that is known of it stays. One value has at most one answer, and one that the Sentinel's rules
+/// answer, be it by a command or by the fault of a word, is left to them, once the client gave the password that is
+/// wanted. An array without items has no answer: it is `Said`, and `out` is empty.
 ///
-/// NoMemory: memory was refused; what `out` then holds, what name the connection has and whether its client is admitted isn't told.
+/// NoMemory: memory was refused; what `out` then holds, what name the connection has and whether its client is admitted
+/// isn't told.
 #[tactic(auto, using(crate::proofs::Silence::same_after_nothing))]
 pub fn courtesy_of(
     alloc: Global,

@@ -119,7 +119,8 @@ pub(crate) struct Greeting<'a> {
     pub(crate) refused: bool,
 }
 
-/// What the options of HELLO leave a connection. The answer is the refusal of the first option that has one, and is left as it is where none has.
+/// What the options of HELLO leave a connection. The answer is the refusal of the first option that has one, and is
+/// left as it is where none has.
 fn greeted<'a>(
     asker: &'a ClientInfo,
     options: &'a [Text],

@@ -255,8 +255,8 @@ fn add_sections(
     add_told(alloc, out, words, masters)
 }
 
-/// Has `out` hold the answer to INFO, whose value this is, where the Sentinel answers SENTINEL MASTERS with `masters`: docs/CLIENTS.md has its
-/// sections. Sections that a Sentinel here doesn't have are told as none.
+/// Has `out` hold the answer to INFO, whose value this is, where the Sentinel answers SENTINEL MASTERS with `masters`:
+/// docs/CLIENTS.md has its sections. Sections that a Sentinel here doesn't have are told as none.
 ///
 /// NoMemory: memory was refused; what `out` then holds isn't told.
 pub fn info(

@@ -16,9 +16,10 @@ ghost use Rattle.client_commands.specs.Widening.{field_name, otherwise, fields_o
 ghost use Rattle.client_commands.specs.Wordings.{wide};
 ghost use Rattle.client_commands.specs.Courtesies.{ClientInfo, left, widens, wording_of, own_answer, said, silent, asks_nothing, is_stranger, is_password, words_of, courtesy, asker_after, kind_of};
 
-/// A command of the Sentinel's rules is left to them, where the client gave the password that is wanted: SENTINEL MASTER, MASTERS, REPLICAS, SENTINELS and
-/// CKQUORUM with their answers told in other words, each other one as it is, so each that comes nearly always. So is each value that they refuse for another reason than that they don't know
-/// the command or its number of words, but for an array without items. A command changes nothing of the connection.
+/// A command of the Sentinel's rules is left to them, where the client gave the password that is wanted: SENTINEL
+/// MASTER, MASTERS, REPLICAS, SENTINELS and CKQUORUM with their answers told in other words, each other one as it is,
+/// so each that comes nearly always. So is each value that they refuse for another reason than that they don't know the
+/// command or its number of words, but for an array without items. A command changes nothing of the connection.
 pub fn law_own_values_are_left()
     ensures own { (asker : ClientInfo) (value : Frame) (command : Command) → is_stranger asker ≡ false → command_of value ≡ Ok command
         → courtesy asker value ≡ own_answer (wording_of (Ok command)) }
@@ -30,15 +31,16 @@ pub fn law_own_values_are_left()
         ⊎ (((courtesy asker value ≡ left) ⊎ (courtesy asker value ≡ widens)) ⊎ ((command_of value ≡ Err UnknownCommand) ⊎ (command_of value ≡ Err WrongArguments))) }
 {}
 
-/// Where a password is wanted that the client didn't give, each value is answered by a courtesy, so none reaches the Sentinel; and a value after which the
-/// client has given it holds the whole password as a word.
+/// Where a password is wanted that the client didn't give, each value is answered by a courtesy, so none reaches the
+/// Sentinel; and a value after which the client has given it holds the whole password as a word.
 pub fn law_strangers_reach_nothing()
     ensures answered { (asker : ClientInfo) (value : Frame) → is_stranger asker ≡ true → kind_of (courtesy asker value) ≡ Said }
     ensures admitted { (asker : ClientInfo) (value : Frame) → is_stranger asker ≡ true → is_stranger (asker_after asker value) ≡ false
         → list_any (is_password asker.password) (words_of value) ≡ true }
 {}
 
-/// Of each field a row that is told with more fields has what the Sentinel's own row has, or what is told of a field that this doesn't have.
+/// Of each field a row that is told with more fields has what the Sentinel's own row has, or what is told of a field
+/// that this doesn't have.
 pub fn law_wide_rows_keep_fields()
     ensures { (table : Table) (words : List (List ℕ))
         → AllByRecursion (λ f. told (field_name f) [] (wide_words (fields_of table) words) ≡ told (field_name f) (otherwise f) words) (fields_of table) }
@@ -59,8 +61,9 @@ pub fn law_nothing_is_answered_to_nothing()
     ensures { (asker : ClientInfo) (value : Frame) → (courtesy asker value ≡ silent) ↔ (asks_nothing value ≡ true) }
 {}
 
-/// The first value of a stream is one that a session of RESP2 may be handed, and stands there in its spelling or as a line with its words. In its spelling it
-/// is always read, so a stream without lines has the values that it has in RESP2. More bytes are needed only while at most 65,536 are held.
+/// The first value of a stream is one that a session of RESP2 may be handed, and stands there in its spelling or as a
+/// line with its words. In its spelling it is always read, so a stream without lines has the values that it has in
+/// RESP2. More bytes are needed only while at most 65,536 are held.
 pub fn law_values_are_spelled_or_lines()
     ensures read { (bytes rest : List ℕ) (value : Frame) → value_at bytes ≡ Ok (value, rest)
         → ((bytes ≡ spelling value ++ rest) ⊎ IsLineOf bytes value rest) × IsFrame value }

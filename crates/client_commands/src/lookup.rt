@@ -155,8 +155,8 @@ fn other_named<'a>(
     Ok(None)
 }
 
-/// The command with this name and the words after it; none where it is refused, and then `out` is the line that says so. Where the Sentinel's
-/// rules know the command, they refused it as `miscounted`.
+/// The command with this name and the words after it; none where it is refused, and then `out` is the line that says
+/// so. Where the Sentinel's rules know the command, they refused it as `miscounted`.
 pub(crate) fn looked_up<'a>(
     miscounted: bool,
     name: &[u8],

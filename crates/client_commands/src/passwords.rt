@@ -2,7 +2,8 @@
 
 ghost use Rattle.std.specs.Prelude.{◌≡◌, bytes_eq};
 
-/// Whether the word is the password. No byte of it is passed over, wherever the first other one is: the time depends on the lengths of both alone.
+/// Whether the word is the password. No byte of it is passed over, wherever the first other one is: the time depends on
+/// the lengths of both alone.
 pub(crate) fn is_same(word: &[u8], password: &[u8]) -> bool
     ensures { result ≡ bytes_eq word.now password.now }
 {

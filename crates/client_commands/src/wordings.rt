@@ -36,11 +36,12 @@ pub(crate) fn wording_of(asked: &Result<Command, CommandFault>) -> Option<Wordin
     }
 }
 
-/// Has `out` hold the answer to the value in redis-sentinel's words, where a Sentinel gives this one: that to SENTINEL MASTER, MASTERS, REPLICAS or SENTINELS
-/// has its fields in its order, and that to SENTINEL CKQUORUM tells which Sentinels are missing. docs/CLIENTS.md has both. An answer of another form, as an
-/// error, stays as it is.
+/// Has `out` hold the answer to the value in redis-sentinel's words, where a Sentinel gives this one: that to SENTINEL
+/// MASTER, MASTERS, REPLICAS or SENTINELS has its fields in its order, and that to SENTINEL CKQUORUM tells which
+/// Sentinels are missing. docs/CLIENTS.md has both. An answer of another form, as an error, stays as it is.
 ///
-/// NoMemory: memory was refused, or the value is another one, or the answer to SENTINEL CKQUORUM is an array; what `out` then holds isn't told.
+/// NoMemory: memory was refused, or the value is another one, or the answer to SENTINEL CKQUORUM is an array; what
+/// `out` then holds isn't told.
 pub fn wide(
     alloc: Global,
     asker: &ClientInfo,

@@ -19,14 +19,16 @@ const AT_ONCE: usize = 64;
 /// What a client is told that comes where the port has as many connections as it may have: redis-sentinel's words.
 const FULL: &[u8] = b"-ERR max number of clients reached\r\n";
 
-/// What a client from another machine is told where those of this machine alone are let in: redis-sentinel's words, as its version 7.0.15 has them.
+/// What a client from another machine is told where those of this machine alone are let in: redis-sentinel's words, as
+/// its version 7.0.15 has them.
 const DENIED: &[u8] =
     b"-DENIED Redis is running in protected mode because protected mode is enabled and no password is set for the default user. In this mode connections are only accepted from the loopback interface. If you want to connect from external computers to Redis you may adopt one of the following solutions: 1) Just disable protected mode sending the command 'CONFIG SET protected-mode no' from the loopback interface by connecting to Redis from the same host the server is running, however MAKE SURE Redis is not publicly accessible from internet if you do so. Use CONFIG REWRITE to make this change permanent. 2) Alternatively you can just disable the protected mode by editing the Redis configuration file, and setting the protected mode option to 'no', and then restarting the server. 3) If you started the server manually just for testing, restart it with the '--protected-mode no' option. 4) Setup a an authentication password for the default user. NOTE: You only need to do one of the above things in order for the server to start accepting connections from the outside.\r\n";
 
 /// Whom a port lets in, and which password it wants of them. It can't be printed.
 #[derive(Drop)]
 pub struct Admission {
-    /// The password that each client has to give before a command of its is carried out; an empty one is none. Clients without courtesies give none.
+    /// The password that each client has to give before a command of its is carried out; an empty one is none. Clients
+    /// without courtesies give none.
     pub password: Text,
     /// How many connections the port keeps at most beside those on kept seats. For a further one that goes which has
     /// been silent for longest; where none may go, its client is told so, and it is closed. With none the port keeps

@@ -8,8 +8,8 @@ use std::alloc::Global;
 use std::io::{self, ErrorKind};
 use std::net::Net;
 
-/// How many descriptors each port needs beside its connections: its readiness, its listener, a connection that is accepted only to be closed, and
-/// the file that its Sentinel stores.
+/// How many descriptors each port needs beside its connections: its readiness, its listener, a connection that is
+/// accepted only to be closed, and the file that its Sentinel stores.
 const FOR_A_PORT: u64 = 4;
 
 /// How many each further thread of a port needs: its readiness, and what wakes it.
@@ -50,9 +50,10 @@ fn descriptors_of<N: Net>(net: &N, alloc: Global, wanted: u64) -> io::Result<u64
     Ok(wanted)
 }
 
-/// How many connections each of so many ports of this process may keep, and each of the so many threads of a port, at most `CONNECTIONS_MAX` a port, so
-/// that all of them together leave descriptors for the files that the group stores. It is asked before the ports are opened, of which there is one at
-/// least. The error is the system's, where it gives no descriptor at all; `OutOfMemory` is a refused allocation.
+/// How many connections each of so many ports of this process may keep, and each of the so many threads of a port, at
+/// most `CONNECTIONS_MAX` a port, so that all of them together leave descriptors for the files that the group stores.
+/// It is asked before the ports are opened, of which there is one at least. The error is the system's, where it gives
+/// no descriptor at all; `OutOfMemory` is a refused allocation.
 pub fn connections_of_each<N: Net>(
     net: &N,
     alloc: Global,

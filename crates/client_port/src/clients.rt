@@ -328,7 +328,8 @@ impl Clients {
         self.count_unsent(key);
     }
 
-    /// Notes what the system told of one connection: whether it is to read and answer at once. One that may ask for votes waits for its turn among those.
+    /// Notes what the system told of one connection: whether it is to read and answer at once. One that may ask for
+    /// votes waits for its turn among those.
     #[tactic(auto, using(crate::proofs::Keeping::kept_few, crate::proofs::Keeping::others_kept, crate::proofs::Keeping::others_closed))]
     fn note_event(&mut self, key: usize, event: &Event) -> bool
         ensures others { (other : ℕ) → other ≢ key → get self.new.connections other ≡ get self.old.connections other }
@@ -358,15 +359,16 @@ impl Clients {
         }
     }
 
-    /// Sends what the connections can send of which the system told. That comes after all of them were answered: then a client that waits is woken once
-    /// for all of its connections.
+    /// Sends what the connections can send of which the system told. That comes after all of them were answered: then a
+    /// client that waits is woken once for all of its connections.
     pub(crate) fn send_events(&mut self, events: &Events<Global>) {
         for event in events {
             self.send_one(event.token().0);
         }
     }
 
-    /// The connection that is next among those that may have asked for a vote and have something to do, where there is one.
+    /// The connection that is next among those that may have asked for a vote and have something to do, where there is
+    /// one.
     fn next_voter(&mut self) -> Option<usize>
         ensures { self.new.connections ≡ self.old.connections }
     {
@@ -401,8 +403,9 @@ impl Clients {
         }
     }
 
-    /// Has the connections read, answer and send that have something to do, though the system doesn't tell of them: of those that may have asked for a vote a single one, so that
-    /// no client waits for more than one store. It stops where the group ends.
+    /// Has the connections read, answer and send that have something to do, though the system doesn't tell of them: of
+    /// those that may have asked for a vote a single one, so that no client waits for more than one store. It stops
+    /// where the group ends.
     pub(crate) fn serve_busy<J: Which, S: ConfStore, R: Wait + Clock>(
         &mut self,
         rt: &R,
@@ -430,7 +433,8 @@ impl Clients {
         }
     }
 
-    /// Tells one connection of a master's new address or of another event, and closes it where it has no memory for that.
+    /// Tells one connection of a master's new address or of another event, and closes it where it has no memory for
+    /// that.
     #[tactic(auto, using(crate::proofs::Keeping::kept_few, crate::proofs::Keeping::others_kept, crate::proofs::Keeping::others_closed))]
     fn tell_one<J: Which, S: ConfStore>(
         &mut self,
@@ -464,8 +468,9 @@ impl Clients {
         }
     }
 
-    /// Tells the subscribers of each new address and, where connections have courtesies, of each other event that a thread of the Sentinel showed since the last turn of the
-    /// port's thread with this number, which has them, in the order in which they came.
+    /// Tells the subscribers of each new address and, where connections have courtesies, of each other event that a
+    /// thread of the Sentinel showed since the last turn of the port's thread with this number, which has them, in the
+    /// order in which they came.
     pub(crate) fn tell_news<J: Which, S: ConfStore, R: Wait>(
         &mut self,
         rt: &R,

@@ -21,7 +21,8 @@ use std::sync::Wait;
 /// How many times a connection reads, or hands bytes over, before the others have their turn.
 const STEPS_MAX: u32 = 16;
 
-/// How many bytes may wait to be sent before the connection is read no further, and no more of what was read is answered.
+/// How many bytes may wait to be sent before the connection is read no further, and no more of what was read is
+/// answered.
 pub(crate) const UNSENT_MAX: usize = 1_048_576;
 
 /// With how many bytes that wait to be sent a connection is closed at an event: its client doesn't read them.
@@ -156,7 +157,8 @@ impl<T: Read + Write + Drop> Connection<T> {
         self.votes
     }
 
-    /// Whether a turn has something to do: there is something to read or to answer, it doesn't end, and not too much is unsent.
+    /// Whether a turn has something to do: there is something to read or to answer, it doesn't end, and not too much is
+    /// unsent.
     pub(crate) fn wants_turn(&self) -> bool
         ensures { IsTrue result ↔ ((self.now.ends ≡ false) × ((self.now.readable ≡ true) ⊎ (self.now.buffer ≢ [])) × (length (unsent_of self.now.session) < UNSENT_MAX)) }
     {
@@ -188,7 +190,8 @@ impl<T: Read + Write + Drop> Connection<T> {
         }
     }
 
-    /// Sends what is unsent until it would wait: whether the connection is whole. What its client gets is what was taken away of the front.
+    /// Sends what is unsent until it would wait: whether the connection is whole. What its client gets is what was
+    /// taken away of the front.
     #[tactic(auto, using(crate::proofs::Sends::sent_none, crate::proofs::Sends::sent_twice, crate::proofs::Sends::sent_nothing))]
     pub(crate) fn send(&mut self) -> bool
         ensures sent { IsSent (T.contents self.old.stream) (T.contents self.new.stream) (unsent_of self.old.session) (unsent_of self.new.session) }
@@ -207,8 +210,8 @@ impl<T: Read + Write + Drop> Connection<T> {
         true
     }
 
-    /// Tells its client of a master's new address or of another event, where it has subscribed to that: whether the connection is whole, had memory for it, and doesn't
-    /// leave so much unread that no event is told.
+    /// Tells its client of a master's new address or of another event, where it has subscribed to that: whether the
+    /// connection is whole, had memory for it, and doesn't leave so much unread that no event is told.
     pub(crate) fn tell<J: Which, S: ConfStore>(
         &mut self,
         member: &RunningSentinel<J, S>,

@@ -1,7 +1,7 @@
 //! The ports of a group that runs: a Sentinel's clients, over TCP, by readiness.
 //!
-//! A port is served by one thread or several. Each has connections of its own, none of which makes another one of them wait for bytes, or for more than
-//! one store. What a client's bytes mean is its session's to say.
+//! A port is served by one thread or several. Each has connections of its own, none of which makes another one of them
+//! wait for bytes, or for more than one store. What a client's bytes mean is its session's to say.
 #![tactic(auto)]
 
 mod admission;

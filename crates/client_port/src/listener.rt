@@ -85,8 +85,8 @@ impl Sockets {
     }
 }
 
-/// The sockets that listen, with the desks of the threads that they hand connections to. `accepts` is whether connections may wait there of which the
-/// system doesn't tell again.
+/// The sockets that listen, with the desks of the threads that they hand connections to. `accepts` is whether
+/// connections may wait there of which the system doesn't tell again.
 #[derive(Drop)]
 pub(crate) struct Listener {
     sockets: Vec<TcpListener>,
@@ -220,7 +220,8 @@ impl Listener {
         }
     }
 
-    /// Accepts what waits. Where the system has no descriptor or no memory for it, it is tried again after the next wait.
+    /// Accepts what waits. Where the system has no descriptor or no memory for it, it is tried again after the next
+    /// wait.
     pub(crate) fn accept_all<R: Wait + Clock, L: Log>(
         &mut self,
         rt: &R,

@@ -90,8 +90,9 @@ impl Port {
         Ok((first, others))
     }
 
-    /// Serves until `ending` isn't 0 or the Sentinel closes its port, and looks at the first of these before each connection. The error is the system's, where it tells of no connection any more. No
-    /// memory is taken for that: a connection that has none is closed.
+    /// Serves until `ending` isn't 0 or the Sentinel closes its port, and looks at the first of these before each
+    /// connection. The error is the system's, where it tells of no connection any more. No memory is taken for that: a
+    /// connection that has none is closed.
     pub fn serve<J: Which, S: ConfStore, R: Wait + Clock + Log>(
         &mut self,
         rt: &R,
@@ -130,7 +131,8 @@ impl Port {
         self.entrance.look_at_silent(&mut self.clients);
     }
 
-    /// Has the connections of which the system told read and answer, and takes in new ones. It stops where the group ends.
+    /// Has the connections of which the system told read and answer, and takes in new ones. It stops where the group
+    /// ends.
     fn answer_events<J: Which, S: ConfStore, R: Wait + Clock + Log>(
         &mut self,
         rt: &R,

@@ -36,7 +36,8 @@ impl From<AllocError> for QuestFault {
     }
 }
 
-/// A client's search for the address of a master: the Sentinels in the order in which it asks them, and what it does next.
+/// A client's search for the address of a master: the Sentinels in the order in which it asks them, and what it does
+/// next.
 ///
 /// The caller does what `next_move` says, and then tells what came of it by one of `answered`, `connected`, `failed`,
 /// `role_was` and `waited`. Each of these is false, and changes nothing, where it can't come of that move; so an answer
@@ -115,8 +116,8 @@ impl Quest {
 
     /// The Sentinel that was asked gave this address, or none since it knows no such master.
     ///
-    /// One that gave an address goes to the front of the list, so that it is asked first the next time, and the address is
-    /// connected to. Else the next one of the list is asked; after the last one no Sentinel is left.
+    /// One that gave an address goes to the front of the list, so that it is asked first the next time, and the address
+    /// is connected to. Else the next one of the list is asked; after the last one no Sentinel is left.
     pub fn answered(&mut self, addr: Option<Addr>) -> bool
         ensures fits { result ≡ is_some (after (Answered addr) self.old) }
         ensures query { self.new ≡ unwrap_or (after (Answered addr) self.old) self.old }
@@ -180,8 +181,8 @@ impl Quest {
         true
     }
 
-    /// The client has waited: the Sentinels are asked again, from the first of the list on. The guidelines leave it to the client
-    /// whether it tries again where no Sentinel gave an address; here it may.
+    /// The client has waited: the Sentinels are asked again, from the first of the list on. The guidelines leave it to
+    /// the client whether it tries again where no Sentinel gave an address; here it may.
     pub fn waited(&mut self) -> bool
         ensures fits { result ≡ is_some (after Waited self.old) }
         ensures query { self.new ≡ unwrap_or (after Waited self.old) self.old }

@@ -1,6 +1,7 @@
 //! The files of a new group, from the words of an operator.
 //!
-//! `new_group_texts` gives one text for each Sentinel, and what it gives was read again and is one group: `AreFilesOfOneGroup` is its contract.
+//! `new_group_texts` gives one text for each Sentinel, and what it gives was read again and is one group:
+//! `AreFilesOfOneGroup` is its contract.
 
 mod addresses;
 mod texts;

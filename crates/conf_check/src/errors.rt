@@ -1,11 +1,12 @@
-//! What is wrong with a sentinel.conf file, in full: every fault of it, and the lines that a fault of the file as a whole is about.
+//! What is wrong with a sentinel.conf file, in full: every fault of it, and the lines that a fault of the file as a
+//! whole is about.
 //!
-//! `sentinel_conf` refuses a file by its first fault. `faults_of` tells all of them, that one first (`law_first_fault_is_told`), and
-//! `collision_of`, `zero_quorum_line` and `foreign_line` tell where the faults without a line come from, `sentence` what each kind means;
-//! `add_notes` tells it all as text.
+//! `sentinel_conf` refuses a file by its first fault. `faults_of` tells all of them, that one first
+//! (`law_first_fault_is_told`), and `collision_of`, `zero_quorum_line` and `foreign_line` tell where the faults without
+//! a line come from, `sentence` what each kind means; `add_notes` tells it all as text.
 //!
-//! The definitions stand in `specs/`: `AllFaults` (all faults of a file), `Claims` (who is said to be at which address, and which two of
-//! these collide), `Places` (the first line of a kind).
+//! The definitions stand in `specs/`: `AllFaults` (all faults of a file), `Claims` (who is said to be at which address,
+//! and which two of these collide), `Places` (the first line of a kind).
 
 mod all_faults;
 mod claims;

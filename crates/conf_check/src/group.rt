@@ -1,4 +1,5 @@
-//! What group conf files make, before it runs: who is in it, what it watches, how many votes it needs, and what is wrong with it.
+//! What group conf files make, before it runs: who is in it, what it watches, how many votes it needs, and what is
+//! wrong with it.
 
 mod differences;
 mod one_group;

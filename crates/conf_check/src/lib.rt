@@ -1,4 +1,5 @@
-//! What an operator is told of conf files: every fault, warnings, what the files of a group make and in what they differ, such files mended, and the files of a new group.
+//! What an operator is told of conf files: every fault, warnings, what the files of a group make and in what they
+//! differ, such files mended, and the files of a new group.
 #![tactic(auto)]
 
 mod creation;

@@ -1,9 +1,10 @@
-//! Files of a group that differ: what stands on each side, and the files that differ in their configurations alone mended, so that the
-//! group can go on with them.
+//! Files of a group that differ: what stands on each side, and the files that differ in their configurations alone
+//! mended, so that the group can go on with them.
 //!
-//! After a kill, or where a Sentinel was halted, two files of a group can hold different configurations of a master, and such files are
-//! refused. `mended_texts` gives each file anew with the newest configuration of each master, the one of the greatest epoch, and with the
-//! greatest current epoch, as a Sentinel takes them from a hello. The votes of each file stay its own: none is taken back or given away.
+//! After a kill, or where a Sentinel was halted, two files of a group can hold different configurations of a master,
+//! and such files are refused. `mended_texts` gives each file anew with the newest configuration of each master, the
+//! one of the greatest epoch, and with the greatest current epoch, as a Sentinel takes them from a hello. The votes of
+//! each file stay its own: none is taken back or given away.
 //!
 //! The definitions stand in `specs/Mended`.
 

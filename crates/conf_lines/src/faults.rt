@@ -7,8 +7,8 @@ use ballot_law::RosterFault;
 use std::alloc::AllocError;
 use thiserror::Error;
 
-/// What is wrong with a file. Of several faults `read` of `sentinel_conf` tells the first, in the order that stands there; it is
-/// not that of this list.
+/// What is wrong with a file. Of several faults `read` of `sentinel_conf` tells the first, in the order that stands
+/// there; it is not that of this list.
 #[derive(Clone, Copy, Debug, PartialEq, Eq, Error)]
 pub enum ConfKind {
     /// The file, or the longest file that a rewrite could make of it, has more than 67,536 bytes.

@@ -24,7 +24,8 @@ pub enum ClientSession {
 }
 
 impl ClientSession {
-    /// A session to which no bytes came, with courtesies or without, of the connection with this number. No memory is taken.
+    /// A session to which no bytes came, with courtesies or without, of the connection with this number. No memory is
+    /// taken.
     pub fn new(alloc: Global, courteous: bool, id: u64) -> ClientSession
         ensures { result ≡ begun courteous id }
     {
@@ -45,7 +46,8 @@ impl ClientSession {
         }
     }
 
-    /// Has a session with courtesies know this current epoch of the Sentinel, or an earlier one, as `CourteousSession::note_epoch`; one without hears each epoch as it is.
+    /// Has a session with courtesies know this current epoch of the Sentinel, or an earlier one, as
+    /// `CourteousSession::note_epoch`; one without hears each epoch as it is.
     pub fn note_epoch(&mut self, epoch: u64)
         ensures { self.new ≡ knowing_epoch self.old epoch }
     {
@@ -65,8 +67,8 @@ impl ClientSession {
         }
     }
 
-    /// Takes the next piece of what the client sends, at a reading of the clock in milliseconds: as `Session::received` without courtesies, and as
-    /// `CourteousSession::received` with them.
+    /// Takes the next piece of what the client sends, at a reading of the clock in milliseconds: as `Session::received`
+    /// without courtesies, and as `CourteousSession::received` with them.
     pub fn received<S: ConfStore, R: Wait>(
         &mut self,
         rt: &R,
@@ -148,7 +150,8 @@ impl ClientSession {
         }
     }
 
-    /// Tells the client of a note, where it is due, as `Session::notify` and `CourteousSession::notify` do: whether it is.
+    /// Tells the client of a note, where it is due, as `Session::notify` and `CourteousSession::notify` do: whether it
+    /// is.
     pub fn notify(&mut self, roster: &Roster, note: &Note, entry: u64) -> Result<bool, NoMemory>
         requires { note.now.master < length roster.now.masters }
         ensures { NotifiesClient roster.now note.now entry self.old result self.new }
@@ -159,7 +162,8 @@ impl ClientSession {
         }
     }
 
-    /// Tells the client of an event, as `CourteousSession::tell_event` does: whether anything is told. A session without courtesies is told none.
+    /// Tells the client of an event, as `CourteousSession::tell_event` does: whether anything is told. A session
+    /// without courtesies is told none.
     pub fn tell_event(&mut self, event: &Event) -> Result<bool, NoMemory>
         ensures { TellsClient event.now self.old result self.new }
     {

@@ -17,10 +17,11 @@ use std::alloc::Global;
 use std::marker::Model;
 use std::sync::Wait;
 
-/// The conversation with one client of a port, with courtesies. Contracts see what is known of its connection, and whether the names of the Sentinel's
-/// masters are among that; the bytes held, which came and are no whole value yet, the answers, notes and events that aren't sent yet, and the fault that ended it; to
-/// which channels and patterns it listens; whether it hears of new addresses, with the entry since which it does; and of each master the epoch of the configuration
-/// that it was told last since then.
+/// The conversation with one client of a port, with courtesies. Contracts see what is known of its connection, and
+/// whether the names of the Sentinel's masters are among that; the bytes held, which came and are no whole value yet,
+/// the answers, notes and events that aren't sent yet, and the fault that ended it; to which channels and patterns it
+/// listens; whether it hears of new addresses, with the entry since which it does; and of each master the epoch of the
+/// configuration that it was told last since then.
 #[derive(Drop)]
 pub struct CourteousSession {
     exchange: Exchange,
@@ -62,16 +63,17 @@ impl CourteousSession {
         }
     }
 
-    /// Has it want this password of its client, who didn't give it yet. Until the client gives it, each value is answered by a courtesy, and none reaches the
-    /// Sentinel.
+    /// Has it want this password of its client, who didn't give it yet. Until the client gives it, each value is
+    /// answered by a courtesy, and none reaches the Sentinel.
     pub fn want_password(&mut self, password: Text)
         ensures { self.new ≡ wanting self.old password }
     {
         self.exchange.want_password(password);
     }
 
-    /// Has it know this current epoch of the Sentinel, or an earlier one: from then on a request for a vote in an epoch that is more than `EPOCHS_AHEAD` above it is answered
-    /// as one of epoch 0, for which no vote is given. Before the first such call each epoch is heard as it is.
+    /// Has it know this current epoch of the Sentinel, or an earlier one: from then on a request for a vote in an epoch
+    /// that is more than `EPOCHS_AHEAD` above it is answered as one of epoch 0, for which no vote is given. Before the
+    /// first such call each epoch is heard as it is.
     pub fn note_epoch(&mut self, epoch: u64)
         ensures { self.new ≡ knowing self.old epoch }
     {
@@ -85,17 +87,20 @@ impl CourteousSession {
         self.exchange.take_far()
     }
 
-    /// Takes the next piece of what the client sends, of any length, at a reading of the clock in milliseconds, and puts out the answer to each value that is
-    /// whole with it, in their order: that of Pub/Sub, where it has one, else that of `Session::received`, or the courtesy of the value where it has one. INFO takes the
-    /// turn of SENTINEL MASTERS, and no other courtesy takes one. Where the connection begins to hear of new addresses, by a channel or a pattern, that takes the turn
-    /// of SUBSCRIBE, since whose entry notes are due to it; nothing else of Pub/Sub takes one.
+    /// Takes the next piece of what the client sends, of any length, at a reading of the clock in milliseconds, and
+    /// puts out the answer to each value that is whole with it, in their order: that of Pub/Sub, where it has one, else
+    /// that of `Session::received`, or the courtesy of the value where it has one. INFO takes the turn of SENTINEL
+    /// MASTERS, and no other courtesy takes one. Where the connection begins to hear of new addresses, by a channel or
+    /// a pattern, that takes the turn of SUBSCRIBE, since whose entry notes are due to it; nothing else of Pub/Sub
+    /// takes one.
     ///
     /// The first call learns the names of the Sentinel's masters, by which ROLE is answered from then on.
     ///
-    /// `Frame` where the bytes are no RESP2 value: the values before were answered, and `-ERR Protocol error` stands after their answers. `Halted` where a
-    /// command took a turn and the Sentinel is halted: it has no answer. `NoMemory` where a growth was refused: the values before were answered, and one value
-    /// more may have been carried out with no answer. No other fault comes. What was put out before stays, and from then on the session answers the same fault
-    /// for good, takes nothing more, holds no bytes and listens to nothing.
+    /// `Frame` where the bytes are no RESP2 value: the values before were answered, and `-ERR Protocol error` stands
+    /// after their answers. `Halted` where a command took a turn and the Sentinel is halted: it has no answer.
+    /// `NoMemory` where a growth was refused: the values before were answered, and one value more may have been carried
+    /// out with no answer. No other fault comes. What was put out before stays, and from then on the session answers
+    /// the same fault for good, takes nothing more, holds no bytes and listens to nothing.
     pub fn received<S: ConfStore, R: Wait>(
         &mut self,
         rt: &R,
@@ -106,7 +111,8 @@ impl CourteousSession {
     ) -> Result<(), ServeFault>
         requires own { seat.old.cell ≡ cell.now.id }
         ensures own { seat.new.cell ≡ seat.old.cell }
-        // The answers to the values of the bytes held before and the piece join what is unsent, and the bytes after them are held.
+        // The answers to the values of the bytes held before and the piece join what is unsent, and the bytes after
+        // them are held.
         ensures received { self.old.ended ≡ None → (more : List ℕ) × (self.new.unsent ≡ self.old.unsent ++ more)
             × Receives cell.now.start now (self.old.held ++ piece.now)
             (guest_at cell.now.start self.old seat.old.view) result self.new.held more (guest_of_visit self.new seat.new.view) }
@@ -158,8 +164,8 @@ impl CourteousSession {
         self.exchange.attendant.is_stranger()
     }
 
-    /// Takes away the first `n` bytes of what isn't sent yet, which the connection took. No memory is taken. Room that they leave is used
-    /// again, and given back where nothing is left and it was more than 16 KiB.
+    /// Takes away the first `n` bytes of what isn't sent yet, which the connection took. No memory is taken. Room that
+    /// they leave is used again, and given back where nothing is left and it was more than 16 KiB.
     pub fn sent(&mut self, n: usize)
         requires { n ≤ length self.old.unsent }
         ensures { self.new ≡ record self.old { unsent = drop n self.old.unsent } }
@@ -175,8 +181,9 @@ impl CourteousSession {
         self.exchange.rest();
     }
 
-    /// Tells the client of a note, where it is due, as `Session::notify` has it: whether it is. It is told on its channel, and for each pattern that matches that, in the
-    /// form of Pub/Sub. After `NoMemory` the client misses a note: the connection is to be closed.
+    /// Tells the client of a note, where it is due, as `Session::notify` has it: whether it is. It is told on its
+    /// channel, and for each pattern that matches that, in the form of Pub/Sub. After `NoMemory` the client misses a
+    /// note: the connection is to be closed.
     pub fn notify(&mut self, roster: &Roster, note: &Note, entry: u64) -> Result<bool, NoMemory>
         requires { note.now.master < length roster.now.masters }
         ensures { NotifiesVisit roster.now note.now entry self.old result self.new }
@@ -184,8 +191,9 @@ impl CourteousSession {
         self.exchange.notify(roster, note, entry)
     }
 
-    /// Tells the client of an event, where it listens to its channel or a pattern matches that: whether anything is told. Of an event on the channel of new addresses
-    /// nothing is: `notify` tells these. After `NoMemory` nothing changed, and the client misses an event: the connection is to be closed.
+    /// Tells the client of an event, where it listens to its channel or a pattern matches that: whether anything is
+    /// told. Of an event on the channel of new addresses nothing is: `notify` tells these. After `NoMemory` nothing
+    /// changed, and the client misses an event: the connection is to be closed.
     pub fn tell_event(&mut self, event: &Event) -> Result<bool, NoMemory>
         ensures { TellsVisit event.now self.old result self.new }
     {

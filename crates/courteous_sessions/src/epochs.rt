@@ -7,8 +7,9 @@ ghost use Rattle.courteous_sessions.specs.Epochs.{is_far, heard_epoch, heard, he
 use ballot_law::{Command, RunId};
 use resp2::CommandFault;
 
-/// How far an epoch may be above one that the own current one isn't below. A request for a vote in a later one is answered as one of epoch 0, in which no vote is given, and a
-/// hello with a later one is lost: else one message could bring a group to the greatest epoch, after which no failover can begin.
+/// How far an epoch may be above one that the own current one isn't below. A request for a vote in a later one is
+/// answered as one of epoch 0, in which no vote is given, and a hello with a later one is lost: else one message could
+/// bring a group to the greatest epoch, after which no failover can begin.
 pub const EPOCHS_AHEAD: u64 = 65_536;
 
 /// Whether an epoch is too far above the current one.

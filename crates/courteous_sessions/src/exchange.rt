@@ -38,10 +38,12 @@ const PROTOCOL_ERROR: &[u8] = b"-ERR Protocol error\r\n";
 /// How many bytes of room a client keeps for its answers once all of them are sent.
 const ROOM_KEPT: usize = 16_384;
 
-/// What tells what becomes of each value, to what the connection listens, the session that answers what is left to it, and the answers that aren't sent yet.
+/// What tells what becomes of each value, to what the connection listens, the session that answers what is left to it,
+/// and the answers that aren't sent yet.
 ///
-/// The session is asked commands alone, so it holds no bytes. It listens to notes where the connection hears of new addresses.
-/// `knows_masters` is whether the attendant was told the names of the Sentinel's masters, and `far` the last request for a vote whose epoch was too far above the Sentinel's.
+/// The session is asked commands alone, so it holds no bytes. It listens to notes where the connection hears of new
+/// addresses. `knows_masters` is whether the attendant was told the names of the Sentinel's masters, and `far` the last
+/// request for a vote whose epoch was too far above the Sentinel's.
 #[derive(Drop)]
 pub(crate) struct Exchange {
     pub(crate) alloc: Global,
@@ -488,8 +490,8 @@ impl Exchange {
         }
     }
 
-    /// Takes the first value of the bytes that came, where it is a command that comes nearly always and the session answers it: no password is wanted that the client
-    /// didn't give, and the connection listens to nothing.
+    /// Takes the first value of the bytes that came, where it is a command that comes nearly always and the session
+    /// answers it: no password is wanted that the client didn't give, and the connection listens to nothing.
     fn next_common(&mut self) -> Option<Command>
         ensures taken { IfSome result (TakesCommon self.old.attendant.held self.new.attendant.held) }
         ensures common { IfSome result (λ command. IsCommon command × IsWithin command) }

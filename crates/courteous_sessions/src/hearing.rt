@@ -31,8 +31,8 @@ fn add_switch(text: &mut OutText, roster: &Roster, note: &Note) -> Result<(), No
     add_note(text, &master.name, note)
 }
 
-/// Has the text, which is empty, hold what a connection with these subscriptions is told of an event. On the channel of new addresses that is nothing: there notes
-/// alone are told.
+/// Has the text, which is empty, hold what a connection with these subscriptions is told of an event. On the channel of
+/// new addresses that is nothing: there notes alone are told.
 fn write_event(
     subscriptions: &Subscriptions,
     event: &Event,
@@ -48,8 +48,8 @@ fn write_event(
 }
 
 impl Exchange {
-    /// What Pub/Sub makes of a value, and its answer where it has one. A client that is still to give its password listens to nothing. After `NoMemory` the connection is to be
-    /// closed.
+    /// What Pub/Sub makes of a value, and its answer where it has one. A client that is still to give its password
+    /// listens to nothing. After `NoMemory` the connection is to be closed.
     fn channel_turn(&mut self, value: &Value, answer: &mut OutText) -> Result<Turn, ServeFault>
         requires { answer.old ≡ [] }
         ensures turn { IfOk result (λ turn. turn ≡ turn_of (channel_turn self.old.attendant.asker self.old.subscriptions (view value.now))) }
@@ -96,7 +96,8 @@ impl Exchange {
         Ok(())
     }
 
-    /// Has the session below listen to notes where the connection hears of new addresses, and to nothing where it doesn't.
+    /// Has the session below listen to notes where the connection hears of new addresses, and to nothing where it
+    /// doesn't.
     fn tune<S: ConfStore, R: Wait>(
         &mut self,
         rt: &R,
@@ -195,7 +196,8 @@ impl Exchange {
         }
     }
 
-    /// Tells the client of a note, where it is due to the session below: whether it is. After `NoMemory` the connection is to be closed.
+    /// Tells the client of a note, where it is due to the session below: whether it is. After `NoMemory` the connection
+    /// is to be closed.
     pub(crate) fn notify(
         &mut self,
         roster: &Roster,
@@ -220,8 +222,8 @@ impl Exchange {
         Ok(true)
     }
 
-    /// Tells the client of an event, where a channel or a pattern of the connection matches its channel: whether anything is told. After `NoMemory` nothing changed, and the
-    /// client misses an event.
+    /// Tells the client of an event, where a channel or a pattern of the connection matches its channel: whether
+    /// anything is told. After `NoMemory` nothing changed, and the client misses an event.
     pub(crate) fn tell_event(&mut self, event: &Event) -> Result<bool, NoMemory>
         ensures told { TellsBelow event.now self.old.subscriptions self.old.unsent.items result self.new.unsent.items }
         ensures session { self.new.session ≡ self.old.session }

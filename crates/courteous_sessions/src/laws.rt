@@ -2,9 +2,10 @@
 
 ghost use Rattle.courteous_sessions.specs.Laws.{AnswersListeners, AnswersOwnAsBefore, HearsAll, HearsFar, HearsNear, IsPassedOver, NoOtherNoteIsTold, NothingElseIsTold, PiecesJoin, StrangersTakeNoTurn, TakesNoTurn};
 
-/// Where no password is wanted that the client didn't give, and the connection doesn't listen, a command of the Sentinel's rules but SUBSCRIBE is answered as by a
-/// session without courtesies, and changes nothing that is known of the connection. One exception is there, of a connection that was told the Sentinel's current epoch: a
-/// request for a vote in an epoch that is more than `EPOCHS_AHEAD` above it is answered as one of epoch 0.
+/// Where no password is wanted that the client didn't give, and the connection doesn't listen, a command of the
+/// Sentinel's rules but SUBSCRIBE is answered as by a session without courtesies, and changes nothing that is known of
+/// the connection. One exception is there, of a connection that was told the Sentinel's current epoch: a request for a
+/// vote in an epoch that is more than `EPOCHS_AHEAD` above it is answered as one of epoch 0.
 pub fn law_own_commands_are_answered_as_before()
     ensures answered { AnswersOwnAsBefore }
     ensures untold { HearsAll }
@@ -23,8 +24,8 @@ pub fn law_channels_tell_nothing_else()
     ensures notes { NoOtherNoteIsTold }
 {}
 
-/// A value that Pub/Sub doesn't answer and whose answer a courtesy tells is answered by that alone: it takes no turn and changes nothing of what its seat has seen. So
-/// is one that has no answer, for which nothing is put out.
+/// A value that Pub/Sub doesn't answer and whose answer a courtesy tells is answered by that alone: it takes no turn
+/// and changes nothing of what its seat has seen. So is one that has no answer, for which nothing is put out.
 pub fn law_courtesies_take_no_turn()
     ensures said { TakesNoTurn }
     ensures silent { IsPassedOver }
@@ -35,8 +36,8 @@ pub fn law_pieces_join()
     ensures { PiecesJoin }
 {}
 
-/// Where a password is wanted that the client didn't give, no value takes a turn, changes anything of what its seat has seen, or has the connection
-/// listen to anything.
+/// Where a password is wanted that the client didn't give, no value takes a turn, changes anything of what its seat has
+/// seen, or has the connection listen to anything.
 pub fn law_strangers_take_no_turn()
     ensures { StrangersTakeNoTurn }
 {}

@@ -1,9 +1,10 @@
-//! A session with courtesies: the conversation with one client of a port, whose values are answered as a Sentinel's session answers them, by Pub/Sub of
-//! `pubsub`, or by the table of `client_commands` where the Sentinel's rules know no answer.
+//! A session with courtesies: the conversation with one client of a port, whose values are answered as a Sentinel's
+//! session answers them, by Pub/Sub of `pubsub`, or by the table of `client_commands` where the Sentinel's rules know
+//! no answer.
 //!
-//! It stands over a `Session` of `port_sessions` by its public calls alone, so a session without courtesies is that session itself: `ClientSession` is
-//! one or the other. What a client is answered stands in `specs/Visits`; what it is told
-//! besides in `specs/Events`, and what each call of a `ClientSession` does in `specs/Clients`.
+//! It stands over a `Session` of `port_sessions` by its public calls alone, so a session without courtesies is that
+//! session itself: `ClientSession` is one or the other. What a client is answered stands in `specs/Visits`; what it is
+//! told besides in `specs/Events`, and what each call of a `ClientSession` does in `specs/Clients`.
 #![tactic(auto)]
 
 mod client_session;

@@ -36,8 +36,9 @@ struct Closed;
 
 /// A client's connection with its session.
 ///
-/// `readable` is whether the system told of bytes that may not be read yet, `half` whether its client has ended its stream or broken off, as the
-/// system told: then the end is still to be read after the last piece. `ended` is whether that end was read.
+/// `readable` is whether the system told of bytes that may not be read yet, `half` whether its client has ended its
+/// stream or broken off, as the system told: then the end is still to be read after the last piece. `ended` is whether
+/// that end was read.
 #[derive(Drop)]
 pub(crate) struct Connection<T: Read + Write + Drop> {
     stream: T,
@@ -117,8 +118,8 @@ impl<T: Read + Write + Drop> Connection<T> {
         true
     }
 
-    /// Reads once, and answers what is whole then: whether the connection is. A read that leaves room has read all that there was, unless the stream
-    /// has ended.
+    /// Reads once, and answers what is whole then: whether the connection is. A read that leaves room has read all that
+    /// there was, unless the stream has ended.
     fn step<V: ShownNodes, R: Wait + Clock>(&mut self, rt: &R, nodes: &V, number: u16) -> bool {
         let mut piece = [0u8; PIECE];
         match self.stream.read(&mut piece) {

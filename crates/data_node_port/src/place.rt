@@ -22,8 +22,8 @@ pub(crate) const LISTENERS: usize = 1_048_576;
 /// How many connections are accepted before those that are there have their turn.
 const ACCEPTS_MAX: u32 = 64;
 
-/// Where the data node with this number listens while it isn't stopped, and its connections. `accepts` is whether connections may wait there of which
-/// the system doesn't tell again.
+/// Where the data node with this number listens while it isn't stopped, and its connections. `accepts` is whether
+/// connections may wait there of which the system doesn't tell again.
 #[derive(Drop)]
 pub(crate) struct Place {
     number: u16,
@@ -42,8 +42,8 @@ fn note_readable_at(place: &mut Option<Connection<TcpStream>>, half: bool) {
     }
 }
 
-/// Has the connection that is here read, answer and send as the node with this number, and closes it where it is broken or over: whether it has more to do
-/// at once.
+/// Has the connection that is here read, answer and send as the node with this number, and closes it where it is broken
+/// or over: whether it has more to do at once.
 fn serve_at<V: ShownNodes, R: Wait + Clock>(
     place: &mut Option<Connection<TcpStream>>,
     rt: &R,
@@ -176,7 +176,8 @@ impl Place {
         }
     }
 
-    /// Has one connection read, answer and send, and closes it where it is broken or over: whether it has more to do at once.
+    /// Has one connection read, answer and send, and closes it where it is broken or over: whether it has more to do at
+    /// once.
     fn serve_one<V: ShownNodes, R: Wait + Clock>(
         &mut self,
         rt: &R,

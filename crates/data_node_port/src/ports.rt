@@ -20,7 +20,8 @@ const EVENTS: usize = 256;
 /// How long the ports wait before they look which nodes are stopped, and whether the group ends, in milliseconds.
 const WAIT_MS: u64 = 50;
 
-/// How many descriptors each data node may have beside those of its connections: its listener, and a connection that is accepted only to be closed.
+/// How many descriptors each data node may have beside those of its connections: its listener, and a connection that is
+/// accepted only to be closed.
 const FOR_A_NODE: usize = 2;
 
 /// The ports of all data nodes, by their numbers. `busy` is whether there is something to do before the next wait.
@@ -53,8 +54,8 @@ pub fn descriptors_of(roster: &Roster) -> u64 {
 }
 
 impl NodePorts {
-    /// Listens at the address of each data node of the roster. An error is the system's, as where an address is taken or isn't on the loopback, and a
-    /// note tells of which node it is; `OutOfMemory` is a refused allocation.
+    /// Listens at the address of each data node of the roster. An error is the system's, as where an address is taken
+    /// or isn't on the loopback, and a note tells of which node it is; `OutOfMemory` is a refused allocation.
     pub fn open<N: Net + Log>(net: &N, alloc: Global, roster: &Roster) -> io::Result<NodePorts> {
         let poll = Poll::new(net)?;
         let mut places = Vec::new(alloc);
@@ -83,7 +84,8 @@ impl NodePorts {
         })
     }
 
-    /// Closes the ports of the nodes that are stopped, and opens those of the others. One that can't be opened is tried again at the next look.
+    /// Closes the ports of the nodes that are stopped, and opens those of the others. One that can't be opened is tried
+    /// again at the next look.
     fn look<V: ShownNodes, R: Wait + Clock, N: Net>(&mut self, rt: &R, net: &N, nodes: &V) {
         for place in &mut self.places {
             let runs = nodes.shown(rt, place.number()).is_some();
@@ -149,8 +151,9 @@ impl NodePorts {
         }
     }
 
-    /// Serves until `ending` isn't 0: each node that isn't stopped listens at its address and answers, as what it shows then; the port of one that is
-    /// stopped is closed with its connections, within a tenth of a second. The error is the system's, where it tells of no connection any more.
+    /// Serves until `ending` isn't 0: each node that isn't stopped listens at its address and answers, as what it shows
+    /// then; the port of one that is stopped is closed with its connections, within a tenth of a second. The error is
+    /// the system's, where it tells of no connection any more.
     pub fn serve<V: ShownNodes, R: Wait + Clock, N: Net>(
         &mut self,
         rt: &R,

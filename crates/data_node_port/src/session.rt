@@ -16,8 +16,8 @@ use std::marker::Model;
 /// What a client is told before its connection is closed, where its bytes are no commands.
 const BROKEN: &[u8] = b"-ERR Protocol error\r\n";
 
-/// The conversation with one client of a data node. Contracts see the bytes that came and are no whole command yet, the bytes that aren't sent
-/// yet, and whether it ends.
+/// The conversation with one client of a data node. Contracts see the bytes that came and are no whole command yet, the
+/// bytes that aren't sent yet, and whether it ends.
 #[derive(Drop)]
 pub struct Session {
     alloc: Global,
@@ -99,8 +99,8 @@ impl Session {
         Ok(())
     }
 
-    /// What is asked next; none where more bytes are needed, and once it ends. Where no command begins with the bytes held, the client is told so
-    /// by an error, and it ends.
+    /// What is asked next; none where more bytes are needed, and once it ends. Where no command begins with the bytes
+    /// held, the client is told so by an error, and it ends.
     ///
     /// `NoMemory`: memory was refused, and commands are lost; the connection is to be closed.
     #[tactic(auto, using(crate::proofs::Talking::asked_next, crate::proofs::Talking::waits_next, crate::proofs::Talking::broken_next, crate::proofs::Talking::ended_next))]

@@ -14,14 +14,15 @@ pub fn law_watch_keeps_its_calls()
     ensures down { KeepsDown }
 {}
 
-/// What is kept of the reports of the other Sentinels is what the list of all of them tells, also after a further one and
-/// after they are cleared.
+/// What is kept of the reports of the other Sentinels is what the list of all of them tells, also after a further one
+/// and after they are cleared.
 pub fn law_reports_keep_the_last()
     ensures reports { KeepsReports }
     ensures clearing { KeepsClearing }
 {}
 
-/// What is kept of the clock is what the list of all its readings tells, from the opening on and after each further turn.
+/// What is kept of the clock is what the list of all its readings tells, from the opening on and after each further
+/// turn.
 pub fn law_tilt_keeps_the_last_jump()
     ensures first { KeepsFirst }
     ensures readings { KeepsReadings }

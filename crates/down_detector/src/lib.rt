@@ -6,14 +6,15 @@
 //!   is *objectively down* (ODOWN): enough Sentinels find it down.
 //! - [`Tilt`] watches the clock. After a jump a Sentinel is in TILT mode: it goes on to gather news and acts on none.
 //!
-//! Each keeps a few words in place of all that it was told. The contracts say, for every list of calls made so far, that
-//! these words are what the definitions over the whole list tell (`Watches`, `Reports` and `Tilts` of `ballot_law`). They
-//! also say what each call makes of these words alone; that this is what the longer list tells is a law of its own
-//! ([`law_watch_keeps_its_calls`], [`law_reports_keep_the_last`], [`law_tilt_keeps_the_last_jump`]), for those who know of
-//! what is kept and not of the calls.
+//! Each keeps a few words in place of all that it was told. The contracts say, for every list of calls made so far,
+//! that these words are what the definitions over the whole list tell (`Watches`, `Reports` and `Tilts` of
+//! `ballot_law`). They also say what each call makes of these words alone; that this is what the longer list tells is a
+//! law of its own ([`law_watch_keeps_its_calls`], [`law_reports_keep_the_last`], [`law_tilt_keeps_the_last_jump`]), for
+//! those who know of what is kept and not of the calls.
 //!
-//! All moments are milliseconds of the Sentinel's clock; a reading above 2^62 counts as 2^62, and a moment that is later
-//! than `now` is no time ago. Nothing wraps, whatever the readings and settings. Only [`DownReports::new`] takes memory.
+//! All moments are milliseconds of the Sentinel's clock; a reading above 2^62 counts as 2^62, and a moment that is
+//! later than `now` is no time ago. Nothing wraps, whatever the readings and settings. Only [`DownReports::new`] takes
+//! memory.
 #![tactic(auto)]
 
 mod laws;

@@ -93,8 +93,8 @@ impl Watch {
         }
     }
 
-    /// Whether the node is subjectively down (the Redis Sentinel documentation, "SDOWN and ODOWN failure state"): it has
-    /// been silent for more than `after_ms` milliseconds, or it is to be a master and has reported itself a replica
+    /// Whether the node is subjectively down (the Redis Sentinel documentation, "SDOWN and ODOWN failure state"): it
+    /// has been silent for more than `after_ms` milliseconds, or it is to be a master and has reported itself a replica
     /// without a break for more than `after_ms` and 20,000.
     pub fn is_sdown(&self, now: u64, after_ms: u64, as_master: bool) -> bool
         ensures down { (opened : ℕ) (calls : List WatchCall) → StandsForCalls self.now opened calls

@@ -28,7 +28,8 @@ pub struct Facts<'a> {
     pub me: RunId,
     /// How many votes elect.
     pub need: u32,
-    /// The candidate with most of the votes heard at the campaign's epoch, or the Sentinel itself ([`vote_book::Heard::pick`]).
+    /// The candidate with most of the votes heard at the campaign's epoch, or the Sentinel itself
+    /// ([`vote_book::Heard::pick`]).
     pub pick: RunId,
     /// How many of the votes heard at the campaign's epoch are for the Sentinel ([`vote_book::Heard::count`]).
     pub count: u32,

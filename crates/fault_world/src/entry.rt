@@ -27,7 +27,8 @@ pub enum Entry {
 }
 
 impl Entry {
-    /// The entry of an election: the numbers of the Sentinel and of the master become its run id and its name. Both are in the roster.
+    /// The entry of an election: the numbers of the Sentinel and of the master become its run id and its name. Both are
+    /// in the roster.
     pub fn of_election(roster: &Roster, election: &Election) -> Entry
         requires sentinel { election.now.sentinel < size roster.now }
         requires master { election.now.master < length roster.now.masters }
@@ -42,8 +43,8 @@ impl Entry {
         }
     }
 
-    /// The entry of a configuration that was shown: the numbers of the Sentinel and of the master become its run id and its name. Both
-    /// are in the roster.
+    /// The entry of a configuration that was shown: the numbers of the Sentinel and of the master become its run id and
+    /// its name. Both are in the roster.
     pub fn of_said(roster: &Roster, said: &Advertisement) -> Entry
         requires sentinel { said.now.sentinel < size roster.now }
         requires master { said.now.master < length roster.now.masters }

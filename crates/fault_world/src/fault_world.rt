@@ -81,13 +81,16 @@ pub struct FaultWorld {
 }
 
 impl FaultWorld {
-    /// A world of fresh nodes, which begins as the model of their roster's group does: with no message, and nothing elected or said.
+    /// A world of fresh nodes, which begins as the model of their roster's group does: with no message, and nothing
+    /// elected or said.
     ///
-    /// `NotTheRoster` is told exactly where the nodes aren't each Sentinel and each data node of the roster, once each, and clients of
-    /// different names, or where one of them doesn't know the roster; `DifferentStart` of others, exactly where two Sentinels begin with
-    /// different configurations of a master; `NoMemory` of none of these. A refusal hands the nodes back as they were.
+    /// `NotTheRoster` is told exactly where the nodes aren't each Sentinel and each data node of the roster, once each,
+    /// and clients of different names, or where one of them doesn't know the roster; `DifferentStart` of others,
+    /// exactly where two Sentinels begin with different configurations of a master; `NoMemory` of none of these. A
+    /// refusal hands the nodes back as they were.
     ///
-    /// Many clauses: of a world, how it begins, what it has, and which nodes it is of; of a refusal, when it comes and what it leaves.
+    /// Many clauses: of a world, how it begins, what it has, and which nodes it is of; of a refusal, when it comes and
+    /// what it leaves.
     pub fn new(
         alloc: Global,
         roster: Roster,
@@ -344,18 +347,22 @@ impl FaultWorld {
         Ok(report)
     }
 
-    /// Makes the steps, one after the other, and tells of the elections and advertisements that they add, in their order.
+    /// Makes the steps, one after the other, and tells of the elections and advertisements that they add, in their
+    /// order.
     ///
-    /// Each step is one of the model of the whole group, so that for every list of steps, with what they lose, delay, repeat and refuse, and
-    /// whatever stops and starts: in all that was run since the start, by this call and those before it, at most one Sentinel is elected for
-    /// a master in an epoch, two advertisements of a master with one epoch have one address, and no file's epoch falls. A step moves one node
-    /// at most, the one that it names or its message's target, and one that doesn't apply changes nothing: so it is with an input that only a
-    /// message brings. Of the steps nothing is asked but that their numbers are within the limits: a command's epoch is at most `MAX_EPOCH`,
-    /// and an INFO can show the numbers of a change.
+    /// Each step is one of the model of the whole group, so that for every list of steps, with what they lose, delay,
+    /// repeat and refuse, and whatever stops and starts: in all that was run since the start, by this call and those
+    /// before it, at most one Sentinel is elected for a master in an epoch, two advertisements of a master with one
+    /// epoch have one address, and no file's epoch falls. A step moves one node at most, the one that it names or its
+    /// message's target, and one that doesn't apply changes nothing: so it is with an input that only a message brings.
+    /// Of the steps nothing is asked but that their numbers are within the limits: a command's epoch is at most
+    /// `MAX_EPOCH`, and an INFO can show the numbers of a change.
     ///
-    /// `NoMemory` says how many of the steps were made, which is fewer than all: the others weren't, and no report is given.
+    /// `NoMemory` says how many of the steps were made, which is fewer than all: the others weren't, and no report is
+    /// given.
     ///
-    /// Many clauses: of a report and of `NoMemory` each, what this call ran, and that all runs since the start go on by it.
+    /// Many clauses: of a report and of `NoMemory` each, what this call ran, and that all runs since the start go on by
+    /// it.
     pub fn run(&mut self, steps: &[Step]) -> Result<Report, RunFault>
         requires within { All IsWithinLimits steps.now }
         requires stands { Stands self.old.roster

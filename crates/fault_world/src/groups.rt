@@ -130,8 +130,8 @@ fn have_stores(stores: usize, nodes: &Vec<Box<dyn Node>>) -> bool
     true
 }
 
-/// Whether these nodes are the group of the roster: each Sentinel and each data node of it once, clients of different names, and each
-/// knows the roster.
+/// Whether these nodes are the group of the roster: each Sentinel and each data node of it once, clients of different
+/// names, and each knows the roster.
 pub(crate) fn is_group_of(roster: &Roster, nodes: &Vec<Box<dyn Node>>) -> bool
     requires { IsRoster roster.now }
     ensures group { IsTrue result → IsGroupOf (λ b. name b) (λ b. is_known b roster.now) roster.now nodes.now.items }

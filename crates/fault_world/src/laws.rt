@@ -9,7 +9,8 @@ pub fn law_reports_join()
     ensures { ReportsJoin }
 {}
 
-/// The numbers of each step that a scenario's line tells are within the limits, so a world runs all that `read_scenario` gives.
+/// The numbers of each step that a scenario's line tells are within the limits, so a world runs all that
+/// `read_scenario` gives.
 #[tactic(auto, using(crate::proofs::Limiting::scenarios_are_within))]
 pub fn law_scenarios_are_within()
     ensures { ScenariosAreWithin }

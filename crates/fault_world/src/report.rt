@@ -10,8 +10,8 @@ use resp2::OutText;
 use std::alloc::Global;
 use std::marker::Model;
 
-/// The elections and the configurations shown of a run, in the order in which they happened. Contracts see the list of the entries, and
-/// how many more it has room for.
+/// The elections and the configurations shown of a run, in the order in which they happened. Contracts see the list of
+/// the entries, and how many more it has room for.
 #[derive(Drop)]
 pub struct Report {
     entries: Vec<Entry>,
@@ -68,8 +68,9 @@ impl Report {
         self.entries.as_slice()
     }
 
-    /// Adds a line for each entry, in order: `elected <master> <epoch> <runid>` or `said <runid> <master> <epoch> <ip> <port>`, with
-    /// numbers in decimal and LF at the end. `NoMemory` leaves the text unchanged.
+    /// Adds a line for each entry, in order: `elected <master> <epoch> <runid>` or
+    /// `said <runid> <master> <epoch> <ip> <port>`, with numbers in decimal and LF at the end. `NoMemory` leaves the
+    /// text unchanged.
     pub fn lines(&self, text: &mut OutText) -> Result<(), NoMemory>
         ensures ok { OnOk result (text.new ≡ text.old ++ report_text self.now.entries) }
         ensures err { OnErr result (text.new ≡ text.old) }

@@ -1,7 +1,7 @@
 //! Scenarios: stories of a whole group as text, one step a line.
 //!
-//! `read_scenario` gives the steps of a text, or its first faulty line. A line has a word that says what happens and its
-//! arguments, with one space between two words; empty lines, and those that begin with `#`, are skipped.
+//! `read_scenario` gives the steps of a text, or its first faulty line. A line has a word that says what happens and
+//! its arguments, with one space between two words; empty lines, and those that begin with `#`, are skipped.
 //!
 //! | Line | Step |
 //! |---|---|
@@ -16,12 +16,13 @@
 //! | `start <node> <now>` | a stopped node begins anew |
 //! | `answer <node> <master>` | a client asks a Sentinel for the address of a master |
 //!
-//! A node is `s`, `d` or `c` and a number: a Sentinel, a data node or a client, counted from 0 in the roster's order, data nodes master
-//! by master. Times are in milliseconds. Masters and messages are counted from 0 too, messages in the order of release.
+//! A node is `s`, `d` or `c` and a number: a Sentinel, a data node or a client, counted from 0 in the roster's order,
+//! data nodes master by master. Times are in milliseconds. Masters and messages are counted from 0 too, messages in the
+//! order of release.
 //!
-//! `add_message` and `add_comment` write a message for people: what it is on the wire, without the marks of the protocol. The words of a
-//! command are its own; those of a reply are its texts and numbers in order, with `(nil)` for null. A comment of a scenario is one line of
-//! printable ASCII, whatever its words are.
+//! `add_message` and `add_comment` write a message for people: what it is on the wire, without the marks of the
+//! protocol. The words of a command are its own; those of a reply are its texts and numbers in order, with `(nil)` for
+//! null. A comment of a scenario is one line of printable ASCII, whatever its words are.
 
 mod arguments;
 mod comments;

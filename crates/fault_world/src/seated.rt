@@ -12,9 +12,9 @@ use std::alloc::Global;
 
 /// A node of a group with its outbox, under the name that it was taken in with.
 ///
-/// A node doesn't tell whether it is stopped, so that is kept here. Each call moves every image that the member stands for as the model
-/// moves a node, and changes nothing where the node isn't in the state that the call is for; the node has to go by the member's name. What
-/// was released goes out at once: the outbox shows nothing between two calls.
+/// A node doesn't tell whether it is stopped, so that is kept here. Each call moves every image that the member stands
+/// for as the model moves a node, and changes nothing where the node isn't in the state that the call is for; the node
+/// has to go by the member's name. What was released goes out at once: the outbox shows nothing between two calls.
 #[derive(Drop)]
 pub struct Seated {
     pub name: NodeName,
@@ -59,7 +59,8 @@ impl Seated {
         Ok(())
     }
 
-    /// Stores what the node took, or finds the store refused; the election that is stored, by its master and epoch. No memory is taken.
+    /// Stores what the node took, or finds the store refused; the election that is stored, by its master and epoch. No
+    /// memory is taken.
     pub fn store(&mut self, how: HowStored) -> Option<(u16, u64)>
         requires { name self.old.node ≡ self.old.name }
         ensures stores { SeatStores how result
@@ -81,8 +82,8 @@ impl Seated {
         self.outbox.held_len()
     }
 
-    /// Releases what is held, where that is stored: it joins a list with room for it, in order. No memory is taken. What is held is what
-    /// a node of this name may hold: so it is where the member stands for a node of a world.
+    /// Releases what is held, where that is stored: it joins a list with room for it, in order. No memory is taken.
+    /// What is held is what a node of this name may hold: so it is where the member stands for a node of a world.
     pub fn release(&mut self, released: &mut Vec<Output>)
         requires held { IsHeldBy (name self.old.node) self.old.outbox.held }
         requires room { vec_len released.old + length self.old.outbox.held ≤ vec_capacity released.old }
@@ -109,8 +110,8 @@ impl Seated {
         self.stopped = true;
     }
 
-    /// Starts the node at this reading of its clock, in milliseconds, where it is stopped; what it held is lost. `NoMemory` leaves it
-    /// stopped.
+    /// Starts the node at this reading of its clock, in milliseconds, where it is stopped; what it held is lost.
+    /// `NoMemory` leaves it stopped.
     pub fn start(&mut self, now: u64) -> Result<(), NoMemory>
         requires { name self.old.node ≡ self.old.name }
         ensures ok { OnOk result (SeatStarts

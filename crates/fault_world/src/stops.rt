@@ -110,9 +110,9 @@ fn add_copies(alloc: Global, made: &mut Vec<Step>, steps: &[Step]) -> Result<(),
     Ok(())
 }
 
-/// These steps with a stop of Sentinel `s` behind the first `k`, and a start of it at this reading right behind the stop: the first `k`
-/// steps, the stop, which leaves this text where it comes within a take, the start, and the steps behind them. `k` is at most the number
-/// of the steps. `NoMemory` leaves nothing.
+/// These steps with a stop of Sentinel `s` behind the first `k`, and a start of it at this reading right behind the
+/// stop: the first `k` steps, the stop, which leaves this text where it comes within a take, the start, and the steps
+/// behind them. `k` is at most the number of the steps. `NoMemory` leaves nothing.
 pub fn with_stop(
     alloc: Global,
     steps: &[Step],

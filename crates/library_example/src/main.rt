@@ -1,5 +1,6 @@
-//! One Sentinel in a program of your own: each tick is taken, what it changed is stored, and only then is there something to send. Nobody
-//! answers here, so the third tick finds the master down and elects this Sentinel, which is alone.
+//! One Sentinel in a program of your own: each tick is taken, what it changed is stored, and only then is there
+//! something to send. Nobody answers here, so the third tick finds the master down and elects this Sentinel, which is
+//! alone.
 #![tactic(auto)]
 
 use ballot_law::{Event, Input};

@@ -7,7 +7,8 @@ ghost use Rattle.links.specs.HelloDedup.{Keeps, is_recent};
 use ballot_law::{NoMemory, Text};
 use std::alloc::Global;
 
-/// For how long a hello that was heard isn't news, in milliseconds: it comes again from each data node of its master, and its Sentinel publishes the next one after 2,000.
+/// For how long a hello that was heard isn't news, in milliseconds: it comes again from each data node of its master,
+/// and its Sentinel publishes the next one after 2,000.
 pub const NEWS_MS: u64 = 1_000;
 
 /// How many hellos are kept: some more than sixty-four Sentinels publish of a master in that time.
@@ -20,7 +21,8 @@ pub struct HeardHello {
     pub text: Text,
 }
 
-/// The hellos that were heard last, in the order of their places; `next` is the place that the next one takes once all are taken.
+/// The hellos that were heard last, in the order of their places; `next` is the place that the next one takes once all
+/// are taken.
 #[derive(Drop)]
 pub struct HelloDedup {
     alloc: Global,
@@ -49,8 +51,8 @@ impl HelloDedup {
         }
     }
 
-    /// Whether a hello with this text is news at this reading of the clock: none of the same bytes was heard less than `NEWS_MS` ago. One that is news is kept; where there is no memory for
-    /// it, it is news the next time too.
+    /// Whether a hello with this text is news at this reading of the clock: none of the same bytes was heard less than
+    /// `NEWS_MS` ago. One that is news is kept; where there is no memory for it, it is news the next time too.
     pub fn hear(&mut self, now: u64, text: &[u8]) -> bool
         ensures news { result ≡ not (is_recent now text.now self.old.hellos.items) }
         ensures old { result ≡ false → self.new ≡ self.old }

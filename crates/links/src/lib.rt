@@ -1,6 +1,8 @@
-//! The connections of one Sentinel to the other Sentinels and to its data nodes, as far as they are decided without a socket: which node a connection is to (`Target`),
-//! when it is opened, given up and asked (`Schedule`), what goes over it and is heard on it meanwhile (`NodeLink`), and when the Sentinel ticks (`TickSchedule`).
-//! Beside them: how much may be heard (`RateLimit`), which hellos were heard already (`HelloDedup`), what is to be noted of connections (`SilenceTimer`, `RecentFaults`, `is_refusal`), and INFO with names in it (`without_names`).
+//! The connections of one Sentinel to the other Sentinels and to its data nodes, as far as they are decided without a
+//! socket: which node a connection is to (`Target`), when it is opened, given up and asked (`Schedule`), what goes over
+//! it and is heard on it meanwhile (`NodeLink`), and when the Sentinel ticks (`TickSchedule`). Beside them: how much
+//! may be heard (`RateLimit`), which hellos were heard already (`HelloDedup`), what is to be noted of connections
+//! (`SilenceTimer`, `RecentFaults`, `is_refusal`), and INFO with names in it (`without_names`).
 //!
 //! ```text
 //! if link.stale(now).is_some() { link.close(now); }         // and its owner drops the socket

@@ -19,8 +19,9 @@ use ballot_law::{Body, Event, Message, NodeName};
 use std::alloc::Global;
 use std::marker::Model;
 
-/// A connection to a node, or the wish for one: its times, and what is asked, held and unsent on it. Its owner has the socket, opens that where `open` did, and
-/// drops it where the connection is closed. A fault closes it, and all that was on it is lost.
+/// A connection to a node, or the wish for one: its times, and what is asked, held and unsent on it. Its owner has the
+/// socket, opens that where `open` did, and drops it where the connection is closed. A fault closes it, and all that
+/// was on it is lost.
 #[derive(Drop)]
 pub struct NodeLink {
     target: Target,
@@ -64,7 +65,8 @@ fn closed(alloc: Global, target: Target, schedule: &mut Schedule, now: u64) -> L
 }
 
 impl NodeLink {
-    /// A connection that isn't open, and is to be opened at once, with so many milliseconds between two PINGs. No memory is taken.
+    /// A connection that isn't open, and is to be opened at once, with so many milliseconds between two PINGs. No
+    /// memory is taken.
     #[tactic(auto, using(crate::proofs::Keeping::kept_anew))]
     pub fn new(alloc: Global, target: Target, ping_each: u64) -> NodeLink
         ensures target { result.target ≡ target }
@@ -81,7 +83,8 @@ impl NodeLink {
         }
     }
 
-    /// How much is held at most: 65,536 bytes that are unsent, 512 questions, and in memory 65,537 bytes that came and are no whole value yet.
+    /// How much is held at most: 65,536 bytes that are unsent, 512 questions, and in memory 65,537 bytes that came and
+    /// are no whole value yet.
     pub fn is_bounded(&self)
         ensures { IsBounded self.now.talk }
     {
@@ -129,7 +132,8 @@ impl NodeLink {
         self.session = closed(self.alloc, self.target, &mut self.schedule, now);
     }
 
-    /// It is being opened from now on, and what comes before all messages is unsent. A fault, as a login that is too long, leaves it closed.
+    /// It is being opened from now on, and what comes before all messages is unsent. A fault, as a login that is too
+    /// long, leaves it closed.
     #[tactic(auto, using(crate::proofs::Keeping::kept_first))]
     pub fn open(&mut self, login: Login<'_>, now: u64) -> Result<(), LinkFault>
         ensures ok { OnOk result (self.new ≡ opening_at now login.entry self.old) }
@@ -208,7 +212,8 @@ impl NodeLink {
         }
     }
 
-    /// Takes the next piece of what the node sends, and adds what the values tell that are whole with it, as `LinkSession::received` does. A fault closes it.
+    /// Takes the next piece of what the node sends, and adds what the values tell that are whole with it, as
+    /// `LinkSession::received` does. A fault closes it.
     #[tactic(auto, using(crate::proofs::Keeping::kept_anew))]
     pub fn received(
         &mut self,
@@ -267,7 +272,8 @@ impl NodeLink {
         Ok(())
     }
 
-    /// Asks for INFO, where it is open, takes messages, and is to a data node: so it is known at once what came of an order. A fault closes it.
+    /// Asks for INFO, where it is open, takes messages, and is to a data node: so it is known at once what came of an
+    /// order. A fault closes it.
     pub fn look(&mut self, now: u64) -> Result<(), LinkFault>
         ensures listens { self.old.target.listens ≡ true → self.new ≡ self.old }
         ensures shut { self.old.schedule.stage ≢ Open → self.new ≡ self.old }

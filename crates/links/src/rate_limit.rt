@@ -5,7 +5,8 @@ ghost use Rattle.std.specs.Prelude.{◌≡◌, ◌≤◌, ◌<◌, ◌↔◌, �
 /// How long the time is in which what was heard is counted, in milliseconds.
 pub const FLOW_MS: u64 = 1_000;
 
-/// How many hellos and answers may come on a connection in that time. Sixty-four Sentinels publish some forty hellos in it; a node that passes on more is shut off for as long.
+/// How many hellos and answers may come on a connection in that time. Sixty-four Sentinels publish some forty hellos in
+/// it; a node that passes on more is shut off for as long.
 pub const FLOW_MAX: u64 = 512;
 
 /// How many hellos and answers came on a connection since a reading of the clock in milliseconds.

@@ -9,7 +9,8 @@ use std::alloc::Global;
 /// For how long a further fault of a node isn't noted, in milliseconds.
 pub const FAULT_NOTE_MS: u64 = 60_000;
 
-/// The place of the connection that takes the messages of a node of which a fault was noted, and when, by a reading of the clock in milliseconds.
+/// The place of the connection that takes the messages of a node of which a fault was noted, and when, by a reading of
+/// the clock in milliseconds.
 #[derive(Clone, Copy)]
 pub struct NotedFault {
     pub place: usize,
@@ -39,8 +40,8 @@ impl RecentFaults {
         }
     }
 
-    /// Whether a fault of the node at this place is to be noted at this reading of the clock: none was within `FAULT_NOTE_MS`. One that is noted is kept; where there is no memory
-    /// for it, the next one is noted too.
+    /// Whether a fault of the node at this place is to be noted at this reading of the clock: none was within
+    /// `FAULT_NOTE_MS`. One that is noted is kept; where there is no memory for it, the next one is noted too.
     pub fn takes_note(&mut self, place: usize, now: u64) -> bool
         ensures due { result ≡ not (is_noted now place self.old.noted.items) }
         ensures old { result ≡ false → self.new ≡ self.old }

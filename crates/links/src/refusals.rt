@@ -2,7 +2,8 @@
 
 ghost use Rattle.std.specs.Prelude.{◌≡◌, ◌⊎◌, ◌↔◌, ◌++◌, List, ℕ, IsTrue, codes};
 
-/// Whether a piece of what a node sends begins with the error of one that wants a password or has refused it, or of one whose user may not do what was asked.
+/// Whether a piece of what a node sends begins with the error of one that wants a password or has refused it, or of one
+/// whose user may not do what was asked.
 pub fn is_refusal(piece: &[u8]) -> bool {
     piece.starts_with(b"-NOAUTH ")
         || piece.starts_with(b"-WRONGPASS ")

@@ -19,7 +19,8 @@ pub const PAUSE_MIN_MS: u64 = 100;
 
 pub const PAUSE_MAX_MS: u64 = 500;
 
-/// For how long a connection has to be open to be opened again at once where its node ends it, in milliseconds: as at CLIENT KILL, after which hellos would be missed.
+/// For how long a connection has to be open to be opened again at once where its node ends it, in milliseconds: as at
+/// CLIENT KILL, after which hellos would be missed.
 pub const LASTING_MS: u64 = 2_000;
 
 /// The shortest and the longest time between two PINGs that a connection sends, in milliseconds.
@@ -30,8 +31,9 @@ pub const PING_MAX_MS: u64 = 1_000;
 /// How many PINGs a connection sends in the time after which its node would be down, within these limits.
 pub const PINGS: u64 = 8;
 
-/// How long it is between two INFOs that the connection asks for by itself, in milliseconds. A replica whose INFO is older than 5 s isn't promoted; and a node whose role is wrong has
-/// to say so twice, 8 s apart, before it is told otherwise, which is after two of these times.
+/// How long it is between two INFOs that the connection asks for by itself, in milliseconds. A replica whose INFO is
+/// older than 5 s isn't promoted; and a node whose role is wrong has to say so twice, 8 s apart, before it is told
+/// otherwise, which is after two of these times.
 pub const INFO_MS: u64 = 4_150;
 
 /// Where a connection stands.
@@ -56,9 +58,10 @@ pub enum Stale {
     NoHello,
 }
 
-/// The times of a connection, readings of one clock in milliseconds: `since` is when its stage began, `quiet` when the silence began that counts, and `pinged` when it
-/// last sent a PING. `ping_each` is how long it is between two PINGs, `pause` how long it stays closed, and `infos` the time, of those between two INFOs since it was opened, at
-/// which it is to ask for INFO by itself again.
+/// The times of a connection, readings of one clock in milliseconds: `since` is when its stage began, `quiet` when the
+/// silence began that counts, and `pinged` when it last sent a PING. `ping_each` is how long it is between two PINGs,
+/// `pause` how long it stays closed, and `infos` the time, of those between two INFOs since it was opened, at which it
+/// is to ask for INFO by itself again.
 #[derive(Clone, Copy)]
 pub struct Schedule {
     pub stage: Stage,
@@ -70,8 +73,8 @@ pub struct Schedule {
     pub infos: u64,
 }
 
-/// How long it is between two PINGs to a node that is down after a silence of so many milliseconds: an eighth of that, so that a pause of the node's own machine is seldom taken for
-/// one, and within the limits.
+/// How long it is between two PINGs to a node that is down after a silence of so many milliseconds: an eighth of that,
+/// so that a pause of the node's own machine is seldom taken for one, and within the limits.
 pub fn ping_each(down_after: u64) -> u64
     ensures { result ≡ min (max (down_after / PINGS) PING_MIN_MS) PING_MAX_MS }
 {
@@ -103,7 +106,8 @@ impl Schedule {
         self.stage == Stage::Closed && self.pause <= now.saturating_sub(self.since)
     }
 
-    /// Why it is to be given up now, where it listens to hellos or doesn't, and an answer is awaited on it or none; `None` where it isn't.
+    /// Why it is to be given up now, where it listens to hellos or doesn't, and an answer is awaited on it or none;
+    /// `None` where it isn't.
     pub fn stale(&self, listens: bool, waits: bool, now: u64) -> Option<Stale>
         ensures unreached { result ≡ Some Unreached ↔ ((self.now.stage ≡ Opening) × (CONNECT_MS ≤ now - self.now.since)) }
         ensures silent { result ≡ Some Silent
@@ -165,7 +169,8 @@ impl Schedule {
         self.quiet = now;
     }
 
-    /// It is closed from now on. Where nothing was heard since it was last closed, the pause is twice as long as the last one.
+    /// It is closed from now on. Where nothing was heard since it was last closed, the pause is twice as long as the
+    /// last one.
     pub fn close(&mut self, now: u64)
         ensures { self.new ≡ closed now self.old }
     {
@@ -185,7 +190,8 @@ impl Schedule {
         self.pause = 0;
     }
 
-    /// Whether it is open, and has been for so long that its node counts as a good one: where such a connection ends, it is opened again at once.
+    /// Whether it is open, and has been for so long that its node counts as a good one: where such a connection ends,
+    /// it is opened again at once.
     pub fn is_lasting(&self, now: u64) -> bool
         ensures { IsTrue result ↔ ((self.now.stage ≡ Open) × (LASTING_MS ≤ now - self.now.since)) }
     {

@@ -1,8 +1,9 @@
 //! The conversation with one node on a connection that a Sentinel opened.
 //!
-//! A `LinkSession` has what lies between a Sentinel's messages and the bytes of one TCP connection: what was asked and isn't answered yet, oldest first, the bytes
-//! that came and are no whole value yet, and the bytes that aren't sent yet. RESP2 answers in the order of the questions, so the oldest question tells what
-//! a value that comes is about. It knows no socket and no clock.
+//! A `LinkSession` has what lies between a Sentinel's messages and the bytes of one TCP connection: what was asked and
+//! isn't answered yet, oldest first, the bytes that came and are no whole value yet, and the bytes that aren't sent
+//! yet. RESP2 answers in the order of the questions, so the oldest question tells what a value that comes is about. It
+//! knows no socket and no clock.
 //!
 //! ```text
 //! let mut link = LinkSession::new(alloc, node);

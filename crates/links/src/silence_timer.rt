@@ -34,7 +34,8 @@ impl SilenceTimer {
         was_noted
     }
 
-    /// Whether it is to be noted now that nothing came for so long: it is quiet for that long, and it wasn't noted yet. A second time it isn't.
+    /// Whether it is to be noted now that nothing came for so long: it is quiet for that long, and it wasn't noted yet.
+    /// A second time it isn't.
     pub fn takes_note(&mut self, now: u64, millis: u64) -> bool
         ensures due { IsTrue result ↔ ((self.old.is_noted ≡ false) × (millis ≤ now - self.old.since)) }
         ensures since { self.new.since ≡ self.old.since }

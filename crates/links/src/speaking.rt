@@ -78,10 +78,11 @@ fn is_short(session: &LinkSession) -> Result<(), LinkFault>
     Ok(())
 }
 
-/// Puts out a message: an order to follow a master goes with CONFIG REWRITE and CLIENT KILL of normal clients and of subscribers, in one MULTI.
+/// Puts out a message: an order to follow a master goes with CONFIG REWRITE and CLIENT KILL of normal clients and of
+/// subscribers, in one MULTI.
 ///
-/// `Full` where too much is unsent with it, or too many answers are awaited, and `NoMemory`: all or a part of it may have been put out then, so the caller gives the
-/// connection up.
+/// `Full` where too much is unsent with it, or too many answers are awaited, and `NoMemory`: all or a part of it may
+/// have been put out then, so the caller gives the connection up.
 pub(crate) fn put_message(session: &mut LinkSession, message: &Message) -> Result<(), LinkFault>
     requires { IsWritable message.now.body }
     ensures ok { OnOk result (session.new ≡ record session.old {

@@ -7,8 +7,8 @@ ghost use Rattle.links.specs.Targets.{place_of, connection_count, IsStore, IsOf}
 
 use ballot_law::{Addr, NodeName, Roster};
 
-/// The node at the other end of a connection, and its address. A Sentinel has one connection to each other Sentinel; to each data node it has one for its messages, and
-/// one that listens to hellos.
+/// The node at the other end of a connection, and its address. A Sentinel has one connection to each other Sentinel; to
+/// each data node it has one for its messages, and one that listens to hellos.
 #[derive(Clone, Copy)]
 pub struct Target {
     pub node: NodeName,
@@ -16,7 +16,8 @@ pub struct Target {
     pub listens: bool,
 }
 
-/// How many places a Sentinel of this roster has for connections: one for each Sentinel, of which its own stays empty, then two for each data node.
+/// How many places a Sentinel of this roster has for connections: one for each Sentinel, of which its own stays empty,
+/// then two for each data node.
 pub fn connection_count(roster: &Roster) -> usize
     ensures value { result ≡ connection_count roster.now }
     ensures few { result ≤ 16_384 }
@@ -35,7 +36,8 @@ fn store_place(sentinels: usize, number: u16) -> usize
 
 /// The place of the connection that takes what is for this node; none where no connection is to it.
 ///
-/// The connection there, of whatever Sentinel of the roster, is to this node and to no other, and doesn't listen to hellos.
+/// The connection there, of whatever Sentinel of the roster, is to this node and to no other, and doesn't listen to
+/// hellos.
 #[tactic(auto, using(crate::proofs::Places::is_alone))]
 pub fn place_of(roster: &Roster, node: NodeName) -> Option<usize>
     ensures place { result ≡ place_of roster.now node }
@@ -53,7 +55,8 @@ pub fn place_of(roster: &Roster, node: NodeName) -> Option<usize>
     }
 }
 
-/// The connection that listens to a data node's hellos, or the one that takes its messages; none where no data node has the number.
+/// The connection that listens to a data node's hellos, or the one that takes its messages; none where no data node has
+/// the number.
 #[tactic(auto, using(crate::proofs::Places::is_numbered))]
 fn store_target(roster: &Roster, number: usize, listens: bool) -> Option<Target>
     ensures store { IfSome result (IsStore roster.now number) }
@@ -74,7 +77,8 @@ fn store_target(roster: &Roster, number: usize, listens: bool) -> Option<Target>
     }
 }
 
-/// Which node the connection at this place is to, of the Sentinel at the place `own` of the roster; none at its own place, and past the last one.
+/// Which node the connection at this place is to, of the Sentinel at the place `own` of the roster; none at its own
+/// place, and past the last one.
 #[tactic(auto, using(crate::proofs::Places::is_at, crate::proofs::Places::is_past, crate::proofs::Places::is_other))]
 pub fn target_at(roster: &Roster, own: u16, place: usize) -> Option<Target>
     ensures target { IfSome result (IsOf roster.now place) }

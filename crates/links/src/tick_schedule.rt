@@ -10,21 +10,22 @@ pub const TICK_MIN_MS: u64 = 50;
 
 pub const TICK_MAX_MS: u64 = 100;
 
-/// How far apart the turns of two Sentinels are that may begin a campaign, in milliseconds, where few of them share the longest pause: a vote is stored, and asked of the
-/// others, in much less.
+/// How far apart the turns of two Sentinels are that may begin a campaign, in milliseconds, where few of them share the
+/// longest pause: a vote is stored, and asked of the others, in much less.
 pub const SLOT_MAX_MS: u64 = 200;
 
 /// For how long the ticks are held back at most where a campaign is near, in milliseconds.
 pub const HOLD_MAX_MS: u64 = 1_000;
 
-/// How far apart two ticks may come to be by being held back, in milliseconds: at 2,000 a Sentinel would take its clock to have leapt.
+/// How far apart two ticks may come to be by being held back, in milliseconds: at 2,000 a Sentinel would take its clock
+/// to have leapt.
 pub const APART_MAX_MS: u64 = 1_200;
 
 /// How long after the last ticks those that are due are late, in milliseconds.
 pub const LATE_MS: u64 = 800;
 
-/// The turns of a Sentinel, by readings of one clock in milliseconds: `turned` is when the last one ended, `ticked` when the last ticks began, and `tick_due` when the
-/// next ones are due.
+/// The turns of a Sentinel, by readings of one clock in milliseconds: `turned` is when the last one ended, `ticked`
+/// when the last ticks began, and `tick_due` when the next ones are due.
 #[derive(Clone, Copy)]
 pub struct TickSchedule {
     pub turned: u64,
@@ -48,8 +49,8 @@ fn slot_of(turns: u64) -> u64
     (HOLD_MAX_MS / turns).min(SLOT_MAX_MS)
 }
 
-/// Which turn the Sentinel at this place has, of so many: turns go by the places in the roster, and a campaign's number moves them on. So Sentinels that know the same number have
-/// different turns.
+/// Which turn the Sentinel at this place has, of so many: turns go by the places in the roster, and a campaign's number
+/// moves them on. So Sentinels that know the same number have different turns.
 pub fn turn_of(place: u16, number: u64, turns: u64) -> u64
     requires some { 0 < turns }
     requires few { turns ≤ 64 }
@@ -59,8 +60,9 @@ pub fn turn_of(place: u16, number: u64, turns: u64) -> u64
     (u64::from(place) + number % turns) % turns
 }
 
-/// For how long a Sentinel holds its ticks back whose turn to begin a campaign is this one of so many: so those that find a master down together begin one after the other,
-/// and who begins first has the votes of the others. Half of each turn goes by lot.
+/// For how long a Sentinel holds its ticks back whose turn to begin a campaign is this one of so many: so those that
+/// find a master down together begin one after the other, and who begins first has the votes of the others. Half of
+/// each turn goes by lot.
 pub fn pause_of(turn: u64, turns: u64, lot: u64) -> u64
     requires { turn < turns }
     ensures turn { turn * min SLOT_MAX_MS (HOLD_MAX_MS / turns) ≤ result }
@@ -97,8 +99,9 @@ impl TickSchedule {
         self.tick_due.saturating_sub(now)
     }
 
-    /// Whether the ticks are due, and the last ones long ago: then nothing is to be heard before them that may be stored, since a store takes long on a slow disk, and at
-    /// 2,000 ms between two ticks the Sentinel would take its clock to have leapt.
+    /// Whether the ticks are due, and the last ones long ago: then nothing is to be heard before them that may be
+    /// stored, since a store takes long on a slow disk, and at 2,000 ms between two ticks the Sentinel would take its
+    /// clock to have leapt.
     pub fn is_late(&self, now: u64) -> bool
         ensures { IsTrue result ↔ ((self.now.tick_due ≤ now) × (LATE_MS < now - self.now.ticked)) }
     {
@@ -112,7 +115,8 @@ impl TickSchedule {
         self.turned = now;
     }
 
-    /// Ticks began at this reading: by lot, the next ones are due 50 to 100 ms later, so that two Sentinels don't tick together for long.
+    /// Ticks began at this reading: by lot, the next ones are due 50 to 100 ms later, so that two Sentinels don't tick
+    /// together for long.
     pub fn plan_tick(&mut self, now: u64, lot: u64)
         ensures due { now + TICK_MAX_MS < 2 ^ 64 → (now + TICK_MIN_MS ≤ self.new.tick_due) × (self.new.tick_due ≤ now + TICK_MAX_MS) }
         ensures ticked { (self.new.turned ≡ self.old.turned) × (self.new.ticked ≡ now) }
@@ -122,7 +126,8 @@ impl TickSchedule {
         self.ticked = now;
     }
 
-    /// A campaign is near: the next ticks are held back for so long from now. What is due later stays so, and no ticks come to be more than 1,200 ms apart by it.
+    /// A campaign is near: the next ticks are held back for so long from now. What is due later stays so, and no ticks
+    /// come to be more than 1,200 ms apart by it.
     pub fn hold(&mut self, now: u64, pause: u64)
         ensures later { self.old.tick_due ≤ self.new.tick_due }
         ensures soon { now + pause < 2 ^ 64 → self.new.tick_due ≤ max self.old.tick_due (now + pause) }

@@ -60,8 +60,8 @@ fn info_of_fields(fields: &Fields) -> Result<Info, TextFault>
 ///
 /// Eight fields are read: 1 `run_id`, 2 `role` (`master` or `slave`), 3 `master_host` (an IPv4 address), 4
 /// `master_port`, 5 `master_link_status` (`up` or `down`), 6 `master_link_down_since_seconds`, 7 `slave_priority`, 8
-/// `slave_repl_offset`. All other lines are passed over. Of a field that comes again the last line counts, and only that
-/// one is judged. Numbers are one or more digits of at most 2^63 - 1, a port 1 to 65,535; where a number below 0
+/// `slave_repl_offset`. All other lines are passed over. Of a field that comes again the last line counts, and only
+/// that one is judged. Numbers are one or more digits of at most 2^63 - 1, a port 1 to 65,535; where a number below 0
 /// stands in fields 6 and 8 it is read as 0. Faults: `NotUtf8`; `BadField` with the smallest field that is bad, or 2
 /// where the role is missing. No memory is taken.
 pub fn read_info(bytes: &[u8]) -> Result<Info, TextFault>

@@ -144,9 +144,9 @@ fn role_of_items(items: &[Value]) -> Result<Role, TextFault>
 ///
 /// A master's is an array of the bulk string `master`, its replication offset and an array, which is passed over. A
 /// replica's is an array of `slave`, the ip of its master as a bulk string, the port as an integer, the link's state as
-/// a bulk string of any bytes, and the offset. An offset below 0 is read as 0. Faults: `FieldCount` where the value isn't
-/// an array, or has another length than its kind; `BadField` with the place of the first element that is bad, counted
-/// from 1. No memory is taken.
+/// a bulk string of any bytes, and the offset. An offset below 0 is read as 0. Faults: `FieldCount` where the value
+/// isn't an array, or has another length than its kind; `BadField` with the place of the first element that is bad,
+/// counted from 1. No memory is taken.
 pub fn read_role(value: &Value) -> Result<Role, TextFault>
     ensures { result ≡ role_of (view value.now) }
 {

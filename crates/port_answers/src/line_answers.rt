@@ -79,8 +79,8 @@ impl AnswerText {
         self.add_bulk(run_id_text(id).as_slice());
     }
 
-    /// Adds the answer to `SUBSCRIBE +switch-master`, as Redis words it: the connection listens on one channel now. What has no room
-    /// is cut.
+    /// Adds the answer to `SUBSCRIBE +switch-master`, as Redis words it: the connection listens on one channel now.
+    /// What has no room is cut.
     pub fn add_subscribed(&mut self)
         ensures { self.new ≡ bounded (self.old ++ spelling subscribed) }
     {

@@ -44,8 +44,8 @@ fn add_addr(text: &mut OutText, addr: Addr) -> Result<(), NoMemory>
     text.add(port.format(addr.port).as_bytes())
 }
 
-/// Adds what a note tells of the master with this name: the name, its old address and its new one. `NoMemory`: memory was refused, and a first part of it may be
-/// there.
+/// Adds what a note tells of the master with this name: the name, its old address and its new one. `NoMemory`: memory
+/// was refused, and a first part of it may be there.
 pub fn add_note(text: &mut OutText, name: &Name, note: &Note) -> Result<(), NoMemory>
     ensures { OnOk result (text.new ≡ text.old ++ note_text name.now note.now) }
 {

@@ -32,8 +32,8 @@ use sentinel_outbox::Outbox;
 use std::alloc::Global;
 use std::sync::Wait;
 
-/// What answers one value after another: the room for the outputs of a command, the text of the last answer, and since which entry of the
-/// Sentinel's history the client listens to notes.
+/// What answers one value after another: the room for the outputs of a command, the text of the last answer, and since
+/// which entry of the Sentinel's history the client listens to notes.
 #[derive(Drop)]
 pub(crate) struct Responder {
     alloc: Global,
@@ -226,7 +226,8 @@ impl Responder {
         write_message(self.alloc, message, &mut self.text)
     }
 
-    /// The answer to a command that takes a turn, which the outbox then shows alone; the client listens where it was SUBSCRIBE.
+    /// The answer to a command that takes a turn, which the outbox then shows alone; the client listens where it was
+    /// SUBSCRIBE.
     fn answer_in_turn<S: ConfStore, R: Wait>(
         &mut self,
         rt: &R,
@@ -268,8 +269,8 @@ impl Responder {
         }
     }
 
-    /// The answer to a value, by the command that it spells or the reason why it is none: what a client is told that listens, or else what it
-    /// asks for, or the line of its fault.
+    /// The answer to a value, by the command that it spells or the reason why it is none: what a client is told that
+    /// listens, or else what it asks for, or the line of its fault.
     pub(crate) fn answer<S: ConfStore, R: Wait>(
         &mut self,
         rt: &R,

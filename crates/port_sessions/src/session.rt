@@ -17,9 +17,9 @@ use std::alloc::Global;
 use std::marker::Model;
 use std::sync::Wait;
 
-/// The conversation with one client of a port. Contracts see the bytes held, which came and are no whole value yet, the answers and notes
-/// that aren't sent yet, and the fault that ended it; whether it listens to notes, with the entry of its SUBSCRIBE; and of each master the epoch of
-/// the configuration that it was told last.
+/// The conversation with one client of a port. Contracts see the bytes held, which came and are no whole value yet, the
+/// answers and notes that aren't sent yet, and the fault that ended it; whether it listens to notes, with the entry of
+/// its SUBSCRIBE; and of each master the epoch of the configuration that it was told last.
 #[derive(Drop)]
 pub struct Session {
     exchange: Exchange,
@@ -58,22 +58,26 @@ impl Session {
         }
     }
 
-    /// Takes the next piece of what the client sends, of any length, at a reading of the clock in milliseconds, and puts out the
-    /// answer to each value that is whole with it, in their order. It waits for the Sentinel's turn where a command takes one.
+    /// Takes the next piece of what the client sends, of any length, at a reading of the clock in milliseconds, and
+    /// puts out the answer to each value that is whole with it, in their order. It waits for the Sentinel's turn where
+    /// a command takes one.
     ///
-    /// A question for the address of a master is answered from one `address` call of the seat, and waits for nobody: also while another
-    /// thread's store is under way, and after a halt. Every other command is answered by the outputs of one `act`, and what is no command
-    /// by the line of its fault.
+    /// A question for the address of a master is answered from one `address` call of the seat, and waits for nobody:
+    /// also while another thread's store is under way, and after a halt. Every other command is answered by the outputs
+    /// of one `act`, and what is no command by the line of its fault.
     ///
-    /// The first answer to `SUBSCRIBE +switch-master` has the session listen to notes (`notify`), since the entry of that `act`. From then on
-    /// the connection is in the Pub/Sub state of a Redis client: PING is answered by an array of `pong` and an empty text, SUBSCRIBE by its answer again, and
-    /// any other command by `-ERR not allowed while subscribed`. None of these takes a turn or asks for an address, so they come also after a halt.
+    /// The first answer to `SUBSCRIBE +switch-master` has the session listen to notes (`notify`), since the entry of
+    /// that `act`. From then on the connection is in the Pub/Sub state of a Redis client: PING is answered by an array
+    /// of `pong` and an empty text, SUBSCRIBE by its answer again, and any other command by
+    /// `-ERR not allowed while subscribed`. None of these takes a turn or asks for an address, so they come also after
+    /// a halt.
     ///
-    /// `Frame` where the bytes are no RESP2 value: the values before were answered, and `-ERR Protocol error` stands behind their answers.
-    /// `Halted` where a command took a turn and the Sentinel is halted, its store refused what the answer rests on, or there are no tickets
-    /// left: it has no answer. `NoMemory` where a growth was refused: the values before were answered, and one value more may have been
-    /// carried out with no answer. No other fault comes. What was put out before stays, and from then on the session answers the same fault for good,
-    /// takes nothing more, holds no bytes and listens to nothing; the next client has a session of its own.
+    /// `Frame` where the bytes are no RESP2 value: the values before were answered, and `-ERR Protocol error` stands
+    /// behind their answers. `Halted` where a command took a turn and the Sentinel is halted, its store refused what
+    /// the answer rests on, or there are no tickets left: it has no answer. `NoMemory` where a growth was refused: the
+    /// values before were answered, and one value more may have been carried out with no answer. No other fault comes.
+    /// What was put out before stays, and from then on the session answers the same fault for good, takes nothing more,
+    /// holds no bytes and listens to nothing; the next client has a session of its own.
     pub fn received<S: ConfStore, R: Wait>(
         &mut self,
         rt: &R,
@@ -84,7 +88,8 @@ impl Session {
     ) -> Result<(), ServeFault>
         requires own { seat.old.cell ≡ cell.now.id }
         ensures own { seat.new.cell ≡ seat.old.cell }
-        // The answers to the values of the bytes held before and the piece join what is unsent, and the bytes behind them are held.
+        // The answers to the values of the bytes held before and the piece join what is unsent, and the bytes behind
+        // them are held.
         ensures received { self.old.ended ≡ None → (more : List ℕ) × (self.new.unsent ≡ self.old.unsent ++ more)
             × Receives cell.now.start now (self.old.held ++ piece.now) (party seat.old.view self.old.listens) result self.new.held more (party seat.new.view self.new.listens) }
         ensures told { self.new.told ≡ self.old.told }
@@ -107,8 +112,9 @@ impl Session {
         }
     }
 
-    /// Answers a command, or a value that is none for this reason, as `received` answers the value that spells it: for a caller who reads the client's stream.
-    /// What is held is no part of it, and stays. It waits for the Sentinel's turn where the command takes one.
+    /// Answers a command, or a value that is none for this reason, as `received` answers the value that spells it: for
+    /// a caller who reads the client's stream. What is held is no part of it, and stays. It waits for the Sentinel's
+    /// turn where the command takes one.
     ///
     /// `Halted` and `NoMemory` are those of `received`, and end the session as they do there; no other fault comes.
     pub fn answer<S: ConfStore, R: Wait>(
@@ -165,8 +171,8 @@ impl Session {
         self.exchange.frames.held().is_empty()
     }
 
-    /// Takes away the first `n` bytes of what isn't sent yet, which the connection took. No memory is taken. Room that they leave is used
-    /// again, and given back where nothing is left and it was more than 16 KiB.
+    /// Takes away the first `n` bytes of what isn't sent yet, which the connection took. No memory is taken. Room that
+    /// they leave is used again, and given back where nothing is left and it was more than 16 KiB.
     pub fn sent(&mut self, n: usize)
         requires { n ≤ length self.old.unsent }
         ensures { self.new ≡ record self.old { unsent = drop n self.old.unsent } }
@@ -199,16 +205,18 @@ impl Session {
         }
     }
 
-    /// Tells the client of a note, where it is due: whether it is. `entry` is the number of calls before the one that showed the note in the
-    /// history of the Sentinel (`Reply::entry`), and the note's master is one of the roster.
+    /// Tells the client of a note, where it is due: whether it is. `entry` is the number of calls before the one that
+    /// showed the note in the history of the Sentinel (`Reply::entry`), and the note's master is one of the roster.
     ///
-    /// `true` where the session listens, its SUBSCRIBE stands before that entry, and it was told of no configuration of the master with an epoch as
-    /// high. Then what is unsent ends with the message that clients of Redis Sentinel wait for, as its documentation of Pub/Sub messages has it:
-    /// the array of `message`, `+switch-master` and `<name> <oldip> <oldport> <newip> <newport>`. So a client is told no configuration twice, and
-    /// none that is older than one that it was told; a note that comes after a newer one is left out. `false` changes nothing.
+    /// `true` where the session listens, its SUBSCRIBE stands before that entry, and it was told of no configuration of
+    /// the master with an epoch as high. Then what is unsent ends with the message that clients of Redis Sentinel wait
+    /// for, as its documentation of Pub/Sub messages has it: the array of `message`, `+switch-master` and
+    /// `<name> <oldip> <oldport> <newip> <newport>`. So a client is told no configuration twice, and none that is older
+    /// than one that it was told; a note that comes after a newer one is left out. `false` changes nothing.
     ///
-    /// Nothing says when a note arrives, or that it does: a client that listens asks for the address too, as it does after each new
-    /// connection. After `NoMemory` nothing has changed and the client misses a note: the connection is to be closed.
+    /// Nothing says when a note arrives, or that it does: a client that listens asks for the address too, as it does
+    /// after each new connection. After `NoMemory` nothing has changed and the client misses a note: the connection is
+    /// to be closed.
     pub fn notify(&mut self, roster: &Roster, note: &Note, entry: u64) -> Result<bool, NoMemory>
         requires { note.now.master < length roster.now.masters }
         ensures { Notifies roster.now note.now entry self.old result self.new }

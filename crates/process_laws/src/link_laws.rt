@@ -2,24 +2,27 @@
 
 ghost use Rattle.process_laws.specs.Connections.{AnswersAreDelivered, AnswersAreAboutIt, SendersAreFree, TargetsAreFree};
 
-/// Over a connection that loses nothing inside it, what a link hears for its k-th question is the delivery of the answer that the other Sentinel released for it: of
-/// the outputs of one stored entry of a legal history of that Sentinel, which took the question as its delivery would have been taken.
+/// Over a connection that loses nothing inside it, what a link hears for its k-th question is the delivery of the
+/// answer that the other Sentinel released for it: of the outputs of one stored entry of a legal history of that
+/// Sentinel, which took the question as its delivery would have been taken.
 pub fn law_answers_are_delivered()
     ensures { AnswersAreDelivered }
 {}
 
-/// What a command leaves and what its answer says doesn't depend on who sent it: so a question that came over a port is one that was delivered, and its answer is
-/// one that was sent to whoever asked.
+/// What a command leaves and what its answer says doesn't depend on who sent it: so a question that came over a port is
+/// one that was delivered, and its answer is one that was sent to whoever asked.
 pub fn law_senders_are_free()
     ensures { SendersAreFree }
 {}
 
-/// What the model allows a Sentinel to hold, and so to release, doesn't depend on whom it is sent to: an answer to a port may stand for one to whoever asked there.
+/// What the model allows a Sentinel to hold, and so to release, doesn't depend on whom it is sent to: an answer to a
+/// port may stand for one to whoever asked there.
 pub fn law_targets_are_free()
     ensures { TargetsAreFree }
 {}
 
-/// The answer to a question about an address that one master alone has in its list is about that master, whatever the Sentinel keeps.
+/// The answer to a question about an address that one master alone has in its list is about that master, whatever the
+/// Sentinel keeps.
 pub fn law_answers_are_about_it()
     ensures { AnswersAreAboutIt }
 {}

@@ -190,7 +190,8 @@ impl Subscriptions {
         }
     }
 
-    /// Whether the command of these items may be answered, which its name tells before anything is copied: nearly all that a client sends isn't.
+    /// Whether the command of these items may be answered, which its name tells before anything is copied: nearly all
+    /// that a client sends isn't.
     fn may_answer(&self, values: &[Value]) -> bool
         ensures { result ≡ false → answer (items (frames_view values.now)) self.now ≡ other }
     {
@@ -203,12 +204,13 @@ impl Subscriptions {
         }
     }
 
-    /// Answers a value of the connection, as redis-sentinel 7.0.15 does: SUBSCRIBE, UNSUBSCRIBE, PSUBSCRIBE and PUNSUBSCRIBE, and where the connection
-    /// listens, PING in its form for Pub/Sub, and the refusal of the Sentinel's own commands. `Said`: `out` is the answer, of one or more values. `Other`: `out`
-    /// is empty and nothing changes; the value is for the courtesies of the port and the rules of the Sentinel.
+    /// Answers a value of the connection, as redis-sentinel 7.0.15 does: SUBSCRIBE, UNSUBSCRIBE, PSUBSCRIBE and
+    /// PUNSUBSCRIBE, and where the connection listens, PING in its form for Pub/Sub, and the refusal of the Sentinel's
+    /// own commands. `Said`: `out` is the answer, of one or more values. `Other`: `out` is empty and nothing changes;
+    /// the value is for the courtesies of the port and the rules of the Sentinel.
     ///
-    /// `NoMemory`: memory was refused. What `out` then holds isn't told, and some of the names of UNSUBSCRIBE or PUNSUBSCRIBE may be removed; the connection is to be
-    /// closed.
+    /// `NoMemory`: memory was refused. What `out` then holds isn't told, and some of the names of UNSUBSCRIBE or
+    /// PUNSUBSCRIBE may be removed; the connection is to be closed.
     pub fn answer(&mut self, value: &Value, out: &mut OutText) -> Result<Turn, NoMemory>
         ensures turn { IfOk result (λ turn. turn ≡ turn_of (answer (view value.now) self.old)) }
         ensures text { OnOk result (out.new ≡ text_of (answer (view value.now) self.old)) }

@@ -14,8 +14,8 @@ use ballot_law::{NoMemory, Text};
 use resp2::OutText;
 use std::alloc::Global;
 
-/// Adds names to a list, and their confirmations to the answer, up to the first name that is refused; `others` is how many names of the other kind
-/// there are.
+/// Adds names to a list, and their confirmations to the answer, up to the first name that is refused; `others` is how
+/// many names of the other kind there are.
 fn add_each(
     alloc: Global,
     kind: Kind,
@@ -40,7 +40,8 @@ fn add_each(
     Ok(())
 }
 
-/// Adds all of these names to a list, and the answer is their confirmations; at a fault no name is added and the answer is empty.
+/// Adds all of these names to a list, and the answer is their confirmations; at a fault no name is added and the answer
+/// is empty.
 pub(crate) fn add_all(
     alloc: Global,
     kind: Kind,
@@ -125,8 +126,8 @@ fn remove_all(
     Ok(())
 }
 
-/// Removes these names from a list, or all where none is named, and the answer is their confirmations. `NoMemory`: memory was refused; some of
-/// them may be removed, and what the answer holds isn't told.
+/// Removes these names from a list, or all where none is named, and the answer is their confirmations. `NoMemory`:
+/// memory was refused; some of them may be removed, and what the answer holds isn't told.
 pub(crate) fn remove(
     kind: Kind,
     list: &mut NameList,

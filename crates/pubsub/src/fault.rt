@@ -6,7 +6,8 @@ ghost use Rattle.pubsub.specs.Answering.{fault_text};
 use ballot_law::NoMemory;
 use thiserror::Error;
 
-/// Why a connection doesn't listen to more channels or patterns. What it listened to before stays as it was. The text of each is the variant's name.
+/// Why a connection doesn't listen to more channels or patterns. What it listened to before stays as it was. The text
+/// of each is the variant's name.
 #[derive(Clone, Copy, Debug, PartialEq, Eq, Error)]
 pub enum ChannelFault {
     /// A name or a pattern has more than `NAME_BYTES_MAX` bytes.

@@ -104,7 +104,8 @@ fn after_star(pattern: &[u8]) -> Option<&[u8]>
     }
 }
 
-/// What is left of a pattern and a text where the first item takes the first byte; none at a `*`, at an end, or where the item doesn't take the byte.
+/// What is left of a pattern and a text where the first item takes the first byte; none at a `*`, at an end, or where
+/// the item doesn't take the byte.
 #[tactic(auto, using(crate::proofs::Fitting::stuck_ended, crate::proofs::Fitting::text_ended))]
 fn step<'a>(pattern: &'a [u8], text: &'a [u8]) -> Option<(&'a [u8], &'a [u8])>
     ensures stepped { IfSome result (λ left. IsStep pattern.now text.now left.0.now left.1.now) }
@@ -120,7 +121,8 @@ fn step<'a>(pattern: &'a [u8], text: &'a [u8]) -> Option<(&'a [u8], &'a [u8])>
     if takes { Some((after, later)) } else { None }
 }
 
-/// What is left of a pattern and a text after the items that take byte after byte, up to a `*`, to an end, or to an item that doesn't take its byte.
+/// What is left of a pattern and a text after the items that take byte after byte, up to a `*`, to an end, or to an
+/// item that doesn't take its byte.
 fn run<'a>(pattern: &'a [u8], text: &'a [u8]) -> (&'a [u8], &'a [u8])
     ensures here { fits pattern.now text.now ≡ fits result.0.now result.1.now }
     ensures later { fits (42 ∷ pattern.now) text.now ≡ true → fits (42 ∷ result.0.now) result.1.now ≡ true }
@@ -137,8 +139,8 @@ fn run<'a>(pattern: &'a [u8], text: &'a [u8]) -> (&'a [u8], &'a [u8])
     (left, rest)
 }
 
-/// Whether the pattern fits the text from some byte on. Once the items before a `*` fit somewhere, no later place can serve better, so none is tried:
-/// each byte is tried at most once with each item between two `*`.
+/// Whether the pattern fits the text from some byte on. Once the items before a `*` fit somewhere, no later place can
+/// serve better, so none is tried: each byte is tried at most once with each item between two `*`.
 #[tactic(auto, using(crate::proofs::Fitting::committed, crate::proofs::Fitting::missed, crate::proofs::Fitting::weaker))]
 fn is_found(pattern: &[u8], text: &[u8]) -> bool
     ensures { result ≡ fits (42 ∷ pattern.now) text.now }
@@ -160,9 +162,9 @@ fn is_found(pattern: &[u8], text: &[u8]) -> bool
     }
 }
 
-/// Whether the pattern matches the text, as Redis matches patterns of channels: `*` stands for any bytes, `?` for one byte, `[ab]`, `[a-c]` and
-/// `[^a]` for one of those bytes or none of them, and a backslash has the byte after it stand for itself. The work is at most the length of the
-/// pattern times that of the text.
+/// Whether the pattern matches the text, as Redis matches patterns of channels: `*` stands for any bytes, `?` for one
+/// byte, `[ab]`, `[a-c]` and `[^a]` for one of those bytes or none of them, and a backslash has the byte after it stand
+/// for itself. The work is at most the length of the pattern times that of the text.
 pub fn is_match(pattern: &[u8], text: &[u8]) -> bool
     ensures { result ≡ matches pattern.now text.now }
 {

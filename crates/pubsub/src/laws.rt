@@ -12,8 +12,8 @@ ghost use Rattle.pubsub.specs.Telling.{told};
 ghost use Rattle.pubsub.specs.Answering.{IsSaid, other, said, answer, listening_after};
 ghost use Rattle.pubsub.specs.Sound.{IsSound};
 
-/// A connection that begins with nothing, and is answered any values, listens to at most `NAMES_MAX` channels and as many patterns, none of them twice, and none
-/// longer than `NAME_BYTES_MAX` bytes.
+/// A connection that begins with nothing, and is answered any values, listens to at most `NAMES_MAX` channels and as
+/// many patterns, none of them twice, and none longer than `NAME_BYTES_MAX` bytes.
 pub fn law_subscriptions_stay_sound()
     ensures begins { IsSound (record { channels = []; patterns = [] }) }
     ensures stays { (value : Frame) (l : Listening) → IsSound l → IsSound (listening_after l (answer value l)) }
@@ -31,8 +31,8 @@ pub fn law_answers_are_values()
     ensures messages { (l : Listening) (channel text : List ℕ) → HaveLines (told l channel text) }
 {}
 
-/// A command of a Sentinel's rules is left to them by a connection that doesn't listen, unless it is SUBSCRIBE, and is answered by Pub/Sub where it listens; SUBSCRIBE
-/// is answered by Pub/Sub in any case.
+/// A command of a Sentinel's rules is left to them by a connection that doesn't listen, unless it is SUBSCRIBE, and is
+/// answered by Pub/Sub where it listens; SUBSCRIBE is answered by Pub/Sub in any case.
 pub fn law_own_commands()
     ensures left { (value : Frame) (command : Command) (l : Listening) → is_listening l ≡ false → command ≢ Subscribe → command_of value ≡ Ok command
         → answer value l ≡ other }

@@ -1,9 +1,9 @@
-//! Pub/Sub of a Sentinel's port: to which channels and patterns a connection listens, what it is answered of that, and what it is told of the
-//! Sentinel's events.
+//! Pub/Sub of a Sentinel's port: to which channels and patterns a connection listens, what it is answered of that, and
+//! what it is told of the Sentinel's events.
 //!
-//! `Subscriptions::answer` answers the commands of Pub/Sub as redis-sentinel does, and leaves every other value; `Subscriptions::tell` adds what a
-//! connection is told of an event. Patterns match as in Redis, in work that is bounded by the length of the pattern times that of the text. No
-//! Sentinel and no socket is known here.
+//! `Subscriptions::answer` answers the commands of Pub/Sub as redis-sentinel does, and leaves every other value;
+//! `Subscriptions::tell` adds what a connection is told of an event. Patterns match as in Redis, in work that is
+//! bounded by the length of the pattern times that of the text. No Sentinel and no socket is known here.
 #![tactic(auto)]
 
 mod answers;

@@ -20,8 +20,8 @@ use resp2::OutText;
 use std::alloc::Global;
 use std::marker::Model;
 
-/// To which channels and patterns a connection listens, in the order in which it began to: at most `NAMES_MAX` of each, with at most `NAME_BYTES_MAX` bytes
-/// each. Contracts see both lists.
+/// To which channels and patterns a connection listens, in the order in which it began to: at most `NAMES_MAX` of each,
+/// with at most `NAME_BYTES_MAX` bytes each. Contracts see both lists.
 #[derive(Drop)]
 pub struct Subscriptions {
     alloc: Global,
@@ -91,8 +91,9 @@ impl Subscriptions {
         self.channels.holds(channel) || is_matched(self.patterns.as_slice(), channel)
     }
 
-    /// SUBSCRIBE of these channels: has `out` be the confirmations, one for each name, in order. A channel that the connection listens to already is confirmed
-    /// and changes nothing. At a fault nothing changes, `out` is empty, and `ChannelFault::text` is the line that the client is answered.
+    /// SUBSCRIBE of these channels: has `out` be the confirmations, one for each name, in order. A channel that the
+    /// connection listens to already is confirmed and changes nothing. At a fault nothing changes, `out` is empty, and
+    /// `ChannelFault::text` is the line that the client is answered.
     pub fn subscribe(&mut self, names: &[Text], out: &mut OutText) -> Result<(), ChannelFault>
         ensures refused { Refuses Channels self.old.channels names.now result }
         ensures names { OnOk result (self.new ≡ record self.old { channels = with_names self.old.channels names.now }) }
@@ -130,8 +131,9 @@ impl Subscriptions {
         )
     }
 
-    /// UNSUBSCRIBE of these channels, or of all where none is named: has `out` be the confirmations, one for each name, in order; where none is named and there are
-    /// none, one without a name. `NoMemory`: memory was refused, and some of the names may be removed; the connection is to be closed.
+    /// UNSUBSCRIBE of these channels, or of all where none is named: has `out` be the confirmations, one for each name,
+    /// in order; where none is named and there are none, one without a name. `NoMemory`: memory was refused, and some
+    /// of the names may be removed; the connection is to be closed.
     pub fn unsubscribe(&mut self, names: &[Text], out: &mut OutText) -> Result<(), NoMemory>
         ensures names { OnOk result (self.new ≡ record self.old { channels = left self.old.channels names.now }) }
         ensures text { OnOk result (out.new ≡ spellings (removed_or_all Channels (length self.old.patterns) self.old.channels names.now)) }
@@ -168,8 +170,9 @@ impl Subscriptions {
         }
     }
 
-    /// Adds what the connection is told of a text on a channel: one message where it listens to the channel, then one for each of its patterns that match
-    /// the channel, in their order. `NoMemory`: memory was refused, and what `out` then holds isn't told; the connection is to be closed.
+    /// Adds what the connection is told of a text on a channel: one message where it listens to the channel, then one
+    /// for each of its patterns that match the channel, in their order. `NoMemory`: memory was refused, and what `out`
+    /// then holds isn't told; the connection is to be closed.
     pub fn tell(&self, channel: &[u8], text: &[u8], out: &mut OutText) -> Result<(), NoMemory>
         ensures { OnOk result (out.new ≡ out.old ++ spellings (told self.now channel.now text.now)) }
     {

@@ -23,7 +23,8 @@ fn is_called(name: &[u8], word: &[u8]) -> bool
     word.eq_ignore_ascii_case(name)
 }
 
-/// The command with this name. Its length tells which one name it may be, so that nearly all others are told by that alone.
+/// The command with this name. Its length tells which one name it may be, so that nearly all others are told by that
+/// alone.
 pub(crate) fn verb_of(name: &[u8]) -> Option<Verb>
     ensures { result ≡ verb_of name.now }
 {

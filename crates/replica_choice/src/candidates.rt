@@ -14,15 +14,16 @@ pub fn law_fresh()
     ensures { FRESH_MS ≡ 5000 }
 {}
 
-/// What is known of a replica. Moments are readings of the Sentinel's clock in milliseconds; a reading above 2^62 counts
-/// as 2^62.
+/// What is known of a replica. Moments are readings of the Sentinel's clock in milliseconds; a reading above 2^62
+/// counts as 2^62.
 #[derive(Clone, Copy, PartialEq, Eq)]
 pub struct Candidate {
     /// Whether the Sentinel finds it down (SDOWN).
     pub sdown: bool,
     /// `replica-priority` (INFO `slave_priority`): a smaller one is preferred, and 0 is never chosen.
     pub priority: u64,
-    /// For how many seconds its link to the master has been down (INFO `master_link_down_since_seconds`), 0 where it is up.
+    /// For how many seconds its link to the master has been down (INFO `master_link_down_since_seconds`), 0 where it is
+    /// up.
     pub link_down_s: u64,
     /// When its last valid reply to a PING was heard: none where none ever was.
     pub last_ping: Option<u64>,

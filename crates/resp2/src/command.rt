@@ -227,10 +227,10 @@ fn command_of_items(words: &[Value]) -> Result<Command, CommandFault>
 
 /// The command that a value spells, or the first fault that fits. No memory is taken.
 ///
-/// The commands are `PING`, `SUBSCRIBE` and the subcommands of `SENTINEL` that docs/CLIENTS.md lists, by the names that the Redis
-/// Sentinel documentation gives them; `SLAVES` is the former name of `REPLICAS`. Names of commands and subcommands ignore ASCII
-/// case, as in Redis; all other words are taken as they are. A word in the place of a master's name that can't be a name
-/// is no fault: the command names no master.
+/// The commands are `PING`, `SUBSCRIBE` and the subcommands of `SENTINEL` that docs/CLIENTS.md lists, by the names that
+/// the Redis Sentinel documentation gives them; `SLAVES` is the former name of `REPLICAS`. Names of commands and
+/// subcommands ignore ASCII case, as in Redis; all other words are taken as they are. A word in the place of a master's
+/// name that can't be a name is no fault: the command names no master.
 pub fn command_of(value: &Value) -> Result<Command, CommandFault>
     ensures command { result ≡ commands.command_of (view value.now) }
     ensures within { IfOk result IsWithin }

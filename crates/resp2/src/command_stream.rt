@@ -9,14 +9,16 @@ use crate::command::{CommandFault, command_of};
 use crate::framing::{FrameFault, Frames};
 use ballot_law::Command;
 
-/// Takes the first whole value out of the bytes that came, as the command that it spells or the reason why it is none; `None` where more bytes
-/// are needed. It answers what `Frames::next` and then `command_of` would, and leaves what `next` would leave.
+/// Takes the first whole value out of the bytes that came, as the command that it spells or the reason why it is none;
+/// `None` where more bytes are needed. It answers what `Frames::next` and then `command_of` would, and leaves what
+/// `next` would leave.
 ///
-/// A command that comes nearly always is read where its bytes stand, with no value made of it and no memory taken: PING, a question for the address of a
-/// master, and the question whether a master is down, each in capitals or in small letters. All else is read as a value first.
+/// A command that comes nearly always is read where its bytes stand, with no value made of it and no memory taken:
+/// PING, a question for the address of a master, and the question whether a master is down, each in capitals or in
+/// small letters. All else is read as a value first.
 ///
-/// `NoMemory` leaves the reader unchanged. Any other fault is one of the bytes: the values before it were given, and every later call answers
-/// it again.
+/// `NoMemory` leaves the reader unchanged. Any other fault is one of the bytes: the values before it were given, and
+/// every later call answers it again.
 pub fn next_command(
     frames: &mut Frames,
 ) -> Result<Option<Result<Command, CommandFault>>, FrameFault>
@@ -37,9 +39,9 @@ pub fn next_command(
     }
 }
 
-/// Takes the first value out of the bytes that came, where it is PING, a question for the address of a master or the question whether a master is down, in
-/// a spelling that `next_command` reads where it stands. `None` leaves the reader unchanged: any other value, less than a whole one, or a fault may stand there. No
-/// memory is taken.
+/// Takes the first value out of the bytes that came, where it is PING, a question for the address of a master or the
+/// question whether a master is down, in a spelling that `next_command` reads where it stands. `None` leaves the reader
+/// unchanged: any other value, less than a whole one, or a fault may stand there. No memory is taken.
 pub fn next_common(frames: &mut Frames) -> Option<Command>
     ensures taken { IfSome result (λ command. Asks frames.old (Ok (Some (Ok command))) frames.new) }
     ensures within { IfSome result IsWithin }

@@ -1,8 +1,9 @@
-//! Values of the Redis serialization protocol, version 2 (RESP2), read from a stream that comes in any pieces and written
-//! in their one spelling.
+//! Values of the Redis serialization protocol, version 2 (RESP2), read from a stream that comes in any pieces and
+//! written in their one spelling.
 //!
-//! `Frames` reads and `write_value` writes to an `OutText`. The parts of a value are written by `push_bulk` and its kin to any
-//! `ByteSink`: what they add at its end is exactly the spelling. The grammar, its limits and its faults stand in docs/PROTOCOL.md.
+//! `Frames` reads and `write_value` writes to an `OutText`. The parts of a value are written by `push_bulk` and its kin
+//! to any `ByteSink`: what they add at its end is exactly the spelling. The grammar, its limits and its faults stand in
+//! docs/PROTOCOL.md.
 
 mod fault;
 mod frames;

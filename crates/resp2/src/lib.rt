@@ -1,8 +1,8 @@
 //! The commands of a Sentinel's port: which a value of the Redis serialization protocol (RESP2) spells.
 //!
-//! `command_of` tells what a value asks of a Sentinel, and `next_command` reads what the next value of a stream asks. The values
-//! themselves, their reader and their writer are those of `resp2`, which this crate passes on. The commands and their
-//! faults stand in docs/PROTOCOL.md.
+//! `command_of` tells what a value asks of a Sentinel, and `next_command` reads what the next value of a stream asks.
+//! The values themselves, their reader and their writer are those of `resp2`, which this crate passes on. The commands
+//! and their faults stand in docs/PROTOCOL.md.
 #![tactic(auto)]
 
 mod asked;

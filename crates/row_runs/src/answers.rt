@@ -9,8 +9,8 @@ use ballot_law::{ANSWER_MAX, Name};
 use port_answers::{AnswerText, MasterRow, ReplicaRow, SentinelRow};
 use std::alloc::Global;
 
-/// The master that these words are: its name, its address, whether it is down by all accounts and its failover runs, its quorum, and the
-/// numbers of its answer in their order.
+/// The master that these words are: its name, its address, whether it is down by all accounts and its failover runs,
+/// its quorum, and the numbers of its answer in their order.
 fn master(words: &[Vec<u8>]) -> Result<MasterRow, Unplayed> {
     let [
         name,

@@ -4,8 +4,8 @@ use crate::told::{Told, Unplayed};
 use bounded_list::BoundedList;
 use std::alloc::Global;
 
-/// Tells a list of at most five bytes after each of these pieces, the last of which is one byte; then when it is cleared and holds another
-/// one, and as an empty list in its room.
+/// Tells a list of at most five bytes after each of these pieces, the last of which is one byte; then when it is
+/// cleared and holds another one, and as an empty list in its room.
 fn tell(
     alloc: Global,
     pieces: &[Vec<u8>],

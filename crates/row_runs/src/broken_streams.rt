@@ -181,7 +181,8 @@ impl BrokenStreams {
         Ok(())
     }
 
-    /// How many bytes the answers have to the commands that are whole in the first bytes of the stream, in this number of them.
+    /// How many bytes the answers have to the commands that are whole in the first bytes of the stream, in this number
+    /// of them.
     fn answered_within(&self, count: usize) -> usize {
         let mut answered = 0;
         for end in &self.ends {
@@ -251,7 +252,8 @@ impl BrokenStreams {
         }
     }
 
-    /// The stream as it is served where a read and a write are interrupted after this number of bytes, which come and go one at a time.
+    /// The stream as it is served where a read and a write are interrupted after this number of bytes, which come and
+    /// go one at a time.
     fn interrupted(&self, left: usize) -> Trial {
         let breach = Breach {
             size: 1,
@@ -312,8 +314,8 @@ impl BrokenStreams {
         }
     }
 
-    /// Serves the stream in each way of a call, after each number of bytes, up to a place. Tells how many these were, or the first that isn't
-    /// served so.
+    /// Serves the stream in each way of a call, after each number of bytes, up to a place. Tells how many these were,
+    /// or the first that isn't served so.
     fn try_each(
         &self,
         call: &str,
@@ -333,7 +335,8 @@ impl BrokenStreams {
         told.number(tried)
     }
 
-    /// Tells how a stream without bytes is served whose reader is interrupted this number of times, and how many reads there were.
+    /// Tells how a stream without bytes is served whose reader is interrupted this number of times, and how many reads
+    /// there were.
     fn tell_interrupted(&self, times: u64, told: &mut Told) -> Result<(), Unplayed> {
         let mut lone = Lone::boxed(self.alloc, &self.conf, 0)?;
         let mut reader = InterruptedReader {

@@ -1,4 +1,5 @@
-//! What an operator is told of files: all faults of one, what has no effect, what group they make, in what they differ, and how they are mended.
+//! What an operator is told of files: all faults of one, what has no effect, what group they make, in what they differ,
+//! and how they are mended.
 
 use crate::conf_files::conf_of;
 use crate::given::{joined, number, text};
@@ -98,7 +99,8 @@ fn tell_notes(alloc: Global, file: &[u8], told: &mut Told) -> Result<(), Unplaye
     tell_lines(&out, told)
 }
 
-/// Tells what is said of the file with these bytes in a group of so many Sentinels, to a group in one process or to a `watch`.
+/// Tells what is said of the file with these bytes in a group of so many Sentinels, to a group in one process or to a
+/// `watch`.
 fn tell_warnings(
     alloc: Global,
     call: &str,

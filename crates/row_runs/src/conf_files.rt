@@ -47,8 +47,8 @@ fn tell_settings(settings: Option<Settings>, told: &mut Told) -> Result<(), Unpl
     }
 }
 
-/// Tells the place of the Sentinel, its port and its current epoch, how many masters it keeps, how many Sentinels there are, and the settings
-/// of the first two masters.
+/// Tells the place of the Sentinel, its port and its current epoch, how many masters it keeps, how many Sentinels there
+/// are, and the settings of the first two masters.
 fn tell_conf(conf: &Conf, told: &mut Told) -> Result<(), Unplayed> {
     told.number(u64::from(conf.place()))?;
     told.number(u64::from(conf.port()))?;
@@ -75,7 +75,8 @@ fn tell_read(alloc: Global, text: &[u8], told: &mut Told) -> Result<(), Unplayed
     }
 }
 
-/// Tells how many beginnings of a text are refused with one of these faults, or the first that isn't and what comes of it.
+/// Tells how many beginnings of a text are refused with one of these faults, or the first that isn't and what comes of
+/// it.
 fn tell_beginnings(
     alloc: Global,
     text: &[u8],
@@ -119,7 +120,8 @@ fn tell_again(alloc: Global, text: &[u8], told: &mut Told) -> Result<(), Unplaye
     tell_rewritten(alloc, &conf, conf.kept(), told)
 }
 
-/// What is kept of the only master at this current epoch: an address, the epoch of that, the epoch of the last vote, and its candidate.
+/// What is kept of the only master at this current epoch: an address, the epoch of that, the epoch of the last vote,
+/// and its candidate.
 fn kept_of(alloc: Global, current: u64, words: &[Vec<u8>]) -> Result<Kept, Unplayed> {
     let [ip, port, epoch, voted, candidate] = words else {
         return Err(Unplayed::WrongWords);

@@ -129,8 +129,8 @@ impl Talk {
             .received(rt, &self.cell, &mut self.seat, 0, piece)
     }
 
-    /// Tells how a piece of the first client is taken. A session that lacked memory is over: it answers that to any piece, and the next client
-    /// comes in its place.
+    /// Tells how a piece of the first client is taken. A session that lacked memory is over: it answers that to any
+    /// piece, and the next client comes in its place.
     fn tell_said<R: Wait>(
         &mut self,
         rt: &R,
@@ -171,7 +171,8 @@ impl Talk {
         }
     }
 
-    /// Tells what the first client wasn't sent; where a session lacked memory, that is to begin with what it had put out.
+    /// Tells what the first client wasn't sent; where a session lacked memory, that is to begin with what it had put
+    /// out.
     fn tell_unsent(&self, told: &mut Told) -> Result<(), Unplayed> {
         if !self.first.unsent().starts_with(&self.part) {
             return Err(Unplayed::Changed);

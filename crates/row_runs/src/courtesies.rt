@@ -54,7 +54,8 @@ fn tell_kind(kind: Courtesy, text: &[u8], told: &mut Told) -> Result<(), Unplaye
     }
 }
 
-/// Tells what becomes of a command of a connection, whether its client gave the password then that is wanted, and the name that it has.
+/// Tells what becomes of a command of a connection, whether its client gave the password then that is wanted, and the
+/// name that it has.
 fn tell(
     alloc: Global,
     asker: &mut ClientInfo,
@@ -91,7 +92,8 @@ fn tell_info(
     told.bytes(out.as_slice())
 }
 
-/// Tells the answer to a command with these words with redis-sentinel's fields, where a Sentinel answers it with `answer`.
+/// Tells the answer to a command with these words with redis-sentinel's fields, where a Sentinel answers it with
+/// `answer`.
 fn tell_wide(
     alloc: Global,
     answer: &[u8],
@@ -109,7 +111,8 @@ fn tell_wide(
     told.bytes(out.as_slice())
 }
 
-/// Tells the answer to CKQUORUM in redis-sentinel's words, where a Sentinel gives this one, `mymaster` has this quorum, and there are so many Sentinels.
+/// Tells the answer to CKQUORUM in redis-sentinel's words, where a Sentinel gives this one, `mymaster` has this quorum,
+/// and there are so many Sentinels.
 fn tell_quorum(
     alloc: Global,
     quorum: u32,
@@ -136,8 +139,8 @@ fn tell_value(alloc: Global, value: &Value, told: &mut Told) -> Result<(), Unpla
     told.bytes(out.as_slice())
 }
 
-/// Tells what becomes of a value, one that is left by its bytes; of INFO also its answer, and of a command whose answer is told in other words its bytes and that
-/// answer, where the Sentinel answers with no masters.
+/// Tells what becomes of a value, one that is left by its bytes; of INFO also its answer, and of a command whose answer
+/// is told in other words its bytes and that answer, where the Sentinel answers with no masters.
 fn tell_one(
     alloc: Global,
     attendant: &mut CommandReader,
@@ -194,7 +197,8 @@ fn tell_commands(attendant: &mut CommandReader, told: &mut Told) -> Result<(), U
     Ok(())
 }
 
-/// Tells of each piece the commands that come first and are read where they stand, and the value after them by its bytes.
+/// Tells of each piece the commands that come first and are read where they stand, and the value after them by its
+/// bytes.
 fn tell_common(
     alloc: Global,
     attendant: &mut CommandReader,

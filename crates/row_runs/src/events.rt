@@ -11,7 +11,8 @@ use ballot_law::{Command, Event, NodeName, PingReply, Text};
 use resp2::command_of;
 use std::alloc::Global;
 
-/// The node that a word names by a letter and a number, as scenarios do; a client of a port, which they don't name, has `p`.
+/// The node that a word names by a letter and a number, as scenarios do; a client of a port, which they don't name, has
+/// `p`.
 pub(crate) fn node(word: &[u8]) -> Result<NodeName, Unplayed> {
     match word {
         [b's', place @ ..] => Ok(NodeName::SentinelAt(number_16(place)?)),

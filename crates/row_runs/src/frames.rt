@@ -8,7 +8,8 @@ use crate::told::{Told, Unplayed};
 use resp2::{FrameFault, Frames, OutText, Value, values_of_pieces, write_value};
 use std::alloc::Global;
 
-/// Tells a value: a line, an integer or a bulk string after the byte of its kind, and an array as how many items it has and then those.
+/// Tells a value: a line, an integer or a bulk string after the byte of its kind, and an array as how many items it has
+/// and then those.
 pub(crate) fn tell_value(value: &Value, told: &mut Told) -> Result<(), Unplayed> {
     match value {
         Value::Simple(text) => told.marked('+', text.as_slice()),
@@ -89,7 +90,8 @@ fn tell_beginnings(alloc: Global, bytes: &[u8], told: &mut Told) -> Result<(), U
     Ok(())
 }
 
-/// Tells what a reader gives of these bytes, one at a time, and before each value and the fault how often it asked for more.
+/// Tells what a reader gives of these bytes, one at a time, and before each value and the fault how often it asked for
+/// more.
 fn tell_by_bytes(alloc: Global, bytes: &[u8], told: &mut Told) -> Result<(), Unplayed> {
     let mut frames = Frames::new(alloc);
     let mut asked: u64 = 0;

@@ -130,8 +130,8 @@ pub(crate) fn is_in(words: &[Vec<u8>], wanted: &str) -> bool {
     false
 }
 
-/// These words as a text of lines: a blank is between two words, a word `|` is the end of a line, and at a word `&` the words before
-/// and after it meet.
+/// These words as a text of lines: a blank is between two words, a word `|` is the end of a line, and at a word `&` the
+/// words before and after it meet.
 pub(crate) fn joined(alloc: Global, words: &[Vec<u8>]) -> Result<Vec<u8>, Unplayed> {
     let mut text = Vec::new(alloc);
     let mut is_open = false;

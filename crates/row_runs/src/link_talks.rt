@@ -68,7 +68,8 @@ fn hear(
     })
 }
 
-/// Tells what comes of a call with these words: the node, the questions with a word `,` between two, and after a word `then` the pieces that it sends.
+/// Tells what comes of a call with these words: the node, the questions with a word `,` between two, and after a word
+/// `then` the pieces that it sends.
 pub(crate) fn play(
     alloc: Global,
     call: &str,

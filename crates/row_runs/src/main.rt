@@ -1,8 +1,9 @@
-//! Plays the rows of the files that its words name; a word `frames/refused` is for those sections of a file alone whose titles begin so. It
-//! says of each file how many rows it has in how many sections, and of each row that brings something else what came and what must come.
+//! Plays the rows of the files that its words name; a word `frames/refused` is for those sections of a file alone whose
+//! titles begin so. It says of each file how many rows it has in how many sections, and of each row that brings
+//! something else what came and what must come.
 //!
-//! A row is a line `call word word .. => what comes`; README.md beside the files tells how they are written. The module of a file's name
-//! plays its rows.
+//! A row is a line `call word word .. => what comes`; README.md beside the files tells how they are written. The module
+//! of a file's name plays its rows.
 #![tactic(auto)]
 
 mod answers;
@@ -53,7 +54,8 @@ use std::io::ErrorKind;
 use std::sync::Wait;
 use std::{env, fs, io};
 
-/// Tells what comes of a call with these words, of a family each of whose rows is by itself. The family is the name of the row's file.
+/// Tells what comes of a call with these words, of a family each of whose rows is by itself. The family is the name of
+/// the row's file.
 fn play(
     rt: &HostRuntime,
     family: &str,

@@ -22,8 +22,8 @@ fn answer_all(session: &mut Session, most: usize, info: &Info) -> Result<(), Unp
     Ok(())
 }
 
-/// Tells what comes of a call with these words: what the node shows, and the pieces that a client sends. It tells the answers, and whether the connection
-/// is closed.
+/// Tells what comes of a call with these words: what the node shows, and the pieces that a client sends. It tells the
+/// answers, and whether the connection is closed.
 pub(crate) fn play(
     alloc: Global,
     call: &str,

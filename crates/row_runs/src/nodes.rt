@@ -147,7 +147,8 @@ impl Nodes {
         Nodes { alloc, kind: None }
     }
 
-    /// The node of this name of the group of a file; a client searches for its first master. None where there is no such node.
+    /// The node of this name of the group of a file; a client searches for its first master. None where there is no
+    /// such node.
     fn made(&self, name: NodeName, conf: &Conf) -> Result<Option<Kind>, Unplayed> {
         match name {
             NodeName::StoreAt(number) => match DataNode::new(conf, number) {

@@ -28,7 +28,8 @@ fn plan_of(alloc: Global, file: &[u8]) -> Result<Box<Plan>, Unplayed> {
     }
 }
 
-/// Tells what a Sentinel keeps that opens with a plan: its current epoch, the epochs of its last votes, and whether it won an election.
+/// Tells what a Sentinel keeps that opens with a plan: its current epoch, the epochs of its last votes, and whether it
+/// won an election.
 fn tell_opened(alloc: Global, plan: &Plan, now: u64, told: &mut Told) -> Result<(), Unplayed> {
     let core = Box::new(alloc, Core::open(alloc, plan, now)?)?;
     told.number(core.kept().current)?;

@@ -94,7 +94,8 @@ fn tell_lines(
     told.bytes(text.as_slice())
 }
 
-/// Tells what comes of a call with these words: the conf whose roster counts, the text before the lines, and the entries.
+/// Tells what comes of a call with these words: the conf whose roster counts, the text before the lines, and the
+/// entries.
 pub(crate) fn play(
     alloc: Global,
     call: &str,

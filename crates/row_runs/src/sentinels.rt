@@ -143,8 +143,8 @@ impl Lone {
         Ok(served)
     }
 
-    /// Serves these bytes: how many answers that were written, or the fault, is told, and what was written is given back. Where memory was
-    /// lacking, a first part of the answers was written.
+    /// Serves these bytes: how many answers that were written, or the fault, is told, and what was written is given
+    /// back. Where memory was lacking, a first part of the answers was written.
     fn serve_bytes(
         &mut self,
         now: u64,
@@ -204,7 +204,8 @@ impl Lone {
         Ok(())
     }
 
-    /// Takes an input, stores and releases; tells what is sent and told, but PING, INFO and hellos unless all is wanted, and what changed.
+    /// Takes an input, stores and releases; tells what is sent and told, but PING, INFO and hellos unless all is
+    /// wanted, and what changed.
     fn give(
         &mut self,
         now: u64,

@@ -85,8 +85,8 @@ fn take_all(mut store: MemoryStore, turns: &[Vec<u8>], told: &mut Told) -> Resul
     Ok(())
 }
 
-/// Puts a text in a store that holds another one, once more where that lacked memory, and tells what is loaded then. A store that
-/// lacked memory is to hold what it held, and to count that.
+/// Puts a text in a store that holds another one, once more where that lacked memory, and tells what is loaded then. A
+/// store that lacked memory is to hold what it held, and to count that.
 fn tell_put(alloc: Global, old: &[u8], new: &[u8], told: &mut Told) -> Result<(), Unplayed> {
     let mut store = MemoryStore::holding(alloc, old)?;
     if !put(&mut store, new) {

@@ -29,8 +29,8 @@ fn tell_logins(conf: &Conf, read: &WatchConf, told: &mut Told) -> Result<(), Unp
     Ok(())
 }
 
-/// Tells what a file says to `watch`: the ips, the own password, the user and the password for other Sentinels, how many clients, after how many
-/// seconds one is closed, whether the protected mode is on, and the logins of the masters.
+/// Tells what a file says to `watch`: the ips, the own password, the user and the password for other Sentinels, how
+/// many clients, after how many seconds one is closed, whether the protected mode is on, and the logins of the masters.
 fn tell_settings(conf: &Conf, read: &WatchConf, told: &mut Told) -> Result<(), Unplayed> {
     tell_binds(read.binds(), told)?;
     told.bytes(read.own_pass())?;

@@ -8,7 +8,8 @@ use thiserror::Error;
 /// Why a story isn't played. The text of each is the variant's name.
 #[derive(Clone, Copy, Debug, PartialEq, Eq, Error)]
 pub enum ReplayFault {
-    /// The files don't make one group: a Sentinel is missing or there twice, or knows other nodes than the first file names.
+    /// The files don't make one group: a Sentinel is missing or there twice, or knows other nodes than the first file
+    /// names.
     #[error("NotTheRoster")]
     NotTheRoster,
     /// Two files hold different configurations of a master.

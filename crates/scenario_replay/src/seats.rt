@@ -5,8 +5,8 @@ ghost use Rattle.scenario_replay.specs.Seating.{IsSeat};
 
 use ballot_law::Roster;
 
-/// A node of a group: a Sentinel by the place of its file, a data node and a client by their numbers. A client searches for the master of
-/// its number.
+/// A node of a group: a Sentinel by the place of its file, a data node and a client by their numbers. A client searches
+/// for the master of its number.
 #[derive(Clone, Copy, PartialEq, Eq)]
 pub(crate) enum Seat {
     Sentinel(usize),
@@ -54,7 +54,8 @@ impl Seats {
             .saturating_add(self.clients)
     }
 
-    /// The seat of this number: Sentinels first, each with the number of its file, then data nodes, then clients; none after the last.
+    /// The seat of this number: Sentinels first, each with the number of its file, then data nodes, then clients; none
+    /// after the last.
     pub(crate) fn at(&self, number: usize) -> Option<Seat>
         ensures some { IfSome result (IsSeat self.now number) }
         ensures none { IfNone result (self.now.sentinels ≤ number) }

@@ -108,7 +108,8 @@ fn world_of(
     }
 }
 
-/// Plays the scenario with a stop in it in a world that has begun, and gives the lines of the elections and advertisements that it brings.
+/// Plays the scenario with a stop in it in a world that has begun, and gives the lines of the elections and
+/// advertisements that it brings.
 fn tell_stopped(
     alloc: Global,
     world: &mut FaultWorld,
@@ -151,7 +152,8 @@ impl Story {
         self.profile = profile;
     }
 
-    /// Adds the Sentinel of a file. The fault is the file's first, and then the story is as it was. The group is that of the first file.
+    /// Adds the Sentinel of a file. The fault is the file's first, and then the story is as it was. The group is that
+    /// of the first file.
     pub fn add_conf(&mut self, file: Vec<u8>) -> Result<(), ConfFault>
         ensures added { OnOk result (self.new.files.items ≡ self.old.files.items ++ file ∷ []) }
         ensures first { OnOk result (IfNone self.old.first (IfSome self.new.first (λ conf. conf_of_bytes file.items ≡ Ok conf))) }
@@ -171,7 +173,8 @@ impl Story {
         Ok(())
     }
 
-    /// Plays the story in a world that has begun with its files, and gives the lines of the elections and advertisements that it brings.
+    /// Plays the story in a world that has begun with its files, and gives the lines of the elections and
+    /// advertisements that it brings.
     fn tell(&self, world: &mut FaultWorld) -> Result<OutText, ReplayFault>
         requires { HasBegunWith (map (λ f. f.items) self.now.files.items) world.old.roster
             (Shown (λ m. (m.node.vtable, m.node.value)) (λ b. name b) (λ b. shows b) world.old.roster world.old.members.items world.old.messages.items) }
@@ -186,8 +189,8 @@ impl Story {
 
     /// Plays the story from the beginning, and gives what is to be printed.
     ///
-    /// The Sentinels are ready at clock 0 with what their files hold. Data nodes and clients, one for each master, are those of the first
-    /// file. A story of no file is `NotTheRoster`.
+    /// The Sentinels are ready at clock 0 with what their files hold. Data nodes and clients, one for each master, are
+    /// those of the first file. A story of no file is `NotTheRoster`.
     pub fn play(&self, printed: Printed) -> Result<OutText, ReplayFault>
         ensures told { IfSome self.now.first (λ conf. IfOk result (λ text. printed ≡ Printed.Report
             → IsTold conf.roster (map (λ f. f.items) self.now.files.items) self.now.text.items text)) }

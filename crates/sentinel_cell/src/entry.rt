@@ -14,8 +14,8 @@ pub enum Outcome {
     Halted,
 }
 
-/// An entry of the history: the number that the call was made under, its input and its outcome, the outputs that it showed, and the
-/// failure count of the store after it. Contracts speak of entries; no value of them is made.
+/// An entry of the history: the number that the call was made under, its input and its outcome, the outputs that it
+/// showed, and the failure count of the store after it. Contracts speak of entries; no value of them is made.
 pub struct Entry {
     pub number: u64,
     pub input: Input,

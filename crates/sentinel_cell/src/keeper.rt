@@ -39,7 +39,8 @@ pub(crate) fn stored_word(sentinel: &Sentinel, m: u16) -> u64
 }
 
 impl<S: ConfStore> Keeper<S> {
-    /// One input: it is taken, stored, and its outputs are shown. Then the observer looks. A halted Sentinel takes none.
+    /// One input: it is taken, stored, and its outputs are shown. Then the observer looks. A halted Sentinel takes
+    /// none.
     pub(crate) fn turn<O: Observer>(
         &mut self,
         input: &Input,
@@ -74,7 +75,8 @@ impl<S: ConfStore> Keeper<S> {
         Outcome::Stored
     }
 
-    /// The master whose configuration the last input changed, else the first one, and the word of its stored configuration.
+    /// The master whose configuration the last input changed, else the first one, and the word of its stored
+    /// configuration.
     pub(crate) fn news(&self) -> (u16, u64)
         requires { (w : World) × IsLeft S.held S.failure_count w self.now }
         ensures known { result.0 < master_count self.now.sentinel.plan }

@@ -31,12 +31,13 @@ pub(crate) type Place<S> = atomic_table::Seat<Option<Keeper<S>>, View>;
 
 pub(crate) type Hall<S> = Shared<Option<Keeper<S>>, View, Start<S>, Line>;
 
-/// How often a thread looks for its turn, and yields its processor in between, before it sleeps. A turn that stores nothing takes some
-/// microseconds, less than a sleep and a wake do, so whoever waits for such turns finds its own by looking. A store takes a millisecond or
-/// seconds, and may never end: who waits for one sleeps.
+/// How often a thread looks for its turn, and yields its processor in between, before it sleeps. A turn that stores
+/// nothing takes some microseconds, less than a sleep and a wake do, so whoever waits for such turns finds its own by
+/// looking. A store takes a millisecond or seconds, and may never end: who waits for one sleeps.
 const LOOKS_BEFORE_SLEEP: u32 = 100;
 
-/// Waits until the ticket is served. Then the slot is out with the seat. `wake_waiters` says why who sleeps meanwhile is woken.
+/// Waits until the ticket is served. Then the slot is out with the seat. `wake_waiters` says why who sleeps meanwhile
+/// is woken.
 pub(crate) fn wait_for_turn<J: Origin, S: ConfStore, R: Wait>(
     rt: &R,
     hall: &Hall<S>,
@@ -62,10 +63,12 @@ pub(crate) fn wait_for_turn<J: Origin, S: ConfStore, R: Wait>(
     unreachable!()
 }
 
-/// Lets some time pass after a look that found this number in word 0: yields the processor after each of the first `LOOKS_BEFORE_SLEEP` looks,
-/// and sleeps after a later one, for as long as word 0 is that number. The answer is how many looks of the first ones there were.
+/// Lets some time pass after a look that found this number in word 0: yields the processor after each of the first
+/// `LOOKS_BEFORE_SLEEP` looks, and sleeps after a later one, for as long as word 0 is that number. The answer is how
+/// many looks of the first ones there were.
 ///
-/// Only the low half of word 0 is compared: it changes with each turn, and at most as many turns as there are seats pass while one waits.
+/// Only the low half of word 0 is compared: it changes with each turn, and at most as many turns as there are seats
+/// pass while one waits.
 fn pause<S: ConfStore, R: Wait>(rt: &R, hall: &Hall<S>, found: u64, looks: u32) -> u32
     requires { 0 < hall.now.table_id.words }
 {
@@ -77,14 +80,15 @@ fn pause<S: ConfStore, R: Wait>(rt: &R, hall: &Hall<S>, found: u64, looks: u32) 
     looks
 }
 
-/// Wakes all who sleep until their turn, once a turn was passed. It makes no system call where nobody waits: where no more tickets are drawn
-/// than turns were served.
+/// Wakes all who sleep until their turn, once a turn was passed. It makes no system call where nobody waits: where no
+/// more tickets are drawn than turns were served.
 ///
-/// No wake is lost. A thread draws its ticket t before it looks at word 0, and sleeps only while word 0 is the number that it found there,
-/// which is below t. So the turn of that number is passed after the look, and whoever passes it comes here after that. Each step on a word has
-/// its place in one order of all steps; so more than t tickets are drawn when it looks here, and no more than t turns are served, since t's
-/// own turn is still to come: it wakes all. The system compares word 0 and lays the thread to sleep in one step, so the thread either sleeps
-/// by then and is woken, or finds another number in word 0, doesn't sleep, and looks again.
+/// No wake is lost. A thread draws its ticket t before it looks at word 0, and sleeps only while word 0 is the number
+/// that it found there, which is below t. So the turn of that number is passed after the look, and whoever passes it
+/// comes here after that. Each step on a word has its place in one order of all steps; so more than t tickets are drawn
+/// when it looks here, and no more than t turns are served, since t's own turn is still to come: it wakes all. The
+/// system compares word 0 and lays the thread to sleep in one step, so the thread either sleeps by then and is woken,
+/// or finds another number in word 0, doesn't sleep, and looks again.
 fn wake_waiters<S: ConfStore>(hall: &Hall<S>)
     requires { 1 < hall.now.table_id.words }
 {
@@ -199,10 +203,11 @@ pub(crate) fn fill<S: ConfStore>(hall: &Hall<S>, place: &mut Place<S>, keeper: K
 #[derive(Drop)]
 pub(crate) struct TicketsSpent;
 
-/// One turn: the seat looks at the tickets, draws one, waits, serves the input, and has the observer look. Beside the outcome stands the ticket's number, which is
-/// how many entries stand before this one.
+/// One turn: the seat looks at the tickets, draws one, waits, serves the input, and has the observer look. Beside the
+/// outcome stands the ticket's number, which is how many entries stand before this one.
 ///
-/// Many clauses: what the seat holds of the table before and after a turn is said part by part, for the shared tokens have no one value.
+/// Many clauses: what the seat holds of the table before and after a turn is said part by part, for the shared tokens
+/// have no one value.
 pub(crate) fn act_at<S: ConfStore, O: Observer, R: Wait>(
     rt: &R,
     hall: &Hall<S>,

@@ -71,8 +71,9 @@ impl Seat {
 
 /// A Sentinel and its store, which threads share.
 ///
-/// Contracts see which cell it is, the world that its history begins at, and how many seats there may be at once. The calls of `act` take
-/// turns, so they have one history that a single thread could have made; a call of `address` waits for nobody.
+/// Contracts see which cell it is, the world that its history begins at, and how many seats there may be at once. The
+/// calls of `act` take turns, so they have one history that a single thread could have made; a call of `address` waits
+/// for nobody.
 #[derive(Drop)]
 pub struct SharedSentinel<S: ConfStore> {
     table: Table<Option<Keeper<S>>, View, Start<S>, Line, Global>,
@@ -118,8 +119,8 @@ fn first_words(alloc: Global, sentinel: &Sentinel) -> Result<Vec<u64>, AllocErro
 }
 
 impl<S: ConfStore> SharedSentinel<S> {
-    /// A cell with one seat, which has the whole share of `seats`. The Sentinel is ready; the history begins at it and its store as they
-    /// are now.
+    /// A cell with one seat, which has the whole share of `seats`. The Sentinel is ready; the history begins at it and
+    /// its store as they are now.
     ///
     /// Both come back unchanged at `SeatCount`, where no seat is asked for or more than 1,024, and at `NoMemory`.
     pub fn new(
@@ -170,9 +171,9 @@ impl<S: ConfStore> SharedSentinel<S> {
         ))
     }
 
-    /// Cuts a seat in two. The first keeps its numbers and the greater half of the share. The second has seen as much and got the same
-    /// answers, and its calls will stand under a number of its own: one above all that the seat knew to be given out, which no call has
-    /// that the seat has seen. `join` tells that no other seat has it.
+    /// Cuts a seat in two. The first keeps its numbers and the greater half of the share. The second has seen as much
+    /// and got the same answers, and its calls will stand under a number of its own: one above all that the seat knew
+    /// to be given out, which no call has that the seat has seen. `join` tells that no other seat has it.
     ///
     /// `NoSeatLeft` exactly where the share is 1; the seat comes back. No memory is taken.
     pub fn split(&self, seat: Seat) -> Result<(Seat, Seat), (Seat, CellFault)>
@@ -204,9 +205,9 @@ impl<S: ConfStore> SharedSentinel<S> {
         ))
     }
 
-    /// Makes two seats one. It has seen the longer of the two histories, which the shorter one begins; the numbers, the answers and the
-    /// shares are those of both, and no number was given to both. Of the calls under these numbers the history has those that each seat
-    /// made, and no others. No memory is taken.
+    /// Makes two seats one. It has seen the longer of the two histories, which the shorter one begins; the numbers, the
+    /// answers and the shares are those of both, and no number was given to both. Of the calls under these numbers the
+    /// history has those that each seat made, and no others. No memory is taken.
     ///
     /// Many clauses: one for each part of what a seat has, and two for what its history has of both.
     pub fn join(&self, one: Seat, two: Seat) -> Seat
@@ -235,11 +236,13 @@ impl<S: ConfStore> SharedSentinel<S> {
         }
     }
 
-    /// Waits for its turn, and has the Sentinel take one input: it is taken, stored, and its outputs stand at the end of those that the
-    /// outbox shows, `count` of them from `first` on. The epoch of a command is at most `MAX_EPOCH`, as `command_of` gives it.
+    /// Waits for its turn, and has the Sentinel take one input: it is taken, stored, and its outputs stand at the end
+    /// of those that the outbox shows, `count` of them from `first` on. The epoch of a command is at most `MAX_EPOCH`,
+    /// as `command_of` gives it.
     ///
-    /// The call is then the last entry of a legal history, which begins with all that the seat had seen; `entry` tells how many stand before
-    /// it. `NoMemory` and `Spent` come before the turn and add no entry; `Halted` and `StoreRefused` add one, and show nothing.
+    /// The call is then the last entry of a legal history, which begins with all that the seat had seen; `entry` tells
+    /// how many stand before it. `NoMemory` and `Spent` come before the turn and add no entry; `Halted` and
+    /// `StoreRefused` add one, and show nothing.
     ///
     /// Many clauses: what the caller sees of the turn, each in terms of its own seat and outbox.
     pub fn act<R: Wait>(
@@ -263,8 +266,8 @@ impl<S: ConfStore> SharedSentinel<S> {
         self.act_observed(rt, seat, input, outbox, &mut Nobody)
     }
 
-    /// As `act`, and an observer looks at the Sentinel at the end of the turn, once the input is stored: no other input comes between the two. It
-    /// doesn't look where the call is refused.
+    /// As `act`, and an observer looks at the Sentinel at the end of the turn, once the input is stored: no other input
+    /// comes between the two. It doesn't look where the call is refused.
     ///
     /// Many clauses: those of `act`.
     pub fn act_observed<O: Observer, R: Wait>(
@@ -297,9 +300,10 @@ impl<S: ConfStore> SharedSentinel<S> {
         answer(acted, first, outbox.outputs().len())
     }
 
-    /// The stored configuration of the master with this number, by one load of its word: its epoch and its address. It is that of a legal
-    /// history which begins with all that the seat had seen, and no older than what that history or an earlier answer of the seat showed.
-    /// It answers while a store is under way, and after a halt; None only where there is no such master.
+    /// The stored configuration of the master with this number, by one load of its word: its epoch and its address. It
+    /// is that of a legal history which begins with all that the seat had seen, and no older than what that history or
+    /// an earlier answer of the seat showed. It answers while a store is under way, and after a halt; None only where
+    /// there is no such master.
     ///
     /// It waits for nobody, and takes no memory.
     pub fn address(&self, seat: &mut Seat, m: u16) -> Option<(u64, Addr)>
@@ -327,11 +331,12 @@ impl<S: ConfStore> SharedSentinel<S> {
         &self.roster
     }
 
-    /// Ends the sharing: the Sentinel and its store, as the history leaves them. With the whole share the seat has seen the whole of it: it
-    /// is the seat's front, and each call in it is under one of the seat's numbers, which are those of all seats that were joined to it.
+    /// Ends the sharing: the Sentinel and its store, as the history leaves them. With the whole share the seat has seen
+    /// the whole of it: it is the seat's front, and each call in it is under one of the seat's numbers, which are those
+    /// of all seats that were joined to it.
     ///
-    /// `SeatsOut` exactly where the seat's share isn't the whole, since another seat may then hold the turn; both come back untouched. No
-    /// memory is taken.
+    /// `SeatsOut` exactly where the seat's share isn't the whole, since another seat may then hold the turn; both come
+    /// back untouched. No memory is taken.
     pub fn close(self, seat: Seat) -> Result<Keeper<S>, (SharedSentinel<S>, Seat, CellFault)>
         requires own { seat.cell ≡ self.id }
         ensures ok { let start = self.start in IfOk result (λ k. IsLegal start seat.view.front

@@ -20,10 +20,10 @@ pub enum Stage {
 
 /// What a seat knows.
 ///
-/// `front` is the history that it has seen. `numbers` are its own, and below `given` are all numbers that it knows to be given out.
-/// `answers` are those of `address`, each with its master. `tickets` is the ticket word as it was last seen. After a join `told` is the
-/// shorter of the two fronts, and `told_numbers` has the numbers of its seat. `flight` has the entry that a serving seat has announced
-/// and not passed yet.
+/// `front` is the history that it has seen. `numbers` are its own, and below `given` are all numbers that it knows to
+/// be given out. `answers` are those of `address`, each with its master. `tickets` is the ticket word as it was last
+/// seen. After a join `told` is the shorter of the two fronts, and `told_numbers` has the numbers of its seat. `flight`
+/// has the entry that a serving seat has announced and not passed yet.
 pub struct View {
     pub front: LinkedList<Entry>,
     pub told: LinkedList<Entry>,

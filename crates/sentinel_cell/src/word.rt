@@ -16,7 +16,8 @@ fn packed(epoch: u64, place: u16) -> u64
     epoch * 65536 + place as u64
 }
 
-/// The word of a configuration of this master: its epoch times 65,536, and the place of its address in the master's list.
+/// The word of a configuration of this master: its epoch times 65,536, and the place of its address in the master's
+/// list.
 #[tactic(auto, using(crate::proofs::Places::not_there))]
 pub fn word_of(roster: &Roster, m: u16, card: Card) -> u64
     requires master { m < length roster.now.masters }

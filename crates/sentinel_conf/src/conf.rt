@@ -18,8 +18,8 @@ use std::alloc::Global;
 use std::marker::Model;
 use std::str;
 
-/// What a file sentinel.conf says, without a fault: its roster, what a Sentinel keeps in it, its settings, and the lines
-/// that a rewrite keeps. It comes from `read` alone.
+/// What a file sentinel.conf says, without a fault: its roster, what a Sentinel keeps in it, its settings, and the
+/// lines that a rewrite keeps. It comes from `read` alone.
 #[derive(Drop)]
 pub struct Conf {
     parts: Parts,
@@ -42,8 +42,8 @@ impl Model for Conf {
 }
 
 impl Conf {
-    /// The Sentinels and the masters with their nodes, in order: 1 to 64 Sentinels, each with a run id of its own, and 1 to
-    /// 16 masters, each with a name of its own and 1 to 256 nodes, of which no two are the same.
+    /// The Sentinels and the masters with their nodes, in order: 1 to 64 Sentinels, each with a run id of its own, and
+    /// 1 to 16 masters, each with a name of its own and 1 to 256 nodes, of which no two are the same.
     pub fn roster(&self) -> &Roster
         ensures value { result.now ≡ self.now.roster }
         ensures sound { IsSoundConf self.now }
@@ -58,8 +58,8 @@ impl Conf {
         self.parts.into_roster()
     }
 
-    /// What the state lines hold: the current epoch, and of each master by its number the configuration and the epoch of
-    /// the last vote.
+    /// What the state lines hold: the current epoch, and of each master by its number the configuration and the epoch
+    /// of the last vote.
     pub fn kept(&self) -> &Kept
         ensures value { result.now ≡ self.now.kept }
         ensures part { IsKeptPart self.now self.now.kept }
@@ -99,12 +99,12 @@ impl Conf {
 }
 
 /// What the file with these bytes says, or its first fault. Faults are judged in this order: `TooLong` and `NotUtf8` of
-/// the file; then line by line `BadDirective`, `BadName`, `BadAddress`, `BadNumber`, `BadRunId` and `Twice`; then line by
-/// line `UnknownMaster`; then `NoMyId` and `Roster`; and last `TooLong`, where the file could become too long by a
+/// the file; then line by line `BadDirective`, `BadName`, `BadAddress`, `BadNumber`, `BadRunId` and `Twice`; then line
+/// by line `UnknownMaster`; then `NoMyId` and `Roster`; and last `TooLong`, where the file could become too long by a
 /// rewrite. `NoMemory`, with line 0, may stand in place of any other answer.
 ///
-/// The directives are those of the comments in Redis's own sentinel.conf. A line that is no directive of this project is
-/// kept as it is and has no effect.
+/// The directives are those of the comments in Redis's own sentinel.conf. A line that is no directive of this project
+/// is kept as it is and has no effect.
 pub fn read(alloc: Global, bytes: &[u8]) -> Result<Conf, ConfFault>
     ensures { MatchResult result (λ conf. conf_of_bytes bytes.now ≡ Ok conf)
         (λ fault. (fault ≡ no_memory) ⊎ (conf_of_bytes bytes.now ≡ Err fault)) }
@@ -135,11 +135,12 @@ impl ConfText {
     }
 }
 
-/// Writes the file of this conf with this kept part: the lines that are kept, byte for byte and in order, then the state
-/// lines. What stood in the text before is gone. It takes no memory, since every text has room for the longest file.
+/// Writes the file of this conf with this kept part: the lines that are kept, byte for byte and in order, then the
+/// state lines. What stood in the text before is gone. It takes no memory, since every text has room for the longest
+/// file.
 ///
-/// The kept part is one of this conf's masters: one entry for each, its address among the master's nodes, and no epoch above
-/// the current one, which is at most `MAX_EPOCH`.
+/// The kept part is one of this conf's masters: one entry for each, its address among the master's nodes, and no epoch
+/// above the current one, which is at most `MAX_EPOCH`.
 pub fn rewrite_into(conf: &Conf, kept: &Kept, text: &mut ConfText)
     requires { IsKeptPart conf.now kept.now }
     ensures { text.new ≡ rewritten conf.now kept.now }

@@ -15,8 +15,8 @@ use conf_lines::StateLine;
 use std::alloc::{AllocError, Global};
 use std::marker::Model;
 
-/// The line of the own run id, and of each master the lines of the other Sentinels: no input changes them, so that a rewrite
-/// adds their bytes as they are. Each text is cut off where it is longer than a file may be.
+/// The line of the own run id, and of each master the lines of the other Sentinels: no input changes them, so that a
+/// rewrite adds their bytes as they are. Each text is cut off where it is longer than a file may be.
 #[derive(Drop)]
 pub struct FixedLines {
     own: Text,
@@ -77,7 +77,8 @@ fn all_sentinel_lines(
 }
 
 impl FixedLines {
-    /// Those of the Sentinel with this run id, in this roster. The text is used for the spelling, and its bytes are lost.
+    /// Those of the Sentinel with this run id, in this roster. The text is used for the spelling, and its bytes are
+    /// lost.
     pub fn new(
         alloc: Global,
         id: RunId,

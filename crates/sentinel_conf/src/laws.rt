@@ -39,7 +39,8 @@ fn is_candidate(master: &KeptMaster)
     }
 }
 
-/// Each candidate of a kept part is a run id of 40 digits, as `law_read_again` asks for. It reads them and does nothing else.
+/// Each candidate of a kept part is a run id of 40 digits, as `law_read_again` asks for. It reads them and does nothing
+/// else.
 pub fn law_run_ids(kept: &Kept)
     ensures { HasRunIds kept.now }
 {

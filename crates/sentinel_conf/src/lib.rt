@@ -1,14 +1,15 @@
-//! The file sentinel.conf: what it says, its first fault where it has one, and the file that is written after each change
-//! of what a Sentinel keeps.
+//! The file sentinel.conf: what it says, its first fault where it has one, and the file that is written after each
+//! change of what a Sentinel keeps.
 //!
 //! - `read` gives the `Conf` of a file, or a `ConfFault` with the number of the line.
 //! - `ConfText` has the room of a rewritten file, and `rewrite_into` writes one without memory.
 //!
-//! What one line says stands in `conf_lines`, and where the file is held in `sentinel_conf`; what callers need of both is named here
-//! too.
+//! What one line says stands in `conf_lines`, and where the file is held in `sentinel_conf`; what callers need of both
+//! is named here too.
 //!
-//! The definitions stand in `specs/`: `Meaning` (what all lines mean together), `Reading` (the conf or the first fault), `Facts` (what is known of each conf), `Rewritten` (the file that is
-//! written). `law_read_again` says of them that a rewritten file is read as the conf that it was written for.
+//! The definitions stand in `specs/`: `Meaning` (what all lines mean together), `Reading` (the conf or the first
+//! fault), `Facts` (what is known of each conf), `Rewritten` (the file that is written). `law_read_again` says of them
+//! that a rewritten file is read as the conf that it was written for.
 #![tactic(auto)]
 
 mod conf;

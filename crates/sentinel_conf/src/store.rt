@@ -1,5 +1,6 @@
-//! Where the text of one Sentinel's file is held: `ConfStore` is the place, which can be loaded and replaced as a whole. `FileStore` is
-//! a file on a disk, and `MemoryStore` one in memory, for tests and for a Sentinel without a file.
+//! Where the text of one Sentinel's file is held: `ConfStore` is the place, which can be loaded and replaced as a
+//! whole. `FileStore` is a file on a disk, and `MemoryStore` one in memory, for tests and for a Sentinel without a
+//! file.
 
 mod conf_store;
 mod file_fault;

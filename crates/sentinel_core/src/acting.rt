@@ -30,7 +30,8 @@ use sentinel_rules::{
 };
 use sentinel_state::{Core, Plan, State};
 
-/// The part of a Sentinel that takes an input: it adds to what is held, and is never in the phase in which that is shown.
+/// The part of a Sentinel that takes an input: it adds to what is held, and is never in the phase in which that is
+/// shown.
 #[derive(Clone, Copy)]
 struct Taking;
 
@@ -284,7 +285,8 @@ fn act_on(state: &mut State, input: &Input, outbox: &mut Outbox, former: &mut Un
     }
 }
 
-/// What an input does: the state after it, and its outputs, held in the outbox. What the input overwrote of what is kept is taken down.
+/// What an input does: the state after it, and its outputs, held in the outbox. What the input overwrote of what is
+/// kept is taken down.
 ///
 /// Many clauses: one for each part of the state, since each caller needs another.
 pub(crate) fn act(state: &mut State, input: &Input, outbox: &mut Outbox, former: &mut Undo)

@@ -1,8 +1,9 @@
 //! What one input does to a Sentinel at work: a tick of a master, what other nodes say, a command of its port.
 //!
-//! At a tick what is due is sent, and unless the clock is in TILT the master is judged, and its failover goes on. The news of other nodes are
-//! hellos, answers of other Sentinels, replies to PING, INFO of data nodes. Each command of the port has its answer, of what is kept. Each
-//! call's contract is an equation with the definition of that part of the rules: what is kept after it, and what it puts out.
+//! At a tick what is due is sent, and unless the clock is in TILT the master is judged, and its failover goes on. The
+//! news of other nodes are hellos, answers of other Sentinels, replies to PING, INFO of data nodes. Each command of the
+//! port has its answer, of what is kept. Each call's contract is an equation with the definition of that part of the
+//! rules: what is kept after it, and what it puts out.
 
 mod asking;
 mod cards;

@@ -11,9 +11,9 @@
 //! outbox.clear();
 //! ```
 //!
-//! `Outbox` holds the outputs of an input back until what they rest on is stored, in room that was made before, so that an input takes
-//! no memory. `message_text` writes a message as the bytes that stand on the wire. `Sentinel::serve` does all of this for each command of
-//! a stream.
+//! `Outbox` holds the outputs of an input back until what they rest on is stored, in room that was made before, so that
+//! an input takes no memory. `message_text` writes a message as the bytes that stand on the wire. `Sentinel::serve`
+//! does all of this for each command of a stream.
 #![tactic(auto)]
 
 mod acting;

@@ -30,9 +30,10 @@ use std::marker::Model;
 
 /// One Sentinel of a group, as Redis Sentinel 7.2 works.
 ///
-/// Each input goes through three calls: `take` changes what the Sentinel keeps and holds back what it has to say, `store` writes the
-/// file where something in it changed, `release` lets out what was held. So nothing leaves a Sentinel that doesn't rest on its file
-/// (documentation of Redis Sentinel, "Sentinel persistent state"). Only `open` takes memory.
+/// Each input goes through three calls: `take` changes what the Sentinel keeps and holds back what it has to say,
+/// `store` writes the file where something in it changed, `release` lets out what was held. So nothing leaves a
+/// Sentinel that doesn't rest on its file (documentation of Redis Sentinel, "Sentinel persistent state"). Only `open`
+/// takes memory.
 #[derive(Drop)]
 pub struct Sentinel {
     state: State,
@@ -136,16 +137,18 @@ impl Sentinel {
         })
     }
 
-    /// What is always true of a Sentinel: its plan and what it keeps are sound, it keeps as many masters as are stored, and what it keeps
-    /// is stored while it is ready. A caller that is lent a Sentinel learns it by this call, which does nothing.
+    /// What is always true of a Sentinel: its plan and what it keeps are sound, it keeps as many masters as are stored,
+    /// and what it keeps is stored while it is ready. A caller that is lent a Sentinel learns it by this call, which
+    /// does nothing.
     pub fn is_whole(&self)
         ensures { IsWhole self.now }
     {
         let _ = &self.phase;
     }
 
-    /// What is always true of what a Sentinel keeps: each candidate of a vote is a run id of 40 digits, so that the file is read again as it
-    /// was written. A caller that is lent a Sentinel learns it by this call, which reads the candidates and does nothing else.
+    /// What is always true of what a Sentinel keeps: each candidate of a vote is a run id of 40 digits, so that the
+    /// file is read again as it was written. A caller that is lent a Sentinel learns it by this call, which reads the
+    /// candidates and does nothing else.
     pub fn has_run_ids(&self)
         ensures { HasRunIds self.now.core.kept }
     {
@@ -199,16 +202,16 @@ impl Sentinel {
         &self.state.plan
     }
 
-    /// What it keeps while it runs: whom it finds down, how far a failover has come, its votes. Until it stored the last input that may be more
-    /// than its file holds.
+    /// What it keeps while it runs: whom it finds down, how far a failover has come, its votes. Until it stored the
+    /// last input that may be more than its file holds.
     pub fn core(&self) -> &Core
         ensures { result.now ≡ self.now.core }
     {
         &self.state.core
     }
 
-    /// The stored configuration of the master with this number: where the file says that the master is. None where there is no such
-    /// master.
+    /// The stored configuration of the master with this number: where the file says that the master is. None where
+    /// there is no such master.
     pub fn address_now(&self, m: u16) -> Option<Card>
         ensures some { IfSome result (λ card. (m < length self.now.stored.masters) × (card ≡ card_of self.now.stored m)) }
         ensures none { IfNone result (length self.now.stored.masters ≤ m) }
@@ -225,8 +228,8 @@ impl Sentinel {
         Some((win.master, win.epoch))
     }
 
-    /// The master whose configuration the last input changed, told until the next input is taken; an input changes that of one master at
-    /// most.
+    /// The master whose configuration the last input changed, told until the next input is taken; an input changes that
+    /// of one master at most.
     pub fn card_change(&self) -> Option<u16>
         ensures { result ≡ self.now.change }
     {
@@ -257,15 +260,17 @@ impl Sentinel {
         }
     }
 
-    /// Takes an input: what the Sentinel keeps is what the rules make of it, and the outputs stand in the outbox as held, in their order,
-    /// no more and no fewer. They show what is kept at the end of the input. To the model of the whole group an input is at most six
-    /// steps of this Sentinel. An input that isn't noticed leaves all that is kept as it was, and has no outputs: what can't be read, what
-    /// comes from no node of the roster or from this Sentinel itself, a hello or an answer about no master, and what is meant for others.
+    /// Takes an input: what the Sentinel keeps is what the rules make of it, and the outputs stand in the outbox as
+    /// held, in their order, no more and no fewer. They show what is kept at the end of the input. To the model of the
+    /// whole group an input is at most six steps of this Sentinel. An input that isn't noticed leaves all that is kept
+    /// as it was, and has no outputs: what can't be read, what comes from no node of the roster or from this Sentinel
+    /// itself, a hello or an answer about no master, and what is meant for others.
     ///
-    /// The faults are those of [`TakeFault`], in its order; then nothing has changed. The epoch of a command is at most `MAX_EPOCH`, as
-    /// `command_of` gives it. No memory is taken.
+    /// The faults are those of [`TakeFault`], in its order; then nothing has changed. The epoch of a command is at most
+    /// `MAX_EPOCH`, as `command_of` gives it. No memory is taken.
     ///
-    /// Many clauses: each fault has one that says when it comes, each part of the Sentinel and of the outbox one that says what it is after.
+    /// Many clauses: each fault has one that says when it comes, each part of the Sentinel and of the outbox one that
+    /// says what it is after.
     pub fn take(&mut self, input: &Input, outbox: &mut Outbox) -> Result<Took, TakeFault>
         requires { IsWithinEvent input.now.event }
         ensures busy { IsErrOf result TakeFault.Busy ↔ (is_busy self.old.phase ≡ true) }
@@ -310,12 +315,12 @@ impl Sentinel {
         Ok(Took { changed })
     }
 
-    /// Stores what the last input changed: the file is written anew where something in it changed, or FLUSHCONFIG was taken, and the store
-    /// isn't called otherwise. It holds the conf's own lines and what is kept.
+    /// Stores what the last input changed: the file is written anew where something in it changed, or FLUSHCONFIG was
+    /// taken, and the store isn't called otherwise. It holds the conf's own lines and what is kept.
     ///
-    /// `Nothing` where no input waits to be stored: nothing has changed. `Refused` where the store refused the file, which counts as one
-    /// failure of it: the Sentinel is halted, what it held is never released, and the file holds the old text or the new one. No memory is
-    /// taken but what the store itself takes.
+    /// `Nothing` where no input waits to be stored: nothing has changed. `Refused` where the store refused the file,
+    /// which counts as one failure of it: the Sentinel is halted, what it held is never released, and the file holds
+    /// the old text or the new one. No memory is taken but what the store itself takes.
     ///
     /// Many clauses: each fault has one that says when it comes and one that says what it leaves.
     pub fn store<S: ConfStore>(&mut self, store: &mut S) -> Result<(), StoreFault>
@@ -358,8 +363,8 @@ impl Sentinel {
         Ok(())
     }
 
-    /// Releases the outputs of the input that was stored last: they move to the end of what the outbox shows, and the next input can be
-    /// taken. The outbox is the one of that input, with what it held.
+    /// Releases the outputs of the input that was stored last: they move to the end of what the outbox shows, and the
+    /// next input can be taken. The outbox is the one of that input, with what it held.
     ///
     /// The faults are those of [`ReleaseFault`], in its order; then nothing has changed. No memory is taken.
     pub fn release(&mut self, outbox: &mut Outbox) -> Result<(), ReleaseFault>

@@ -39,15 +39,16 @@ impl PortSentinel for Sentinel {
 }
 
 impl Sentinel {
-    /// Serves a stream of commands until its end, at one reading of the clock in milliseconds: each command is taken as an input from
-    /// `PortAt(0)`, stored, and its released answer written. A value that is no known command is answered by its error line, and
-    /// changes nothing. The answers stand in the order of the values, nothing else is written, and `Served` counts them.
+    /// Serves a stream of commands until its end, at one reading of the clock in milliseconds: each command is taken as
+    /// an input from `PortAt(0)`, stored, and its released answer written. A value that is no known command is answered
+    /// by its error line, and changes nothing. The answers stand in the order of the values, nothing else is written,
+    /// and `Served` counts them.
     ///
-    /// Where the bytes are no RESP2 value, the values before were answered, `-ERR Protocol error` is written, and the fault is `Frame`.
-    /// A value that the end of the stream cuts off gets no answer and is no fault. `Read`, `Write`, `Halted` and `NoMemory` leave a
-    /// first part of the answers written, and at most one value more was taken than was answered; `Halted` comes only where the store
-    /// counts a failure more, and that value is the one whose store was refused. The Sentinel has to be ready, and is ready again after
-    /// any end but `Halted`.
+    /// Where the bytes are no RESP2 value, the values before were answered, `-ERR Protocol error` is written, and the
+    /// fault is `Frame`. A value that the end of the stream cuts off gets no answer and is no fault. `Read`, `Write`,
+    /// `Halted` and `NoMemory` leave a first part of the answers written, and at most one value more was taken than was
+    /// answered; `Halted` comes only where the store counts a failure more, and that value is the one whose store was
+    /// refused. The Sentinel has to be ready, and is ready again after any end but `Halted`.
     pub fn serve<R: Read, W: Write, S: ConfStore>(
         &mut self,
         now: u64,
@@ -57,7 +58,8 @@ impl Sentinel {
     ) -> Result<Served, ServeFault>
         requires ready { self.old.phase ≡ Phase.Ready }
         requires failures { S.failure_count store.old < 2 ^ 64 - 1 }
-        // What was written is the answers to what was read; the Sentinel keeps what they leave, and the store holds what they rest on.
+        // What was written is the answers to what was read; the Sentinel keeps what they leave, and the store holds
+        // what they rest on.
         ensures served { (input : List ℕ) × (written : List ℕ)
             × Consumes (R.remaining reader.old) (R.remaining reader.new) input
             × Appends (W.contents writer.old) (W.contents writer.new) written

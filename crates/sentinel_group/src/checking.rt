@@ -15,8 +15,8 @@ use sentinel_runner::GroupFault;
 use std::io::Write;
 use std::process::ExitCode;
 
-/// The text of the file at the path, and what it says. A file that is refused is told, with all that is wrong with it, and the status tells
-/// it too.
+/// The text of the file at the path, and what it says. A file that is refused is told, with all that is wrong with it,
+/// and the status tells it too.
 fn conf_at(rt: HostRuntime, path: &str) -> Result<(FileText, Conf), ExitCode> {
     let text = text_at(rt, path)?;
     match read(rt.alloc(), text.as_slice()) {
@@ -58,8 +58,8 @@ fn confs_of(rt: HostRuntime, paths: &[&str]) -> Result<Vec<NamedConf>, ExitCode>
     }
 }
 
-/// Tells each file whose Sentinel the others can't reach by the ip by which they know it, by the words that `watch` has. The status tells it
-/// too; none where there is no such file.
+/// Tells each file whose Sentinel the others can't reach by the ip by which they know it, by the words that `watch`
+/// has. The status tells it too; none where there is no such file.
 fn refuse_unreached(rt: HostRuntime, confs: &[NamedConf]) -> Option<ExitCode> {
     let mut refused = None;
     for file in confs {
@@ -71,7 +71,8 @@ fn refuse_unreached(rt: HostRuntime, confs: &[NamedConf]) -> Option<ExitCode> {
     refused
 }
 
-/// Tells what group these files make, and with status 3 what is wrong with it. Where a folder is named, the mended files are written there.
+/// Tells what group these files make, and with status 3 what is wrong with it. Where a folder is named, the mended
+/// files are written there.
 fn tell_group(rt: HostRuntime, confs: &[NamedConf], folder: Option<&str>) -> ExitCode {
     let Ok(report) = Report::of(rt.alloc(), confs) else {
         return fail(&rt, ServeFault::NoMemory);
@@ -118,7 +119,8 @@ fn tell_one(rt: HostRuntime, path: &str) -> Result<(), ExitCode> {
     Ok(())
 }
 
-/// Whether the words ask what one file by itself says: one is named, and no folder to mend into, and `--group` isn't there.
+/// Whether the words ask what one file by itself says: one is named, and no folder to mend into, and `--group` isn't
+/// there.
 fn asks_of_one(words: &ArgMatches, files: &[&str]) -> bool {
     files.len() == 1 && !words.get_flag("group") && words.get_str("mend").is_none()
 }
@@ -135,8 +137,8 @@ fn give_to_redis(rt: HostRuntime, files: &[&str], path: &str) -> ExitCode {
     }
 }
 
-/// Tells what group the conf files make that the words name, or of which group the one file is that they name, and with status 3 what is wrong
-/// with it. Or it writes one of them for redis-sentinel.
+/// Tells what group the conf files make that the words name, or of which group the one file is that they name, and with
+/// status 3 what is wrong with it. Or it writes one of them for redis-sentinel.
 pub(crate) fn check(rt: HostRuntime, words: &ArgMatches) -> ExitCode {
     let files = words.get_strs("conf").unwrap_or(&[]);
     if let Some(path) = words.get_str("for-redis") {

@@ -263,7 +263,8 @@ pub(crate) fn words<R: Env + Alloc<A = Global>>(rt: &R) -> io::Result<Vec<String
     Ok(words)
 }
 
-/// Tells why the words can't be read: a word that isn't UTF-8 is refused with status 2, and a refused allocation ends in status 6.
+/// Tells why the words can't be read: a word that isn't UTF-8 is refused with status 2, and a refused allocation ends
+/// in status 6.
 pub(crate) fn refuse_unread<R>(rt: &R, command: &mut Command<'_>, error: &io::Error) -> ExitCode
 where
     R: Print + Eprint + Alloc<A = Global>,
@@ -280,7 +281,8 @@ where
 /// What stands before the reason why a number of port threads is refused.
 const PORT_THREADS_REFUSED: &str = "'--port-threads <number>': ";
 
-/// Tells why the words are refused, as `clap` says it; but which numbers of port threads there are, in place of why a word is none of them.
+/// Tells why the words are refused, as `clap` says it; but which numbers of port threads there are, in place of why a
+/// word is none of them.
 fn refuse_words<R: Eprint>(rt: &R, said: &str) {
     let Some((front, reason)) = said.split_once(PORT_THREADS_REFUSED) else {
         let _ = eprint!(rt; "sentinel_group: {said}");
@@ -292,8 +294,9 @@ fn refuse_words<R: Eprint>(rt: &R, said: &str) {
     );
 }
 
-/// Tells what `clap` says of the words: the help or the version that was asked for on standard output, with status 0, or why the words
-/// are refused on standard error, with status 2. A refused allocation ends in status 6, and a text that can't be written in status 4.
+/// Tells what `clap` says of the words: the help or the version that was asked for on standard output, with status 0,
+/// or why the words are refused on standard error, with status 2. A refused allocation ends in status 6, and a text
+/// that can't be written in status 4.
 pub(crate) fn tell_words<R>(rt: &R, error: &Error) -> ExitCode
 where
     R: Print + Eprint + Alloc<A = Global>,

@@ -118,8 +118,8 @@ pub(crate) fn file_of(
     }
 }
 
-/// The file at the path as a store whose notes go to the log of `noting`, and what it says. A file that is refused is told, and the status tells
-/// it too.
+/// The file at the path as a store whose notes go to the log of `noting`, and what it says. A file that is refused is
+/// told, and the status tells it too.
 fn noted_file_of<'a, R: Log>(
     rt: HostRuntime,
     noting: &'a R,

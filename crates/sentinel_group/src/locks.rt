@@ -95,8 +95,8 @@ fn lock_soon(rt: HostRuntime, file: &File) -> Result<(), TryLockError> {
     file.try_lock()
 }
 
-/// Opens the file three times: where standard input, output or error is closed, that takes its number meanwhile, so that no lock has it, into whose
-/// file would go what is printed.
+/// Opens the file three times: where standard input, output or error is closed, that takes its number meanwhile, so
+/// that no lock has it, into whose file would go what is printed.
 fn stand_in(rt: HostRuntime, path: &str) -> (Option<File>, Option<File>, Option<File>) {
     let first = File::open(&rt, path).ok();
     let second = File::open(&rt, path).ok();

@@ -1,6 +1,6 @@
-//! The program `sentinel_group`: `answer` serves the commands of standard input on standard output, `serve` runs a group with its ports,
-//! `watch` runs one Sentinel over real Redis servers, `replay` plays a story of a group, `check` tells what group files make, `new-id` prints a run id for a new one,
-//! `new-group` writes the files of a new group.
+//! The program `sentinel_group`: `answer` serves the commands of standard input on standard output, `serve` runs a
+//! group with its ports, `watch` runs one Sentinel over real Redis servers, `replay` plays a story of a group, `check`
+//! tells what group files make, `new-id` prints a run id for a new one, `new-group` writes the files of a new group.
 #![tactic(auto)]
 
 mod checking;
@@ -74,7 +74,8 @@ fn answer_in_memory(rt: HostRuntime) -> ExitCode {
     serve(rt, conf, &mut store)
 }
 
-/// Serves with the configuration of the file at the path, which is rewritten as what it holds changes. Nobody else may run on it meanwhile.
+/// Serves with the configuration of the file at the path, which is rewritten as what it holds changes. Nobody else may
+/// run on it meanwhile.
 fn answer_from(rt: HostRuntime, path: &str) -> ExitCode {
     let Ok(path) = ConfPath::of(rt, path) else {
         return fail(&rt, ServeFault::NoMemory);
@@ -121,7 +122,8 @@ fn main(rt: HostRuntime) -> ExitCode {
                     let silent = Logged::new(rt, LevelFilter::Off, Discard);
                     return tell_end(rt, serve_group(rt, &silent, words), true);
                 }
-                // (notes have a thread of their own, which no other waits for; what it can't write, nor can a line of how the group ended)
+                // (notes have a thread of their own, which no other waits for; what it can't write, nor can a line of
+                // how the group ended)
                 let Ok((queue, writer)) = NoteQueue::open(rt, rt.alloc()) else {
                     return fail(&rt, ServeFault::NoMemory);
                 };

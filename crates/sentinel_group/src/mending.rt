@@ -42,8 +42,8 @@ fn write_mended(
     Ok(())
 }
 
-/// Writes each of these files anew into the folder, with the newest configuration of each master and its own votes, so that the group goes
-/// on with them. Files that no group can go on with are refused, and then nothing is written.
+/// Writes each of these files anew into the folder, with the newest configuration of each master and its own votes, so
+/// that the group goes on with them. Files that no group can go on with are refused, and then nothing is written.
 pub(crate) fn mend(rt: HostRuntime, folder: &str, files: &[NamedConf]) -> ExitCode {
     let texts = match mended_texts(rt.alloc(), files) {
         Ok(texts) => texts,

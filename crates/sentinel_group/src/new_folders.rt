@@ -36,8 +36,8 @@ fn write_files(rt: HostRuntime, folder: &str, files: &[NewFile<'_>]) -> io::Resu
     opened.sync_all()
 }
 
-/// Writes the files into a folder that isn't there, or is empty. They are written into one beside it, `<folder>.new`, which then gets its
-/// name: so a kill leaves the folder as it was or with all files, and so does an error.
+/// Writes the files into a folder that isn't there, or is empty. They are written into one beside it, `<folder>.new`,
+/// which then gets its name: so a kill leaves the folder as it was or with all files, and so does an error.
 pub(crate) fn write_folder(rt: HostRuntime, folder: &str, files: &[NewFile<'_>]) -> io::Result<()> {
     let folder = folder.trim_end_matches('/');
     let Ok(beside) = format!(in rt.alloc(); "{folder}.new") else {

@@ -19,8 +19,8 @@ enum Unwritten {
     NoMemory,
 }
 
-/// Writes the text to a new file with the permissions of the conf, since passwords can be in both, has the disk hold it, and gives it its
-/// name.
+/// Writes the text to a new file with the permissions of the conf, since passwords can be in both, has the disk hold
+/// it, and gives it its name.
 fn write_named(
     rt: HostRuntime,
     conf_path: &str,
@@ -70,7 +70,8 @@ fn refuse_text(rt: HostRuntime, path: &str, why: Unwritten) -> ExitCode {
     }
 }
 
-/// Writes to a new file at `path` the text of the conf at `conf_path` that redis-sentinel reads, where `conf_text` is its own.
+/// Writes to a new file at `path` the text of the conf at `conf_path` that redis-sentinel reads, where `conf_text` is
+/// its own.
 pub(crate) fn write_for_redis(
     rt: HostRuntime,
     conf_path: &str,

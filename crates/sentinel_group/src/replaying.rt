@@ -22,7 +22,8 @@ fn bytes_of(rt: &HostRuntime, path: &str) -> Result<Vec<u8>, ExitCode> {
     }
 }
 
-/// Reads the scenario and the files of the Sentinels in the order of the words; the first that is refused ends the program.
+/// Reads the scenario and the files of the Sentinels in the order of the words; the first that is refused ends the
+/// program.
 fn story_of(rt: &HostRuntime, scenario: &str, confs: &[&str]) -> Result<Story, ExitCode> {
     let mut story = match Story::new(rt.alloc(), bytes_of(rt, scenario)?) {
         Ok(story) => story,

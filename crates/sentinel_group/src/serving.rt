@@ -42,7 +42,8 @@ fn tell_orders(rt: HostRuntime) {
     }
 }
 
-/// Runs an open group, and obeys the lines of standard input, until that ends. With `--until-killed` nothing is read, and the group runs on.
+/// Runs an open group, and obeys the lines of standard input, until that ends. With `--until-killed` nothing is read,
+/// and the group runs on.
 fn run_group<R, S, P>(
     rt: HostRuntime,
     noting: &R,
@@ -101,7 +102,8 @@ where
     run_group(rt, noting, group, WithoutPorts, words)
 }
 
-/// The files that the words name, and their locks. Files that make no group are told as such, also where another program runs on one of them.
+/// The files that the words name, and their locks. Files that make no group are told as such, also where another
+/// program runs on one of them.
 fn locked_files_of<'a, R: Log>(
     rt: HostRuntime,
     noting: &'a R,
@@ -130,7 +132,8 @@ fn locked_files_of<'a, R: Log>(
     }
 }
 
-/// Serves the group of the conf files that the words name, on which nobody else may run meanwhile; its notes go to the log of `noting`.
+/// Serves the group of the conf files that the words name, on which nobody else may run meanwhile; its notes go to the
+/// log of `noting`.
 pub(crate) fn serve<R>(rt: HostRuntime, noting: &R, words: &ArgMatches) -> Result<(), Unserved>
 where
     R: Threads + Wait + Net + Clock + Log + Input + Sync,

@@ -24,7 +24,8 @@ pub(crate) fn note_sentinel<R: Log>(noting: &R, conf: &Conf) {
     }
 }
 
-/// Notes the warnings of a file of a group of `sentinels` Sentinels, line by line. Where it can't be read, or memory is refused, none are noted.
+/// Notes the warnings of a file of a group of `sentinels` Sentinels, line by line. Where it can't be read, or memory is
+/// refused, none are noted.
 fn note_warnings<R: Log>(rt: HostRuntime, noting: &R, path: &str, sentinels: u64) {
     let Ok(text) = fs::read(&rt, path) else {
         return;

@@ -1,4 +1,5 @@
-//! What is told of files beside the line of a fault: all that is wrong with them, and warnings; on standard error, or as notes.
+//! What is told of files beside the line of a fault: all that is wrong with them, and warnings; on standard error, or
+//! as notes.
 
 use crate::new_files::make_file;
 use conf_check::{Directives, NamedConf, add_notes, add_sides, add_watch_warnings};
@@ -40,8 +41,8 @@ fn tell_other_password(rt: HostRuntime, path: &str, conf: &Conf, text: &[u8]) {
     }
 }
 
-/// Tells each line that `watch` refuses, but the one with the number `told`, and the warnings of a file that is to be one for `watch`, in a group of so
-/// many Sentinels. Where memory is refused, less is told.
+/// Tells each line that `watch` refuses, but the one with the number `told`, and the warnings of a file that is to be
+/// one for `watch`, in a group of so many Sentinels. Where memory is refused, less is told.
 pub(crate) fn tell_watch(rt: HostRuntime, path: &str, sentinels: u64, text: &[u8], told: u64) {
     tell_refused(rt, path, text, told);
     let alloc = rt.alloc();
@@ -52,7 +53,8 @@ pub(crate) fn tell_watch(rt: HostRuntime, path: &str, sentinels: u64, text: &[u8
     }
 }
 
-/// Tells all that is wrong with a file that is to be one for `watch`, and the warnings of its lines. Where memory is refused, less is told.
+/// Tells all that is wrong with a file that is to be one for `watch`, and the warnings of its lines. Where memory is
+/// refused, less is told.
 pub(crate) fn tell_faults(rt: HostRuntime, path: &str, text: &[u8]) {
     let mut lines = Vec::new(rt.alloc());
     if add_notes(rt.alloc(), &mut lines, path, text).is_ok() {
@@ -61,7 +63,8 @@ pub(crate) fn tell_faults(rt: HostRuntime, path: &str, text: &[u8]) {
     tell_watch(rt, path, u64::MAX, text, 0);
 }
 
-/// Notes the warnings of the file of a `watch` that starts, and which of its lines have no effect. Where memory is refused, nothing is noted.
+/// Notes the warnings of the file of a `watch` that starts, and which of its lines have no effect. Where memory is
+/// refused, nothing is noted.
 pub(crate) fn note_watch<R: Log>(
     rt: HostRuntime,
     noting: &R,

@@ -53,7 +53,8 @@ pub(crate) fn watch_level(words: &ArgMatches) -> LevelFilter {
     }
 }
 
-/// Tells why a file that can be read, and says this, isn't one for `watch`: the fault, then each other line that is refused, and the warnings.
+/// Tells why a file that can be read, and says this, isn't one for `watch`: the fault, then each other line that is
+/// refused, and the warnings.
 pub(crate) fn refuse_watch(
     rt: HostRuntime,
     path: &str,
@@ -166,8 +167,8 @@ fn settings_of(
     }
 }
 
-/// The file at the path, as a store whose notes go to the log of `noting`. One that is refused is told, with all that is wrong with it, and the
-/// status tells it too.
+/// The file at the path, as a store whose notes go to the log of `noting`. One that is refused is told, with all that
+/// is wrong with it, and the status tells it too.
 fn watch_file<'a, R: Log>(
     rt: HostRuntime,
     noting: &'a R,
@@ -224,7 +225,8 @@ fn locked_file<'a, R: Log>(
     }
 }
 
-/// Runs the Sentinel of the conf file that the words name, on which nobody else may run meanwhile; its notes go to the log of `noting`.
+/// Runs the Sentinel of the conf file that the words name, on which nobody else may run meanwhile; its notes go to the
+/// log of `noting`.
 pub(crate) fn watch<R>(rt: HostRuntime, noting: &R, words: &ArgMatches) -> Result<(), Unwatched>
 where
     R: Threads + Wait + Net + Clock + Log + Sync,

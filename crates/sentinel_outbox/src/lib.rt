@@ -1,8 +1,8 @@
 //! The outputs of a node, and when they may be seen.
 //!
-//! A node holds back what an input has it send until what that rests on is stored, in an `Outbox`, whose room was made before, so that
-//! an input takes no memory. `Room` tells how much room an input takes, `Phase` how far a node has come with its last input, and the
-//! faults why it refuses a call.
+//! A node holds back what an input has it send until what that rests on is stored, in an `Outbox`, whose room was made
+//! before, so that an input takes no memory. `Room` tells how much room an input takes, `Phase` how far a node has come
+//! with its last input, and the faults why it refuses a call.
 #![tactic(auto)]
 
 mod faults;

@@ -162,8 +162,8 @@ impl Outbox {
         self.shown.as_slice()
     }
 
-    /// Drops what is shown; what is held stays. No memory is taken, and no room is lost: the room of the list stays, and
-    /// that of an answer is kept for the next one.
+    /// Drops what is shown; what is held stays. No memory is taken, and no room is lost: the room of the list stays,
+    /// and that of an answer is kept for the next one.
     pub fn clear(&mut self)
         ensures shown { self.new.shown ≡ [] }
         ensures shown_room { self.new.shown_room ≡ self.old.shown_room + length self.old.shown }
@@ -193,8 +193,9 @@ impl Outbox {
         self.held.len()
     }
 
-    /// Adds a message to the end of what is held, for a node that isn't a Sentinel; false, with nothing changed, where no room is left
-    /// for it. Where `fits` of `Room::messages(n)` was true, the next n calls are true. No memory is taken.
+    /// Adds a message to the end of what is held, for a node that isn't a Sentinel; false, with nothing changed, where
+    /// no room is left for it. Where `fits` of `Room::messages(n)` was true, the next n calls are true. No memory is
+    /// taken.
     pub fn hold(&mut self, message: Message) -> bool
         requires { IsOtherNode message.sender }
         ensures held { IsTrue result → self.new ≡ record self.old { held = self.old.held ++ Send message ∷ [] } }
@@ -222,8 +223,8 @@ impl Outbox {
         self.show_all();
     }
 
-    /// Moves what is shown to the end of a list that has room for it, in order; the texts of the messages aren't copied. No memory is
-    /// taken, and what is held stays.
+    /// Moves what is shown to the end of a list that has room for it, in order; the texts of the messages aren't
+    /// copied. No memory is taken, and what is held stays.
     pub fn move_shown(&mut self, to: &mut Vec<Output>)
         requires { vec_len to.old + length self.old.shown ≤ vec_capacity to.old }
         ensures moved { to.new.items ≡ to.old.items ++ self.old.shown }
@@ -236,8 +237,8 @@ impl Outbox {
         move_all(&mut self.shown, to);
     }
 
-    /// Adds an output of a Sentinel, or of a part of one, to the end of those that are held, within the room for them. No memory is
-    /// taken.
+    /// Adds an output of a Sentinel, or of a part of one, to the end of those that are held, within the room for them.
+    /// No memory is taken.
     pub fn hold_output<T: Stores>(&mut self, by: &T, output: Output)
         requires held_room { length self.old.held < self.old.held_room }
         requires shown_room { length self.old.held < self.old.shown_room }
@@ -246,7 +247,8 @@ impl Outbox {
         self.held.push_reserved(output);
     }
 
-    /// Moves what is held to the end of what is shown, in order, for a Sentinel that has stored what it rests on. No memory is taken.
+    /// Moves what is held to the end of what is shown, in order, for a Sentinel that has stored what it rests on. No
+    /// memory is taken.
     pub fn show_stored<T: Stores>(&mut self, by: &T)
         requires { T.phase by.now ≡ Phase.Stored }
         ensures { self.new ≡ record self.old {
@@ -258,8 +260,8 @@ impl Outbox {
         self.show_all();
     }
 
-    /// Moves what is held to the end of what is shown, in order. Where nothing is shown yet and both lists have as much room, as those of
-    /// a port do, they change places, and no output is moved. No memory is taken.
+    /// Moves what is held to the end of what is shown, in order. Where nothing is shown yet and both lists have as much
+    /// room, as those of a port do, they change places, and no output is moved. No memory is taken.
     fn show_all(&mut self)
         ensures { self.new ≡ record self.old {
           shown = self.old.shown ++ self.old.held;

@@ -26,7 +26,8 @@ impl Model for Spare {
     ghost invariant = { λ spare. (vec_len spare.text ≡ 0) × (vec_len spare.list ≡ 0) };
 }
 
-/// An empty list with room for what this one holds and so many more, where this one hasn't that room; None where it has.
+/// An empty list with room for what this one holds and so many more, where this one hasn't that room; None where it
+/// has.
 pub(crate) fn larger_than<T: Drop>(list: &Vec<T>, more: usize) -> Result<Option<Vec<T>>, NoMemory>
     ensures items { IfOk result (λ larger. IfSome larger (λ made. made.items ≡ [])) }
     ensures room { IfOk result (λ larger. IfSome larger (λ made. vec_len list.now + more ≤ vec_capacity made)) }

@@ -139,7 +139,7 @@ best_awaited plan core m now p lt = known (choice_of (candidates_of plan core m 
         let up_or_card : (eqb k (card_place plan core m) || is_node_down plan core m now k) ≡ false =
         (or_parts (eqb k (card_place plan core m) || is_node_down plan core m now k) (node_of core m k).lost not_down).0 in
         let apart : k ≡ card_place plan core m → ⊥ = eqb-false k (card_place plan core m)
-                (or_parts (eqb k (card_place plan core m)) (is_node_down plan core m now k) up_or_card).0 in
+        (or_parts (eqb k (card_place plan core m)) (is_node_down plan core m now k) up_or_card).0 in
         record {
           listed = inside;
           addressed = refl;

@@ -2,7 +2,8 @@
 
 use ballot_law::{DataRole, Info};
 
-/// What is assumed of a replica before its first INFO: no run id, the default priority of a Redis server, and nothing of the master's stream.
+/// What is assumed of a replica before its first INFO: no run id, the default priority of a Redis server, and nothing
+/// of the master's stream.
 pub const ASSUMED_INFO: Info = Info {
     id: None,
     role: DataRole::Replica,

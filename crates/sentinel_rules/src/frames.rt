@@ -5,8 +5,8 @@ use ballot_law::{Addr, NodeName, OUTPUTS_MAX, RunId};
 /// The greatest number of frames that one input puts out: each is one output.
 pub const FRAMES_MAX: usize = OUTPUTS_MAX;
 
-/// What an input has a Sentinel put out. The epochs and the configurations that it shows are those that are kept at the end of the
-/// input, so they aren't written here. `master` is the number of a master in the roster.
+/// What an input has a Sentinel put out. The epochs and the configurations that it shows are those that are kept at the
+/// end of the input, so they aren't written here. `master` is the number of a master in the roster.
 #[derive(Clone, Copy, PartialEq, Eq)]
 pub enum Frame {
     /// PING to a data node or a Sentinel.

@@ -1,11 +1,12 @@
-//! What a Sentinel does with each input, as definitions: the rules of one whole Sentinel, apart from the code that keeps them.
+//! What a Sentinel does with each input, as definitions: the rules of one whole Sentinel, apart from the code that
+//! keeps them.
 //!
-//! `specs/` reads from below: `Plans` (what doesn't change), `States` (what is kept, and what is down), `Parts` (what is put out),
-//! `Profiles` (where the profiles differ), `Votes`, `Ticks`, `News` (hellos, answers, replies, INFO), `Answers` (the
-//! commands of the port), `Takes` (one input as a whole), `Facts` (what is known of each plan and core), `Steps` (an
-//! input by steps of the ballot model), `Room`, `Named` and `Limits` (how much is put out, of which masters, and with
-//! which numbers), `Changes` (what an input changes of what is kept), `Ignored` (what changes nothing), `Worked` (whole
-//! runs, computed). `docs/RULES.md` says the same in words.
+//! `specs/` reads from below: `Plans` (what doesn't change), `States` (what is kept, and what is down), `Parts` (what
+//! is put out), `Profiles` (where the profiles differ), `Votes`, `Ticks`, `News` (hellos, answers, replies, INFO),
+//! `Answers` (the commands of the port), `Takes` (one input as a whole), `Facts` (what is known of each plan and core),
+//! `Steps` (an input by steps of the ballot model), `Room`, `Named` and `Limits` (how much is put out, of which
+//! masters, and with which numbers), `Changes` (what an input changes of what is kept), `Ignored` (what changes
+//! nothing), `Worked` (whole runs, computed). `docs/RULES.md` says the same in words.
 #![tactic(auto)]
 
 mod assumed;

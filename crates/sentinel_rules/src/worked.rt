@@ -1,4 +1,5 @@
-//! Worked examples: whole runs of one Sentinel, computed by its definitions. `specs/Worked.antt` has their inputs and what they give.
+//! Worked examples: whole runs of one Sentinel, computed by its definitions. `specs/Worked.antt` has their inputs and
+//! what they give.
 
 ghost use Rattle.sentinel_rules.specs.Worked.{
   OneVoteAnEpoch,
@@ -25,9 +26,9 @@ ghost use Rattle.sentinel_rules.specs.Worked.{
   ALostCandidateHoldsNobodyBack,
 };
 
-/// Votes: one in an epoch, to the first that asks; a question without a candidate raises no epoch; after a restart the vote is known as
-/// the file holds it, with its candidate, unless it wasn't stored, and then it is free; a vote for another candidate delays the own
-/// campaign.
+/// Votes: one in an epoch, to the first that asks; a question without a candidate raises no epoch; after a restart the
+/// vote is known as the file holds it, with its candidate, unless it wasn't stored, and then it is free; a vote for
+/// another candidate delays the own campaign.
 pub fn law_example_votes()
     ensures one_vote_an_epoch { OneVoteAnEpoch }
     ensures questions_raise_nothing { QuestionsRaiseNothing }
@@ -36,7 +37,8 @@ pub fn law_example_votes()
     ensures a_vote_delays_the_own_campaign { AVoteDelaysTheOwnCampaign }
 {}
 
-/// The answers to a client: of an address and a name that no master has, the short ones, in bytes, and what is shown during a failover.
+/// The answers to a client: of an address and a name that no master has, the short ones, in bytes, and what is shown
+/// during a failover.
 pub fn law_example_answers()
     ensures nothing_of_nobody { NothingOfNobody }
     ensures short_answers { ShortAnswers }
@@ -51,7 +53,8 @@ pub fn law_example_failover()
     ensures hello_in_bytes { HelloInBytes }
 {}
 
-/// Failovers that come to nothing: votes of another epoch, no epoch that is left, a newer configuration, which alone is adopted.
+/// Failovers that come to nothing: votes of another epoch, no epoch that is left, a newer configuration, which alone is
+/// adopted.
 pub fn law_example_no_failover()
     ensures votes_of_another_epoch { VotesOfAnotherEpoch }
     ensures no_epoch_is_left { NoEpochIsLeft }

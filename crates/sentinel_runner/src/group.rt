@@ -100,8 +100,8 @@ impl<S: ConfStore + Drop> Group<S> {
         Self::open_with(rt, alloc, confs, stores, port, 0)
     }
 
-    /// As `open`, with ports that are served so; each thread of a port has a seat of the Sentinel. So many descriptors stay free for connections that no
-    /// Sentinel has.
+    /// As `open`, with ports that are served so; each thread of a port has a seat of the Sentinel. So many descriptors
+    /// stay free for connections that no Sentinel has.
     pub fn open_with<R: Net + Clock + Log>(
         rt: &R,
         alloc: Global,
@@ -205,7 +205,8 @@ impl<S: ConfStore + Drop + Send> Group<S> {
         outcome(&shared.state)
     }
 
-    /// Runs each Sentinel and the data nodes, and obeys the lines of the input until its end, which ends the group. The stores are gone then.
+    /// Runs each Sentinel and the data nodes, and obeys the lines of the input until its end, which ends the group. The
+    /// stores are gone then.
     ///
     /// `Read` where the input couldn't be read to its end and nothing of the group was at fault.
     pub fn run_by_orders<I: Read, R: Threads + Wait + Net + Clock + Log + Sync>(
@@ -277,8 +278,8 @@ where
     })
 }
 
-/// Starts the thread that serves the data nodes to clients, and follows the orders of the input beside all others. Many parameters: the threads borrow
-/// what they share, and have the rest by value.
+/// Starts the thread that serves the data nodes to clients, and follows the orders of the input beside all others. Many
+/// parameters: the threads borrow what they share, and have the rest by value.
 fn follow_beside_ports<'a, S, P, O: FollowsOrders + Drop, I: Read, R>(
     rt: &'a R,
     ports: P,
@@ -349,8 +350,9 @@ pub(crate) fn outcome(state: &RunState) -> Result<(), GroupFault>
     }
 }
 
-/// Runs the data nodes in a thread, and each Sentinel in one that starts its others. Where one can't be made, all end. The threads of a Sentinel look at its
-/// own word alone, and each word says that they are to end once the data nodes have ended.
+/// Runs the data nodes in a thread, and each Sentinel in one that starts its others. Where one can't be made, all end.
+/// The threads of a Sentinel look at its own word alone, and each word says that they are to end once the data nodes
+/// have ended.
 fn run_threads<'a, S, R>(
     rt: &'a R,
     threads: Beginning<S>,
@@ -382,11 +384,13 @@ where
     })
 }
 
-/// Runs a group: for each conf a Sentinel with a timer that ticks each master every 100 ms, a link that takes what other nodes send, and a
-/// port at 127.0.0.1 that answers clients; and the data nodes of the roster in one thread more. It ends soon after `ending` isn't 0.
+/// Runs a group: for each conf a Sentinel with a timer that ticks each master every 100 ms, a link that takes what
+/// other nodes send, and a port at 127.0.0.1 that answers clients; and the data nodes of the roster in one thread more.
+/// It ends soon after `ending` isn't 0.
 ///
-/// The stores stand in the order of the confs. `NotOneRoster` and `PortRefused` come before any thread is made; a `NoMemory` of a
-/// thread that can't be made sets `ending` to 1, so that the others end; `Halted` comes at the end, where a Sentinel was halted.
+/// The stores stand in the order of the confs. `NotOneRoster` and `PortRefused` come before any thread is made; a
+/// `NoMemory` of a thread that can't be made sets `ending` to 1, so that the others end; `Halted` comes at the end,
+/// where a Sentinel was halted.
 pub fn run_group<S: ConfStore + Drop + Send, R: Threads + Wait + Net + Clock + Log + Sync>(
     rt: &R,
     alloc: Global,

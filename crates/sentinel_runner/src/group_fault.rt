@@ -9,8 +9,8 @@ pub enum GroupFault {
     /// A growth was refused, or a thread couldn't be made. The threads that were made have ended.
     #[error("NoMemory")]
     NoMemory,
-    /// The confs aren't those of one group: they don't give each Sentinel of the roster once, their rosters or their starting
-    /// configurations differ, or there is another number of stores. Nothing was begun.
+    /// The confs aren't those of one group: they don't give each Sentinel of the roster once, their rosters or their
+    /// starting configurations differ, or there is another number of stores. Nothing was begun.
     #[error("NotOneRoster")]
     NotOneRoster,
     /// A Sentinel's port can't be had at 127.0.0.1, or the system no longer tells of its connections.
@@ -43,7 +43,8 @@ impl<T: Drop> From<AllocFailed<T>> for GroupFault {
     }
 }
 
-/// Why a group that takes orders from an input didn't run, or didn't run whole. Where both fit, that of the group is told.
+/// Why a group that takes orders from an input didn't run, or didn't run whole. Where both fit, that of the group is
+/// told.
 #[derive(Clone, Copy, Debug, PartialEq, Eq, Error)]
 pub enum OrderedFault {
     /// That of the group.

@@ -1,5 +1,5 @@
-//! What runs: `run_group` runs the Sentinels of a group in threads, with its data nodes, its links and its ports, and `Watch` one Sentinel, with its
-//! connections and its port. The rules stand in the crates below.
+//! What runs: `run_group` runs the Sentinels of a group in threads, with its data nodes, its links and its ports, and
+//! `Watch` one Sentinel, with its connections and its port. The rules stand in the crates below.
 #![tactic(auto)]
 
 mod group;

@@ -1,4 +1,5 @@
-//! What serves the data nodes of a group to clients of their own: ports at their addresses, in one thread more, or nothing.
+//! What serves the data nodes of a group to clients of their own: ports at their addresses, in one thread more, or
+//! nothing.
 
 use crate::group_fault::GroupFault;
 use crate::opened::fault_of;
@@ -14,7 +15,8 @@ use std::rt::Clock;
 use std::sync::Wait;
 use std::sync::atomic::{AtomicU64, Ordering};
 
-/// What serves the data nodes of a group to clients of their own. By this trait the threads of a group know of it no more than that it may be sent.
+/// What serves the data nodes of a group to clients of their own. By this trait the threads of a group know of it no
+/// more than that it may be sent.
 pub trait ServesNodes {
     /// Serves them until `ending` isn't 0.
     fn serve<R: Wait + Clock>(
@@ -48,8 +50,8 @@ pub struct WithPorts<'a, N: Net> {
 }
 
 impl<'a, N: Net + Log> WithPorts<'a, N> {
-    /// Listens at the address of each data node of the roster. `PortRefused` where one isn't on the loopback or can't be had, with a note of which node
-    /// it is, and `NoMemory`.
+    /// Listens at the address of each data node of the roster. `PortRefused` where one isn't on the loopback or can't
+    /// be had, with a note of which node it is, and `NoMemory`.
     pub fn open(
         net: &'a N,
         alloc: Global,

@@ -40,8 +40,8 @@ impl PortSettings {
     }
 }
 
-/// A Sentinel that is open, with its first seat, its place in the roster, what each thread of its port serves, and that port's number. So many threads
-/// use it `beside` those of its port.
+/// A Sentinel that is open, with its first seat, its place in the roster, what each thread of its port serves, and that
+/// port's number. So many threads use it `beside` those of its port.
 #[derive(Drop)]
 pub(crate) struct Opened<S: ConfStore> {
     pub(crate) cell: SharedSentinel<S>,
@@ -68,8 +68,9 @@ pub(crate) fn fault_of(error: &io::Error) -> GroupFault
     GroupFault::PortRefused
 }
 
-/// How many connections each of so many ports keeps that are served so, and each of the threads of a port, where `own` descriptors are to stay free for
-/// other connections. `PortRefused` where the process may have too few descriptors for any.
+/// How many connections each of so many ports keeps that are served so, and each of the threads of a port, where `own`
+/// descriptors are to stay free for other connections. `PortRefused` where the process may have too few descriptors for
+/// any.
 pub(crate) fn room_of<R: Net>(
     rt: &R,
     alloc: Global,
@@ -91,7 +92,8 @@ pub(crate) fn room_of<R: Net>(
 }
 
 impl<S: ConfStore + Drop> Opened<S> {
-    /// Opens the port of this conf at 127.0.0.1 with so much room, and its Sentinel, for so many threads beside those of the port.
+    /// Opens the port of this conf at 127.0.0.1 with so much room, and its Sentinel, for so many threads beside those
+    /// of the port.
     pub(crate) fn open<R: Net + Log>(
         rt: &R,
         alloc: Global,

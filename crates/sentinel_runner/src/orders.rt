@@ -142,7 +142,8 @@ fn long_order(verb: &[u8], node: &[u8], rest: &[u8], counts: Counts) -> Option<L
     set_order(node_of(node, counts)?, priority, offset, link_down)
 }
 
-/// What a line orders: `stop s0`, `start s0`, `stop d0`, `start d0`, or `set d0 100 0 0` with a priority, an offset and a link down time in seconds.
+/// What a line orders: `stop s0`, `start s0`, `stop d0`, `start d0`, or `set d0 100 0 0` with a priority, an offset and
+/// a link down time in seconds.
 fn order_of(line: &[u8], counts: Counts) -> Option<LineOrder>
     ensures { result ≡ order_of counts line.now }
 {
@@ -247,7 +248,8 @@ impl<S: ConfStore + Drop> Orders<S> {
     }
 }
 
-/// What follows the orders of an input beside the threads of a group. By this trait `follow_beside` knows of it no more than that.
+/// What follows the orders of an input beside the threads of a group. By this trait `follow_beside` knows of it no more
+/// than that.
 pub(crate) trait FollowsOrders {
     /// Obeys each line of the input until its end, or until it can't be read. A last line without LF is obeyed too.
     fn follow<I: Read, R: Wait + Clock + Log>(

@@ -34,7 +34,8 @@ pub(crate) struct PortPart<J: Which> {
     pub(crate) back: Option<Sender<Back<J>>>,
 }
 
-/// What a thread of a port of such a Sentinel does. By this trait `serve_parts` knows of a part no more than that it may be sent.
+/// What a thread of a port of such a Sentinel does. By this trait `serve_parts` knows of a part no more than that it
+/// may be sent.
 pub(crate) trait ServesPort<M> {
     /// Serves the port until `ending` isn't 0. Then it is closed.
     fn serve<R: Wait + Clock + Log>(self, rt: &R, state: &RunState, member: &M, ending: &AtomicU64);
@@ -94,7 +95,8 @@ pub(crate) fn parts_of<J: Which>(
     Ok(parts)
 }
 
-/// Starts the further threads of the port, and serves it as the first one. Then it listens no more, before the others end.
+/// Starts the further threads of the port, and serves it as the first one. Then it listens no more, before the others
+/// end.
 pub(crate) fn serve_parts<'a, M: Sync, P: ServesPort<M> + Drop + Send, R>(
     rt: &'a R,
     state: &'a RunState,

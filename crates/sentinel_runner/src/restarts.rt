@@ -1,7 +1,8 @@
 //! Sentinels that are stopped and started while their group runs.
 //!
-//! The threads of a Sentinel that is stopped end, and its store comes back to whoever follows the orders. What the store holds is then read as a file is
-//! read at a start, and a Sentinel that begins with it takes the place of the one before.
+//! The threads of a Sentinel that is stopped end, and its store comes back to whoever follows the orders. What the
+//! store holds is then read as a file is read at a start, and a Sentinel that begins with it takes the place of the one
+//! before.
 
 ghost use Rattle.std.specs.Prelude.{◌≡◌, ◌<◌, ◌-◌, ◌^◌, ◌+◌, IfOk, OnOk, length};
 ghost use Rattle.sentinel_runner.specs.declared.started.TheConstants.{BESIDE};
@@ -25,7 +26,8 @@ use std::sync::atomic::{AtomicU64, Ordering};
 use std::time::Duration;
 use thiserror::Error;
 
-/// How long whoever follows the orders waits for the end of a Sentinel's threads before it looks whether the group ends, in milliseconds.
+/// How long whoever follows the orders waits for the end of a Sentinel's threads before it looks whether the group
+/// ends, in milliseconds.
 const REST_MS: u64 = 50;
 
 /// The store of a Sentinel whose threads have ended, with its place in the roster.
@@ -42,7 +44,8 @@ pub(crate) struct Restart<S: ConfStore> {
     ghost seats: { opened.beside ≡ BESIDE },
 }
 
-/// The ends that the threads of a Sentinel have: where it comes in when it is open again, and where its store goes when they have ended.
+/// The ends that the threads of a Sentinel have: where it comes in when it is open again, and where its store goes when
+/// they have ended.
 #[derive(Drop)]
 pub(crate) struct LifeEnds<S: ConfStore> {
     pub(crate) restarts: Receiver<Restart<S>>,
@@ -69,8 +72,8 @@ enum Unstarted {
     NoMemory,
 }
 
-/// A Sentinel as orders know it: the number of its port, where one that is open again goes, whether it is stopped, and its store, which is here from the end
-/// of its threads until it is started.
+/// A Sentinel as orders know it: the number of its port, where one that is open again goes, whether it is stopped, and
+/// its store, which is here from the end of its threads until it is started.
 #[derive(Drop)]
 struct Member<S: ConfStore> {
     number: u16,
@@ -178,7 +181,8 @@ impl<S: ConfStore + Drop> Restarts<S> {
         Ok(LifeEnds { restarts, rests })
     }
 
-    /// Has the Sentinel at this place stop: its threads end, which closes its port. Where it is stopped already nothing happens, and a note says so.
+    /// Has the Sentinel at this place stop: its threads end, which closes its port. Where it is stopped already nothing
+    /// happens, and a note says so.
     pub(crate) fn stop<R: Log>(&mut self, rt: &R, shared: &Shared, place: u16) {
         if let Some(Some(member)) = self.members.get_mut(place as usize) {
             if member.is_stopped {
@@ -249,7 +253,8 @@ impl<S: ConfStore + Drop> Restarts<S> {
         }
     }
 
-    /// What the Sentinel at this place, whose store this is, begins with: what the store holds, and what threads serve of its port.
+    /// What the Sentinel at this place, whose store this is, begins with: what the store holds, and what threads serve
+    /// of its port.
     fn beginning<N: Net>(
         &self,
         net: &N,
@@ -267,8 +272,8 @@ impl<S: ConfStore + Drop> Restarts<S> {
         Ok((conf, ports))
     }
 
-    /// The Sentinel at this place, open again at this reading of the clock. Where it can't be, its store is here again; without memory for the Sentinel
-    /// itself it is lost, and the answer is None.
+    /// The Sentinel at this place, open again at this reading of the clock. Where it can't be, its store is here again;
+    /// without memory for the Sentinel itself it is lost, and the answer is None.
     fn reopened<N: Net>(
         &mut self,
         net: &N,
@@ -301,8 +306,9 @@ impl<S: ConfStore + Drop> Restarts<S> {
         }
     }
 
-    /// Has the Sentinel at this place start with what its store holds, once its threads have ended: its port opens again. Where it can't be started, as where
-    /// it isn't stopped, nothing happens, and a note says why; without memory for it the group ends.
+    /// Has the Sentinel at this place start with what its store holds, once its threads have ended: its port opens
+    /// again. Where it can't be started, as where it isn't stopped, nothing happens, and a note says why; without
+    /// memory for it the group ends.
     pub(crate) fn start<R: Wait + Clock + Log, N: Net>(
         &mut self,
         rt: &R,

@@ -8,7 +8,8 @@ use std::rt::Clock;
 use std::sync::Wait;
 use std::sync::atomic::AtomicU64;
 
-/// What all threads of a group share: its data nodes, its links, which Sentinels are to end, and its clock with what went wrong.
+/// What all threads of a group share: its data nodes, its links, which Sentinels are to end, and its clock with what
+/// went wrong.
 #[derive(Drop)]
 pub(crate) struct Shared {
     pub(crate) nodes: SharedNodes,

@@ -109,7 +109,8 @@ impl<S: ConfStore + Drop> LifeEnds<S> {
 }
 
 impl<S: ConfStore + Drop> Life<S> {
-    /// Runs the threads of the Sentinel until the word isn't 0; this thread is the first one of the port. None where a thread couldn't be made.
+    /// Runs the threads of the Sentinel until the word isn't 0; this thread is the first one of the port. None where a
+    /// thread couldn't be made.
     fn run<R: Threads + Wait + Clock + Log + Sync>(
         self,
         rt: &R,
@@ -148,8 +149,8 @@ impl<S: ConfStore + Drop> Started<S> {
         })
     }
 
-    /// Runs its threads until `ending` isn't 0; each time that it is stopped they end, and when it is started there are others. Where they can't be
-    /// made, the group ends.
+    /// Runs its threads until `ending` isn't 0; each time that it is stopped they end, and when it is started there are
+    /// others. Where they can't be made, the group ends.
     pub(crate) fn run<R: Threads + Wait + Clock + Log + Sync>(
         self,
         rt: &R,
@@ -216,9 +217,11 @@ fn close<J: Which, S: ConfStore + Drop, R: Wait>(
     Some(Left { store, deliveries })
 }
 
-/// Runs the threads of a Sentinel that has a name for proofs: what is left of it. None where a thread or its room couldn't be made.
+/// Runs the threads of a Sentinel that has a name for proofs: what is left of it. None where a thread or its room
+/// couldn't be made.
 ///
-/// Many parameters: a thread takes its own parts by value, and they have several lifetimes, so no one struct holds them.
+/// Many parameters: a thread takes its own parts by value, and they have several lifetimes, so no one struct holds
+/// them.
 fn run_named<J: Which + Send + Sync, S: ConfStore + Drop + Send, R>(
     rt: &R,
     alloc: Global,
@@ -297,7 +300,8 @@ enum LinkedPart<J: Which> {
     Link(LinkPart<J>),
 }
 
-/// What a thread of such a Sentinel does that uses its links. By this trait `run_threads` knows of a part no more than that it may be sent.
+/// What a thread of such a Sentinel does that uses its links. By this trait `run_threads` knows of a part no more than
+/// that it may be sent.
 trait UsesLinks<M> {
     /// Does its work until `ending` isn't 0, or the Sentinel is halted.
     fn run<R: Wait + Clock + Log>(

@@ -167,7 +167,8 @@ impl<S: ConfStore + Drop> Watch<S> {
     /// Opens the Sentinel of this conf at clock 0, and its port; no connection is opened yet. What the conf keeps is
     /// stored once its port is had, which is served after that: where the port can't be had the store is as it was.
     ///
-    /// `Halted` where the store refuses that, `PortRefused` where a port can't be had, and `NoMemory`: `NotOneRoster` never comes.
+    /// `Halted` where the store refuses that, `PortRefused` where a port can't be had, and `NoMemory`: `NotOneRoster`
+    /// never comes.
     pub fn open<R: Net + Clock + Log>(
         rt: &R,
         alloc: Global,
@@ -208,8 +209,8 @@ impl<S: ConfStore + Drop> Watch<S> {
 
     /// Runs its threads until the Sentinel is halted; this thread has the connections. The store is gone then.
     ///
-    /// `Halted` where the store refused a text, whichever thread met that; `PortRefused` where the system no longer tells
-    /// of the connections, and `NoMemory` where a thread couldn't be made: `NotOneRoster` never comes.
+    /// `Halted` where the store refused a text, whichever thread met that; `PortRefused` where the system no longer
+    /// tells of the connections, and `NoMemory` where a thread couldn't be made: `NotOneRoster` never comes.
     pub fn run<R: Threads + Wait + Net + Clock + Log + Sync>(self, rt: &R) -> Result<(), GroupFault>
     where
         S: Send,
@@ -225,7 +226,8 @@ impl<S: ConfStore + Drop> Watch<S> {
     }
 }
 
-/// Runs the threads of a Sentinel that has a name for proofs; this one has the connections, since a thread that is started gets no handle for sockets.
+/// Runs the threads of a Sentinel that has a name for proofs; this one has the connections, since a thread that is
+/// started gets no handle for sockets.
 fn run_named<J: Which + Send + Sync, S: ConfStore + Drop + Send, R, N: Net>(
     rt: &R,
     net: &N,
@@ -282,7 +284,8 @@ struct TickPart<J: Which> {
     alloc: Global,
 }
 
-/// What the thread of the ticks of such a Sentinel does. By this trait `run_parts` knows of it no more than that it may be sent.
+/// What the thread of the ticks of such a Sentinel does. By this trait `run_parts` knows of it no more than that it may
+/// be sent.
 trait Ticks<M> {
     /// Ticks, and hears what the connections hear, until the threads end or the Sentinel is halted.
     fn tick<R: Wait + Clock + Log>(self, rt: &R, state: &WatchState, member: &M);
@@ -374,7 +377,8 @@ where
     })
 }
 
-/// The connections of a Sentinel. By this trait `run_parts` knows of them no more than that they run: proofs of what is sent to a thread stay short.
+/// The connections of a Sentinel. By this trait `run_parts` knows of them no more than that they run: proofs of what is
+/// sent to a thread stay short.
 trait RunsWires {
     /// Runs them until the threads end. Where the system no longer tells of them, that is noted.
     fn run<R: Wait + Clock + Log>(&mut self, rt: &R, state: &WatchState);
@@ -395,7 +399,8 @@ impl<N: Net> RunsWires for NetWires<'_, N> {
     }
 }
 
-/// Starts the thread of the port, which starts that of the ticks, and runs the connections. When this returns all have ended.
+/// Starts the thread of the port, which starts that of the ticks, and runs the connections. When this returns all have
+/// ended.
 fn run_parts<'a, M: Sync, T, P, W: RunsWires, R>(
     rt: &'a R,
     state: &'a WatchState,

@@ -6,7 +6,8 @@ use std::sync::atomic::{AtomicU64, Ordering};
 /// What stands for no epoch: it is above each of them.
 const NONE: u64 = u64::MAX;
 
-/// An epoch that the Sentinel's current one isn't below, since that never falls, and one of which the other Sentinels had time to hear; or none, and then it isn't looked after.
+/// An epoch that the Sentinel's current one isn't below, since that never falls, and one of which the other Sentinels
+/// had time to hear; or none, and then it isn't looked after.
 #[derive(Drop)]
 pub(crate) struct KnownEpoch {
     current: AtomicU64,

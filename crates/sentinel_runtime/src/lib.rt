@@ -1,7 +1,8 @@
-//! A Sentinel that runs, without its transport: its threads share it, each by a seat of its own, what it says goes to an outlet, and what is
-//! heard for it and its ticks are handed to it here.
+//! A Sentinel that runs, without its transport: its threads share it, each by a seat of its own, what it says goes to
+//! an outlet, and what is heard for it and its ticks are handed to it here.
 //!
-//! - `RunningSentinel` is the shared Sentinel, `ThreadSeat` a thread's seat of it, and `RunState` what all threads share.
+//! - `RunningSentinel` is the shared Sentinel, `ThreadSeat` a thread's seat of it, and `RunState` what all threads
+//!   share.
 //! - An `Outlet` is where messages go, as channels or connections.
 //! - A `Ticker` tells when ticks are due and has them taken, and `hear` has the Sentinel take what was heard.
 #![tactic(auto)]

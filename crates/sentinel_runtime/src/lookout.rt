@@ -1,4 +1,5 @@
-//! What the timer of a Sentinel notes: after each tick it looks at what its own Sentinel shows of the master, and tells what became different.
+//! What the timer of a Sentinel notes: after each tick it looks at what its own Sentinel shows of the master, and tells
+//! what became different.
 
 use crate::named::{NamedId, NamedMaster, NamedNode, NamedSentinel};
 use crate::notes::Announcing;
@@ -13,7 +14,8 @@ use pubsub::Channel;
 use std::alloc::Global;
 use std::sync::Wait;
 
-/// What the outputs of a tick tell: the greatest epoch in a hello or a question, and the data node that is told to be a master.
+/// What the outputs of a tick tell: the greatest epoch in a hello or a question, and the data node that is told to be a
+/// master.
 #[derive(Clone, Copy)]
 struct Told {
     epoch: u64,
@@ -88,8 +90,9 @@ const SPREAD_MS: u64 = 1_000;
 /// How long it is between two notes that no epoch is left, in milliseconds.
 const NO_EPOCH_MS: u64 = 60_000;
 
-/// What was last seen of one master. `started` is when the Sentinel last began a failover of it or voted for another one, since its own start, `put_off` after which of these a
-/// start that is put off was noted since the master is objectively down, and `spent` when it was noted that no epoch is left.
+/// What was last seen of one master. `started` is when the Sentinel last began a failover of it or voted for another
+/// one, since its own start, `put_off` after which of these a start that is put off was noted since the master is
+/// objectively down, and `spent` when it was noted that no epoch is left.
 #[derive(Drop)]
 struct Seen {
     addr: Option<Addr>,
@@ -231,8 +234,9 @@ impl Seen {
         }
     }
 
-    /// Notes how a failover ended: its epoch has brought a configuration, or it was given up. Its epoch is that of the vote which it begins with. Who lost the election may
-    /// take the winner's configuration of the same epoch: that is no end of its own, and it wasn't given up.
+    /// Notes how a failover ended: its epoch has brought a configuration, or it was given up. Its epoch is that of the
+    /// vote which it begins with. Who lost the election may take the winner's configuration of the same epoch: that is
+    /// no end of its own, and it wasn't given up.
     fn note_end<R: Log + Wait>(
         &mut self,
         to: &Announcing<'_, '_, R>,
@@ -387,7 +391,8 @@ impl Seen {
         }
     }
 
-    /// Notes that all nodes of the master and all other Sentinels are down from here: what fails may be this Sentinel's own machine.
+    /// Notes that all nodes of the master and all other Sentinels are down from here: what fails may be this Sentinel's
+    /// own machine.
     fn note_all_down<R: Log + Wait>(
         &mut self,
         to: &Announcing<'_, '_, R>,

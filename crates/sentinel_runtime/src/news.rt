@@ -80,7 +80,8 @@ impl Waiting {
         }
     }
 
-    /// Puts an event after what waits, of which the oldest event is dropped where as many wait as may. It is lost where there is no memory.
+    /// Puts an event after what waits, of which the oldest event is dropped where as many wait as may. It is lost where
+    /// there is no memory.
     fn put_event(&mut self, event: Event) {
         self.make_room();
         if self.events < EVENTS_MAX && self.news.push(News::Event(event)).is_ok() {
@@ -98,8 +99,8 @@ impl Waiting {
     }
 }
 
-/// What the threads of a Sentinel have to tell: each thread of its port has a list of its own, until it takes it. `tells_events` is whether the port tells its
-/// subscribers of other events than new addresses.
+/// What the threads of a Sentinel have to tell: each thread of its port has a list of its own, until it takes it.
+/// `tells_events` is whether the port tells its subscribers of other events than new addresses.
 #[derive(Drop)]
 pub(crate) struct NewsLists {
     lists: Vec<Mutex<Waiting>>,

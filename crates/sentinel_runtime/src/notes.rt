@@ -11,7 +11,8 @@ use std::fmt::Display;
 use std::str::from_utf8;
 use std::sync::Wait;
 
-/// Where the events of a Sentinel go: to the log, with its port, and to the threads of its port, where these tell their subscribers.
+/// Where the events of a Sentinel go: to the log, with its port, and to the threads of its port, where these tell their
+/// subscribers.
 #[derive(Drop)]
 pub(crate) struct Announcing<'r, 'n, R> {
     pub(crate) rt: &'r R,
@@ -87,7 +88,8 @@ fn tell_cause<R: Log + Wait>(
     }
 }
 
-/// The channel of an order to follow the master: in a failover one by a tick, else one since the INFO of the data node was wrong.
+/// The channel of an order to follow the master: in a failover one by a tick, else one since the INFO of the data node
+/// was wrong.
 fn channel_of_order(cause: &Event) -> Channel {
     match cause {
         Event::Tick { .. } => Channel::ReplicaReconfigured,
@@ -137,7 +139,8 @@ fn tell_message<R: Log + Wait>(
     }
 }
 
-/// Tells what the outputs of one input tell by themselves, which the call with this entry showed: changes of an address, and orders to data nodes.
+/// Tells what the outputs of one input tell by themselves, which the call with this entry showed: changes of an
+/// address, and orders to data nodes.
 pub(crate) fn tell_all<R: Log + Wait>(
     to: &Announcing<'_, '_, R>,
     roster: &Roster,

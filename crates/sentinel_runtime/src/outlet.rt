@@ -9,8 +9,8 @@ use ballot_law::{Message, Output};
 
 /// A place where the messages of a Sentinel go out, as its channels or its connections.
 ///
-/// `handed` has all messages that it was handed, oldest first, for an outlet that keeps them, as one of a test does. Channels and connections
-/// keep none, and say nothing. What hands messages on can't tell the one from the other.
+/// `handed` has all messages that it was handed, oldest first, for an outlet that keeps them, as one of a test does.
+/// Channels and connections keep none, and say nothing. What hands messages on can't tell the one from the other.
 pub trait Outlet {
     ghost use Rattle.std.specs.Prelude.{◌≡◌, ◌++◌, ◌∷◌, [], List, Option, None, Some, IfSome};
     ghost use Rattle.ballot_law.specs.declared.messages.Message.{Message};

@@ -17,7 +17,8 @@ pub enum RunFault {
     Halted,
 }
 
-/// What all threads of the Sentinels of one process share: their clock, and what went wrong so far. It names no transport.
+/// What all threads of the Sentinels of one process share: their clock, and what went wrong so far. It names no
+/// transport.
 #[derive(Drop)]
 pub struct RunState {
     pub clock: GroupClock,

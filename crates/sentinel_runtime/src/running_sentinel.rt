@@ -47,7 +47,8 @@ impl Which for Brand {
     ghost cell = { record { words = 0; slots = 0; views_name = 0; atom = 0; block = 0; offset = 0; slot_names = [] } };
 }
 
-/// A Sentinel of the group, which its threads share. `far` is the last request for a vote whose epoch was too far above the one that is `known`, until it is taken.
+/// A Sentinel of the group, which its threads share. `far` is the last request for a vote whose epoch was too far above
+/// the one that is `known`, until it is taken.
 #[derive(Drop)]
 pub struct RunningSentinel<J: Which, S: ConfStore> {
     cell: SharedSentinel<S>,
@@ -118,16 +119,18 @@ impl<J: Which> ThreadSeat<J> {
         self.sight.take()
     }
 
-    /// Has the next turn see whether a campaign for this master is near, at this reading of the clock in milliseconds, now or later: whether the Sentinel finds it
-    /// objectively down then, where nothing else is heard, while no failover of it runs.
+    /// Has the next turn see whether a campaign for this master is near, at this reading of the clock in milliseconds,
+    /// now or later: whether the Sentinel finds it objectively down then, where nothing else is heard, while no
+    /// failover of it runs.
     pub fn look_ahead(&mut self, master: u16, at: u64)
         ensures { (self.new.seat ≡ self.old.seat) × (self.new.outbox ≡ self.old.outbox) }
     {
         self.sight.look_ahead(master, at);
     }
 
-    /// The number of a campaign that has come near since this was asked last: one that is near stays so, and doesn't come again. It is the epoch of the master's
-    /// configuration with the master's own number: the same for all Sentinels that know that configuration.
+    /// The number of a campaign that has come near since this was asked last: one that is near stays so, and doesn't
+    /// come again. It is the epoch of the master's configuration with the master's own number: the same for all
+    /// Sentinels that know that configuration.
     pub fn take_nearness(&mut self) -> Option<u64>
         ensures { (self.new.seat ≡ self.old.seat) × (self.new.outbox ≡ self.old.outbox) }
     {
@@ -136,7 +139,8 @@ impl<J: Which> ThreadSeat<J> {
 }
 
 impl<J: Which, S: ConfStore> RunningSentinel<J, S> {
-    /// The Sentinel at this place of the roster, with its first seat. Its clients come to this port, which so many threads serve.
+    /// The Sentinel at this place of the roster, with its first seat. Its clients come to this port, which so many
+    /// threads serve.
     pub fn with_seat(
         alloc: Global,
         cell: SharedSentinel<S>,
@@ -181,7 +185,8 @@ impl<J: Which, S: ConfStore> RunningSentinel<J, S> {
         roster.masters().len() as u16
     }
 
-    /// Cuts a seat into as many as it has a share for. The first one of a cell has the share of all that the cell was made for.
+    /// Cuts a seat into as many as it has a share for. The first one of a cell has the share of all that the cell was
+    /// made for.
     pub fn seats(
         &self,
         alloc: Global,
@@ -204,8 +209,8 @@ impl<J: Which, S: ConfStore> RunningSentinel<J, S> {
         Ok(seats)
     }
 
-    /// Ends the sharing, with the seats of all threads, which have ended: the Sentinel and its store, as the history of its turns leaves them. None where a seat
-    /// is missing; the Sentinel and its store are gone then.
+    /// Ends the sharing, with the seats of all threads, which have ended: the Sentinel and its store, as the history of
+    /// its turns leaves them. None where a seat is missing; the Sentinel and its store are gone then.
     pub fn close(self, mut seats: Vec<ThreadSeat<J>>) -> Option<Keeper<S>>
     where
         S: Drop,
@@ -228,8 +233,8 @@ impl<J: Which, S: ConfStore> RunningSentinel<J, S> {
         cell.close(whole).ok()
     }
 
-    /// One input, and how many calls stand before it. The outbox shows what the Sentinel says, once it is stored; at a fault it says
-    /// nothing.
+    /// One input, and how many calls stand before it. The outbox shows what the Sentinel says, once it is stored; at a
+    /// fault it says nothing.
     fn turn<R: Wait>(
         &self,
         rt: &R,
@@ -250,8 +255,8 @@ impl<J: Which, S: ConfStore> RunningSentinel<J, S> {
         }
     }
 
-    /// One input at a reading of the clock in milliseconds. What the Sentinel says, once it is stored, goes to the outlet, and what it notes to
-    /// the log and to the subscribers of its port. At a fault it says nothing.
+    /// One input at a reading of the clock in milliseconds. What the Sentinel says, once it is stored, goes to the
+    /// outlet, and what it notes to the log and to the subscribers of its port. At a fault it says nothing.
     pub fn carry_out<O: Outlet, R: Wait + Log>(
         &self,
         rt: &R,
@@ -317,14 +322,17 @@ impl<J: Which, S: ConfStore> RunningSentinel<J, S> {
         self.news.tell_events();
     }
 
-    /// From now on a request for a vote in an epoch that is more than `EPOCHS_AHEAD` above what the current one of the Sentinel was 10 to 20 s ago is answered as one of epoch
-    /// 0. `epoch` is the current one of its file, of which the others have heard. Who asks for votes in ever later epochs so leads it no further than the others follow by its
-    /// hellos. One thread alone, that of its ticks, may call `carry_out` from then on. Sessions without courtesies hear each epoch as it is.
+    /// From now on a request for a vote in an epoch that is more than `EPOCHS_AHEAD` above what the current one of the
+    /// Sentinel was 10 to 20 s ago is answered as one of epoch
+    /// 0. `epoch` is the current one of its file, of which the others have heard. Who asks for votes in ever later
+    ///    epochs so leads it no further than the others follow by its hellos. One thread alone, that of its ticks, may
+    ///    call `carry_out` from then on. Sessions without courtesies hear each epoch as it is.
     pub fn guard_epochs(&self, epoch: u64) {
         self.known.begin(epoch);
     }
 
-    /// An epoch that the current one of the Sentinel isn't below: that after the last call of `carry_out`, or of `guard_epochs`; none before that.
+    /// An epoch that the current one of the Sentinel isn't below: that after the last call of `carry_out`, or of
+    /// `guard_epochs`; none before that.
     pub fn known_epoch(&self) -> Option<u64> {
         self.known.current()
     }
@@ -346,9 +354,9 @@ impl<J: Which, S: ConfStore> RunningSentinel<J, S> {
         self.cell.roster()
     }
 
-    /// How far its ticks stand after those of the first Sentinel, in milliseconds: each Sentinel has its share of the time between two ticks,
-    /// by its place in the roster. So the first one that begins a failover is heard by the others before their own ticks, and has
-    /// their votes; Redis's Sentinel varies its timer for that.
+    /// How far its ticks stand after those of the first Sentinel, in milliseconds: each Sentinel has its share of the
+    /// time between two ticks, by its place in the roster. So the first one that begins a failover is heard by the
+    /// others before their own ticks, and has their votes; Redis's Sentinel varies its timer for that.
     pub(crate) fn phase(&self) -> u64
         ensures { result ≡ phase_of self.now.place (group_size self.now.cell.start.plan) }
     {
@@ -356,10 +364,11 @@ impl<J: Which, S: ConfStore> RunningSentinel<J, S> {
         TICK_MS * u64::from(self.place) / sentinels.max(1)
     }
 
-    /// What there is to tell the subscribers of the port that its thread with this number didn't take yet, in the order in which it came. Each of its threads gets all
-    /// new addresses, but those that come while `WAITING_MAX` wait for it. Once `tell_events` was called it gets all other events that the Sentinel notes as well,
-    /// but the oldest where more than `EVENTS_MAX` wait for it, and those for which there is no memory; before that none is kept. Nothing where the port has no such
-    /// thread.
+    /// What there is to tell the subscribers of the port that its thread with this number didn't take yet, in the order
+    /// in which it came. Each of its threads gets all new addresses, but those that come while `WAITING_MAX` wait for
+    /// it. Once `tell_events` was called it gets all other events that the Sentinel notes as well, but the oldest where
+    /// more than `EVENTS_MAX` wait for it, and those for which there is no memory; before that none is kept. Nothing
+    /// where the port has no such thread.
     pub fn take_news<R: Wait>(&self, rt: &R, port_thread: u16) -> Vec<News>
         ensures few { length result.items ≤ WAITING_MAX + EVENTS_MAX }
         ensures other { length self.now.news.lists.items ≤ port_thread → result.items ≡ [] }
@@ -380,8 +389,9 @@ impl<J: Which, S: ConfStore> RunningSentinel<J, S> {
         session.notify(roster, &switch.note, switch.entry)
     }
 
-    /// Hands a session the next piece of its stream, at a reading of the clock in milliseconds: all that `ClientSession::received` says of it holds of this
-    /// Sentinel. Where `guard_epochs` was called, the session is told before that from which epoch requests for votes count.
+    /// Hands a session the next piece of its stream, at a reading of the clock in milliseconds: all that
+    /// `ClientSession::received` says of it holds of this Sentinel. Where `guard_epochs` was called, the session is
+    /// told before that from which epoch requests for votes count.
     pub fn receive<R: Wait>(
         &self,
         rt: &R,

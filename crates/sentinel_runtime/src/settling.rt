@@ -1,11 +1,14 @@
-//! How far the current epoch of a Sentinel has come, and how far it had come when the others last had time to hear of that.
+//! How far the current epoch of a Sentinel has come, and how far it had come when the others last had time to hear of
+//! that.
 
 ghost use Rattle.std.specs.Prelude.{◌≡◌, ◌<◌, ◌≤◌, ◌-◌, max};
 
-/// How long the others have to hear of an epoch before requests for votes count from it, in milliseconds: five hellos tell of it in that time.
+/// How long the others have to hear of an epoch before requests for votes count from it, in milliseconds: five hellos
+/// tell of it in that time.
 pub(crate) const SETTLE_MS: u64 = 10_000;
 
-/// `current` is the current epoch. A period begins at a reading of the clock, `since`, when it was `next`; when the period before it began, it was `settled`.
+/// `current` is the current epoch. A period begins at a reading of the clock, `since`, when it was `next`; when the
+/// period before it began, it was `settled`.
 #[derive(Clone, Copy)]
 pub(crate) struct Settling {
     pub(crate) current: u64,

@@ -30,10 +30,10 @@ pub(crate) struct Vote {
     pub(crate) epoch: u64,
 }
 
-/// What a Sentinel shows of a master: whether its clock isn't to be trusted, the configuration, what it finds of the master, how far its own failover has come, its vote,
-/// and which of the master's replicas, by their places among its nodes, and of the other Sentinels, by their places in the roster, are down; `at` which reading of its clock
-/// that was, its run id and its current epoch, the master's `failover-timeout`, in milliseconds, and whether it is
-/// strict.
+/// What a Sentinel shows of a master: whether its clock isn't to be trusted, the configuration, what it finds of the
+/// master, how far its own failover has come, its vote, and which of the master's replicas, by their places among its
+/// nodes, and of the other Sentinels, by their places in the roster, are down; `at` which reading of its clock that
+/// was, its run id and its current epoch, the master's `failover-timeout`, in milliseconds, and whether it is strict.
 #[derive(Clone, Copy)]
 pub(crate) struct Look {
     pub(crate) at: u64,
@@ -144,7 +144,8 @@ impl Look {
     }
 }
 
-/// Whether a campaign of the Sentinel is near: at this reading of its clock it finds the master objectively down, and no failover of it runs.
+/// Whether a campaign of the Sentinel is near: at this reading of its clock it finds the master objectively down, and
+/// no failover of it runs.
 fn is_campaign_near(plan: &Plan, core: &Core, at: u64, m: u16) -> bool
     requires { m < master_count plan.now }
 {
@@ -152,7 +153,8 @@ fn is_campaign_near(plan: &Plan, core: &Core, at: u64, m: u16) -> bool
     flags.agreed && !flags.failing_over
 }
 
-/// Of which masters a campaign of the Sentinel was near when they were last looked at, and the number of one that has come near since that was asked.
+/// Of which masters a campaign of the Sentinel was near when they were last looked at, and the number of one that has
+/// come near since that was asked.
 #[derive(Clone, Copy)]
 struct Nearness {
     masters: [bool; MASTERS_MAX],
@@ -171,8 +173,9 @@ impl Nearness {
     }
 }
 
-/// Who takes down what a Sentinel shows of one master at the end of a turn, at the reading of its clock, and of which masters a campaign comes near. Where no master is
-/// wanted nothing is. `current` is the Sentinel's current epoch after the last turn, and `settling` how far it has come, where that is looked after.
+/// Who takes down what a Sentinel shows of one master at the end of a turn, at the reading of its clock, and of which
+/// masters a campaign comes near. Where no master is wanted nothing is. `current` is the Sentinel's current epoch after
+/// the last turn, and `settling` how far it has come, where that is looked after.
 #[derive(Drop)]
 pub(crate) struct Sight {
     current: u64,
@@ -199,8 +202,8 @@ impl Sight {
         }
     }
 
-    /// Takes in the current epoch after the last turn, at a reading of the clock: how far it has come. Where this wasn't called before, `known` is an epoch of which the others
-    /// have heard.
+    /// Takes in the current epoch after the last turn, at a reading of the clock: how far it has come. Where this
+    /// wasn't called before, `known` is an epoch of which the others have heard.
     pub(crate) fn settle(&mut self, known: u64, now: u64) -> Settling {
         let settling = match self.settling {
             Some(settling) => settling,
@@ -222,7 +225,8 @@ impl Sight {
         self.look.take()
     }
 
-    /// The next turn sees whether a campaign for this master is near at this reading of the clock in milliseconds, now or later.
+    /// The next turn sees whether a campaign for this master is near at this reading of the clock in milliseconds, now
+    /// or later.
     pub(crate) fn look_ahead(&mut self, master: u16, at: u64) {
         self.ahead = Some((master, at));
     }

@@ -43,8 +43,8 @@ fn note_halt<J: Which, S: ConfStore, R: Log>(rt: &R, member: &RunningSentinel<J,
     }
 }
 
-/// Whether the Sentinel goes on after this. Where it doesn't, all threads know it, and a refused store is noted: also that of another thread of
-/// the Sentinel, as its port's, which notes nothing.
+/// Whether the Sentinel goes on after this. Where it doesn't, all threads know it, and a refused store is noted: also
+/// that of another thread of the Sentinel, as its port's, which notes nothing.
 fn goes_on_noted<J: Which, S: ConfStore, R: Log>(
     rt: &R,
     state: &RunState,
@@ -63,8 +63,8 @@ fn goes_on_noted<J: Which, S: ConfStore, R: Log>(
     goes_on
 }
 
-/// How long it is from a reading of the clock to the next ticks of a Sentinel with this phase, in milliseconds: they are due each 100 ms, where
-/// what is left of the reading is what is left of the phase.
+/// How long it is from a reading of the clock to the next ticks of a Sentinel with this phase, in milliseconds: they
+/// are due each 100 ms, where what is left of the reading is what is left of the phase.
 fn until_tick(now: u64, phase: u64) -> u64
     ensures soon { (0 < result) × (result ≤ TICK_MS) }
     ensures phase { (now + result) % TICK_MS ≡ phase % TICK_MS }
@@ -137,7 +137,8 @@ impl Ticker {
         goes_on
     }
 
-    /// Ticks each master once, in their order, up to one whose tick halts the Sentinel: whether the Sentinel goes on. What it says goes to the outlet.
+    /// Ticks each master once, in their order, up to one whose tick halts the Sentinel: whether the Sentinel goes on.
+    /// What it says goes to the outlet.
     #[tactic(auto, using(crate::proofs::Hearing::ticks_more, crate::proofs::Hearing::ticks_stop, crate::proofs::Hearing::ticks_none))]
     pub fn tick_all<J: Which, S: ConfStore, O: Outlet, R: Wait + Clock + Log>(
         &mut self,
@@ -159,8 +160,8 @@ impl Ticker {
         true
     }
 
-    /// Ticks one master: whether the Sentinel goes on. The random number of a tick is the part of a second that the clock shows, in nanoseconds,
-    /// which differs from tick to tick and from Sentinel to Sentinel.
+    /// Ticks one master: whether the Sentinel goes on. The random number of a tick is the part of a second that the
+    /// clock shows, in nanoseconds, which differs from tick to tick and from Sentinel to Sentinel.
     fn tick_one<J: Which, S: ConfStore, O: Outlet, R: Wait + Clock + Log>(
         &mut self,
         rt: &R,
@@ -206,7 +207,8 @@ impl Ticker {
     }
 }
 
-/// Has the next turn take down what the Sentinel shows of a master, where that is noted or told, and see whether a campaign for it is near at the next ticks.
+/// Has the next turn take down what the Sentinel shows of a master, where that is noted or told, and see whether a
+/// campaign for it is near at the next ticks.
 fn want_noted<J: Which, S: ConfStore, R: Wait + Log>(
     rt: &R,
     member: &RunningSentinel<J, S>,

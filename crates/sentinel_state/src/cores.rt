@@ -27,8 +27,8 @@ const NO_ENTRY: KeptMaster = KeptMaster {
     candidate: None,
 };
 
-/// What a Sentinel keeps while it runs: what its file is to hold, and what it heard, found and sent since its start, which a stop
-/// loses.
+/// What a Sentinel keeps while it runs: what its file is to hold, and what it heard, found and sent since its start,
+/// which a stop loses.
 #[derive(Drop)]
 pub struct Core {
     pub(crate) kept: Kept,
@@ -121,7 +121,8 @@ fn card_position(masters: &[KeptMaster], addr: Addr) -> Option<usize>
 }
 
 impl Core {
-    /// What a Sentinel keeps at its start: what its file holds, and nothing else. The only error is a refused allocation.
+    /// What a Sentinel keeps at its start: what its file holds, and nothing else. The only error is a refused
+    /// allocation.
     pub fn open(alloc: Global, plan: &Plan, now: u64) -> Result<Core, NoMemory>
         ensures { IfOk result (λ core. core ≡ opened plan.now now) }
     {
@@ -200,7 +201,8 @@ impl Core {
         }
     }
 
-    /// Since when the node at a place has been subjectively down; `card_at` is the place of the node that the configuration names.
+    /// Since when the node at a place has been subjectively down; `card_at` is the place of the node that the
+    /// configuration names.
     pub fn node_down_since(
         &self,
         plan: &Plan,
@@ -220,7 +222,8 @@ impl Core {
         }
     }
 
-    /// Whether the node at a place is subjectively down; `card_at` is the place of the node that the configuration names.
+    /// Whether the node at a place is subjectively down; `card_at` is the place of the node that the configuration
+    /// names.
     pub fn is_node_down(&self, plan: &Plan, m: u16, now: u64, card_at: usize, k: usize) -> bool
         requires { card_at ≡ card_place plan.now self.now m }
         ensures { result ≡ is_node_down plan.now self.now m (clock now) k }

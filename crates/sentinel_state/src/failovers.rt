@@ -96,7 +96,8 @@ impl Core {
         }
     }
 
-    /// The failover of a master takes the first row that fits. Without a master with this number nothing was found down.
+    /// The failover of a master takes the first row that fits. Without a master with this number nothing was found
+    /// down.
     pub fn take_turn(&mut self, m: u16, facts: &Facts) -> Act
         requires few { IfSome facts.now.best (λ best. best.0 ≤ NODES_MAX) }
         requires odown { facts.now.odown ≡ true → m < length self.old.masters }

@@ -1,8 +1,8 @@
 //! A Sentinel at work: `State` is its plan, what it keeps (`Core`), and what the input in hand has put out so far.
 //!
-//! `Core` has the calls that read what is kept and those that set a part of it. Nothing here takes memory but the opening. Each call's
-//! contract is an equation with the definitions of `sentinel_rules`. What an input does stands in `sentinel_core`: each
-//! part of it is a call on the `State` with one clause, `state.new ≡ with_part state.old ..`.
+//! `Core` has the calls that read what is kept and those that set a part of it. Nothing here takes memory but the
+//! opening. Each call's contract is an equation with the definitions of `sentinel_rules`. What an input does stands in
+//! `sentinel_core`: each part of it is a call on the `State` with one clause, `state.new ≡ with_part state.old ..`.
 #![tactic(auto)]
 
 mod cards;

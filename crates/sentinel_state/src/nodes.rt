@@ -1,9 +1,9 @@
-//! What a Sentinel knows beforehand, and one node as it keeps it: what that last said and was sent, what is due to be sent to it, and what
-//! its replies and its INFO change.
+//! What a Sentinel knows beforehand, and one node as it keeps it: what that last said and was sent, what is due to be
+//! sent to it, and what its replies and its INFO change.
 //!
-//! `Plan` never changes while a Sentinel runs: what its file says, its own place among the Sentinels, and the numbers of all data nodes.
-//! `Node` is a data node, `Peer` another Sentinel, `FrameList` what an input has the Sentinel put out, in room that was made beforehand. Each
-//! call's contract is an equation with the definitions of `sentinel_rules`.
+//! `Plan` never changes while a Sentinel runs: what its file says, its own place among the Sentinels, and the numbers
+//! of all data nodes. `Node` is a data node, `Peer` another Sentinel, `FrameList` what an input has the Sentinel put
+//! out, in room that was made beforehand. Each call's contract is an equation with the definitions of `sentinel_rules`.
 
 mod frame_list;
 mod node;

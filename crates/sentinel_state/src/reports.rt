@@ -9,7 +9,8 @@ use crate::cores::Core;
 use ballot_law::Addr;
 
 impl Core {
-    /// Records what the Sentinel at a place says of a master, where it speaks of the address that the configuration has.
+    /// Records what the Sentinel at a place says of a master, where it speaks of the address that the configuration
+    /// has.
     pub fn hear_report(&mut self, voter: u16, m: u16, now: u64, addr: Addr, down: bool)
         ensures { self.new ≡ reported voter m (clock now) addr down self.old }
     {

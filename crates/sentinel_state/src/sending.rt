@@ -23,7 +23,8 @@ impl Master {
 }
 
 impl Core {
-    /// What decides which messages to a master's nodes are due; `card_at` is the place of the node that the configuration names.
+    /// What decides which messages to a master's nodes are due; `card_at` is the place of the node that the
+    /// configuration names.
     fn sending(&self, plan: &Plan, m: u16, now: u64, card_at: usize) -> Sending
         requires { card_at ≡ card_place plan.now self.now m }
         ensures { result ≡ sending_of plan.now self.now m (clock now) }

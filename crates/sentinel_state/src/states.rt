@@ -36,8 +36,8 @@ impl State {
         }
     }
 
-    /// Sends each data node of a master what is due, by address: PING, INFO, a hello. `card_at` is the place of the node that the
-    /// configuration names. Nothing where there is no such master.
+    /// Sends each data node of a master what is due, by address: PING, INFO, a hello. `card_at` is the place of the
+    /// node that the configuration names. Nothing where there is no such master.
     pub fn send_nodes(&mut self, m: u16, now: u64, card_at: usize)
         requires { card_at ≡ card_place self.old.plan self.old.core m }
         ensures { self.new ≡ with_part self.old (nodes_part self.old.plan m (clock now) self.old.core) }

@@ -17,8 +17,9 @@ use sentinel_rules::Profile;
 use vote_book::VoteBook;
 
 impl Core {
-    /// A candidate's request for the vote of an epoch: the vote is given where none was in this epoch or a later one and the
-    /// epoch hasn't passed; else the current epoch is raised at most. A vote for another Sentinel puts the own failover off.
+    /// A candidate's request for the vote of an epoch: the vote is given where none was in this epoch or a later one
+    /// and the epoch hasn't passed; else the current epoch is raised at most. A vote for another Sentinel puts the own
+    /// failover off.
     pub fn ask_vote(&mut self, plan: &Plan, m: u16, now: u64, epoch: u64, candidate: RunId)
         ensures { self.new ≡ requested plan.now m (clock now) epoch candidate self.old }
     {
@@ -100,8 +101,8 @@ impl Core {
         }
     }
 
-    /// The candidate with most of the votes heard for a master at an epoch, the smaller run id on a tie; the own run id where none
-    /// was heard.
+    /// The candidate with most of the votes heard for a master at an epoch, the smaller run id on a tie; the own run id
+    /// where none was heard.
     pub fn pick(&self, plan: &Plan, m: u16, epoch: u64) -> RunId
         ensures { result ≡ pick_of plan.now self.now m epoch }
     {

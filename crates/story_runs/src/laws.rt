@@ -20,7 +20,8 @@ enum Entry<'a> {
     },
 }
 
-/// What a line says: `elected <master> <epoch> <runid>` or `said <runid> <master> <epoch> <ip> <port>`; none where it is no such line.
+/// What a line says: `elected <master> <epoch> <runid>` or `said <runid> <master> <epoch> <ip> <port>`; none where it
+/// is no such line.
 fn entry_of(line: &str) -> Option<Entry<'_>> {
     let mut words = line.split(' ');
     match words.next()? {

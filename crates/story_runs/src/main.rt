@@ -1,14 +1,14 @@
-//! Plays the stories that its words name, and says of each whether it prints the lines that are beside it, and whether its trace, played
-//! as a story, prints them too. Where a trace is beside it, its own trace has to be that one.
+//! Plays the stories that its words name, and says of each whether it prints the lines that are beside it, and whether
+//! its trace, played as a story, prints them too. Where a trace is beside it, its own trace has to be that one.
 //!
 //! A word is the path of a story's files without their endings. The Sentinels of a story are the conf files of its
 //! folder, of Redis's profile where the folder's name begins with it. After the word `stops:` each story is run again
 //! and again, with each Sentinel stopped and started after each of its steps, and leaving the old text of its file and
 //! the new one. It says how many runs these were, and how often they broke the laws of a group.
 //!
-//! After the word `calls:` each story is played by the public calls of a world, once step by step and once by one call with a stop at its end;
-//! a call that lacked memory is made once more on what it left. After the word `refused:` a word is a folder whose conf files make no group: it
-//! says how a world of them is refused, and how a story is.
+//! After the word `calls:` each story is played by the public calls of a world, once step by step and once by one call
+//! with a stop at its end; a call that lacked memory is made once more on what it left. After the word `refused:` a
+//! word is a folder whose conf files make no group: it says how a world of them is refused, and how a story is.
 #![tactic(auto)]
 
 mod laws;
@@ -156,8 +156,8 @@ fn called(alloc: Global, told: &Told, calls: Calls) -> Result<Lines, Refusal>
     }
 }
 
-/// Whether a story, played by the public calls of a world, brings what it is to bring; none where it is refused. The lines of steps that
-/// a call made before it lacked memory aren't looked at.
+/// Whether a story, played by the public calls of a world, brings what it is to bring; none where it is refused. The
+/// lines of steps that a call made before it lacked memory aren't looked at.
 fn is_as_called(alloc: Global, told: &Told) -> Option<bool>
     requires { All IsWithinLimits told.now.steps.items }
 {

@@ -53,7 +53,8 @@ impl Stopped {
         }
     }
 
-    /// Runs the story with this Sentinel stopped after each step in turn, and leaving this text. The story itself brings these lines.
+    /// Runs the story with this Sentinel stopped after each step in turn, and leaving this text. The story itself
+    /// brings these lines.
     fn stop_everywhere(
         &mut self,
         alloc: Global,
@@ -80,8 +81,8 @@ impl Stopped {
     }
 }
 
-/// Runs the story of these steps with a stop and a start after each of them, for each of its Sentinels and both texts. The story itself
-/// brings these lines.
+/// Runs the story of these steps with a stop and a start after each of them, for each of its Sentinels and both texts.
+/// The story itself brings these lines.
 pub(crate) fn stop_behind_each(
     alloc: Global,
     story: &Story,

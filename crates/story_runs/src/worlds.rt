@@ -78,7 +78,8 @@ pub(crate) enum Calls {
 pub(crate) struct Lines {
     /// The lines.
     pub(crate) text: OutText,
-    /// How many steps, the first ones, have no lines here: a call that makes some of its steps and then lacks memory gives no report.
+    /// How many steps, the first ones, have no lines here: a call that makes some of its steps and then lacks memory
+    /// gives no report.
     pub(crate) untold: usize,
 }
 
@@ -90,8 +91,8 @@ fn add_lines(text: &mut OutText, report: &Report) -> Result<(), Refusal> {
     Err(Refusal::NoRun)
 }
 
-/// Makes the steps, and adds the lines of what they bring. Where memory is refused, the steps that weren't made are made by a second call, and the
-/// lines are of these.
+/// Makes the steps, and adds the lines of what they bring. Where memory is refused, the steps that weren't made are
+/// made by a second call, and the lines are of these.
 fn run_on(world: &mut FaultWorld, steps: &[Step], lines: &mut Lines) -> Result<(), Refusal>
     requires within { All IsWithinLimits steps.now }
     requires stands { Stands world.old.roster
@@ -208,8 +209,8 @@ fn add(nodes: &mut Vec<Box<dyn Node>>, node: Box<dyn Node>) -> Result<(), Refusa
     Ok(())
 }
 
-/// The lines of what the steps bring in the world of the Sentinels of these files, with all data nodes of the roster and a client for each
-/// master.
+/// The lines of what the steps bring in the world of the Sentinels of these files, with all data nodes of the roster
+/// and a client for each master.
 pub(crate) fn lines_of(
     alloc: Global,
     conf: &Conf,

@@ -26,7 +26,8 @@ const EVENTS: usize = 256;
 /// How long it is between two times at which connections are opened and given up, in milliseconds.
 const KEEP_MS: u64 = 100;
 
-/// How long the connections rest after each turn, in milliseconds: answers to what was asked together are then heard together, and the Sentinel is woken once for them.
+/// How long the connections rest after each turn, in milliseconds: answers to what was asked together are then heard
+/// together, and the Sentinel is woken once for them.
 const REST_MS: u64 = 5;
 
 /// How many messages are put out before the connections are heard again.
@@ -61,7 +62,8 @@ fn wires_of(alloc: Global, conf: &Conf) -> Result<Vec<Option<PeerConnection>>, A
     Ok(wires)
 }
 
-/// How long it is between two PINGs to this node, in milliseconds: by the settings of its master; for another Sentinel by those of the first one, by which it is down.
+/// How long it is between two PINGs to this node, in milliseconds: by the settings of its master; for another Sentinel
+/// by those of the first one, by which it is down.
 fn pings_of(conf: &Conf, node: NodeName) -> u64 {
     let master = match node {
         NodeName::StoreAt(number) => conf
@@ -88,7 +90,8 @@ fn login_of<'a>(roster: &Roster, logins: &'a Logins, node: NodeName) -> Login<'a
 }
 
 impl Connections {
-    /// The connections of the Sentinel of this conf, none of which is open, and the Sentinel's end of them. The error is the system's; `OutOfMemory` is a refused allocation.
+    /// The connections of the Sentinel of this conf, none of which is open, and the Sentinel's end of them. The error
+    /// is the system's; `OutOfMemory` is a refused allocation.
     pub fn new<N: Net>(
         net: &N,
         alloc: Global,
@@ -146,8 +149,8 @@ impl Connections {
         self.wires.iter().flatten().any(|wire| wire.is_due(now))
     }
 
-    /// Waits until the system tells of a connection, or so many milliseconds; not at all where one may have more to read. The error is the system's, where it tells of no
-    /// connection any more.
+    /// Waits until the system tells of a connection, or so many milliseconds; not at all where one may have more to
+    /// read. The error is the system's, where it tells of no connection any more.
     fn wait(&mut self, millis: u64) -> io::Result<()> {
         let millis = if self.goes_on() { 0 } else { millis };
         match self
@@ -211,7 +214,8 @@ impl Connections {
         Ok(places)
     }
 
-    /// Serves the connections of which the last wait told, at this reading of the clock. The error is a refused allocation.
+    /// Serves the connections of which the last wait told, at this reading of the clock. The error is a refused
+    /// allocation.
     fn serve_told<R: Wait + Log>(&mut self, rt: &R, now: u64) -> io::Result<()> {
         self.serve_busy(rt, now);
         for (place, is_ending) in self.places_told()? {
@@ -220,7 +224,8 @@ impl Connections {
         Ok(())
     }
 
-    /// Puts out a message on the connection to its target, and sends what can be sent at once. It is lost where that isn't open, and where no connection is to the target.
+    /// Puts out a message on the connection to its target, and sends what can be sent at once. It is lost where that
+    /// isn't open, and where no connection is to the target.
     fn put_out(&mut self, outgoing: &Outgoing, now: u64) {
         let message = outgoing.message();
         let target = message.target;
@@ -270,8 +275,9 @@ impl Connections {
         Ok(())
     }
 
-    /// Keeps the connections, hands on what they hear and puts out what is to go out, until the threads end or the Sentinel is halted. The error is the system's, where
-    /// it tells of no connection any more, or a refused allocation.
+    /// Keeps the connections, hands on what they hear and puts out what is to go out, until the threads end or the
+    /// Sentinel is halted. The error is the system's, where it tells of no connection any more, or a refused
+    /// allocation.
     pub fn run<R: Wait + Clock + Log, N: Net>(
         &mut self,
         rt: &R,

@@ -23,8 +23,9 @@ use std::time::Duration;
 /// How many events may wait for the Sentinel, and how many messages for the connections; a further one is lost.
 const WAITING_MAX: usize = 4_096;
 
-/// What all threads of a Sentinel of its own share. `turned` is when the connections were looked at last, and `stood` when it was last found that this had not been done for too
-/// long, by readings of the clock in milliseconds; the threads end where `ending` isn't 0.
+/// What all threads of a Sentinel of its own share. `turned` is when the connections were looked at last, and `stood`
+/// when it was last found that this had not been done for too long, by readings of the clock in milliseconds; the
+/// threads end where `ending` isn't 0.
 #[derive(Drop)]
 pub struct WatchState {
     pub run: RunState,
@@ -104,7 +105,8 @@ impl Hearing {
     }
 }
 
-/// The end of the connections: the messages that are to go out, and where what they hear goes. `hellos` are those that were heard last.
+/// The end of the connections: the messages that are to go out, and where what they hear goes. `hellos` are those that
+/// were heard last.
 #[derive(Drop)]
 pub(crate) struct TransportEnd {
     messages: Receiver<Outgoing>,
@@ -112,7 +114,8 @@ pub(crate) struct TransportEnd {
     hellos: HelloDedup,
 }
 
-/// The end of the Sentinel: what the connections hear, and where its messages go. `epoch` is the current one of the Sentinel's file at its start.
+/// The end of the Sentinel: what the connections hear, and where its messages go. `epoch` is the current one of the
+/// Sentinel's file at its start.
 #[derive(Drop)]
 pub struct SentinelEnd {
     epoch: u64,
@@ -125,7 +128,8 @@ pub struct SentinelEnd {
 /// The token of the Sentinel's waker, beside those of the connections.
 const WAKER: Token = Token(usize::MAX);
 
-/// Both ends, between which nothing is under way, of a Sentinel whose current epoch at its start is this one; a message that goes out ends the wait of this registry's poll. The error is the system's, or a refused allocation.
+/// Both ends, between which nothing is under way, of a Sentinel whose current epoch at its start is this one; a message
+/// that goes out ends the wait of this registry's poll. The error is the system's, or a refused allocation.
 pub(crate) fn exchange(
     alloc: Global,
     registry: &Registry,
@@ -155,8 +159,8 @@ impl TransportEnd {
         self.messages.try_recv(rt).ok()
     }
 
-    /// Hands an event on to the Sentinel that a connection heard at this reading of the clock. Where too many wait for it, the event is lost, as a message may be on its way; so
-    /// is a hello that another connection heard a moment ago.
+    /// Hands an event on to the Sentinel that a connection heard at this reading of the clock. Where too many wait for
+    /// it, the event is lost, as a message may be on its way; so is a hello that another connection heard a moment ago.
     pub(crate) fn hand_on<R: Wait>(&mut self, rt: &R, event: Event, now: u64)
         requires { IsWithinEvent event }
     {
@@ -172,8 +176,8 @@ impl TransportEnd {
 }
 
 impl SentinelEnd {
-    /// Has this Sentinel, of whose start this end is, take requests for votes in epochs that are too far above its own one as those of epoch 0: `RunningSentinel::guard_epochs`.
-    /// Hellos with such epochs are lost from then on.
+    /// Has this Sentinel, of whose start this end is, take requests for votes in epochs that are too far above its own
+    /// one as those of epoch 0: `RunningSentinel::guard_epochs`. Hellos with such epochs are lost from then on.
     pub fn guard<J: Which, S: ConfStore>(&self, member: &RunningSentinel<J, S>) {
         member.guard_epochs(self.epoch);
     }
@@ -199,8 +203,9 @@ impl SentinelEnd {
     }
 }
 
-/// The connections as the place where messages go, each in its turn. A message is lost where too many wait, where no connection takes it, and where there is no memory. Where one
-/// waits already, the thread of the connections was woken for that, and takes this one too.
+/// The connections as the place where messages go, each in its turn. A message is lost where too many wait, where no
+/// connection takes it, and where there is no memory. Where one waits already, the thread of the connections was woken
+/// for that, and takes this one too.
 #[derive(Clone, Copy)]
 pub(crate) struct WireOutlet<'a, R: Wait> {
     end: &'a SentinelEnd,

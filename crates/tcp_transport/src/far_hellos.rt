@@ -7,7 +7,8 @@ use ballot_law::{Event, Hello};
 use courteous_sessions::is_far;
 use node_texts::read_hello;
 
-/// Whether one of the two epochs of a hello, the sender's current one or that of the configuration, is too far above this current one.
+/// Whether one of the two epochs of a hello, the sender's current one or that of the configuration, is too far above
+/// this current one.
 pub(crate) fn is_far_hello(hello: &Hello, current: u64) -> bool
     ensures { result ≡ is_far_hello hello.now current }
 {
@@ -24,8 +25,8 @@ fn is_far_text(text: &[u8], current: u64) -> bool
     }
 }
 
-/// Whether an event is lost, as any message may be, before a Sentinel hears it whose current epoch is known to be this one at least: it is a hello that is too far ahead. Where no
-/// epoch is known none is lost.
+/// Whether an event is lost, as any message may be, before a Sentinel hears it whose current epoch is known to be this
+/// one at least: it is a hello that is too far ahead. Where no epoch is known none is lost.
 pub(crate) fn is_lost(known: Option<u64>, event: &Event) -> bool
     ensures { result ≡ is_lost known event.now }
 {

@@ -10,13 +10,15 @@ use std::fmt;
 use std::net::Ipv4Addr;
 use std::str::from_utf8;
 
-/// How long it is between two notes of hellos of nobody, of hellos that are too far ahead, and of such requests, in milliseconds.
+/// How long it is between two notes of hellos of nobody, of hellos that are too far ahead, and of such requests, in
+/// milliseconds.
 const STRANGERS_MS: u64 = 60_000;
 
 /// How long it is between two notes of one Sentinel whose file differs, in milliseconds.
 pub(crate) const DIFFERENT_MS: u64 = 600_000;
 
-/// Who hears a hello: the Sentinel at a place of the roster, at a reading of its clock, and which epoch its current one is known not to be below.
+/// Who hears a hello: the Sentinel at a place of the roster, at a reading of its clock, and which epoch its current one
+/// is known not to be below.
 #[derive(Clone, Copy)]
 pub(crate) struct Hearer<'a> {
     pub(crate) roster: &'a Roster,
@@ -75,8 +77,8 @@ impl Seldom {
     }
 }
 
-/// Since when no hello of another Sentinel was heard, and when hellos of nobody, those that are too far ahead, such requests for votes, and hellos of Sentinels whose
-/// files differ were noted, these by the place of the Sentinel.
+/// Since when no hello of another Sentinel was heard, and when hellos of nobody, those that are too far ahead, such
+/// requests for votes, and hellos of Sentinels whose files differ were noted, these by the place of the Sentinel.
 #[derive(Drop)]
 pub(crate) struct HelloNotes {
     others: SilenceTimer,
@@ -172,7 +174,8 @@ impl HelloNotes {
         }
     }
 
-    /// Notes in what the file of the Sentinel at a place differs from the own one, by its hello: once, and each ten minutes while it is so.
+    /// Notes in what the file of the Sentinel at a place differs from the own one, by its hello: once, and each ten
+    /// minutes while it is so.
     fn hear_difference<R: Log>(&mut self, rt: &R, by: Hearer<'_>, place: usize, hello: &Hello) {
         let Some(member) = by.roster.sentinels().get(place) else {
             return;
@@ -195,7 +198,8 @@ impl HelloNotes {
         }
     }
 
-    /// Takes in a hello of the Sentinel at a place, which is another one. One that is too far ahead is lost, which is noted once a minute.
+    /// Takes in a hello of the Sentinel at a place, which is another one. One that is too far ahead is lost, which is
+    /// noted once a minute.
     fn hear_member<R: Log>(&mut self, rt: &R, by: Hearer<'_>, place: usize, hello: &Hello) {
         if let Some(known) = by.known {
             if is_far_hello(hello, known) {
@@ -238,7 +242,8 @@ impl HelloNotes {
         }
     }
 
-    /// Notes that no hello of another Sentinel came for 10 s, once until one comes. Who is alone in the roster misses none.
+    /// Notes that no hello of another Sentinel came for 10 s, once until one comes. Who is alone in the roster misses
+    /// none.
     pub(crate) fn look<R: Log>(&mut self, rt: &R, roster: &Roster, now: u64) {
         if roster.sentinels().len() > 1 && self.others.takes_note(now, NO_HELLOS_MS) {
             warn!(rt; target: "tcp_wires::hello_notes",

@@ -1,7 +1,8 @@
 //! The connections of one Sentinel to the other Sentinels and to its data nodes, with their sockets, by readiness.
 //!
-//! What is decided without a socket is in `links`, what is asked and heard on a connection in `links`. `Connections` are all connections, which one thread has;
-//! `TickLoop` are the ticks of the Sentinel and what it hears, which another has, so that a store doesn't stop the connections. Their ends are made together, by `Connections::new`.
+//! What is decided without a socket is in `links`, what is asked and heard on a connection in `links`. `Connections`
+//! are all connections, which one thread has; `TickLoop` are the ticks of the Sentinel and what it hears, which another
+//! has, so that a store doesn't stop the connections. Their ends are made together, by `Connections::new`.
 #![tactic(auto)]
 
 mod connections;

@@ -31,7 +31,8 @@ impl KeptLogin {
     }
 }
 
-/// The logins to the data nodes by the number of the master, and the one to all other Sentinels. They are shown nowhere.
+/// The logins to the data nodes by the number of the master, and the one to all other Sentinels. They are shown
+/// nowhere.
 #[derive(Drop)]
 pub struct Logins {
     of_masters: Vec<KeptLogin>,

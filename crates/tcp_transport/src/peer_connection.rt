@@ -20,14 +20,16 @@ use std::sync::Wait;
 /// How many reads a connection makes before the next one has its turn.
 const READS_MAX: u32 = 16;
 
-/// How long it is from an order to follow a master, or none, to the question what came of it, in milliseconds. The node's clients are sent away by that order, other Sentinels among
-/// them, and what comes of it is told by a hello: so they have as long to listen again.
+/// How long it is from an order to follow a master, or none, to the question what came of it, in milliseconds. The
+/// node's clients are sent away by that order, other Sentinels among them, and what comes of it is told by a hello: so
+/// they have as long to listen again.
 const LOOK_MS: u64 = 100;
 
-/// A connection to a node, with its socket where it is open or being opened. `goes_on` is whether it may have more to read, `is_ending` whether the system told of its end, `is_refused` whether the node refused who asks
-/// when it was heard last, `look_at` when it is to be asked what came of an order, `fault` the fault of what came that
-/// closed it last, and `shut_until` until when it stays closed, since too much came on it, `is_lost` whether it was
-/// told to be lost since it was open last.
+/// A connection to a node, with its socket where it is open or being opened. `goes_on` is whether it may have more to
+/// read, `is_ending` whether the system told of its end, `is_refused` whether the node refused who asks when it was
+/// heard last, `look_at` when it is to be asked what came of an order, `fault` the fault of what came that closed it
+/// last, and `shut_until` until when it stays closed, since too much came on it, `is_lost` whether it was told to be
+/// lost since it was open last.
 #[derive(Drop)]
 pub(crate) struct PeerConnection {
     link: NodeLink,
@@ -216,8 +218,9 @@ impl PeerConnection {
         self.send_out(now);
     }
 
-    /// Puts out a message where it is open, and sends what it can; else the message is lost, and so is a PING where the connection has sent one a moment ago. What came of an order to
-    /// follow a master, or none, is asked soon. A fault has closed it.
+    /// Puts out a message where it is open, and sends what it can; else the message is lost, and so is a PING where the
+    /// connection has sent one a moment ago. What came of an order to follow a master, or none, is asked soon. A fault
+    /// has closed it.
     pub(crate) fn ask(&mut self, message: &Message, now: u64)
         requires writable { IsWritable message.now.body }
         requires target { (self.old.link.target.node ≡ message.now.target) × (self.old.link.target.listens ≡ false) }
@@ -268,8 +271,9 @@ impl PeerConnection {
         self.is_refused = is_refused;
     }
 
-    /// Reads one piece, and hands on what it tells: how long it is; the error says why none was taken, or that more comes than a node has to say: then the connection is shut for a second, so that
-    /// what other nodes say isn't lost beside it.
+    /// Reads one piece, and hands on what it tells: how long it is; the error says why none was taken, or that more
+    /// comes than a node has to say: then the connection is shut for a second, so that what other nodes say isn't lost
+    /// beside it.
     #[tactic(auto, using(crate::proofs::Hearing::all_within_told))]
     fn read_once<R: Wait + Log>(
         &mut self,
@@ -302,8 +306,9 @@ impl PeerConnection {
         }
     }
 
-    /// Reads what came, and hands on what that tells: whether the socket is whole. After many reads the next connection has its turn. A read that gave less than it asked for took all that
-    /// was there: what comes later is told by the system, an end that it told of before isn't.
+    /// Reads what came, and hands on what that tells: whether the socket is whole. After many reads the next connection
+    /// has its turn. A read that gave less than it asked for took all that was there: what comes later is told by the
+    /// system, an end that it told of before isn't.
     fn read_in<R: Wait + Log>(
         &mut self,
         rt: &R,
@@ -340,8 +345,8 @@ impl PeerConnection {
         self.link.schedule().is_open()
     }
 
-    /// Goes on once the system has told of it: reads what came, hands on what that tells, and sends what is unsent and due. Where the node ends a connection that had lasted,
-    /// it is to be opened again at once.
+    /// Goes on once the system has told of it: reads what came, hands on what that tells, and sends what is unsent and
+    /// due. Where the node ends a connection that had lasted, it is to be opened again at once.
     pub(crate) fn serve<R: Wait + Log>(
         &mut self,
         rt: &R,

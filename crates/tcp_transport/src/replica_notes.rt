@@ -23,7 +23,8 @@ pub(crate) struct ReplicaNotes {
     unnamed: Vec<Unnamed>,
 }
 
-/// The address in a line of an INFO that lists a replica, as `slave0:ip=10.0.0.4,port=6379,state=online,offset=70,lag=0`; none in any other line.
+/// The address in a line of an INFO that lists a replica, as
+/// `slave0:ip=10.0.0.4,port=6379,state=online,offset=70,lag=0`; none in any other line.
 fn replica_in(line: &str) -> Option<Addr> {
     let (number, fields) = line.strip_prefix("slave")?.split_once(':')?;
     if number.is_empty() || !number.bytes().all(|byte| byte.is_ascii_digit()) {
@@ -59,7 +60,8 @@ impl ReplicaNotes {
             && self.unnamed.push(Unnamed { addr, noted }).is_ok()
     }
 
-    /// Takes in an INFO of a data node at a reading of the clock. Where it is a master's, each replica that it lists and the roster doesn't have is noted.
+    /// Takes in an INFO of a data node at a reading of the clock. Where it is a master's, each replica that it lists
+    /// and the roster doesn't have is noted.
     pub(crate) fn hear<R: Log>(
         &mut self,
         rt: &R,

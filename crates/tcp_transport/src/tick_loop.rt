@@ -32,8 +32,9 @@ const LATER_MAX: usize = 4_096;
 /// How long it waits for an event at most before it looks at its clock, in milliseconds.
 const WAIT_MAX_MS: u64 = 100;
 
-/// When a Sentinel ticks, and what its ticks showed. One thread has them, with its end of the connections. `stood_still` is whether it stood still since its last ticks, and `later`
-/// has what it hears only after the next ones, oldest first; `has_ticked` is whether these were since.
+/// When a Sentinel ticks, and what its ticks showed. One thread has them, with its end of the connections.
+/// `stood_still` is whether it stood still since its last ticks, and `later` has what it hears only after the next
+/// ones, oldest first; `has_ticked` is whether these were since.
 #[derive(Drop)]
 pub struct TickLoop {
     far: SentinelEnd,
@@ -80,7 +81,8 @@ fn without_name(alloc: Global, event: Event) -> Event
     }
 }
 
-/// Has the Sentinel take an event, which comes with the epoch that is known, unless it is lost before the Sentinel hears it: whether it goes on.
+/// Has the Sentinel take an event, which comes with the epoch that is known, unless it is lost before the Sentinel
+/// hears it: whether it goes on.
 fn hear_near<J: Which, S: ConfStore, O: Outlet, R: Wait + Clock + Log>(
     rt: &R,
     state: &WatchState,
@@ -136,7 +138,8 @@ impl TickLoop {
         }
     }
 
-    /// Holds the ticks back where a campaign has come near, until the Sentinel has its turn: that goes by its place, and moves on with each configuration of the master.
+    /// Holds the ticks back where a campaign has come near, until the Sentinel has its turn: that goes by its place,
+    /// and moves on with each configuration of the master.
     fn hold<J: Which, S: ConfStore, R: Clock>(
         &mut self,
         rt: &R,
@@ -188,7 +191,8 @@ impl TickLoop {
         goes_on
     }
 
-    /// Has the Sentinel take an event, or keeps it for later, where ticks are late and it may be stored: whether it goes on. It is lost where too many are kept.
+    /// Has the Sentinel take an event, or keeps it for later, where ticks are late and it may be stored: whether it
+    /// goes on. It is lost where too many are kept.
     fn hear_or_keep<J: Which, S: ConfStore, R: Wait + Clock + Log>(
         &mut self,
         rt: &R,
@@ -232,7 +236,8 @@ impl TickLoop {
         true
     }
 
-    /// Has the Sentinel take what its connections heard: it waits for the first event so many milliseconds at most, and for no other: whether it goes on.
+    /// Has the Sentinel take what its connections heard: it waits for the first event so many milliseconds at most, and
+    /// for no other: whether it goes on.
     fn hear_all<J: Which, S: ConfStore, R: Wait + Clock + Log>(
         &mut self,
         rt: &R,
@@ -257,8 +262,8 @@ impl TickLoop {
         true
     }
 
-    /// A turn ended: whether the connections, or all of the program, stood still before it is kept. A long store alone is no such time: what was heard meanwhile waits, and is heard
-    /// before the ticks.
+    /// A turn ended: whether the connections, or all of the program, stood still before it is kept. A long store alone
+    /// is no such time: what was heard meanwhile waits, and is heard before the ticks.
     fn end_turn<R: Clock>(&mut self, rt: &R, state: &WatchState) {
         let now = state.run.clock.now(rt);
         let turned = state.turned.load(Ordering::SeqCst);
@@ -316,8 +321,9 @@ impl TickLoop {
         goes_on
     }
 
-    /// Hears until the next ticks are due, and ticks each master: whether the Sentinel goes on. Where it or its connections stood still, it hears what was asked anew
-    /// before it ticks. It does so once: on a machine that is always late it would never tick else.
+    /// Hears until the next ticks are due, and ticks each master: whether the Sentinel goes on. Where it or its
+    /// connections stood still, it hears what was asked anew before it ticks. It does so once: on a machine that is
+    /// always late it would never tick else.
     fn turn<J: Which, S: ConfStore, R: Wait + Clock + Log>(
         &mut self,
         rt: &R,
@@ -337,8 +343,8 @@ impl TickLoop {
         self.tick(rt, state, member, seat)
     }
 
-    /// Has the Sentinel take what its connections hear, and ticks each master 50 to 100 ms after its last tick, until the threads end or the Sentinel is halted, by
-    /// whichever thread.
+    /// Has the Sentinel take what its connections hear, and ticks each master 50 to 100 ms after its last tick, until
+    /// the threads end or the Sentinel is halted, by whichever thread.
     pub fn run<J: Which, S: ConfStore, R: Wait + Clock + Log>(
         &mut self,
         rt: &R,

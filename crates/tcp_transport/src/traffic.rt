@@ -38,7 +38,8 @@ fn write<T: Write>(link: &mut NodeLink, stream: &mut T) -> Result<(), ErrorKind>
     }
 }
 
-/// Writes what is unsent until it would wait: whether the stream is whole. What the stream gets is what was taken away of the front.
+/// Writes what is unsent until it would wait: whether the stream is whole. What the stream gets is what was taken away
+/// of the front.
 #[tactic(auto, using(crate::proofs::Sending::sends_none, crate::proofs::Sending::sends_twice))]
 pub(crate) fn send<T: Write>(link: &mut NodeLink, stream: &mut T) -> bool
     ensures sent { Sends (T.contents stream.old) (T.contents stream.new) link.old link.new }
@@ -68,7 +69,8 @@ fn read<T: Read>(stream: &mut T, room: &mut [u8]) -> Result<usize, ErrorKind>
     }
 }
 
-/// Reads one piece, and adds what the values tell that are whole with it: how long it is. The error says why none was taken; what the values before a fault told was added.
+/// Reads one piece, and adds what the values tell that are whole with it: how long it is. The error says why none was
+/// taken; what the values before a fault told was added.
 #[tactic(auto, using(crate::proofs::Hearing::hears_of, crate::proofs::Hearing::breaks_of, crate::proofs::Hearing::hears_none))]
 pub(crate) fn hear<T: Read>(
     link: &mut NodeLink,

@@ -5,10 +5,11 @@
 //! and a number to the end of a `Vec<u8>`. What a word means is defined once, in `ballot_law`, and the readers and
 //! writers here are proved to follow those definitions exactly.
 //!
-//! The words of a line, as Redis reads them, with their quotes: of a configuration file, and of a command that a client sends as a line.
+//! The words of a line, as Redis reads them, with their quotes: of a configuration file, and of a command that a client
+//! sends as a line.
 //!
-//! `redis_words` splits a line into its words, and `is_comment` tells whether a line of a file is a comment, which has none. What they are stands in
-//! `specs/Quotes`.
+//! `redis_words` splits a line into its words, and `is_comment` tells whether a line of a file is a comment, which has
+//! none. What they are stands in `specs/Quotes`.
 #![tactic(auto)]
 
 mod addresses;

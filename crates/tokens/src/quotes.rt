@@ -282,8 +282,8 @@ fn word_and_rest(alloc: Global, text: &[u8]) -> Result<Option<(Vec<u8>, &[u8])>,
     }
 }
 
-/// The words of a line, without their quotes. None where a quote doesn't close, or where no space is after one that does. NoMemory: memory
-/// was refused.
+/// The words of a line, without their quotes. None where a quote doesn't close, or where no space is after one that
+/// does. NoMemory: memory was refused.
 #[tactic(auto, using(crate::proofs::QuoteLemmas::begins_word, crate::proofs::QuoteLemmas::one_joined))]
 pub fn redis_words(alloc: Global, text: &[u8]) -> Result<Option<Vec<Text>>, NoMemory>
     ensures { IfOk result (λ found. MatchOption found (redis_words text.now ≡ None) (λ words. redis_words text.now ≡ Some words.items)) }

@@ -19,8 +19,8 @@ pub struct VoteAnswer {
 
 /// The current epoch and the last vote for one master, as a Sentinel keeps them.
 ///
-/// A Sentinel votes once in an epoch, for the first candidate that asks. So no two Sentinels can win one epoch, which is
-/// what makes a configuration epoch unique (documentation of Redis Sentinel, "Configuration epochs").
+/// A Sentinel votes once in an epoch, for the first candidate that asks. So no two Sentinels can win one epoch, which
+/// is what makes a configuration epoch unique (documentation of Redis Sentinel, "Configuration epochs").
 #[derive(Drop)]
 pub struct VoteBook {
     current: u64,
@@ -37,8 +37,8 @@ impl Model for VoteBook {
 }
 
 impl VoteBook {
-    /// The book of a Sentinel that was just started: the current epoch, the epoch of the last vote and its candidate, as
-    /// its file holds them. In epoch 0 no vote is given, so it has no candidate.
+    /// The book of a Sentinel that was just started: the current epoch, the epoch of the last vote and its candidate,
+    /// as its file holds them. In epoch 0 no vote is given, so it has no candidate.
     pub fn of(current: u64, voted: u64, candidate: Option<RunId>) -> VoteBook
         requires no_vote { voted ≡ 0 → candidate ≡ None }
         ensures { result ≡ record { current = current; voted = voted; leader = candidate } }
@@ -89,8 +89,8 @@ impl VoteBook {
 
     /// Takes a candidate's request for the vote of an epoch, and answers the vote now kept.
     ///
-    /// An epoch above the current one raises it. The candidate gets the vote where the book [`grants`](VoteBook::grants)
-    /// it; else the vote stays as it was.
+    /// An epoch above the current one raises it. The candidate gets the vote where the book
+    /// [`grants`](VoteBook::grants) it; else the vote stays as it was.
     pub fn ask(&mut self, epoch: u64, candidate: RunId) -> VoteAnswer
         ensures book { self.new ≡ asked self.old epoch candidate }
         ensures answer { result ≡ record { leader = self.new.leader; epoch = self.new.voted } }

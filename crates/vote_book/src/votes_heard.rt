@@ -141,8 +141,8 @@ impl Heard {
         count_of(&self.votes, epoch, candidate)
     }
 
-    /// The candidate with most votes of the epoch, the smaller run id on a tie; `me` where none was heard of that epoch.
-    /// A Sentinel that has not voted in the epoch votes for this candidate.
+    /// The candidate with most votes of the epoch, the smaller run id on a tie; `me` where none was heard of that
+    /// epoch. A Sentinel that has not voted in the epoch votes for this candidate.
     pub fn pick(&self, epoch: u64, me: RunId) -> RunId
         ensures pick { (heard : List Hearing) → StandsFor self.now heard →
             result ≡ pick_in (latest heard) (length self.now) epoch me }

@@ -24,10 +24,10 @@ use std::marker::Model;
 
 /// A client that searches for one master.
 ///
-/// At a tick it sends the question of its next move: to a Sentinel of its list for the address of the master, or to the data node at that
-/// address for its role. Where a question has no answer yet, the tick counts as its failure, and where the client waits, as the end of
-/// that. It takes any answer that fits its move, from whichever node it comes; connecting succeeds at once. Anything else changes nothing. A
-/// stop keeps the search.
+/// At a tick it sends the question of its next move: to a Sentinel of its list for the address of the master, or to the
+/// data node at that address for its role. Where a question has no answer yet, the tick counts as its failure, and
+/// where the client waits, as the end of that. It takes any answer that fits its move, from whichever node it comes;
+/// connecting succeeds at once. Anything else changes nothing. A stop keeps the search.
 #[derive(Drop)]
 pub struct ClientNode {
     number: u16,
@@ -50,8 +50,8 @@ impl Model for ClientNode {
 }
 
 impl ClientNode {
-    /// The client with this number, which searches for the master with that number of the roster. Its list is the Sentinels in the roster's
-    /// order. `NoMemory` is the only error.
+    /// The client with this number, which searches for the master with that number of the roster. Its list is the
+    /// Sentinels in the roster's order. `NoMemory` is the only error.
     pub fn new(alloc: Global, conf: &Conf, number: u16, master: u16) -> Result<ClientNode, NoMemory>
         requires { master < length conf.now.roster.masters }
         ensures client { IfOk result (λ node. node ≡ fresh_client conf.now.roster number master) }

@@ -10,7 +10,8 @@ use ballot_law::{Addr, Member, Name, NoMemory, NodeName, Roster, Watched};
 use std::alloc::Global;
 use std::marker::Model;
 
-/// The addresses of all Sentinels and of all data nodes, each in the roster's order, and the name of the master that is searched for.
+/// The addresses of all Sentinels and of all data nodes, each in the roster's order, and the name of the master that is
+/// searched for.
 #[derive(Drop)]
 pub(crate) struct Group {
     sentinels: Vec<Addr>,

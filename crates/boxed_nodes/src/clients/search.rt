@@ -60,8 +60,8 @@ impl Search {
         self.quest.at(place)
     }
 
-    /// The client's timer: an answer that is outstanding has failed, a client that waits has waited, and any other sends the question of
-    /// its move, if it has one.
+    /// The client's timer: an answer that is outstanding has failed, a client that waits has waited, and any other
+    /// sends the question of its move, if it has one.
     fn tick(&mut self)
         ensures { self.new ≡ ticked self.old }
     {

@@ -22,9 +22,9 @@ use std::marker::Model;
 
 /// A data node: a master or a replica of one.
 ///
-/// It answers PING by PONG, INFO and ROLE by what it keeps, takes the role that REPLICAOF gives it and answers OK, and passes a
-/// published hello to every Sentinel in the roster's order. Anything else changes nothing and is not answered, but that it may be
-/// told what priority, replication offset and link it gets. A stop keeps all of it.
+/// It answers PING by PONG, INFO and ROLE by what it keeps, takes the role that REPLICAOF gives it and answers OK, and
+/// passes a published hello to every Sentinel in the roster's order. Anything else changes nothing and is not answered,
+/// but that it may be told what priority, replication offset and link it gets. A stop keeps all of it.
 #[derive(Drop)]
 pub struct DataNode {
     number: u16,
@@ -60,8 +60,9 @@ fn addr_numbered(roster: &Roster, number: u16) -> Option<Addr>
 }
 
 impl DataNode {
-    /// The data node with this number, counted over the masters in the roster's order, each master's nodes by address; none where
-    /// there is no such node. The node of a master's configuration begins as that master, the others follow it. No memory is taken.
+    /// The data node with this number, counted over the masters in the roster's order, each master's nodes by address;
+    /// none where there is no such node. The node of a master's configuration begins as that master, the others follow
+    /// it. No memory is taken.
     pub fn new(conf: &Conf, number: u16) -> Option<DataNode>
         ensures node { result ≡ node_of conf.now number }
         ensures known { IfSome result (λ node. IsIn node conf.now.roster) }

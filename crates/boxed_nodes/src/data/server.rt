@@ -105,7 +105,8 @@ impl Server {
         }
     }
 
-    /// What is known of every server: all that it tells can be read. A caller that is lent one learns it by this call, which does nothing.
+    /// What is known of every server: all that it tells can be read. A caller that is lent one learns it by this call,
+    /// which does nothing.
     pub(crate) fn is_sound(&self)
         ensures { IsServer self.now }
     {

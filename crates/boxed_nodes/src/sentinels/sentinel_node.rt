@@ -179,7 +179,8 @@ impl Node for SentinelNode {
         self.sentinel.won()
     }
 
-    // Many clauses: nine are the trait's, said again for this node, and the last seven are those of the Sentinel inside.
+    // Many clauses: nine are the trait's, said again for this node, and the last seven are those of the Sentinel
+    // inside.
     fn take(&mut self, input: &Input, outbox: &mut Outbox) -> Result<Took, TakeFault>
         requires { IsTakeable input.now.event }
         ensures takes { OnOk result (Takes (SentinelAt self.old.sentinel.plan.place) input.entry.now.event outbox.new.held

@@ -15,8 +15,8 @@ fn reachable(addr: Addr) -> Option<Addr>
     if addr.ip == 0 { None } else { Some(addr) }
 }
 
-/// The address that is spelled `<ip>:<port>`: four numbers from 0 to 255 with dots between them, and a port from 1 to 65,535, all without
-/// leading zeros. None for any other word, and for 0.0.0.0, at which no node is reached.
+/// The address that is spelled `<ip>:<port>`: four numbers from 0 to 255 with dots between them, and a port from 1 to
+/// 65,535, all without leading zeros. None for any other word, and for 0.0.0.0, at which no node is reached.
 pub fn node_address(word: &[u8]) -> Option<Addr>
     ensures { IfSome result (λ it. 0 < it.ip) }
 {

@@ -9,7 +9,8 @@ use std::alloc::Global;
 use thiserror::Error;
 use tokens::{add_number, ip_text, run_id_text};
 
-/// For how long a failover may take, in milliseconds, before it is given up; the next one begins no sooner than twice that later.
+/// For how long a failover may take, in milliseconds, before it is given up; the next one begins no sooner than twice
+/// that later.
 const FAILOVER_TIMEOUT_MS: u64 = 10_000;
 
 /// What a new group is to be: one master with its replicas, and its Sentinels.
@@ -29,8 +30,8 @@ pub struct NewGroup {
 /// Why no files are made.
 #[derive(Clone, Copy, Debug, PartialEq, Eq, Error)]
 pub enum NewGroupFault {
-    /// The texts aren't the files of one group: two addresses or run ids are the same, or there are more nodes, Sentinels or bytes
-    /// than a file takes.
+    /// The texts aren't the files of one group: two addresses or run ids are the same, or there are more nodes,
+    /// Sentinels or bytes than a file takes.
     #[error("NotOneRoster")]
     NotOneRoster,
     /// Memory was refused.
@@ -164,8 +165,8 @@ fn texts_of(alloc: Global, group: &NewGroup) -> Result<Vec<Text>, NoMemory> {
 
 /// The text of the file of each Sentinel of a new group, in the order of its Sentinels: all read again, and one group.
 ///
-/// NotOneRoster: they aren't, as where a quorum is 0, an address stands there twice, or there are too many nodes. NoMemory: memory was
-/// refused. Nothing is changed by either.
+/// NotOneRoster: they aren't, as where a quorum is 0, an address stands there twice, or there are too many nodes.
+/// NoMemory: memory was refused. Nothing is changed by either.
 pub fn new_group_texts(alloc: Global, group: &NewGroup) -> Result<Vec<Text>, NewGroupFault>
     ensures { IfOk result (λ texts. AreFilesOfOneGroup texts.items) }
 {

@@ -184,9 +184,10 @@ fn faults_in(alloc: Global, bytes: &[u8]) -> Result<Vec<ConfFault>, NoMemory>
     Ok(faults)
 }
 
-/// All faults of the file with these bytes, in the order in which a file is judged: that of each line by itself, then each line that speaks
-/// of a master that isn't named, also by no `sentinel monitor` line that is at fault, then that there is no run id. A fault of the file as a whole stands alone, since then its lines have none
-/// or can't be read. A file that is read has none. NoMemory: memory was refused.
+/// All faults of the file with these bytes, in the order in which a file is judged: that of each line by itself, then
+/// each line that speaks of a master that isn't named, also by no `sentinel monitor` line that is at fault, then that
+/// there is no run id. A fault of the file as a whole stands alone, since then its lines have none or can't be read. A
+/// file that is read has none. NoMemory: memory was refused.
 pub fn faults_of(alloc: Global, bytes: &[u8]) -> Result<Vec<ConfFault>, NoMemory>
     ensures { IfOk result (λ list. list.items ≡ all_faults bytes.now) }
 {

@@ -55,8 +55,8 @@ fn first_pair(kind: Collision, claims: &[Claim]) -> Option<(Claim, Claim)>
     None
 }
 
-/// The first line of the file with these bytes that collides so with a later one, and the first such line; none where no two do.
-/// AllocError: memory was refused.
+/// The first line of the file with these bytes that collides so with a later one, and the first such line; none where
+/// no two do. AllocError: memory was refused.
 pub fn collision_of(
     alloc: Global,
     kind: Collision,

@@ -133,8 +133,8 @@ fn notes_of(alloc: Global, path: &str, bytes: &[u8]) -> Result<Vec<u8>, NoMemory
     Ok(text)
 }
 
-/// Adds all that is wrong with the file with these bytes, a line for each fault, as `note: <path>:<line>: <kind>: ..`; nothing of a file
-/// that is read. NoMemory: memory was refused, and nothing was added.
+/// Adds all that is wrong with the file with these bytes, a line for each fault, as `note: <path>:<line>: <kind>: ..`;
+/// nothing of a file that is read. NoMemory: memory was refused, and nothing was added.
 pub fn add_notes(alloc: Global, out: &mut Vec<u8>, path: &str, bytes: &[u8]) -> Result<(), NoMemory>
     ensures added { OnOk result ((more : List ℕ) × AreNotes path.now bytes.now (all_faults bytes.now) more × (out.new.items ≡ out.old.items ++ more)) }
     ensures refused { OnErr result (out.new.items ≡ out.old.items) }

@@ -7,7 +7,8 @@ ghost use Rattle.conf_check.specs.Group.Groups.{AreOfOneGroup};
 use ballot_law::{Card, KeptMaster, Name, Roster, Watched};
 use sentinel_conf::Conf;
 
-/// In what two files differ; a master is told by its name in the first one. The first difference is told, in this order.
+/// In what two files differ; a master is told by its name in the first one. The first difference is told, in this
+/// order.
 #[derive(Clone, Copy, PartialEq, Eq)]
 pub enum Difference {
     /// The Sentinels that they name, with their addresses.

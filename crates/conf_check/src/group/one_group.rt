@@ -72,7 +72,8 @@ fn have_files<C: HoldsConf>(first: &Conf, files: &[C]) -> bool
     true
 }
 
-/// Whether the files are those of the group of this roster: each agrees with the first, and each Sentinel of its roster has one.
+/// Whether the files are those of the group of this roster: each agrees with the first, and each Sentinel of its roster
+/// has one.
 fn is_group_of<C: HoldsConf>(first: &Conf, files: &[C]) -> bool
     ensures group { IsTrue result → IsGroupOf C.conf_of first.now files.now }
     ensures other { IsFalse result → ¬ (IsGroupOf C.conf_of first.now files.now) }

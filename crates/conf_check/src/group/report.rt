@@ -36,9 +36,9 @@ pub struct Report {
 }
 
 impl Report {
-    /// What these files make, in the roster's order: each Sentinel with its file, each master with its quorum and the votes that it
-    /// needs, each data node, and what is wrong. The roster is that of the first file. They are refused exactly where there are some and they
-    /// aren't those of one group. `NoMemory` leaves nothing.
+    /// What these files make, in the roster's order: each Sentinel with its file, each master with its quorum and the
+    /// votes that it needs, each data node, and what is wrong. The roster is that of the first file. They are refused
+    /// exactly where there are some and they aren't those of one group. `NoMemory` leaves nothing.
     pub fn of(alloc: Global, files: &[NamedConf]) -> Result<Report, NoMemory>
         ensures refused { IfOk result (λ report. IsTrue report.refused → ¬ (IsOneGroup (λ (file : NamedConf). file.conf) files.now)) }
         ensures other { IfOk result (λ report. IsFalse report.refused → (files.now ≡ []) ⊎ IsOneGroup (λ (file : NamedConf). file.conf) files.now) }
@@ -49,8 +49,8 @@ impl Report {
         Ok(Report { lines, refused })
     }
 
-    /// What one file by itself makes of its group: as above, each other Sentinel without a file. It isn't refused, and the last line says of how
-    /// many Sentinels its own is one. `NoMemory` leaves nothing.
+    /// What one file by itself makes of its group: as above, each other Sentinel without a file. It isn't refused, and
+    /// the last line says of how many Sentinels its own is one. `NoMemory` leaves nothing.
     pub fn of_one(alloc: Global, file: &NamedConf) -> Result<Report, NoMemory>
         ensures taken { IfOk result (λ report. IsFalse report.refused) }
         ensures place { IfOk result (λ report. EndsWithPlace (size file.now.conf.roster) report.lines.text.items) }

@@ -29,8 +29,8 @@ fn read_all(alloc: Global, texts: &[Text]) -> Result<Option<Vec<Conf>>, NoMemory
     Ok(Some(confs))
 }
 
-/// Whether these texts are the files of one group: each is read, each agrees with the first, and each Sentinel has one. NoMemory: memory
-/// was refused.
+/// Whether these texts are the files of one group: each is read, each agrees with the first, and each Sentinel has one.
+/// NoMemory: memory was refused.
 pub fn are_one_group(alloc: Global, texts: &[Text]) -> Result<bool, NoMemory>
     ensures group { IfOk result (λ are. IsTrue are → AreFilesOfOneGroup texts.now) }
     ensures other { IfOk result (λ are. IsFalse are → ¬ (AreFilesOfOneGroup texts.now)) }

@@ -231,11 +231,11 @@ fn texts_of<C: HoldsConf>(
     Ok(texts)
 }
 
-/// The text of each of these files once it is mended: the newest configuration of each master and the greatest current epoch of all files,
-/// with the file's own votes. Its lines of settings and its other lines stay as they are.
+/// The text of each of these files once it is mended: the newest configuration of each master and the greatest current
+/// epoch of all files, with the file's own votes. Its lines of settings and its other lines stay as they are.
 ///
-/// NotOneRoster: two files name different rosters. TwoAddresses: a master's newest configuration has two addresses, and nobody can tell which
-/// of them holds. NoMemory: memory was refused. Each leaves everything as it was.
+/// NotOneRoster: two files name different rosters. TwoAddresses: a master's newest configuration has two addresses, and
+/// nobody can tell which of them holds. NoMemory: memory was refused. Each leaves everything as it was.
 pub fn mended_texts<C: HoldsConf>(alloc: Global, files: &[C]) -> Result<Vec<Text>, MendFault>
     ensures texts { IfOk result (λ texts. texts.items
         ≡ map (λ file. mended_text (map C.conf_of files.now) (C.conf_of file)) files.now) }

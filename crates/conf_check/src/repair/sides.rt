@@ -261,8 +261,9 @@ fn sides_of<'a>(
     Ok(out)
 }
 
-/// Adds in what two files differ, a line for each thing with what stands on each side, after what stands in the text: `note: ..` of what
-/// refuses them together, and `warning: ..` of settings, which don't. NoMemory: memory was refused, and nothing was added.
+/// Adds in what two files differ, a line for each thing with what stands on each side, after what stands in the text:
+/// `note: ..` of what refuses them together, and `warning: ..` of settings, which don't. NoMemory: memory was refused,
+/// and nothing was added.
 pub fn add_sides<'a>(
     alloc: Global,
     out: &mut Vec<u8>,

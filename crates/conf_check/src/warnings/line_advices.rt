@@ -13,7 +13,8 @@ use sentinel_conf::{Directives, is_listed, lowered};
 use std::alloc::{AllocError, Global};
 use tokens::split_line;
 
-/// The least `down-after-milliseconds` at which a group whose nodes are well fails over to none: each node is asked once a second.
+/// The least `down-after-milliseconds` at which a group whose nodes are well fails over to none: each node is asked
+/// once a second.
 pub const DOWN_AFTER_MIN: u64 = 2_000;
 
 /// What is told of a line.
@@ -66,8 +67,8 @@ fn kept_advice(
     Ok(Some(among(alloc, known.first, name)?))
 }
 
-/// The directive that is nearest to that of a line, of those that may stand at its place, where one is near: at most three edits away, and
-/// at most half of the name's length. AllocError: memory was refused.
+/// The directive that is nearest to that of a line, of those that may stand at its place, where one is near: at most
+/// three edits away, and at most half of the name's length. AllocError: memory was refused.
 pub fn nearest_directive(
     alloc: Global,
     known: &Directives,
@@ -118,8 +119,8 @@ fn add_at(list: &mut Vec<Advice>, line: u64, found: Option<AdviceKind>) -> Resul
     Ok(())
 }
 
-/// What is told of the file with these bytes, in the order of its lines, in a group of `sentinels` Sentinels. It is no fault: the file is
-/// read all the same. AllocError: memory was refused.
+/// What is told of the file with these bytes, in the order of its lines, in a group of `sentinels` Sentinels. It is no
+/// fault: the file is read all the same. AllocError: memory was refused.
 pub fn advices(
     alloc: Global,
     known: &Directives,

@@ -75,7 +75,8 @@ fn add_short(out: &mut Vec<u8>, ms: u64) -> Result<(), NoMemory>
     add(out, " or more")
 }
 
-/// Whether a group in one process tells that `watch` reads this: its notes are as they were before `watch` read `timeout` and `user`.
+/// Whether a group in one process tells that `watch` reads this: its notes are as they were before `watch` read
+/// `timeout` and `user`.
 fn tells_setting(setting: &Setting) -> bool
     ensures { result ≡ tells_setting setting.now }
 {
@@ -85,7 +86,8 @@ fn tells_setting(setting: &Setting) -> bool
     }
 }
 
-/// Whether a group in one process tells that `watch` refuses a line for this: its notes are as they were before `watch` refused more.
+/// Whether a group in one process tells that `watch` refuses a line for this: its notes are as they were before `watch`
+/// refused more.
 fn tells_refusal(kind: WatchKind) -> bool
     ensures { result ≡ tells_refusal kind }
 {
@@ -174,8 +176,8 @@ fn warnings_of(
     Ok(text)
 }
 
-/// Adds what is told of the file with these bytes, a line for each, as `warning: <path>:<line>: ..`, in a group of `sentinels` Sentinels.
-/// NoMemory: memory was refused, and nothing was added.
+/// Adds what is told of the file with these bytes, a line for each, as `warning: <path>:<line>: ..`, in a group of
+/// `sentinels` Sentinels. NoMemory: memory was refused, and nothing was added.
 pub fn add_warnings(
     alloc: Global,
     out: &mut Vec<u8>,

@@ -41,8 +41,8 @@ fn name_length(text: &[u8]) -> usize
     count
 }
 
-/// The first name of a text, without the white space and the quotes round it, and what stands behind it. A text without a name has an
-/// empty one.
+/// The first name of a text, without the white space and the quotes round it, and what stands behind it. A text without
+/// a name has an empty one.
 pub fn first_name(text: &[u8]) -> (&[u8], &[u8])
     ensures name { result.0.now ≡ first_name text.now }
     ensures behind { result.1.now ≡ behind_name text.now }

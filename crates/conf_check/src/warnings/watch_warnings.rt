@@ -276,11 +276,11 @@ fn idle_note(alloc: Global, path: &str, bytes: &[u8], idle: &[Advice]) -> Result
     Ok(text)
 }
 
-/// Adds what the operator of a `watch` is told of its file with these bytes, in a group of `sentinels` Sentinels: first a line for each warning, as
-/// `warning: <path>:<line>: <directive>: ..`, of what isn't done here though somebody may count on it; then one line, as
-/// `note: <path>: 2 lines have no effect here: 5 (dir), 6 (loglevel)`. Nothing is told of a line that counts for `watch`, nor of one that it refuses,
-/// unless no Redis knows its directive; of such a one only the nearest name is told, since it may be a password. NoMemory: memory was refused, and
-/// nothing was added.
+/// Adds what the operator of a `watch` is told of its file with these bytes, in a group of `sentinels` Sentinels: first
+/// a line for each warning, as `warning: <path>:<line>: <directive>: ..`, of what isn't done here though somebody may
+/// count on it; then one line, as `note: <path>: 2 lines have no effect here: 5 (dir), 6 (loglevel)`. Nothing is told
+/// of a line that counts for `watch`, nor of one that it refuses, unless no Redis knows its directive; of such a one
+/// only the nearest name is told, since it may be a password. NoMemory: memory was refused, and nothing was added.
 pub fn add_watch_warnings(
     alloc: Global,
     out: &mut Vec<u8>,

@@ -31,8 +31,8 @@ fn add_shown(text: &mut OutText, bytes: &[u8]) -> Result<(), NoMemory>
     Ok(())
 }
 
-/// Adds a comment line: a number sign, a space, the words with a space for each byte that isn't a printable one of ASCII, and the line's
-/// end. So it is one line, whatever the words are. `NoMemory` leaves the text unchanged.
+/// Adds a comment line: a number sign, a space, the words with a space for each byte that isn't a printable one of
+/// ASCII, and the line's end. So it is one line, whatever the words are. `NoMemory` leaves the text unchanged.
 pub fn add_comment(text: &mut OutText, words: &[u8]) -> Result<(), NoMemory>
     ensures ok { OnOk result (text.new ≡ text.old ++ comment words.now) }
     ensures err { OnErr result (text.new ≡ text.old) }

@@ -79,10 +79,10 @@ fn steps_of_lines(alloc: Global, text: &[u8]) -> Result<Vec<Step>, ScenarioFault
 
 /// The steps of a scenario, or its first faulty line with the first fault of that line.
 ///
-/// Lines end with LF, which the last may lack, and are counted from 1; a CR belongs to its word. Two spaces have an empty word
-/// between them. Numbers are one or more decimal digits, up to 2^64 - 1, and in `set` up to 2^63 - 1. A node or a master
-/// whose number is above 65,535 counts as the one at 65,535. A text that isn't UTF-8 is refused with line 0, and so is
-/// a refused allocation, which may stand in place of any other answer.
+/// Lines end with LF, which the last may lack, and are counted from 1; a CR belongs to its word. Two spaces have an
+/// empty word between them. Numbers are one or more decimal digits, up to 2^64 - 1, and in `set` up to 2^63 - 1. A node
+/// or a master whose number is above 65,535 counts as the one at 65,535. A text that isn't UTF-8 is refused with line
+/// 0, and so is a refused allocation, which may stand in place of any other answer.
 ///
 /// The numbers in the steps are within the limits of a group: the epoch of a command, and what a `set` gives.
 pub fn read_scenario(alloc: Global, text: &[u8]) -> Result<Vec<Step>, ScenarioFault>

@@ -72,8 +72,8 @@ fn value_of(alloc: Global, bytes: &[u8]) -> Result<Option<Value>, NoMemory> {
     }
 }
 
-/// The words of a message with a space between two: those of its command, or the texts and numbers of its reply. A reply that is too long
-/// for a reader stands as its bytes.
+/// The words of a message with a space between two: those of its command, or the texts and numbers of its reply. A
+/// reply that is too long for a reader stands as its bytes.
 ///
 /// The caller sees to it that the message can be written. `NoMemory` leaves nothing.
 pub fn words_of(alloc: Global, message: &Message) -> Result<OutText, NoMemory>

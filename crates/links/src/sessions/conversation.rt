@@ -24,7 +24,8 @@ use std::collections::VecDeque;
 /// How many questions may wait for their answers.
 pub const ASKED_MAX: usize = 512;
 
-/// What was asked and isn't answered yet, the bytes that came and are no whole value yet, and the bytes that aren't sent yet.
+/// What was asked and isn't answered yet, the bytes that came and are no whole value yet, and the bytes that aren't
+/// sent yet.
 #[derive(Drop)]
 pub(crate) struct Conversation {
     alloc: Global,

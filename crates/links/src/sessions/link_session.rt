@@ -14,8 +14,9 @@ use ballot_law::{Event, Message, NodeName};
 use std::alloc::Global;
 use std::marker::Model;
 
-/// The conversation with one node on a connection that a Sentinel opened. Contracts see what is asked and isn't answered yet, oldest first, the bytes held, which came
-/// and are no whole value yet, the bytes that aren't sent yet, and the fault that ended it.
+/// The conversation with one node on a connection that a Sentinel opened. Contracts see what is asked and isn't
+/// answered yet, oldest first, the bytes held, which came and are no whole value yet, the bytes that aren't sent yet,
+/// and the fault that ended it.
 #[derive(Drop)]
 pub struct LinkSession {
     talk: Conversation,
@@ -64,8 +65,8 @@ impl LinkSession {
         }
     }
 
-    /// Puts out what a message says, and remembers what its answer will be about. A refusal changes nothing: `Full` where as many questions wait as may, and
-    /// `NoMemory`.
+    /// Puts out what a message says, and remembers what its answer will be about. A refusal changes nothing: `Full`
+    /// where as many questions wait as may, and `NoMemory`.
     pub fn ask(&mut self, message: &Message) -> Result<(), LinkFault>
         requires { IsWritable message.now.body }
         ensures ok { OnOk result (self.new ≡ record self.old {
@@ -114,14 +115,17 @@ impl LinkSession {
         self.talk.sent(n);
     }
 
-    /// Takes the next piece of what the node sends, of any length, and adds what the values tell that are whole with it, in their order.
+    /// Takes the next piece of what the node sends, of any length, and adds what the values tell that are whole with
+    /// it, in their order.
     ///
-    /// A value answers the oldest question: a PING's is `Pinged`, an INFO's `InfoRead`, and the answer to the question whether a master is down is `Answered` with the
-    /// master and the address of that question; the answers to other messages tell nothing, and so does an error in answer to an INFO or to such a question. On a
-    /// connection that listens each value after the answers is a hello that a data node passes on.
+    /// A value answers the oldest question: a PING's is `Pinged`, an INFO's `InfoRead`, and the answer to the question
+    /// whether a master is down is `Answered` with the master and the address of that question; the answers to other
+    /// messages tell nothing, and so does an error in answer to an INFO or to such a question. On a connection that
+    /// listens each value after the answers is a hello that a data node passes on.
     ///
-    /// `Unread` where the bytes are no RESP2, `Unasked` and `Strange` where a value answers no question or not its own, and `NoMemory`: what the values before told was
-    /// added, and nothing else. From then on the session answers the same fault for good and has nothing; the caller opens the connection anew.
+    /// `Unread` where the bytes are no RESP2, `Unasked` and `Strange` where a value answers no question or not its own,
+    /// and `NoMemory`: what the values before told was added, and nothing else. From then on the session answers the
+    /// same fault for good and has nothing; the caller opens the connection anew.
     pub fn received(&mut self, piece: &[u8], events: &mut Vec<Event>) -> Result<(), LinkFault>
         ensures received { self.old.ended ≡ None → (more : List Event) × (events.new.items ≡ events.old.items ++ more)
             × Receives self.old.node self.old.listens self.old.asked (self.old.held ++ piece.now) result more self.new.asked self.new.held }

@@ -15,10 +15,12 @@ pub const TOLD_MAX: usize = 65_536;
 /// How many bytes a bulk string may have.
 pub const BULK_MAX: u64 = 16_777_216;
 
-/// How many bytes are in memory at most of what came and is no whole value yet: the first ones of a bulk string, and one of its end.
+/// How many bytes are in memory at most of what came and is no whole value yet: the first ones of a bulk string, and
+/// one of its end.
 pub const HELD_MAX: usize = 65_537;
 
-/// A bulk string that is longer than a frame and hasn't come whole: how many bytes it has, how many of them came, and the first ones of these.
+/// A bulk string that is longer than a frame and hasn't come whole: how many bytes it has, how many of them came, and
+/// the first ones of these.
 #[derive(Drop)]
 pub(crate) struct LongBulk {
     pub(crate) size: usize,

@@ -18,8 +18,9 @@ const END: usize = 2;
 
 /// A reader of the values of one stream, as `Frames`, but that a bulk string by itself may have 16 MiB.
 ///
-/// Contracts see the bytes that came and weren't given yet, and how many of them are in memory: of a long bulk string what stands behind its first 65,536 bytes is
-/// passed over as it comes, and stands as zeros in contracts. The pieces may be cut anywhere. After a fault it isn't used again.
+/// Contracts see the bytes that came and weren't given yet, and how many of them are in memory: of a long bulk string
+/// what stands behind its first 65,536 bytes is passed over as it comes, and stands as zeros in contracts. The pieces
+/// may be cut anywhere. After a fault it isn't used again.
 #[derive(Drop)]
 pub(crate) struct LongFrames {
     alloc: Global,
@@ -101,8 +102,9 @@ impl LongFrames {
         }
     }
 
-    /// Takes the first whole value out of the bytes that came: what is told of it; `None` where more bytes are needed. Before the next `feed` every whole value is taken,
-    /// so that no more than 65,537 bytes and one piece are in memory.
+    /// Takes the first whole value out of the bytes that came: what is told of it; `None` where more bytes are needed.
+    /// Before the next `feed` every whole value is taken, so that no more than 65,537 bytes and one piece are in
+    /// memory.
     ///
     /// A fault is one of the bytes, or `NoMemory`; after it the reader isn't used again.
     pub(crate) fn next(&mut self) -> Result<Option<Value>, FrameFault>

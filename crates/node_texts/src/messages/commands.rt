@@ -71,7 +71,8 @@ pub fn push_ask<S: ByteSink>(
     )
 }
 
-/// Adds a hello behind the word and the channel with which it is published, or passed on. Its text is written to memory of its own first.
+/// Adds a hello behind the word and the channel with which it is published, or passed on. Its text is written to memory
+/// of its own first.
 pub fn push_hello<S: ByteSink>(
     sink: &mut S,
     alloc: Global,

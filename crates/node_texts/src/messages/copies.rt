@@ -62,7 +62,8 @@ fn copy_of_body(alloc: Global, body: &Body) -> Result<Body, NoMemory>
     }
 }
 
-/// A copy of a message. Memory is taken only for an answer of the port, whose length is its own; `NoMemory` leaves nothing.
+/// A copy of a message. Memory is taken only for an answer of the port, whose length is its own; `NoMemory` leaves
+/// nothing.
 pub fn copy_of(alloc: Global, message: &Message) -> Result<Message, NoMemory>
     ensures { IfOk result (λ copy. copy ≡ message.now) }
 {

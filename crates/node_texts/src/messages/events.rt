@@ -93,12 +93,12 @@ fn heard(alloc: Global, sender: NodeName, body: &Body) -> Result<Option<Event>, 
     Ok(Some(event))
 }
 
-/// The event that the delivery of a message is at its target; none where the target is a Sentinel and the body isn't for
-/// Sentinels: a delivery of it doesn't apply.
+/// The event that the delivery of a message is at its target; none where the target is a Sentinel and the body isn't
+/// for Sentinels: a delivery of it doesn't apply.
 ///
-/// At a Sentinel an ask, a client's question for an address and a PING are commands of the sender, the answer to an ask is
-/// heard, the answer to a PING counts as `PingReply::of` says, and an INFO and a hello come as their bytes. A data node and
-/// a client are handed a copy of the message. `NoMemory` leaves nothing.
+/// At a Sentinel an ask, a client's question for an address and a PING are commands of the sender, the answer to an ask
+/// is heard, the answer to a PING counts as `PingReply::of` says, and an INFO and a hello come as their bytes. A data
+/// node and a client are handed a copy of the message. `NoMemory` leaves nothing.
 ///
 /// The caller sees to it that the message can be written, and that the epoch of an ask in it is at most `MAX_EPOCH`.
 pub fn event_of(alloc: Global, message: &Message) -> Result<Option<Event>, NoMemory>

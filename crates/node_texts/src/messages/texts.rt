@@ -33,7 +33,8 @@ fn add_parts(alloc: Global, body: &Body, text: &mut OutText) -> Result<(), NoMem
     }
 }
 
-/// Adds what a message says at once, from room on the stack, where it has room there; `NoMemory` leaves the text unchanged.
+/// Adds what a message says at once, from room on the stack, where it has room there; `NoMemory` leaves the text
+/// unchanged.
 fn add_short(alloc: Global, body: &Body, text: &mut OutText) -> Result<(), NoMemory>
     requires { IsWritable body.now }
     ensures ok { OnOk result (text.new ≡ text.old ++ message_bytes body.now) }

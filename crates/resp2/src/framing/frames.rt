@@ -134,8 +134,8 @@ impl Frames {
         self.bytes.as_slice()
     }
 
-    /// Takes away the first `passed` bytes of those held, for a caller that read them where they stand: the next value begins behind them. No
-    /// memory is taken.
+    /// Takes away the first `passed` bytes of those held, for a caller that read them where they stand: the next value
+    /// begins behind them. No memory is taken.
     pub fn skip(&mut self, passed: usize)
         requires open { self.old ≡ reading (bytes_in self.old) }
         requires within { passed ≤ length (bytes_in self.old) }

@@ -13,13 +13,14 @@ use std::alloc::Global;
 /// How deep a frame may be.
 pub const DEEPEST: usize = 8;
 
-/// Where the reading of a first value stands that hasn't come whole: in front of it each item and each header of an array was
-/// read once, and none of them is read again to see whether the value is whole.
+/// Where the reading of a first value stands that hasn't come whole: in front of it each item and each header of an
+/// array was read once, and none of them is read again to see whether the value is whole.
 ///
 /// The value itself counts as the one item of an outermost array.
 #[derive(Drop)]
 pub struct Place {
-    /// How many items are to come behind the one that is being read, in each open array but the innermost; the outermost first.
+    /// How many items are to come behind the one that is being read, in each open array but the innermost; the
+    /// outermost first.
     pub outer: ArrayVec<u64, DEEPEST>,
     /// How many items of the innermost open array are to come.
     pub left: u64,
@@ -50,8 +51,8 @@ impl Place {
         self.at > 0 || self.line > 0
     }
 
-    /// Goes on over all that came. `true` says that the value needs more bytes; `false` that it should be read, since it is whole,
-    /// a fault shows, or memory was refused.
+    /// Goes on over all that came. `true` says that the value needs more bytes; `false` that it should be read, since
+    /// it is whole, a fault shows, or memory was refused.
     pub fn waits(&mut self, alloc: Global, bytes: &[u8], more: usize) -> bool
         requires stands { Stands bytes.now self.old.outer.items self.old.left self.old.at }
         requires searched { Searched bytes.now self.old.at self.old.line }

@@ -207,7 +207,8 @@ fn is_kind(byte: u8) -> bool
     matches!(byte, b'+' | b'-' | b':' | b'$' | b'*')
 }
 
-/// Whether a value has begun here with a line that is still without an end. The line has `line` bytes, the kind's with them.
+/// Whether a value has begun here with a line that is still without an end. The line has `line` bytes, the kind's with
+/// them.
 pub fn is_open_line(bytes: &[u8], line: usize) -> bool
     requires { line ≡ read.line_length bytes.now }
     ensures { IsTrue result → IsOpenLine bytes.now }
@@ -218,7 +219,8 @@ pub fn is_open_line(bytes: &[u8], line: usize) -> bool
     line == bytes.len() && is_kind(*kind)
 }
 
-/// How many items follow the header of an array that stands here, and what is behind it; `None` where no such header is whole.
+/// How many items follow the header of an array that stands here, and what is behind it; `None` where no such header is
+/// whole.
 pub fn header_of(bytes: &[u8]) -> Option<(u64, &[u8])>
     ensures { IfSome result (λ header. OpensAt bytes.now header.0 header.1.now) }
 {

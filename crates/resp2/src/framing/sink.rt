@@ -20,8 +20,8 @@ pub trait ByteSink {
     // What is true of it where something had no room.
     ghost full: { Self → Type 0 };
 
-    /// Adds exactly these bytes at the end. Where they have no room the answer is `NoMemory`: then what is held is what was
-    /// held and a first part of these bytes, and the sink is full.
+    /// Adds exactly these bytes at the end. Where they have no room the answer is `NoMemory`: then what is held is what
+    /// was held and a first part of these bytes, and the sink is full.
     fn push(&mut self, piece: &[u8]) -> Result<(), NoMemory>
         ensures added { Adds result (bytes self.old) (bytes self.new) piece.now (full self.new) }
         ensures within { within self.new };

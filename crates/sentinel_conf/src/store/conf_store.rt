@@ -32,8 +32,8 @@ pub trait ConfStore {
 
     ghost failure_count: { Self → ℕ };
 
-    // What `replace` answers to a text and which text is held then, where the store knows it before the call: a store in memory
-    // does where it has room for the text, a real file doesn't.
+    // What `replace` answers to a text and which text is held then, where the store knows it before the call: a store
+    // in memory does where it has room for the text, a real file doesn't.
     ghost outcome: { Self → List ℕ → Option Outcome } = { λ _ _. None };
 
     // How long a text may be for which the type says that there is room: a store in memory does, a real file can't.
@@ -108,8 +108,8 @@ impl MemoryStore {
         MemoryStore::with_room(alloc, bytes, 0)
     }
 
-    /// A store that holds these bytes, with failure count 0, and has room for texts of so many bytes at least: replacing it by one
-    /// of no more takes no memory.
+    /// A store that holds these bytes, with failure count 0, and has room for texts of so many bytes at least:
+    /// replacing it by one of no more takes no memory.
     pub fn with_room(alloc: Global, bytes: &[u8], room: usize) -> Result<MemoryStore, NoMemory>
         ensures store { IfOk result
             (λ store. store ≡ record { text = bytes.now; failed = 0; refusal = None; room = store.room }) }
@@ -143,9 +143,10 @@ impl MemoryStore {
         self.refuse_after(0, new);
     }
 
-    /// Has `passes` calls of `replace` be served and the next one answer `StoreRefused`; then the new text stands if `new`, and else
-    /// the old one. The calls behind it are served again. One refusal is asked for at a time: this takes the place of one that was
-    /// asked for before and hasn't come. A call that fails on the way for memory isn't served, and doesn't count.
+    /// Has `passes` calls of `replace` be served and the next one answer `StoreRefused`; then the new text stands if
+    /// `new`, and else the old one. The calls behind it are served again. One refusal is asked for at a time: this
+    /// takes the place of one that was asked for before and hasn't come. A call that fails on the way for memory isn't
+    /// served, and doesn't count.
     pub fn refuse_after(&mut self, passes: u32, new: bool)
         ensures { self.new
             ≡ record self.old { refusal = Some (record { passes = passes; new = new }) } }
@@ -182,8 +183,8 @@ impl MemoryStore {
         };
     }
 
-    /// Puts this text in place of the one that is held, with no memory taken where there is room for it; without memory that one
-    /// stands.
+    /// Puts this text in place of the one that is held, with no memory taken where there is room for it; without memory
+    /// that one stands.
     fn put(&mut self, text: &[u8]) -> Result<(), AllocError>
         ensures ok { OnOk result
             (self.new ≡ record self.old { text = text.now; room = self.new.room }) }

@@ -24,8 +24,8 @@ pub enum FileStep {
     /// To rename the new file over the file. The file is as it was.
     #[error("rename")]
     Rename,
-    /// To have the disk hold the names in the folder. Of a store the file holds the new text then, which a loss of power
-    /// may take back.
+    /// To have the disk hold the names in the folder. Of a store the file holds the new text then, which a loss of
+    /// power may take back.
     #[error("sync of the folder")]
     SyncFolder,
 }

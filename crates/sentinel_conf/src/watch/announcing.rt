@@ -47,8 +47,8 @@ fn has_foreign_master(roster: &Roster) -> bool
         .any(|master| has_foreign_node(master))
 }
 
-/// Whether another Sentinel or a data node isn't on the loopback, while this Sentinel is known to them by an ip of it: the fault
-/// `NoAnnounceIp`.
+/// Whether another Sentinel or a data node isn't on the loopback, while this Sentinel is known to them by an ip of it:
+/// the fault `NoAnnounceIp`.
 pub fn lacks_announce_ip(conf: &Conf) -> bool
     ensures { result ≡ lacks_announce_ip conf.now }
 {

@@ -173,8 +173,8 @@ fn without_rest(alloc: Global, binds: Vec<Bind>) -> Result<Binds, NoMemory>
     Ok(Binds::of(binds))
 }
 
-/// The ips that a line `bind` with these words names. None where there are no words or more than `IPS_MAX`, where one of them is none, and
-/// where they name no ip.
+/// The ips that a line `bind` with these words names. None where there are no words or more than `IPS_MAX`, where one
+/// of them is none, and where they name no ip.
 pub(crate) fn bound(alloc: Global, words: &[Text]) -> Result<Option<Binds>, NoMemory>
     ensures { IfOk result (λ found. found ≡ bound words.now) }
 {

@@ -167,7 +167,8 @@ fn resolve_line(args: &[Text]) -> WatchLine
     }
 }
 
-/// The line of a `sentinel` directive of this name that says nothing to `watch` alone: it is faulty, where no Redis knows the name.
+/// The line of a `sentinel` directive of this name that says nothing to `watch` alone: it is faulty, where no Redis
+/// knows the name.
 fn other_sentinel(alloc: Global, name: &Text) -> Result<WatchLine, NoMemory>
     ensures { IfOk result (λ line. line ≡ other_sentinel name.now) }
 {
@@ -254,8 +255,8 @@ fn has_mark(text: &[u8]) -> bool
     text.starts_with(MARK)
 }
 
-/// What a line says to `watch`. The name of a directive may be quoted, and the case of its ASCII letters doesn't matter. NoMemory: memory was
-/// refused.
+/// What a line says to `watch`. The name of a directive may be quoted, and the case of its ASCII letters doesn't
+/// matter. NoMemory: memory was refused.
 pub fn line_of(alloc: Global, text: &[u8]) -> Result<WatchLine, NoMemory>
     ensures { IfOk result (λ line. line ≡ watch_line text.now) }
 {

@@ -3,7 +3,8 @@
 use ballot_law::NoMemory;
 use thiserror::Error;
 
-/// What is wrong with a line that counts for `watch`, or with the file as a whole. Its words begin with its name, and say what to write.
+/// What is wrong with a line that counts for `watch`, or with the file as a whole. Its words begin with its name, and
+/// say what to write.
 #[derive(Clone, Copy, Debug, PartialEq, Eq, Error)]
 pub enum WatchKind {
     /// Memory was refused.
@@ -51,7 +52,8 @@ pub enum WatchKind {
     /// A line `tls-replication` with another word than `no`.
     #[error("TlsReplication: no node is spoken to by TLS: write `tls-replication no`, or delete this line, and give the nodes a port without TLS, or a tunnel")]
     TlsReplication,
-    /// A line of another directive of TLS, as `tls-cert-file`, with other words than one that turns it off: `no`, `0` or an empty one.
+    /// A line of another directive of TLS, as `tls-cert-file`, with other words than one that turns it off: `no`, `0`
+    /// or an empty one.
     #[error("TlsSetting: no TLS is spoken, neither at the port nor to nodes, so what this line sets would be lost: delete it, and encrypt by a tunnel or a network of their own")]
     TlsSetting,
     /// A line `sentinel rename-command`.

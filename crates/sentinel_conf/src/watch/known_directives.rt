@@ -21,8 +21,8 @@ pub struct Directives {
 }
 
 impl Directives {
-    /// Those of Redis 7.2: what `CONFIG GET *` of a server lists, what stands in its files besides, and `sentinel leader-id`, which this
-    /// project alone writes.
+    /// Those of Redis 7.2: what `CONFIG GET *` of a server lists, what stands in its files besides, and
+    /// `sentinel leader-id`, which this project alone writes.
     pub fn of_redis() -> Directives
         ensures first { lower result.first.now ≡ result.first.now }
         ensures sentinel { lower result.sentinel.now ≡ result.sentinel.now }

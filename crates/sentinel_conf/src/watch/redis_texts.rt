@@ -45,8 +45,8 @@ fn is_leader_line(whole: &[u8]) -> bool
     }
 }
 
-/// The text of a file without its lines `sentinel leader-id`, which redis-sentinel doesn't know; all else is as it stands, byte for byte.
-/// NoMemory: memory was refused.
+/// The text of a file without its lines `sentinel leader-id`, which redis-sentinel doesn't know; all else is as it
+/// stands, byte for byte. NoMemory: memory was refused.
 pub fn redis_text(alloc: Global, bytes: &[u8]) -> Result<Text, NoMemory>
     ensures { IfOk result (λ text. text ≡ redis_text bytes.now) }
 {

@@ -31,10 +31,11 @@ pub enum Setting {
     PeerPass(Text),
     /// `sentinel sentinel-user`: the user at the ports of the other Sentinels.
     PeerUser(Text),
-    /// `maxclients`: how many connections of clients are asked for, 1 to 4,294,967,295; the port keeps `CLIENTS_MAX` of them at most.
+    /// `maxclients`: how many connections of clients are asked for, 1 to 4,294,967,295; the port keeps `CLIENTS_MAX` of
+    /// them at most.
     MaxClients(u32),
-    /// `timeout`: after how many seconds a silent connection is to be closed, 0 to 2,147,483,647; 0 is never, and more than
-    /// `IDLE_SECONDS_MAX` are that.
+    /// `timeout`: after how many seconds a silent connection is to be closed, 0 to 2,147,483,647; 0 is never, and more
+    /// than `IDLE_SECONDS_MAX` are that.
     Timeout(u32),
     /// `protected-mode`.
     ProtectedMode(bool),

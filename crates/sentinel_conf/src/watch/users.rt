@@ -18,7 +18,8 @@ fn is_rule(rule: &Text, name: &[u8]) -> bool
     rule.as_slice().eq_ignore_ascii_case(name)
 }
 
-/// Whether the rule is one of those that all rights have, or says of the texts of `RESTORE` something that no Sentinel reads.
+/// Whether the rule is one of those that all rights have, or says of the texts of `RESTORE` something that no Sentinel
+/// reads.
 fn is_plain(rule: &Text) -> bool
     ensures { result ≡ is_plain rule.now }
 {
@@ -109,7 +110,8 @@ pub(crate) fn user_line(alloc: Global, args: &[Text]) -> Result<WatchLine, NoMem
     }
 }
 
-/// The digits by which a Redis writes this password down: those of its SHA-256 digest. An empty one is none, and has no digits.
+/// The digits by which a Redis writes this password down: those of its SHA-256 digest. An empty one is none, and has no
+/// digits.
 pub(crate) fn hash_of(alloc: Global, password: &[u8]) -> Result<String, NoMemory>
     ensures { IfOk result (λ text. string_bytes text ≡ hash_of password.now) }
 {

@@ -20,8 +20,8 @@ use std::alloc::Global;
 use std::marker::Model;
 use tokens::split_line;
 
-/// What a file says to `watch` alone: the last line of a kind counts. It can't be printed, since it can hold passwords. Contracts see the
-/// settings of all lines, in order.
+/// What a file says to `watch` alone: the last line of a kind counts. It can't be printed, since it can hold passwords.
+/// Contracts see the settings of all lines, in order.
 #[derive(Drop)]
 pub struct WatchConf {
     settings: Vec<Setting>,
@@ -40,8 +40,8 @@ impl Model for WatchConf {
 const ALL_IPS: &[Bind] = &[EVERYWHERE];
 
 impl WatchConf {
-    /// At which ips the port listens, in order: those of the last line `bind`, from 1 to `IPS_MAX` of them, or `EVERYWHERE` alone. The machine
-    /// may lack all of them, where each is one that it may lack.
+    /// At which ips the port listens, in order: those of the last line `bind`, from 1 to `IPS_MAX` of them, or
+    /// `EVERYWHERE` alone. The machine may lack all of them, where each is one that it may lack.
     pub fn binds(&self) -> &[Bind]
         ensures { result.now ≡ last binds_of (everywhere ∷ []) self.now }
     {
@@ -56,7 +56,8 @@ impl WatchConf {
         found
     }
 
-    /// The password for the data nodes of the master of this name: that of its last line `sentinel auth-pass`. An empty one is none.
+    /// The password for the data nodes of the master of this name: that of its last line `sentinel auth-pass`. An empty
+    /// one is none.
     pub fn node_pass(&self, name: &Name) -> &[u8]
         ensures { result.now ≡ last (node_pass_of name.now) [] self.now }
     {
@@ -71,7 +72,8 @@ impl WatchConf {
         found
     }
 
-    /// The user at the data nodes of the master of this name: that of its last line `sentinel auth-user`. An empty one is the default user.
+    /// The user at the data nodes of the master of this name: that of its last line `sentinel auth-user`. An empty one
+    /// is the default user.
     pub fn node_user(&self, name: &Name) -> &[u8]
         ensures { result.now ≡ last (node_user_of name.now) [] self.now }
     {
@@ -86,7 +88,8 @@ impl WatchConf {
         found
     }
 
-    /// The password that a client of the own port has to give: that of the last line `requirepass`. An empty one is none.
+    /// The password that a client of the own port has to give: that of the last line `requirepass`. An empty one is
+    /// none.
     pub fn own_pass(&self) -> &[u8]
         ensures { result.now ≡ last own_pass_of [] self.now }
     {
@@ -131,8 +134,8 @@ impl WatchConf {
         found
     }
 
-    /// The password that is sent to the ports of the other Sentinels: that of the last line `sentinel sentinel-pass`, or where there is none
-    /// the own one, as redis-sentinel does. An empty one is none.
+    /// The password that is sent to the ports of the other Sentinels: that of the last line `sentinel sentinel-pass`,
+    /// or where there is none the own one, as redis-sentinel does. An empty one is none.
     pub fn sent_pass(&self) -> &[u8]
         ensures { result.now ≡ sent_pass self.now }
     {
@@ -143,8 +146,8 @@ impl WatchConf {
         pass
     }
 
-    /// The user that is sent beside it: that of the last line `sentinel sentinel-user`. An empty one is the default user, as beside the own
-    /// password.
+    /// The user that is sent beside it: that of the last line `sentinel sentinel-user`. An empty one is the default
+    /// user, as beside the own password.
     pub fn sent_user(&self) -> &[u8]
         ensures { result.now ≡ sent_user self.now }
     {
@@ -154,8 +157,8 @@ impl WatchConf {
         self.peer_user()
     }
 
-    /// How many connections of clients the port keeps, 1 to `CLIENTS_MAX`: what the last line `maxclients` says. More than `CLIENTS_MAX`, and no
-    /// line, are `CLIENTS_MAX`.
+    /// How many connections of clients the port keeps, 1 to `CLIENTS_MAX`: what the last line `maxclients` says. More
+    /// than `CLIENTS_MAX`, and no line, are `CLIENTS_MAX`.
     pub fn max_clients(&self) -> u16
         ensures { result ≡ min (last clients_of CLIENTS_MAX self.now) CLIENTS_MAX }
     {
@@ -167,8 +170,9 @@ impl WatchConf {
         asked.min(most) as u16
     }
 
-    /// After how many seconds a connection is closed that is silent, 0 to `IDLE_SECONDS_MAX`, where 0 is never: what the last line `timeout`
-    /// says. More than `IDLE_SECONDS_MAX` are `IDLE_SECONDS_MAX`, and no line is `IDLE_SECONDS`.
+    /// After how many seconds a connection is closed that is silent, 0 to `IDLE_SECONDS_MAX`, where 0 is never: what
+    /// the last line `timeout` says. More than `IDLE_SECONDS_MAX` are `IDLE_SECONDS_MAX`, and no line is
+    /// `IDLE_SECONDS`.
     pub fn idle_seconds(&self) -> u32
         ensures { result ≡ min (last seconds_of IDLE_SECONDS self.now) IDLE_SECONDS_MAX }
     {
@@ -249,7 +253,8 @@ fn other_hash_line(alloc: Global, hash: &[u8], bytes: &[u8]) -> Result<Option<u6
     Ok(None)
 }
 
-/// The number of the first line that has the hash of another password than that of the last line `requirepass`; an empty one is none.
+/// The number of the first line that has the hash of another password than that of the last line `requirepass`; an
+/// empty one is none.
 fn other_password_line(
     alloc: Global,
     conf: &WatchConf,
@@ -261,9 +266,9 @@ fn other_password_line(
     other_hash_line(alloc, hash.as_bytes(), bytes)
 }
 
-/// What the file with these bytes says to `watch`, where `conf` is what it says else; or its first fault. Faults are judged in this order: that of
-/// each line, by itself; then `OtherPassword`, at its line; then `NoAnnounceIp`, with line 0. `NoMemory`, with line 0, may stand in place of any
-/// other answer.
+/// What the file with these bytes says to `watch`, where `conf` is what it says else; or its first fault. Faults are
+/// judged in this order: that of each line, by itself; then `OtherPassword`, at its line; then `NoAnnounceIp`, with
+/// line 0. `NoMemory`, with line 0, may stand in place of any other answer.
 pub fn read_watch(alloc: Global, conf: &Conf, bytes: &[u8]) -> Result<WatchConf, WatchFault>
     ensures { MatchResult result (λ read. watch_settings conf.now bytes.now ≡ Ok read)
         (λ fault. (fault ≡ no_memory) ⊎ (watch_settings conf.now bytes.now ≡ Err fault)) }

@@ -29,7 +29,8 @@ fn ask_each(peers: &[Peer], plan: &Plan, m: u16, candidate: Option<RunId>, frame
     }
 }
 
-/// Whether the other Sentinels are to be asked: at the start of a failover, where they never were, and one second later.
+/// Whether the other Sentinels are to be asked: at the start of a failover, where they never were, and one second
+/// later.
 fn is_ask_due(core: &Core, m: u16, now: u64, started: bool) -> bool
     ensures { result ≡ is_ask_due started (master_of core.now m).ask_sent now }
 {
@@ -50,9 +51,9 @@ fn ask_candidate(state: &State, m: u16) -> Option<RunId>
     }
 }
 
-/// While a master is down, asks the other Sentinels whether they find it down too, once a second and at a start, and for their
-/// votes while a failover runs. `started` tells whether a failover of the master started with this tick, `down` whether this Sentinel
-/// finds the master down.
+/// While a master is down, asks the other Sentinels whether they find it down too, once a second and at a start, and
+/// for their votes while a failover runs. `started` tells whether a failover of the master started with this tick,
+/// `down` whether this Sentinel finds the master down.
 pub(crate) fn ask_others(state: &mut State, m: u16, now: u64, started: bool, down: bool)
     requires { down ≡ is_master_down state.old.plan state.old.core m (clock now) }
     ensures { state.new ≡ with_part state.old (ask_part state.old.plan m (clock now) started state.old.core) }

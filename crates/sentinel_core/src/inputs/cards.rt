@@ -9,8 +9,8 @@ use ballot_law::Card;
 use sentinel_rules::Frame;
 use sentinel_state::State;
 
-/// Takes a configuration of a master: its nodes are sent hellos at the next tick, and where the address is a new one, what was said
-/// of the old one is forgotten and a note tells of the change.
+/// Takes a configuration of a master: its nodes are sent hellos at the next tick, and where the address is a new one,
+/// what was said of the old one is forgotten and a note tells of the change.
 pub(crate) fn take_card(state: &mut State, m: u16, now: u64, card: Card)
     ensures { state.new ≡ with_part state.old (card_taken state.old.plan m (clock now) card state.old.core) }
 {

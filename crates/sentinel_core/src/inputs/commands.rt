@@ -90,8 +90,8 @@ pub fn answer_plainly(plan: &Plan, core: &mut Core, now: u64, command: &Command)
     }
 }
 
-/// The answer to any other command, in the room of these two buffers: `ANSWER_MAX` bytes and `SHOWN_MAX` configurations hold every
-/// answer. No memory is taken.
+/// The answer to any other command, in the room of these two buffers: `ANSWER_MAX` bytes and `SHOWN_MAX` configurations
+/// hold every answer. No memory is taken.
 pub fn answer_by_text(
     plan: &Plan,
     core: &Core,

@@ -36,8 +36,8 @@ fn is_start_due(state: &State, m: u16, now: u64) -> bool
     state.core.was_odown(m) && state.core.may_begin(&state.plan, m, now)
 }
 
-/// Starts a failover where none runs and one is due, and tells whether it did. A failover that starts opens the epoch after the current one
-/// for its campaign, and keeps it.
+/// Starts a failover where none runs and one is due, and tells whether it did. A failover that starts opens the epoch
+/// after the current one for its campaign, and keeps it.
 pub(crate) fn start_failover(state: &mut State, m: u16, now: u64) -> bool
     requires { m < master_count state.old.plan }
     ensures started { result ≡ starts_now state.old.plan state.old.core m (clock now) }
@@ -56,8 +56,8 @@ pub(crate) fn start_failover(state: &mut State, m: u16, now: u64) -> bool
     true
 }
 
-/// The failover takes the first row that fits: it may give a vote, end an election, tell the choice that it is the master,
-/// and tell replicas to follow the new one.
+/// The failover takes the first row that fits: it may give a vote, end an election, tell the choice that it is the
+/// master, and tell replicas to follow the new one.
 pub(crate) fn take_row(state: &mut State, m: u16, now: u64)
     requires { m < master_count state.old.plan }
     ensures { state.new ≡ with_part state.old (row_part state.old.plan m (clock now) state.old.core) }
@@ -71,7 +71,8 @@ pub(crate) fn take_row(state: &mut State, m: u16, now: u64)
     state.core.rest_after(&state.plan, m, now, act.row);
 }
 
-/// A turn of the failover: the facts that its rows don't look at are left out. Without a master with this number nothing was found down.
+/// A turn of the failover: the facts that its rows don't look at are left out. Without a master with this number
+/// nothing was found down.
 fn turn(state: &mut State, m: u16, now: u64, odown: bool) -> Act
     requires plan { m < master_count state.old.plan }
     requires odown { odown ≡ true → m < length state.old.core.masters }
@@ -89,7 +90,8 @@ fn turn(state: &mut State, m: u16, now: u64, odown: bool) -> Act
     state.core.take_turn(m, &facts)
 }
 
-/// What a turn of the failover in this state looks at: it is the same with all facts as with those alone that its rows look at.
+/// What a turn of the failover in this state looks at: it is the same with all facts as with those alone that its rows
+/// look at.
 fn facts<'a>(
     state: &State,
     m: u16,

@@ -37,8 +37,8 @@ fn adopt(state: &mut State, m: u16, now: u64, card: Card)
     take_card(state, m, now, card);
 }
 
-/// Takes the hello of another Sentinel of the roster: a greater current epoch raises the own one, and a newer configuration is
-/// adopted.
+/// Takes the hello of another Sentinel of the roster: a greater current epoch raises the own one, and a newer
+/// configuration is adopted.
 fn hear_hello(state: &mut State, m: u16, now: u64, hello: &Hello)
     ensures { state.new ≡ with_part state.old (hello_of_known state.old.plan m (clock now) hello.now state.old.core) }
 {
@@ -58,8 +58,8 @@ fn heed_hello(state: &mut State, now: u64, hello: &Hello)
     }
 }
 
-/// Takes a hello that a data node passed on, as it was read. One that can't be read, that isn't from another Sentinel of the roster, or
-/// that names no master of it changes nothing.
+/// Takes a hello that a data node passed on, as it was read. One that can't be read, that isn't from another Sentinel
+/// of the roster, or that names no master of it changes nothing.
 pub fn take_hello(state: &mut State, now: u64, hello: Result<Hello, TextFault>)
     ensures { state.new ≡ with_part state.old (hello_read state.old.plan (clock now) hello state.old.core) }
 {

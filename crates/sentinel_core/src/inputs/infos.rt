@@ -102,8 +102,8 @@ fn keep_info(core: &mut Core, m: u16, k: u16, now: u64, info: &Info)
     core.set_node(m, k as usize, node);
 }
 
-/// Takes the INFO of a node while a failover runs that may await a promotion: where the chosen replica says that it is a master, the
-/// campaign's epoch and the replica's address are the master's configuration.
+/// Takes the INFO of a node while a failover runs that may await a promotion: where the chosen replica says that it is
+/// a master, the campaign's epoch and the replica's address are the master's configuration.
 fn hear_promotion(state: &mut State, m: u16, k: u16, now: u64, info: &Info)
     ensures { state.new ≡ with_part state.old (promotion state.old.plan m k (clock now) info.now (failover_of state.old.core m).state state.old.core) }
 {
@@ -117,7 +117,8 @@ fn hear_promotion(state: &mut State, m: u16, k: u16, now: u64, info: &Info)
     }
 }
 
-/// Takes the INFO of a node while replicas are told to follow a new master: one that follows it, with its link up, is done.
+/// Takes the INFO of a node while replicas are told to follow a new master: one that follows it, with its link up, is
+/// done.
 fn hear_reconfiguration(state: &mut State, m: u16, k: u16, now: u64, info: &Info)
     ensures { state.new ≡ with_part state.old (reconfiguration m k info.now state.old.core) }
 {
@@ -135,8 +136,8 @@ fn can_be_followed(state: &State, m: u16, now: u64) -> bool
         && says_master(state.core.info(m, place))
 }
 
-/// Takes the INFO of a node that isn't the one of the configuration, while no failover runs: where it has long said that it is a
-/// master, or had another master, it is told to follow the node of the configuration.
+/// Takes the INFO of a node that isn't the one of the configuration, while no failover runs: where it has long said
+/// that it is a master, or had another master, it is told to follow the node of the configuration.
 fn correct(state: &mut State, m: u16, k: u16, now: u64, info: &Info)
     requires { k ≤ NODES_MAX }
     ensures { state.new ≡ with_part state.old (correction state.old.plan m k (clock now) info.now state.old.core) }
@@ -188,7 +189,8 @@ fn hear_info(state: &mut State, m: u16, k: u16, now: u64, info: &Info)
     }
 }
 
-/// Takes the INFO of a data node, as it was read. One that can't be read, or that isn't of a data node of the roster, changes nothing.
+/// Takes the INFO of a data node, as it was read. One that can't be read, or that isn't of a data node of the roster,
+/// changes nothing.
 pub fn take_info(state: &mut State, node: NodeName, now: u64, info: Result<Info, TextFault>)
     ensures { state.new ≡ with_part state.old (info_read state.old.plan node (clock now) info state.old.core) }
 {

@@ -8,8 +8,8 @@ ghost use Rattle.sentinel_rules.specs.Plans.{node_named};
 use ballot_law::{Addr, NodeName, PingReply, RunId};
 use sentinel_state::State;
 
-/// Takes the answer of a node to the question whether a master is down: whether it finds it down, and its vote. One that isn't
-/// another Sentinel of the roster changes nothing.
+/// Takes the answer of a node to the question whether a master is down: whether it finds it down, and its vote. One
+/// that isn't another Sentinel of the roster changes nothing.
 ///
 /// Many parameters: those of the event, which is a reference to its parts.
 pub fn hear_answer(
@@ -65,7 +65,8 @@ fn hear_peer(state: &mut State, place: u16, now: u64, reply: PingReply)
     }
 }
 
-/// Takes the reply of a node to a PING. One that is neither a data node nor another Sentinel of the roster changes nothing.
+/// Takes the reply of a node to a PING. One that is neither a data node nor another Sentinel of the roster changes
+/// nothing.
 pub fn hear_pong(state: &mut State, node: NodeName, now: u64, reply: PingReply)
     ensures { state.new ≡ record state.old { core = pinged state.old.plan node (clock now) reply state.old.core } }
 {

@@ -12,8 +12,8 @@ use crate::inputs::asking::ask_others;
 use crate::inputs::failing_over::{start_failover, take_row};
 use sentinel_state::State;
 
-/// A tick of a master, with a random number: the clock takes a turn, what is due is sent, and unless the clock is in TILT the
-/// master is judged. A tick of a master that isn't in the roster is a turn of the clock alone.
+/// A tick of a master, with a random number: the clock takes a turn, what is due is sent, and unless the clock is in
+/// TILT the master is judged. A tick of a master that isn't in the roster is a turn of the clock alone.
 pub fn tick(state: &mut State, m: u16, random: u64, now: u64)
     ensures { state.new ≡ with_part state.old (tick state.old.plan m random (clock now) state.old.core) }
 {

@@ -46,8 +46,8 @@ pub struct Served {
     pub answers: u64,
 }
 
-/// One stream that is being served, at one reading of the clock: the bytes that came, the room for the outputs of a command, and the
-/// answers that aren't written yet.
+/// One stream that is being served, at one reading of the clock: the bytes that came, the room for the outputs of a
+/// command, and the answers that aren't written yet.
 #[derive(Drop)]
 struct Connection {
     alloc: Global,
@@ -120,10 +120,11 @@ impl Connection {
         }
     }
 
-    /// Answers one value, by the command that it spells or the reason why it is none, at the end of the text, once what the answer rests
-    /// on is stored.
+    /// Answers one value, by the command that it spells or the reason why it is none, at the end of the text, once what
+    /// the answer rests on is stored.
     ///
-    /// Many clauses: those of `carry_out`, which it may call, and what becomes of the port's own text, frames and counts.
+    /// Many clauses: those of `carry_out`, which it may call, and what becomes of the port's own text, frames and
+    /// counts.
     fn answer<N: PortSentinel, S: ConfStore>(
         &mut self,
         sentinel: &mut N,
@@ -249,7 +250,8 @@ impl Connection {
         write_whole(writer, PROTOCOL_ERROR)
     }
 
-    /// Writes what the fault leaves to be written, and gives the fault, or `Write` where the line of a frame fault couldn't be written.
+    /// Writes what the fault leaves to be written, and gives the fault, or `Write` where the line of a frame fault
+    /// couldn't be written.
     fn end<W: Write>(&mut self, fault: ServeFault, writer: &mut W) -> ServeFault
         ensures clock { self.new.clock ≡ self.old.clock }
         ensures phase { phase_of result ≡ phase_of fault }
@@ -305,15 +307,16 @@ impl Connection {
     }
 }
 
-/// Serves a stream of commands until its end, at one reading of the clock in milliseconds: each command is taken as an input from
-/// `PortAt(0)`, stored, and its released answer written. A value that is no known command is answered by its error line, and
-/// changes nothing. The answers stand in the order of the values, nothing else is written, and `Served` counts them.
+/// Serves a stream of commands until its end, at one reading of the clock in milliseconds: each command is taken as an
+/// input from `PortAt(0)`, stored, and its released answer written. A value that is no known command is answered by its
+/// error line, and changes nothing. The answers stand in the order of the values, nothing else is written, and `Served`
+/// counts them.
 ///
-/// Where the bytes are no RESP2 value, the values before were answered, `-ERR Protocol error` is written, and the fault is `Frame`.
-/// A value that the end of the stream cuts off gets no answer and is no fault. `Read`, `Write`, `Halted` and `NoMemory` leave a
-/// first part of the answers written, and at most one value more was taken than was answered; `Halted` comes only where the store
-/// counts a failure more, and that value is the one whose store was refused. The Sentinel has to be ready, and is ready again after
-/// any end but `Halted`.
+/// Where the bytes are no RESP2 value, the values before were answered, `-ERR Protocol error` is written, and the fault
+/// is `Frame`. A value that the end of the stream cuts off gets no answer and is no fault. `Read`, `Write`, `Halted`
+/// and `NoMemory` leave a first part of the answers written, and at most one value more was taken than was answered;
+/// `Halted` comes only where the store counts a failure more, and that value is the one whose store was refused. The
+/// Sentinel has to be ready, and is ready again after any end but `Halted`.
 pub fn serve_stream<N: PortSentinel, R: Read, W: Write, S: ConfStore>(
     alloc: Global,
     now: u64,
@@ -324,7 +327,8 @@ pub fn serve_stream<N: PortSentinel, R: Read, W: Write, S: ConfStore>(
 ) -> Result<Served, ServeFault>
     requires ready { N.phase sentinel.old ≡ Phase.Ready }
     requires failures { S.failure_count store.old < 2 ^ 64 - 1 }
-    // What was written is the answers to what was read; the Sentinel keeps what they leave, and the store holds what they rest on.
+    // What was written is the answers to what was read; the Sentinel keeps what they leave, and the store holds what
+    // they rest on.
     ensures served { (input : List ℕ) × (written : List ℕ)
         × Consumes (R.remaining reader.old) (R.remaining reader.new) input
         × Appends (W.contents writer.old) (W.contents writer.new) written

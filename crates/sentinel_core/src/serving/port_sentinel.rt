@@ -26,10 +26,11 @@ pub trait PortSentinel {
 
     ghost phase: { Self → Phase };
 
-    /// Takes an input, stores what it changed, and releases its outputs. The only fault is `Halted`, where the store was refused: then
-    /// nothing is released, and the store holds what was kept before or what is kept now.
+    /// Takes an input, stores what it changed, and releases its outputs. The only fault is `Halted`, where the store
+    /// was refused: then nothing is released, and the store holds what was kept before or what is kept now.
     ///
-    /// Many clauses: a call of the port does three things in one, and each outcome says what it leaves of the Sentinel and of the store.
+    /// Many clauses: a call of the port does three things in one, and each outcome says what it leaves of the Sentinel
+    /// and of the store.
     fn carry_out<S: ConfStore>(
         &mut self,
         input: &Input,

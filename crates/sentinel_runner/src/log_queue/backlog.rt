@@ -6,7 +6,8 @@ ghost use Rattle.sentinel_runner.specs.declared.log_queue.backlog.TheConstants.{
 /// How many notes wait at most; a further one is lost.
 pub const WAITING_MAX: u64 = 1024;
 
-/// How many notes wait to be written, and how many were lost after the last of them. A count that has come to 2^64 - 1 stays there.
+/// How many notes wait to be written, and how many were lost after the last of them. A count that has come to 2^64 - 1
+/// stays there.
 #[derive(Drop)]
 pub(crate) struct Backlog {
     waiting: u64,
@@ -25,7 +26,8 @@ impl Backlog {
         }
     }
 
-    /// A note is to wait: how many were lost right before it, which it tells from now on. None exactly where as many wait as may: then it is lost.
+    /// A note is to wait: how many were lost right before it, which it tells from now on. None exactly where as many
+    /// wait as may: then it is lost.
     pub(crate) fn enter(&mut self) -> Option<u64>
         ensures told { IfSome result (λ lost. (lost ≡ self.old.lost) × (self.new.lost ≡ 0) × (self.new.waiting ≡ self.old.waiting + 1)) }
         ensures full { IfNone result ((self.old.waiting ≡ WAITING_MAX) × (self.new.waiting ≡ WAITING_MAX)) }

@@ -26,8 +26,8 @@ struct QueuedNote {
 
 /// Where notes are put. It is a sink of `log`: each note is one line.
 ///
-/// Putting a note waits for no writing. The note is lost where `WAITING_MAX` wait, and where there is no memory for it; the next note that isn't
-/// lost has a line before it that tells how many were.
+/// Putting a note waits for no writing. The note is lost where `WAITING_MAX` wait, and where there is no memory for it;
+/// the next note that isn't lost has a line before it that tells how many were.
 #[derive(Drop)]
 pub struct NoteQueue<R: Wait> {
     rt: R,
@@ -90,7 +90,8 @@ fn tell_lost<R: Eprint>(rt: &R, lost: u64) {
     }
 }
 
-/// Writes each note that comes, until nobody is left who could put one into the queue. A note that can't be written is lost.
+/// Writes each note that comes, until nobody is left who could put one into the queue. A note that can't be written is
+/// lost.
 fn write_all<R: Wait + Eprint>(rt: &R, notes: &Receiver<QueuedNote>, backlog: &Mutex<Backlog>) {
     for note in notes.iter(rt) {
         let QueuedNote { lost, line } = note;
@@ -103,7 +104,8 @@ fn write_all<R: Wait + Eprint>(rt: &R, notes: &Receiver<QueuedNote>, backlog: &M
 }
 
 impl<R: Wait> NoteQueue<R> {
-    /// An empty queue, and the thread that writes what comes through it. The error is a refused allocation, or a thread that can't be made.
+    /// An empty queue, and the thread that writes what comes through it. The error is a refused allocation, or a thread
+    /// that can't be made.
     pub fn open(rt: R, alloc: Global) -> Result<(NoteQueue<R>, NoteWriter), AllocError>
     where
         R: Threads + Eprint + Copy + Drop + Send + 'static,
@@ -136,8 +138,8 @@ impl<R: Wait> NoteQueue<R> {
 }
 
 impl NoteWriter {
-    /// Waits until all notes are written: whether they are. They are given up where standard error takes none of them for half a second. The queue
-    /// has to be dropped before.
+    /// Waits until all notes are written: whether they are. They are given up where standard error takes none of them
+    /// for half a second. The queue has to be dropped before.
     pub fn wait<R: Wait + Clock>(self, rt: &R) -> bool {
         let mut waiting = self.backlog.lock(rt).waiting();
         for _ in 0..WAITING_MAX + 1 {

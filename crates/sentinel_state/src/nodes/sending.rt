@@ -121,8 +121,8 @@ impl Node {
         is_due(self.ping_sent, sending.now, sending.ping_ms)
     }
 
-    /// Whether INFO is due of the node at a place: each 10 seconds, and each second of a replica whose master is down or fails over,
-    /// or whose link was down.
+    /// Whether INFO is due of the node at a place: each 10 seconds, and each second of a replica whose master is down
+    /// or fails over, or whose link was down.
     fn is_info_due(&self, sending: Sending, k: usize) -> bool
         ensures { result ≡ is_info_due sending k self.now }
     {

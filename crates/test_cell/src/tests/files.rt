@@ -93,7 +93,8 @@ fn ready(alloc: Global) -> Option<Sentinel>
     Sentinel::open(alloc, conf, 0).ok()
 }
 
-/// A Sentinel with its file, which refuses the write of this number, if it isn't 0, and then holds the new text or the one before.
+/// A Sentinel with its file, which refuses the write of this number, if it isn't 0, and then holds the new text or the
+/// one before.
 pub(crate) fn opened(alloc: Global, number: u64, new: bool) -> Option<(Sentinel, RefusingFile)>
     ensures { IfSome result (λ r. (r.0.phase ≡ Ready) × (r.1.store.failed ≡ 0)) }
 {
@@ -102,7 +103,8 @@ pub(crate) fn opened(alloc: Global, number: u64, new: bool) -> Option<(Sentinel,
     Some((sentinel, file))
 }
 
-/// A shared Sentinel with its first seat. It stands in a box, so that a test that lets it go sees one call and not all that it holds.
+/// A shared Sentinel with its first seat. It stands in a box, so that a test that lets it go sees one call and not all
+/// that it holds.
 pub(crate) type Shared<S> = (Box<SharedSentinel<S>>, Seat);
 
 /// One whose file may refuse a write.

@@ -95,8 +95,8 @@ fn new_worker<J: Which>(alloc: Global, seat: KnownSeat<J>, thread: usize) -> Wor
 }
 
 impl<J: Which> Worker<J> {
-    /// Makes the call of a step, and notes its turn and its answer. A reply that tells another place than its turn ends the thread, whose
-    /// further calls are then missing.
+    /// Makes the call of a step, and notes its turn and its answer. A reply that tells another place than its turn ends
+    /// the thread, whose further calls are then missing.
     fn make<S: ConfStore, R: Wait>(
         &mut self,
         rt: &R,

@@ -1,4 +1,5 @@
-//! A cell and the seats that are known to be of it, for tests: a thread may act by its seat without a further condition.
+//! A cell and the seats that are known to be of it, for tests: a thread may act by its seat without a further
+//! condition.
 
 ghost use Rattle.std.specs.Prelude.{◌≡◌, []};
 ghost use Rattle.ballot_law.specs.Limits.{IsWithinEvent};

@@ -3,7 +3,8 @@
 use super::calls::{A, Call, PlainCommand};
 use ballot_law::RunId;
 
-/// How many calls each thread makes. A test has a minute, and on a full machine each call waits some milliseconds until the thread runs whose turn it is.
+/// How many calls each thread makes. A test has a minute, and on a full machine each call waits some milliseconds until
+/// the thread runs whose turn it is.
 pub(crate) const STEPS: usize = 2_000;
 
 /// How many threads there are.

@@ -13,8 +13,8 @@ use std::alloc::Global;
 use std::marker::Model;
 use std::test::Fail;
 
-/// A Sentinel with its file, and the outputs of its last input. Its contracts tell tests nothing but that each call may be made. It stands
-/// in a box, so that a test that lets it go sees one call and not all that a Sentinel holds.
+/// A Sentinel with its file, and the outputs of its last input. Its contracts tell tests nothing but that each call may
+/// be made. It stands in a box, so that a test that lets it go sees one call and not all that a Sentinel holds.
 #[derive(Drop)]
 pub(crate) struct PlainSentinel {
     sentinel: Box<Sentinel>,
@@ -78,7 +78,8 @@ impl PlainSentinel {
         }
     }
 
-    /// Takes, stores and releases an input, as a call of a seat does it: the outputs of the last input are dropped before.
+    /// Takes, stores and releases an input, as a call of a seat does it: the outputs of the last input are dropped
+    /// before.
     pub(crate) fn give(&mut self, input: &Input) -> Result<(), ActFault>
         requires { IsWithinEvent input.now.event }
     {

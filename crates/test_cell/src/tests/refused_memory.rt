@@ -1,6 +1,6 @@
-//! A call of a shared Sentinel that is refused memory, and is made again: it has to show nothing, and the second call has to go well; a cell
-//! that isn't made hands back what it was to be made of. Nothing is refused when the tests run as they are; `checks/refused_memory` runs them with
-//! each allocation refused in turn.
+//! A call of a shared Sentinel that is refused memory, and is made again: it has to show nothing, and the second call
+//! has to go well; a cell that isn't made hands back what it was to be made of. Nothing is refused when the tests run
+//! as they are; `checks/refused_memory` runs them with each allocation refused in turn.
 
 ghost use Rattle.std.specs.Prelude.{◌≡◌, IfOk, IfSome};
 
@@ -13,8 +13,8 @@ use std::alloc::Global;
 use std::marker::Brand;
 use std::sync::Wait;
 
-/// Whether a request for a vote is answered, once more where it lacked memory, and the address is told behind it; None where the store or the
-/// input lacked it.
+/// Whether a request for a vote is answered, once more where it lacked memory, and the address is told behind it; None
+/// where the store or the input lacked it.
 fn is_answered_again<J: Which, R: Wait>(
     rt: &R,
     alloc: Global,
@@ -67,7 +67,8 @@ fn refused_memory_shows_nothing_and_the_next_call_is_answered(rt: HostRuntime) {
     assert!(rt; answered == Some(true));
 }
 
-/// A cell that is made once more of what the refusal hands back. None where what it is made of lacked memory; a fault where it isn't made again.
+/// A cell that is made once more of what the refusal hands back. None where what it is made of lacked memory; a fault
+/// where it isn't made again.
 fn made_again(alloc: Global) -> Option<Result<Opened, CellFault>>
     ensures { IfSome result (λ made. IfOk made (λ r. r.1.cell ≡ r.0.value.id)) }
 {

@@ -10,8 +10,9 @@ use std::thread;
 /// How often a turn looks whether the one before it was noted.
 const MOST_LOOKS: u64 = 100_000_000;
 
-/// Counts turns. A cell asks its store for its failures once in each turn, while it has the Sentinel; there the turn is counted. The
-/// thread then reads the count and says that it did, and the next turn is counted only behind that: so it reads its own.
+/// Counts turns. A cell asks its store for its failures once in each turn, while it has the Sentinel; there the turn is
+/// counted. The thread then reads the count and says that it did, and the next turn is counted only behind that: so it
+/// reads its own.
 #[derive(Drop)]
 pub(crate) struct Turns {
     counted: AtomicU64,
@@ -27,8 +28,8 @@ impl Turns {
         }
     }
 
-    /// Counts the turn that is under way, once the one before it was noted. A turn that waits too long goes on; then two threads note
-    /// one number.
+    /// Counts the turn that is under way, once the one before it was noted. A turn that waits too long goes on; then
+    /// two threads note one number.
     fn count(&self) {
         for _ in 0..MOST_LOOKS {
             if self.noted.load(Ordering::SeqCst) == self.counted.load(Ordering::SeqCst) {

@@ -93,7 +93,8 @@ fn share_until_halted<J: Which, R: Wait + Abort>(
     closed(rt, alloc, cell, whole)
 }
 
-/// A shared Sentinel halts where its store refuses its second write; the store then holds the new text or the one before.
+/// A shared Sentinel halts where its store refuses its second write; the store then holds the new text or the one
+/// before.
 fn halt_and_leave<R: Wait + Abort>(rt: &R, alloc: Global, new: bool, wanted: &[u8]) {
     let Some(opened) = shared(alloc, 2, new) else {
         panic!(rt; "no cell")

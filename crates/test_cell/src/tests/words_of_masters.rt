@@ -24,7 +24,8 @@ fn word_at(roster: &Roster, place: usize, epoch: u32) -> Option<(Addr, u64)> {
     Some((addr, word_of(roster, 0, card)))
 }
 
-/// The places of addresses in the master's list, an epoch for each, and the word of that configuration with its address.
+/// The places of addresses in the master's list, an epoch for each, and the word of that configuration with its
+/// address.
 const WORDS: [(usize, u32, Option<(u16, u64)>); 4] = [
     (0, 0, Some((6379, 0))),
     (1, 0, Some((6380, 1))),

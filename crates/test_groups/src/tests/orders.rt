@@ -76,7 +76,8 @@ const TEXT: &[u8] = b"stop d0\nstop dx";
 /// Where the first line has ended.
 const FIRST_LINE: usize = 8;
 
-/// An input that gives a byte a call, waits after its first line until a note was made, and ends or fails after its last byte.
+/// An input that gives a byte a call, waits after its first line until a note was made, and ends or fails after its
+/// last byte.
 #[derive(Drop)]
 struct Input<'a, R: Clock> {
     rt: &'a R,

@@ -16,7 +16,8 @@ use std::sync::atomic::{AtomicU64, Ordering};
 use std::test::Fail;
 use std::thread::{self, Threads};
 
-/// Asks for the address, in two pieces, and once that has come sends an array that is too long; all that is answered, to the end of the connection.
+/// Asks for the address, in two pieces, and once that has come sends an array that is too long; all that is answered,
+/// to the end of the connection.
 fn talk<T: Read + Write>(alloc: Global, stream: &mut T) -> io::Result<Vec<u8>> {
     let mut got = Vec::new(alloc);
     stream.write_all(&ADDRESS[..20])?;

@@ -18,7 +18,8 @@ use std::thread::{self, Threads};
 /// The first epoch of which a vote is asked for, and the one behind the last: a hundred of three digits each.
 const EPOCHS: (u64, u64) = (101, 201);
 
-/// Asks the first Sentinel for its vote of an epoch, whose store is held, then the second one, and tells of its answer; what both answered.
+/// Asks the first Sentinel for its vote of an epoch, whose store is held, then the second one, and tells of its answer;
+/// what both answered.
 fn ask_both<T: Read + Write>(
     one: &mut T,
     other: &mut T,

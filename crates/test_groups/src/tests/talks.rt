@@ -159,7 +159,8 @@ impl<'a, C: Clock + Sync> Given<'a, C> {
     }
 }
 
-/// Runs a group while its files are looked at, which end it: whether a hello was heard and a question asked, and how the group ended.
+/// Runs a group while its files are looked at, which end it: whether a hello was heard and a question asked, and how
+/// the group ended.
 fn run_beside<'a, R: Threads + Wait + Net + Clock + Log + Sync>(
     rt: &'a R,
     alloc: Global,

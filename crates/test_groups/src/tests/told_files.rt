@@ -63,8 +63,8 @@ fn voted(alloc: Global, text: &[u8]) -> u64 {
     greatest
 }
 
-/// A file that tells the epochs of what is written. Where it is held, a write waits until its number has come up to the epoch of the vote that
-/// is written, and is refused where it doesn't.
+/// A file that tells the epochs of what is written. Where it is held, a write waits until its number has come up to the
+/// epoch of the vote that is written, and is refused where it doesn't.
 #[derive(Drop)]
 pub(crate) struct ToldFile<'a, R: Clock> {
     file: MemoryStore,
