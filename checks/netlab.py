@@ -311,7 +311,7 @@ class Lab:
         last = {name: max(self.log(name).rfind("Sentinel ID is"), self.log(name).rfind("-tilt")) for name in self.sentinels}
         return [name for name in self.sentinels if self.log(name).rfind("+tilt") > last[name]]
 
-    def calm(self, seconds=150):
+    def calm(self, seconds=common.LONG):
         """Waits until no Sentinel is in TILT, in which none begins anything; whether that came."""
         return self.wait(lambda: not self.tilted(), seconds) is not None
 
