@@ -192,6 +192,14 @@ def middle(measure, times=3):
     return statistics.median(measure() for _ in range(times))
 
 
+def held_up(work=0.004):
+    """For how many seconds more than it had a processor this thread was at work that takes one for so many seconds: so long who works has none on this machine."""
+    began, used = time.monotonic(), time.thread_time()
+    while time.thread_time() - used < work:
+        pass
+    return max(0.0, time.monotonic() - began - work)
+
+
 class Standing(threading.Thread):
     """A bare loop that sleeps for ten milliseconds again and again, and keeps for how many seconds it stood still at most: so late is who waits for something
     on this machine. It begins at once."""
