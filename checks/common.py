@@ -33,7 +33,11 @@ import kit
 PROGRAM = os.environ.get("SENTINEL_GROUP") or kit.kept("proved") or kit.kept("unproved") or os.path.join(kit.OUT, "proved", kit.PROGRAM)
 PACKAGES = {
     "cc": "apt-get install gcc",
+    "haproxy": "apt-get install haproxy",
     "ip": "apt-get install iproute2",
+    "nsenter": "apt-get install util-linux",
+    "prometheus-redis-exporter": "apt-get install prometheus-redis-exporter",
+    "promtool": "apt-get install prometheus",
     "redis-benchmark": "apt-get install redis-tools",
     "redis-cli": "apt-get install redis-tools",
     "redis-sentinel": "apt-get install redis-sentinel",
