@@ -323,10 +323,10 @@ impl<J: Which, S: ConfStore> RunningSentinel<J, S> {
     }
 
     /// From now on a request for a vote in an epoch that is more than `EPOCHS_AHEAD` above what the current one of the
-    /// Sentinel was 10 to 20 s ago is answered as one of epoch
-    /// 0. `epoch` is the current one of its file, of which the others have heard. Who asks for votes in ever later
-    ///    epochs so leads it no further than the others follow by its hellos. One thread alone, that of its ticks, may
-    ///    call `carry_out` from then on. Sessions without courtesies hear each epoch as it is.
+    /// Sentinel was 10 to 20 s ago is answered as one of epoch 0. `epoch` is the current one of its file, of which the
+    /// others have heard. Who asks for votes in ever later epochs so leads it no further than the others follow by its
+    /// hellos. One thread alone, that of its ticks, may call `carry_out` from then on. Sessions without courtesies hear
+    /// each epoch as it is.
     pub fn guard_epochs(&self, epoch: u64) {
         self.known.begin(epoch);
     }
