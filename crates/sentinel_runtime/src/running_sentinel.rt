@@ -24,6 +24,7 @@ use ballot_law::{Event, Input, NoMemory, Output, Roster};
 use courteous_sessions::{ClientSession, FarRequest};
 use log::kv::With;
 use log::{Log, Span};
+use mio::Waker;
 use sentinel_cell::{ActFault, Keeper, Seat, SharedSentinel};
 use sentinel_conf::ConfStore;
 use sentinel_core::ServeFault;
@@ -374,6 +375,12 @@ impl<J: Which, S: ConfStore> RunningSentinel<J, S> {
         ensures other { length self.now.news.lists.items ≤ port_thread → result.items ≡ [] }
     {
         self.news.take(rt, port_thread)
+    }
+
+    /// From now on this wakes the thread of its port with this number as soon as `take_news` has something for it.
+    /// Without it such a thread hears of it when it looks next. Nothing where the port has no such thread.
+    pub fn wake_for_news<R: Wait>(&self, rt: &R, port_thread: u16, waker: Waker) {
+        self.news.wake_by(rt, port_thread, waker);
     }
 
     /// Tells a session of a note: whether it is told, which joins what it sends. `NoMemory` changes nothing.
