@@ -184,8 +184,8 @@ impl Connections {
         self.note_row(rt, place, now);
     }
 
-    /// Notes in what the file of the Sentinel differs with which the connection at this place is, where it answered with
-    /// a row.
+    /// Notes in what the file of the Sentinel differs that the connection at this place is to, where it answered with a
+    /// row.
     fn note_row<R: Log>(&mut self, rt: &R, place: usize, now: u64) {
         if let Some(Some(wire)) = self.wires.get_mut(place) {
             if let Some(answer) = wire.take_row() {

@@ -215,8 +215,8 @@ impl PeerConnection {
         self.send_out(now);
     }
 
-    /// Asks another Sentinel for its row of a master of this roster, one after the other, where that is due. A fault has
-    /// closed it.
+    /// Asks another Sentinel for its row of a master of this roster, one after the other, where that is due. A fault
+    /// has closed it.
     pub(crate) fn ask_row(&mut self, roster: &Roster, now: u64) {
         let NodeName::SentinelAt(_) = self.link.target().node else {
             return;
@@ -298,8 +298,8 @@ impl PeerConnection {
         self.is_refused = is_refused;
     }
 
-    /// Looks at a piece that came: at the answer to a question for a row where one is awaited, else at whether it refuses
-    /// who asks.
+    /// Looks at a piece that came: at the answer to a question for a row where one is awaited, else at whether it
+    /// refuses who asks.
     fn note_piece<R: Log>(&mut self, rt: &R, piece: &[u8]) {
         if !self.rows.hear(piece) {
             self.note_refusal(rt, piece);

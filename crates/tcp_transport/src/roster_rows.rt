@@ -1,10 +1,10 @@
 //! What another Sentinel's row of a master says of its file, beside what the own one says.
 //!
-//! Hellos don't tell how many replicas and Sentinels a file names, so another Sentinel is asked for its row from time to
-//! time. The answer is read here alone and the Sentinel isn't told of it: it changes nothing but notes.
+//! Hellos don't tell how many replicas and Sentinels a file names, so another Sentinel is asked for its row from time
+//! to time. The answer is read here alone and the Sentinel isn't told of it: it changes nothing but notes.
 
 use crate::hello_notes::{DIFFERENT_MS, Id, Seldom, Told, named};
-use ballot_law::{NodeName, Roster, SENTINELS_MAX};
+use ballot_law::{Member, Name, NodeName, Roster, SENTINELS_MAX};
 use links::Target;
 use log::{Log, warn};
 use resp2::{Frames, Value};
@@ -182,23 +182,62 @@ fn own_numbers(roster: &Roster, master: u16) -> Option<RowNumbers> {
     })
 }
 
-/// Notes that the file of the Sentinel at a place differs from the own one, by its row of a master.
-fn note_different<R: Log>(rt: &R, roster: &Roster, place: usize, master: u16, heard: RowHeard) {
-    let (Some(member), Some(watched), Some(own)) = (
-        roster.sentinels().get(place),
-        roster.masters().get(master as usize),
-        own_numbers(roster, master),
-    ) else {
-        return;
-    };
-    let (id, addr, name) = (Id(member.id), Told(member.addr), named(&watched.name));
+/// In what the file of another Sentinel differs from the own one: what its row of a master says beside what the own
+/// file does.
+#[derive(Clone, Copy)]
+struct RowDifference<'a> {
+    member: Member,
+    name: &'a Name,
+    heard: RowHeard,
+    own: RowNumbers,
+}
+
+impl fmt::Display for RowDifference<'_> {
+    fn fmt<W: fmt::Write>(&self, f: &mut fmt::Formatter<W>) -> fmt::Result {
+        let (id, addr, name) = (Id(self.member.id), Told(self.member.addr), named(self.name));
+        write!(
+            f,
+            "the files of this group differ: Sentinel {id} at {addr} "
+        )?;
+        match self.heard {
+            RowHeard::Numbers(numbers) => {
+                write!(
+                    f,
+                    "has {numbers} for master {name}, and the file here {}. ",
+                    self.own
+                )?;
+                write!(
+                    f,
+                    "Compare the files of all Sentinels by `sentinel_group check`"
+                )
+            }
+            RowHeard::NoMaster => {
+                write!(f, "watches no master {name}. ")?;
+                write!(f, "Give all files the same `sentinel monitor` lines")
+            }
+        }
+    }
+}
+
+/// In what the file of the Sentinel at a place differs, by its row of the master with this number; nothing where it
+/// says what the own file does.
+fn difference(
+    roster: &Roster,
+    place: usize,
+    master: u16,
+    heard: RowHeard,
+) -> Option<RowDifference<'_>> {
+    let member = *roster.sentinels().get(place)?;
+    let watched = roster.masters().get(master as usize)?;
+    let own = own_numbers(roster, master)?;
     match heard {
-        RowHeard::Numbers(numbers) => warn!(rt; target: "tcp_wires::roster_rows",
-                "the files of this group differ: Sentinel {id} at {addr} has {numbers} for master {name}, and the file here {own}. Compare the files of all Sentinels by `sentinel_group check`"
-            ),
-        RowHeard::NoMaster => warn!(rt; target: "tcp_wires::roster_rows",
-                "the files of this group differ: Sentinel {id} at {addr} watches no master {name}. Give all files the same `sentinel monitor` lines"
-            ),
+        RowHeard::Numbers(numbers) if numbers == own => None,
+        heard => Some(RowDifference {
+            member,
+            name: &watched.name,
+            heard,
+            own,
+        }),
     }
 }
 
@@ -210,8 +249,8 @@ impl RowNotes {
         }
     }
 
-    /// Takes in what the row of a master says that the Sentinel with this connection answered. Where it differs from what
-    /// the own file says, that is noted: once, and each ten minutes while it is so.
+    /// Takes in what the Sentinel with this connection answered, and of which master. Where that differs from what the
+    /// own file says, it is noted: once, and each ten minutes while it is so.
     pub(crate) fn hear<R: Log>(
         &mut self,
         rt: &R,
@@ -224,15 +263,13 @@ impl RowNotes {
             return;
         };
         let (master, heard) = answer;
-        if let (RowHeard::Numbers(numbers), Some(own)) = (heard, own_numbers(roster, master)) {
-            if numbers == own {
-                return;
-            }
-        }
         let place = place as usize;
+        let Some(difference) = difference(roster, place, master, heard) else {
+            return;
+        };
         if let Some(seldom) = self.noted.get_mut(place) {
             if seldom.takes_note(now, DIFFERENT_MS) {
-                note_different(rt, roster, place, master, heard);
+                warn!(rt; target: "tcp_wires::roster_rows", "{difference}");
             }
         }
     }
