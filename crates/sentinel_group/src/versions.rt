@@ -47,20 +47,24 @@ fn build_in(text: &str) -> Option<Build<'_>> {
     Some(Build { told, sum, size })
 }
 
-/// The SHA-256 of what a file has from here on, as hex digits.
-fn sum_of(rt: HostRuntime, file: &mut File) -> io::Result<String> {
-    let mut room = vec![in rt.alloc(); 0; PIECE]?;
-    let mut hasher = Sha256::new();
+/// Adds what a file has from here on to what is summed.
+fn add_all(hasher: &mut Sha256, file: &mut File, room: &mut [u8]) -> io::Result<()> {
     for _ in 0..u64::MAX {
-        match file.read(room.as_mut_slice())? {
-            0 => {
-                let digest: [u8; 32] = hasher.finalize();
-                return Ok(hex::encode(rt.alloc(), digest.as_slice())?);
-            }
+        match file.read(room)? {
+            0 => return Ok(()),
             count => hasher.update(&room[..count]),
         }
     }
     Err(io::Error::from(ErrorKind::InvalidData))
+}
+
+/// The SHA-256 of what a file has from here on, as hex digits.
+fn sum_of(rt: HostRuntime, file: &mut File) -> io::Result<String> {
+    let mut room: Vec<u8> = vec![in rt.alloc(); 0; PIECE]?;
+    let mut hasher = Sha256::new();
+    add_all(&mut hasher, file, room.as_mut_slice())?;
+    let digest: [u8; 32] = hasher.finalize();
+    Ok(hex::encode(rt.alloc(), digest.as_slice())?)
 }
 
 /// Whether a record is about the program that runs: that has its length and, where the record says that it is proved,
