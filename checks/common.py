@@ -33,7 +33,11 @@ import kit
 PROGRAM = os.environ.get("SENTINEL_GROUP") or kit.kept("proved") or kit.kept("unproved") or os.path.join(kit.OUT, "proved", kit.PROGRAM)
 PACKAGES = {
     "cc": "apt-get install gcc",
+    "haproxy": "apt-get install haproxy",
     "ip": "apt-get install iproute2",
+    "nsenter": "apt-get install util-linux",
+    "prometheus-redis-exporter": "apt-get install prometheus-redis-exporter",
+    "promtool": "apt-get install prometheus",
     "redis-benchmark": "apt-get install redis-tools",
     "redis-cli": "apt-get install redis-tools",
     "redis-sentinel": "apt-get install redis-sentinel",
@@ -190,6 +194,14 @@ def wait_for(holds, seconds=LONG, pause=0.05):
 def middle(measure, times=3):
     """The median of what is measured so many times: one of them that the machine held up doesn't count."""
     return statistics.median(measure() for _ in range(times))
+
+
+def held_up(work=0.004):
+    """For how many seconds more than it had a processor this thread was at work that takes one for so many seconds: so long who works has none on this machine."""
+    began, used = time.monotonic(), time.thread_time()
+    while time.thread_time() - used < work:
+        pass
+    return max(0.0, time.monotonic() - began - work)
 
 
 class Standing(threading.Thread):

@@ -86,14 +86,14 @@ def ask(address, *words, password=None, timeout=1.0):
 class Lab:
     """A master d0 with replicas d1 .., and Sentinels s0 .. of a kind each: `ours` or `redis`. `own` has the quorum and down-after of single Sentinels, by
     place; replicas know the master by the name `replicaof`, where there is one; `has_fsync` is whether stores can be made slow, which needs `cc`. The file of each
-    Sentinel also has `lines`, and the one at a place those of `more`; `port_password` is the one that its port wants."""
+    Sentinel also has `lines`, and the one at a place those of `more`; `port_password` is the one that its port wants. `priorities` has those of replicas, by node."""
 
     def __init__(
-        self, kinds, nodes=3, after=2000, password=None, quorum=None, timeout=10_000, own=None, replicaof=None, has_fsync=False, lines=(), more=None, port_password=None
+        self, kinds, nodes=3, after=2000, password=None, quorum=None, timeout=10_000, own=None, replicaof=None, has_fsync=False, lines=(), more=None, port_password=None, priorities=None
     ):
         self.kinds, self.after, self.password, self.timeout = list(kinds), after, password, timeout
         self.quorum, self.own_settings, self.replicaof = quorum or len(kinds) // 2 + 1, own or {}, replicaof
-        self.lines, self.more, self.port_password = list(lines), more or {}, port_password
+        self.lines, self.more, self.port_password, self.priorities = list(lines), more or {}, port_password, priorities or {}
         self.stores, self.sentinels = [f"d{number}" for number in range(nodes)], [f"s{place}" for place in range(len(kinds))]
         self.names = [*self.stores, *self.sentinels, OBSERVER]
         self.folder = tempfile.mkdtemp(prefix="netlab-")
@@ -189,6 +189,8 @@ class Lab:
                 lines += [f"requirepass {self.password}", f"masterauth {self.password}"]
             if name != "d0":
                 lines.append(f"replicaof {self.replicaof or self.address('d0')} {PORT}")
+            if name in self.priorities:
+                lines.append(f"replica-priority {self.priorities[name]}")
             with open(path, "w", encoding="ascii") as out:
                 out.write("\n".join(lines) + "\n")
         return ["redis-server", path]
@@ -309,7 +311,7 @@ class Lab:
         last = {name: max(self.log(name).rfind("Sentinel ID is"), self.log(name).rfind("-tilt")) for name in self.sentinels}
         return [name for name in self.sentinels if self.log(name).rfind("+tilt") > last[name]]
 
-    def calm(self, seconds=150):
+    def calm(self, seconds=common.LONG):
         """Waits until no Sentinel is in TILT, in which none begins anything; whether that came."""
         return self.wait(lambda: not self.tilted(), seconds) is not None
 
