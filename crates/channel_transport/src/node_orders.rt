@@ -73,8 +73,7 @@ impl NodeOrder {
     }
 
     /// The data node gets a priority, a replication offset, and a link to its master that has been down for so many
-    /// seconds, or is up at
-    /// 0. None where one of them is above 2^63 - 1.
+    /// seconds, or is up at 0. None where one of them is above 2^63 - 1.
     pub fn becoming(number: u16, priority: u64, offset: u64, link_down: u64) -> Option<NodeOrder>
         ensures order { result ≢ None → result ≡ Some (becoming number priority offset link_down) }
         ensures none { result ≡ None → (GREATEST < priority) ⊎ (GREATEST < offset) ⊎ (GREATEST < link_down) }

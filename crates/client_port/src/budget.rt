@@ -15,6 +15,9 @@ const FOR_A_PORT: u64 = 4;
 /// How many each further thread of a port needs: its readiness, and what wakes it.
 const FOR_A_THREAD: u64 = 2;
 
+/// How many each thread of a port with a limit needs beside that: what wakes it when there is something to tell.
+const FOR_NEWS: u64 = 1;
+
 /// How many descriptors are left for all else.
 const FOR_THE_REST: u64 = 8;
 
@@ -93,6 +96,7 @@ pub fn seats_beside<N: Net>(
     ensures threads { IfOk result (λ room. 0 < threads → room.threads ≡ threads) }
     ensures few { IfOk result (λ room. room.each * room.threads ≤ most) }
 {
+    let own = own.saturating_add(u64::from(threads) * FOR_NEWS);
     room_beside(net, alloc, 1, threads, own, most)
 }
 

@@ -18,7 +18,7 @@ use ballot_law::{NoMemory, Text};
 use courteous_sessions::ClientSession;
 use mio::event::Event;
 use mio::net::TcpStream;
-use mio::{Events, Interest, Poll, Registry, Token};
+use mio::{Events, Interest, Poll, Registry, Token, Waker};
 use sentinel_conf::ConfStore;
 use sentinel_runtime::{News, RunState, RunningSentinel, ThreadSeat, Which};
 use slab::Slab;
@@ -32,6 +32,9 @@ use std::time::Duration;
 
 /// How long a port waits before it looks whether the group ends, in milliseconds.
 const WAIT_MS: u64 = 100;
+
+/// The token of what wakes a thread when there is something to tell its subscribers.
+const NEWS: Token = Token(usize::MAX - 2);
 
 /// How long it is at least between two looks at those that are silent, in milliseconds; for so long one is set aside
 /// that may not go.
@@ -57,11 +60,11 @@ pub(crate) struct Terms {
 /// The connections that a thread of a port has, no more than its part of the port's room.
 ///
 /// `busy` is whether there is something to do before the next wait. Those that have something to do, and those that
-/// listen, are `waiting`. `silent` has all by their last byte, and `strangers` those that owe the password by when
-/// they came. `next_id` is the number of the next connection: no other one of the port has it, since each of its
-/// threads has its own numbers. `unsent` is how many bytes of all of them were unsent as each was looked at last.
-/// `reading` is that of the clock at the last turn, and `next_look` that from which on it is looked who has been silent
-/// for long.
+/// listen, are `waiting`. `news` is what wakes its thread, at a port with a limit, until the Sentinel has it. `silent`
+/// has all by their last byte, and `strangers` those that owe the password by when they came. `next_id` is the number
+/// of the next connection: no other one of the port has it, since each of its threads has its own numbers. `unsent` is
+/// how many bytes of all of them were unsent as each was looked at last. `reading` is that of the clock at the last
+/// turn, and `next_look` that from which on it is looked who has been silent for long.
 #[derive(Drop)]
 pub(crate) struct Clients {
     poll: Poll,
@@ -70,6 +73,7 @@ pub(crate) struct Clients {
     seats: Arc<Seats, Global>,
     busy: bool,
     waiting: Waiting,
+    news: Option<Waker>,
     unsent: usize,
     silent: Ages,
     strangers: Ages,
@@ -103,13 +107,19 @@ impl Clients {
         admission: &Admission,
         seats: Arc<Seats, Global>,
     ) -> io::Result<Clients> {
+        let poll = Poll::new(net)?;
+        let news = match admission.limit {
+            Some(_) => Some(Waker::new(poll.registry(), NEWS)?),
+            None => None,
+        };
         Ok(Clients {
-            poll: Poll::new(net)?,
+            poll,
             connections: Slab::new(alloc),
             room,
             seats,
             busy: false,
             waiting: Waiting::new(alloc),
+            news,
             unsent: 0,
             silent: Ages::new(alloc),
             strangers: Ages::new(alloc),
@@ -465,6 +475,18 @@ impl Clients {
             if let Some(key) = self.waiting.listeners.next() {
                 self.tell_one(member, news, key);
             }
+        }
+    }
+
+    /// Gives the Sentinel what wakes the port's thread with this number, which has these connections.
+    pub(crate) fn hand_waker<J: Which, S: ConfStore, R: Wait>(
+        &mut self,
+        rt: &R,
+        member: &RunningSentinel<J, S>,
+        thread: u16,
+    ) {
+        if let Some(waker) = self.news.take() {
+            member.wake_for_news(rt, thread, waker);
         }
     }
 

@@ -104,6 +104,7 @@ impl Port {
         if self.clients.courteous() {
             member.tell_events();
         }
+        self.clients.hand_waker(rt, member, self.thread);
         let log = member.noting(rt);
         for _ in rt.forever() {
             if ending.load(Ordering::SeqCst) != 0 || member.is_closed(state) {

@@ -6,6 +6,7 @@ ghost use Rattle.sentinel_runtime.specs.declared.news.TheConstants.{EVENTS_MAX, 
 
 use crate::switches::Switch;
 use ballot_law::Text;
+use mio::Waker;
 use pubsub::{Channel, Event};
 use std::alloc::{AllocError, Global};
 use std::fmt::Display;
@@ -99,11 +100,47 @@ impl Waiting {
     }
 }
 
+/// What waits for one thread, and what wakes it when more comes, where it gave something that does.
+#[derive(Drop)]
+struct Mailbox {
+    waiting: Mutex<Waiting>,
+    waker: Mutex<Option<Waker>>,
+}
+
+impl Mailbox {
+    /// Nothing waits, and nobody is woken.
+    fn new(alloc: Global) -> Mailbox {
+        Mailbox {
+            waiting: Mutex::new(Waiting::new(alloc)),
+            waker: Mutex::new(None),
+        }
+    }
+
+    /// Wakes the thread. One that the system doesn't wake looks for news by itself, a little later.
+    fn wake<R: Wait>(&self, rt: &R) {
+        if let Some(waker) = &*self.waker.lock(rt) {
+            drop(waker.wake());
+        }
+    }
+
+    /// Puts a new address after what waits.
+    fn put_switch<R: Wait>(&self, rt: &R, switch: Switch) {
+        self.waiting.lock(rt).put_switch(switch);
+        self.wake(rt);
+    }
+
+    /// Puts an event after what waits.
+    fn put_event<R: Wait>(&self, rt: &R, event: Event) {
+        self.waiting.lock(rt).put_event(event);
+        self.wake(rt);
+    }
+}
+
 /// What the threads of a Sentinel have to tell: each thread of its port has a list of its own, until it takes it.
 /// `tells_events` is whether the port tells its subscribers of other events than new addresses.
 #[derive(Drop)]
 pub(crate) struct NewsLists {
-    lists: Vec<Mutex<Waiting>>,
+    lists: Vec<Mailbox>,
     tells_events: AtomicBool,
     alloc: Global,
 }
@@ -115,7 +152,7 @@ impl NewsLists {
     {
         let mut lists = Vec::new(alloc);
         while lists.len() < threads as usize {
-            lists.push(Mutex::new(Waiting::new(alloc)))?;
+            lists.push(Mailbox::new(alloc))?;
         }
         Ok(NewsLists {
             lists,
@@ -134,10 +171,17 @@ impl NewsLists {
         self.tells_events.load(Ordering::SeqCst)
     }
 
+    /// From now on this wakes the thread with this number when there is something to tell.
+    pub(crate) fn wake_by<R: Wait>(&self, rt: &R, thread: u16, waker: Waker) {
+        if let Some(list) = self.lists.get(thread as usize) {
+            *list.waker.lock(rt) = Some(waker);
+        }
+    }
+
     /// Adds a new address for each thread.
     pub(crate) fn add_switch<R: Wait>(&self, rt: &R, switch: Switch) {
         for list in &self.lists {
-            list.lock(rt).put_switch(switch);
+            list.put_switch(rt, switch);
         }
     }
 
@@ -149,7 +193,7 @@ impl NewsLists {
         for list in &self.lists {
             if let Ok(text) = format!(in self.alloc; "{text}") {
                 let text = Text::from_vec(text.into_bytes());
-                list.lock(rt).put_event(Event { channel, text });
+                list.put_event(rt, Event { channel, text });
             }
         }
     }
@@ -163,6 +207,6 @@ impl NewsLists {
         let Some(list) = self.lists.get(thread as usize) else {
             return none.into_news();
         };
-        mem::replace(&mut *list.lock(rt), none).into_news()
+        mem::replace(&mut *list.waiting.lock(rt), none).into_news()
     }
 }

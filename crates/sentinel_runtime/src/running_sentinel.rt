@@ -24,6 +24,7 @@ use ballot_law::{Event, Input, NoMemory, Output, Roster};
 use courteous_sessions::{ClientSession, FarRequest};
 use log::kv::With;
 use log::{Log, Span};
+use mio::Waker;
 use sentinel_cell::{ActFault, Keeper, Seat, SharedSentinel};
 use sentinel_conf::ConfStore;
 use sentinel_core::ServeFault;
@@ -323,10 +324,10 @@ impl<J: Which, S: ConfStore> RunningSentinel<J, S> {
     }
 
     /// From now on a request for a vote in an epoch that is more than `EPOCHS_AHEAD` above what the current one of the
-    /// Sentinel was 10 to 20 s ago is answered as one of epoch
-    /// 0. `epoch` is the current one of its file, of which the others have heard. Who asks for votes in ever later
-    ///    epochs so leads it no further than the others follow by its hellos. One thread alone, that of its ticks, may
-    ///    call `carry_out` from then on. Sessions without courtesies hear each epoch as it is.
+    /// Sentinel was 10 to 20 s ago is answered as one of epoch 0. `epoch` is the current one of its file, of which the
+    /// others have heard. Who asks for votes in ever later epochs so leads it no further than the others follow by its
+    /// hellos. One thread alone, that of its ticks, may call `carry_out` from then on. Sessions without courtesies hear
+    /// each epoch as it is.
     pub fn guard_epochs(&self, epoch: u64) {
         self.known.begin(epoch);
     }
@@ -374,6 +375,12 @@ impl<J: Which, S: ConfStore> RunningSentinel<J, S> {
         ensures other { length self.now.news.lists.items ≤ port_thread → result.items ≡ [] }
     {
         self.news.take(rt, port_thread)
+    }
+
+    /// From now on this wakes the thread of its port with this number as soon as `take_news` has something for it.
+    /// Without it such a thread hears of it when it looks next. Nothing where the port has no such thread.
+    pub fn wake_for_news<R: Wait>(&self, rt: &R, port_thread: u16, waker: Waker) {
+        self.news.wake_by(rt, port_thread, waker);
     }
 
     /// Tells a session of a note: whether it is told, which joins what it sends. `NoMemory` changes nothing.

@@ -19,6 +19,7 @@ within target (events.Answered voter master addr down leader epoch) h = tt
 within target (events.Pinged node reply) h = tt
 within target (events.InfoRead node text) h = tt
 within target (events.HelloRead text) h = tt
+within target (events.Disconnected node) h = absurd h
 within target (events.Become priority offset link_down) h = absurd h
 within target (events.Handed message) h = absurd h
 

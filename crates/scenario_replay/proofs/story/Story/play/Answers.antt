@@ -1,7 +1,7 @@
 use Rattle.std.proofs.Common.{rules, ◌≡◌, ◌≤◌, ◌<◌, length, ap, arith}
 use Rattle.scenario_replay.proofs.Objects.{object_has}
 use Rattle.scenario_replay.proofs.Files.{seated, one_counted, others_follow, none_follows, all_files}
-use Rattle.scenario_replay.proofs.story.Story.play.Goals.{in-Some-Sentinel+in_ok-sentinel_of-in-Some-Sentinel+in_ok-add-in-Some-Sentinel, in-Some-Store+in-Some-new+in_ok-new-in-Some-Store+in_ok-add-in-Some-Store, in-Some-Store+in_default-new, in-Some-Client+in_ok-node-in-Some-Client+in_ok-new-in-Some-Client+in_ok-add-in-Some-Client, in-None}
+use Rattle.scenario_replay.proofs.story.Story.play.Goals.{in-Some-Sentinel+in_ok-node-in-Some-Sentinel+in_ok-add-in-Some-Sentinel, in-Some-Store+in-Some-new+in_ok-new-in-Some-Store+in_ok-add-in-Some-Store, in-Some-Store+in_default-new, in-Some-Client+in_ok-node-in-Some-Client+in_ok-new-in-Some-Client+in_ok-add-in-Some-Client, in-None}
 use Rattle.scenario_replay.specs.Files.{BeginsWith}
 use Rattle.scenario_replay.specs.contracts.story.add.{dyn-1-ghosts}
 use Rattle.scenario_replay.proofs.story.Story.play.OwnLists.{own-1, lawful-own-1}
@@ -13,7 +13,7 @@ loop-number-init c = record { fresh = search rules; count = λ _. ap length c.ne
 pub loop-number-preserved : goal.loop-number-preserved
 loop-number-preserved c =
     elim c.match-at.branch [
-      | in-Some-Sentinel+in_ok-sentinel_of-in-Some-Sentinel+in_ok-add-in-Some-Sentinel w ↦
+      | in-Some-Sentinel+in_ok-node-in-Some-Sentinel+in_ok-add-in-Some-Sentinel w ↦
           let placed : w.in-Some-Sentinel.place ≡ c.loop-number.number = search rules in
           let inside : w.in-Some-Sentinel.place < length c.args.self.now.files.items = search rules in
           rw w.nodes-is (record {
@@ -23,7 +23,7 @@ loop-number-preserved c =
             files = seated _ _ _ c.args.self.now.files.items c.loop-number.number w.in-Some-Sentinel.place w.index.result.now w.deref.result.now _ _ _ placed inside w.index.ensures
                 w.deref.ensures.value c.loop-number.invariant.count w.in_ok-add-in-Some-Sentinel.ensures.added c.loop-number.invariant.files
                 (object_has (dyn-1-ghosts (own-1, lawful-own-1)).0 _ _ w.into_dyn_box.ensures.0 (λ j v. BeginsWith w.deref.result.now (j.1.name v) (j.1.shows v)) _ _
-                w.into_dyn_box.ensures.1 w.in_ok-sentinel_of-in-Some-Sentinel.ensures.begins);
+                w.into_dyn_box.ensures.1 w.in_ok-node-in-Some-Sentinel.ensures.begins);
           })
       | in-Some-Store+in-Some-new+in_ok-new-in-Some-Store+in_ok-add-in-Some-Store w ↦
           let past : length c.args.self.now.files.items ≤ c.loop-number.number = search rules in
