@@ -1,8 +1,11 @@
+pub mod Differing
 pub mod GroupStarts
 pub mod Heard
 pub mod LateRun
 pub mod Merging
+pub mod OwnLists
 pub mod Safety
+pub mod TwoLists
 pub mod TwoProcesses
 pub mod Reading
 pub mod Turns

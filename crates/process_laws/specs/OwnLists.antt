@@ -1,0 +1,41 @@
+-- Each process keeps to the lists of its own file, and any such lists are in one roster.
+use Rattle.std.specs.Prelude.{◌≡◌, ℕ, ◌<◌, true, false, List, [], All, Contains, length}
+use Rattle.std.specs.List.{AllZip}
+use Rattle.ballot_law.specs.declared.cards.Kept.{Kept}
+use Rattle.ballot_law.specs.Ballots.{card_of}
+use Rattle.ballot_law.specs.Law.{IsStart}
+use Rattle.ballot_law.specs.Rosters.{Roster, MasterPlan, size}
+use Rattle.ballot_law.specs.Worlds.{World as Group}
+use Rattle.sentinel_cell.specs.Histories.{World}
+use Rattle.sentinel_rules.specs.Plans.{nodes_of, master_count}
+use Rattle.process_laws.specs.Actions.{Action, AreActions, actions_after, at_first}
+use Rattle.process_laws.specs.Differing.{DifferInNodes}
+
+-- the list of the process's own file has the configuration's address
+abbrev pub IsListed : World → (m : ℕ) → Kept → Type 0
+IsListed w m kept = Contains (nodes_of w.plan m) (card_of kept m).addr
+
+-- a process that runs takes no address that its own file doesn't list, whatever the others know, and so stores none
+abbrev pub ListsAreKept : Type 0
+ListsAreKept =
+    (roster : Roster) (start : Group) (actions : List Action) (i m : ℕ) →
+    IsStart roster start →
+    AreActions roster (length start.stores) (at_first start) [] actions →
+    i < size roster →
+    (actions_after (at_first start) actions i).runs ≡ true →
+    (let w = (actions_after (at_first start) actions i).world in
+    m < master_count w.plan → IsListed w m w.core.kept × (w.halted ≡ false → IsListed w m w.stored))
+
+abbrev pub IsSameMaster : MasterPlan → MasterPlan → Type 0
+IsSameMaster one other = (one.name ≡ other.name) × (one.quorum ≡ other.quorum)
+
+-- the same Sentinels and masters in the same order; of the data nodes nothing is asked
+abbrev pub AreSameButForNodes : Roster → Roster → Type 0
+AreSameButForNodes one other = (one.sentinels ≡ other.sentinels) × AllZip IsSameMaster one.masters other.masters
+
+-- such rosters differ in data nodes alone from one that has all lists
+abbrev pub ListsHaveAUnion : Type 0
+ListsHaveAUnion =
+    (first : Roster) (others : List Roster) →
+    All (AreSameButForNodes first) others →
+    (whole : Roster) × DifferInNodes first whole × All (λ (other : Roster). DifferInNodes other whole) others
