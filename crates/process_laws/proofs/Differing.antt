@@ -1,5 +1,5 @@
 -- What a Sentinel may do by its own roster it may do by one that has all lists.
-use Rattle.std.proofs.Common.{◌≡◌, ◌≢◌, ℕ, zero, suc, ◌+◌, ◌/◌, ◌<◌, ◌≤◌, Bool, true, false, Some, None, Option, List, [], ◌∷◌, ◌++◌, length, refl, sym, ap, subst, ◌∙◌, inl, inr, ⊎_elim}
+use Rattle.std.proofs.Common.{◌≡◌, ◌≢◌, ℕ, zero, suc, ◌+◌, ◌/◌, ◌<◌, true, false, Some, None, Option, List, [], ◌∷◌, ◌++◌, length, refl, sym, ap, subst, ◌∙◌, inl, inr, ⊎_elim}
 use Rattle.std.specs.Prelude.{All, Contains, ◌⊎◌, max, replicate, slice_index_or, slice_get}
 use Rattle.std.specs.List.{list_any, AllZip}
 use Rattle.std.proofs.lemmas.List.Elements.{All-weaker}
@@ -23,12 +23,12 @@ use Rattle.ballot_law.specs.declared.replies.Hello.{Hello}
 use Rattle.ballot_law.specs.declared.rosters.Member.{Member}
 use Rattle.ballot_law.specs.declared.steps.Step.{Step}
 use Rattle.ballot_law.specs.declared.steps.Step.TheVariants.{Take, Deliver, Store, StoreRefused, Release, Stop, Start, Answer as AnswerStep}
-use Rattle.ballot_law.specs.Ballots.{Parts, Ballot, Raise, Open, Cast, Hear, Win_at, Choose, Enact, Adopt, Drop, ShowsCard, HasVoted, IsAllowed, Moved, after, empty, open_of, voted_of, candidate_of, card_of, kept_of, vote}
+use Rattle.ballot_law.specs.Ballots.{Parts, Ballot, Raise, Open, Cast, Hear, Win_at, Choose, Enact, Adopt, Drop, ShowsCard, HasVoted, IsAllowed, Moved, after, empty, open_of, voted_of, candidate_of, card_of, vote}
 use Rattle.ballot_law.specs.Law.{IsWellFormed, IsFresh, IsStart}
 use Rattle.ballot_law.specs.Messages.{shown_by, advertised, advertised_by, Delivers, IsFor}
 use Rattle.ballot_law.specs.Orders.{same_addr, same_bytes}
 use Rattle.ballot_law.specs.Rosters.{Roster, MasterPlan, HasNode, HasDistinctIds, AtLeast, size, need, id_of, master_at, master_named, number_named, no_master, no_member}
-use Rattle.ballot_law.specs.Worlds.{World as Group, Sentinel, Ready, Stopped, sentinel_at, with_sentinel, started, Choice, IsChoice, IsRight, IsRightOutput, IsAt, OrNothing, Takes, Releases, Starts, Answers, AnswersNow, IsDelivered, Steps, Move, StepOf, LateAnswer, Moves, Joined, stores_of, after_answer, after_release, released, said_by}
+use Rattle.ballot_law.specs.Worlds.{World as Group, Sentinel, Ready, Stopped, sentinel_at, with_sentinel, started, Choice, IsChoice, IsRightOutput, IsAt, OrNothing, Takes, Releases, Starts, Answers, AnswersNow, IsDelivered, Steps, Move, StepOf, LateAnswer, Moves, Joined, stores_of, after_answer, after_release, released, said_by}
 use Rattle.sentinel_rules.proofs.Choices.{same_addr-equal, same_addr-same}
 use Rattle.process_laws.specs.Differing.{IsMasterWithin, DifferInNodes, JoinedByOwn, OwnListsAreARun}
 

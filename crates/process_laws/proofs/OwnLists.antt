@@ -1,9 +1,8 @@
 -- What a process keeps is in its own lists, and lists are joined into one roster.
-use Rattle.std.proofs.Common.{◌≡◌, ℕ, zero, suc, ◌<◌, List, [], ◌∷◌, ◌++◌, length, refl, sym, subst, ◌∙◌, arith, false, slice_index_or}
-use Rattle.std.specs.Prelude.{All, Contains}
+use Rattle.std.proofs.Common.{ℕ, suc, ◌<◌, List, [], ◌∷◌, ◌++◌, length, refl, sym, subst, ◌∙◌, arith, slice_index_or}
+use Rattle.std.specs.Prelude.{All}
 use Rattle.std.specs.List.{AllZip}
 use Rattle.std.proofs.lemmas.List.Elements.{All-nil, All-cons, Contains-append_left, Contains-append_right}
-use Rattle.ballot_law.specs.declared.addresses.Addr.{Addr}
 use Rattle.ballot_law.specs.declared.cards.Kept.{Kept}
 use Rattle.ballot_law.specs.Rosters.{Roster, MasterPlan}
 use Rattle.sentinel_cell.specs.Histories.{World, IsGood}

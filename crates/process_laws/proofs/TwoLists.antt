@@ -1,7 +1,7 @@
 -- What two processes do whose lists differ is computed, and meets what the laws ask.
-use Rattle.std.proofs.Common.{◌≡◌, ◌≢◌, ℕ, zero, suc, ◌<◌, ◌≤◌, true, Some, None, List, [], ◌∷◌, ◌++◌, length, refl, sym, ap, subst, ◌∙◌, inl, inr, arith, lit<, lit≤}
+use Rattle.std.proofs.Common.{◌≡◌, ◌≢◌, ℕ, zero, suc, ◌<◌, ◌≤◌, Some, None, List, [], ◌∷◌, ◌++◌, length, refl, sym, ap, subst, ◌∙◌, inl, inr, arith, lit<, lit≤}
 use lib.Utf8.{encode}
-use Rattle.std.specs.Prelude.{⊤, ◌^◌, All, Contains, IfSome, slice_index_or}
+use Rattle.std.specs.Prelude.{⊤, ◌^◌, Contains, IfSome, slice_index_or}
 use Rattle.std.specs.Fmt.{digits}
 use Rattle.std.specs.Str.{is_utf8, chars}
 use Rattle.std.proofs.lemmas.List.Elements.{All-nil, All-cons}
@@ -11,21 +11,21 @@ use Rattle.ballot_law.specs.declared.cards.Kept.{Kept}
 use Rattle.ballot_law.specs.declared.messages.Message.{Message}
 use Rattle.ballot_law.specs.declared.rosters.TheConstants.{NODES_MAX}
 use Rattle.ballot_law.specs.Ballots.{kept_of, card_of, voted_of}
-use Rattle.ballot_law.specs.Hellos.{IsAddr, IsRunId}
+use Rattle.ballot_law.specs.Hellos.{IsAddr}
 use Rattle.ballot_law.specs.Law.{IsWellFormed, IsFreshOther, IsStart}
 use Rattle.ballot_law.specs.Names.{IsName}
 use Rattle.ballot_law.specs.RosterFaults.{IsRoster}
-use Rattle.ballot_law.specs.Rosters.{Roster, HasNode, HasDistinctIds, id_of, master_at, no_addr, no_member}
+use Rattle.ballot_law.specs.Rosters.{Roster, HasNode, id_of, master_at, no_addr}
 use Rattle.ballot_law.specs.Words.{hex}
 use Rattle.ballot_law.specs.Worlds.{Sentinel, Other, Ready, sentinel_at, started}
 use Rattle.ballot_law.proofs.Scripts.{only_first, becomes}
 use Rattle.failover_states.specs.Replicas.{told, is_due, is_next}
 use Rattle.sentinel_conf.specs.Facts.{IsSoundConf}
 use Rattle.sentinel_conf.specs.Rewritten.{IsKeptPart}
-use Rattle.sentinel_rules.specs.Worked.{id_a, id_b, local, mymaster, kept_with}
+use Rattle.sentinel_rules.specs.Worked.{id_a, id_b, local}
 use Rattle.process_laws.specs.Actions.{Action, Process, IsOpened, AreActions, actions_after, all_sent, at_first, opened_by}
-use Rattle.process_laws.specs.Differing.{IsMasterWithin, DifferInNodes}
-use Rattle.process_laws.specs.TwoProcesses.{first_file, first_card, new_card, hello_with, finding_down, electing, promoting}
+use Rattle.process_laws.specs.Differing.{DifferInNodes}
+use Rattle.process_laws.specs.TwoProcesses.{first_file, new_card, hello_with, finding_down, electing, promoting}
 use Rattle.process_laws.specs.TwoLists.{with_nodes, new_list, old_list, both_lists, begin, plan_with, beginning, passing_over, following, passed_file, actions, IsShown, ListsMayDiffer}
 use Rattle.process_laws.proofs.Safety.{after_both}
 use Rattle.process_laws.proofs.TwoProcesses.{distinct_ids, is_local, are_members, are_letters, first_answer, vote_given, hello_published, sent_both, actions_join}

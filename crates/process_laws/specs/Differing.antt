@@ -1,5 +1,5 @@
 -- Rosters that differ in data nodes alone, and the model of a group whose Sentinels have such rosters.
-use Rattle.std.specs.Prelude.{◌≡◌, ℕ, ◌<◌, List, [], ◌∷◌, All, Contains, length}
+use Rattle.std.specs.Prelude.{◌≡◌, List, [], ◌∷◌, Contains}
 use Rattle.std.specs.List.{AllZip}
 use Rattle.ballot_law.specs.declared.addresses.Addr.{Addr}
 use Rattle.ballot_law.specs.Law.{IsStart}
