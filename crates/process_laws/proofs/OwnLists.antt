@@ -8,7 +8,7 @@ use Rattle.ballot_law.specs.Rosters.{Roster, MasterPlan}
 use Rattle.sentinel_cell.specs.Histories.{World, IsGood}
 use Rattle.sentinel_rules.specs.Plans.{master_count}
 use Rattle.sentinel_rules.proofs.KeptParts.{kept_at}
-use Rattle.process_laws.specs.Actions.{at_first}
+use Rattle.process_laws.specs.Actions.{actions_after, at_first}
 use Rattle.process_laws.specs.Differing.{IsMasterWithin, DifferInNodes}
 use Rattle.process_laws.specs.OwnLists.{IsListed, ListsAreKept, IsSameMaster, AreSameButForNodes, ListsHaveAUnion}
 use Rattle.process_laws.proofs.Differing.{same_differs}
@@ -19,10 +19,11 @@ listed w m low good = (kept_at w.plan.conf w.core.kept m low good.core.kept).add
 
 pub lists_are_kept : ListsAreKept
 lists_are_kept roster start actions i m is acts low runs inside =
+    let w : World = (actions_after (at_first start) actions i).world in
     let stands = (merged roster (length start.stores) (at_first start) [] actions start (stands_at_first roster start is) acts).3 in
-    let good = (stands.own i low runs).2 in
-    let kept = listed _ m inside good in
-    (kept, λ up. subst (λ (k : Kept). IsListed _ m k) (good.settled up) kept)
+    let good : IsGood w = (stands.own i low runs).2 in
+    let kept : IsListed w m w.core.kept = listed w m inside good in
+    (kept, λ up. subst (λ (k : Kept). IsListed w m k) (good.settled up) kept)
 
 -- Lists that are joined
 
