@@ -3,6 +3,7 @@ pub mod GroupStarts
 pub mod Heard
 pub mod LateRun
 pub mod Merging
+pub mod Numbers
 pub mod OwnLists
 pub mod Safety
 pub mod TwoLists

@@ -1,12 +1,15 @@
 -- Each process keeps to the lists of its own file, and any such lists are in one roster.
-use Rattle.std.specs.Prelude.{◌≡◌, ℕ, ◌<◌, true, false, List, [], All, Contains, length}
+use Rattle.std.specs.Prelude.{◌≡◌, ℕ, ◌<◌, ◌≤◌, true, false, List, [], All, Contains, length}
 use Rattle.std.specs.List.{AllZip}
 use Rattle.ballot_law.specs.declared.cards.Kept.{Kept}
 use Rattle.ballot_law.specs.Ballots.{card_of}
 use Rattle.ballot_law.specs.Law.{IsStart}
+use Rattle.ballot_law.specs.NodePlaces.{node_count}
 use Rattle.ballot_law.specs.Rosters.{Roster, MasterPlan, size}
 use Rattle.ballot_law.specs.Worlds.{World as Group}
 use Rattle.sentinel_cell.specs.Histories.{World}
+use Rattle.sentinel_conf.specs.Facts.{IsSoundConf}
+use Rattle.sentinel_conf.specs.Meaning.{ConfPlan}
 use Rattle.sentinel_rules.specs.Plans.{nodes_of, master_count}
 use Rattle.process_laws.specs.Actions.{Action, AreActions, actions_after, at_first}
 use Rattle.process_laws.specs.Differing.{DifferInNodes}
@@ -39,3 +42,7 @@ ListsHaveAUnion =
     (first : Roster) (others : List Roster) →
     All (AreSameButForNodes first) others →
     (whole : Roster) × DifferInNodes first whole × All (λ (other : Roster). DifferInNodes other whole) others
+
+-- a Sentinel whose own lists are in those of the whole has no number for a data node that the whole hasn't
+abbrev pub NumbersFit : Type 0
+NumbersFit = (conf : ConfPlan) (whole : Roster) → IsSoundConf conf → DifferInNodes conf.roster whole → node_count conf.roster ≤ node_count whole

@@ -2,7 +2,7 @@
 
 ghost use Rattle.process_laws.specs.Differing.{OwnListsAreARun};
 ghost use Rattle.process_laws.specs.GroupStarts.{OwnListsAreAStart};
-ghost use Rattle.process_laws.specs.OwnLists.{ListsAreKept, ListsHaveAUnion};
+ghost use Rattle.process_laws.specs.OwnLists.{ListsAreKept, ListsHaveAUnion, NumbersFit};
 ghost use Rattle.process_laws.specs.TwoLists.{ListsMayDiffer};
 
 /// Moves that go each by a roster of its own are a run of the model, where those rosters differ from one in data nodes
@@ -36,4 +36,10 @@ pub fn law_lists_are_kept()
 /// that has all their lists: so of lists themselves nothing is asked.
 pub fn law_lists_have_a_union()
     ensures { ListsHaveAUnion }
+{}
+
+/// A Sentinel's own numbers of data nodes are below the number of those of the roster that has all lists, though they
+/// may stand for others there: no law looks at which.
+pub fn law_numbers_fit()
+    ensures { NumbersFit }
 {}
