@@ -82,7 +82,7 @@ abbrev IsUnion : Roster → List Roster → Roster → Type 0
 IsUnion first others whole = DifferInNodes first whole × All (λ (other : Roster). DifferInNodes other whole) others
 
 joined_with : (first other : Roster) (others : List Roster) (whole : Roster) → AreSameButForNodes first other → IsUnion first others whole →
-    (more : Roster) × IsUnion first (other ∷ others) more
+    (more : Roster) × DifferInNodes first more × All (λ (r : Roster). DifferInNodes r more) (other ∷ others)
 joined_with first other others whole same u =
     let more : Roster = record whole { masters = joined_masters whole.masters other.masters } in
     let alike : Same whole.masters other.masters = same_through first.masters other.masters whole.masters u.0.1 same.1 in
