@@ -26,6 +26,7 @@ use Rattle.failover_states.specs.Replicas.{told, is_due, is_next}
 use Rattle.sentinel_conf.specs.Facts.{IsSoundConf}
 use Rattle.sentinel_conf.specs.Rewritten.{IsKeptPart}
 use Rattle.sentinel_rules.specs.Worked.{id_a, id_b, local, mymaster}
+use Rattle.process_laws.proofs.Differing.{same_differs}
 use Rattle.process_laws.proofs.Safety.{after_both}
 use Rattle.process_laws.specs.TwoProcesses.{roster, begin, first_file, left_file, plan_at, hello_with, new_card, beginning, finding_down, electing, promoting, adopting, beginning_anew, actions, IsShown, ActionsHappen}
 use Rattle.process_laws.specs.Actions.{Action, Process, IsOpened, AreActions, action_after, actions_after, all_sent, sent_by, at_first, opened_by}
@@ -176,7 +177,7 @@ opens_well : (place : ℕ) (id : RunId) (kept : Kept) (now : ℕ) → place < 2 
 opens_well place id kept now low own is =
     record {
       place = refl;
-      roster_is = refl;
+      roster_is = same_differs roster roster refl;
       plan = record { conf = is_conf place id kept is; place = low; own = own };
       file_is = refl;
       core = refl;
