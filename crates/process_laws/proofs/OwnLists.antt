@@ -10,20 +10,22 @@ use Rattle.sentinel_rules.specs.Plans.{master_count}
 use Rattle.sentinel_rules.proofs.KeptParts.{kept_at}
 use Rattle.process_laws.specs.Actions.{actions_after, at_first}
 use Rattle.process_laws.specs.Differing.{IsMasterWithin, DifferInNodes}
-use Rattle.process_laws.specs.OwnLists.{IsListed, ListsAreKept, IsSameMaster, AreSameButForNodes, ListsHaveAUnion}
+use Rattle.process_laws.specs.OwnLists.{IsListed, KeepsTo, ListsAreKept, IsSameMaster, AreSameButForNodes, ListsHaveAUnion}
 use Rattle.process_laws.proofs.Differing.{same_differs}
 use Rattle.process_laws.proofs.Merging.{merged, stands_at_first}
 
-listed : (w : World) (m : ℕ) → m < master_count w.plan → IsGood w → IsListed w m w.core.kept
+listed : (w : World) (m : ℕ) → m < master_count w.plan → IsGood w → IsListed w.plan m w.core.kept
 listed w m low good = (kept_at w.plan.conf w.core.kept m low good.core.kept).addr
 
+kept_well : (w : World) (m : ℕ) → IsGood w → KeepsTo w.plan w m
+kept_well w m good low =
+    let kept : IsListed w.plan m w.core.kept = listed w m low good in
+    (kept, λ up. subst (λ (k : Kept). IsListed w.plan m k) (good.settled up) kept)
+
 pub lists_are_kept : ListsAreKept
-lists_are_kept roster start actions i m is acts low runs inside =
-    let w : World = (actions_after (at_first start) actions i).world in
+lists_are_kept roster start actions i m is acts low runs =
     let stands = (merged roster (length start.stores) (at_first start) [] actions start (stands_at_first roster start is) acts).3 in
-    let good : IsGood w = (stands.own i low runs).2 in
-    let kept : IsListed w m w.core.kept = listed w m inside good in
-    (kept, λ up. subst (λ (k : Kept). IsListed w m k) (good.settled up) kept)
+    kept_well (actions_after (at_first start) actions i).world m (stands.own i low runs).2
 
 -- Lists that are joined
 

@@ -10,15 +10,19 @@ use Rattle.ballot_law.specs.Worlds.{World as Group}
 use Rattle.sentinel_cell.specs.Histories.{World}
 use Rattle.sentinel_conf.specs.Facts.{IsSoundConf}
 use Rattle.sentinel_conf.specs.Meaning.{ConfPlan}
-use Rattle.sentinel_rules.specs.Plans.{nodes_of, master_count}
+use Rattle.sentinel_rules.specs.Plans.{Plan, nodes_of, master_count}
 use Rattle.process_laws.specs.Actions.{Action, AreActions, actions_after, at_first}
 use Rattle.process_laws.specs.Differing.{DifferInNodes}
 
--- the list of the process's own file has the configuration's address
-abbrev pub IsListed : World → (m : ℕ) → Kept → Type 0
-IsListed w m kept = Contains (nodes_of w.plan m) (card_of kept m).addr
+-- this plan's list of the master has the configuration's address
+abbrev pub IsListed : Plan → (m : ℕ) → Kept → Type 0
+IsListed plan m kept = Contains (nodes_of plan m) (card_of kept m).addr
 
--- a process that runs takes no address that its own file doesn't list, whatever the others know, and so stores none
+-- what is kept is listed, and so is what is stored while no store was refused
+abbrev pub KeepsTo : Plan → World → (m : ℕ) → Type 0
+KeepsTo plan w m = m < master_count plan → IsListed plan m w.core.kept × (w.halted ≡ false → IsListed plan m w.stored)
+
+-- a process that runs keeps to the lists of its own file, and so takes no address that these lack, whatever the others know
 abbrev pub ListsAreKept : Type 0
 ListsAreKept =
     (roster : Roster) (start : Group) (actions : List Action) (i m : ℕ) →
@@ -26,8 +30,7 @@ ListsAreKept =
     AreActions roster (length start.stores) (at_first start) [] actions →
     i < size roster →
     (actions_after (at_first start) actions i).runs ≡ true →
-    (let w = (actions_after (at_first start) actions i).world in
-    m < master_count w.plan → IsListed w m w.core.kept × (w.halted ≡ false → IsListed w m w.stored))
+    KeepsTo (actions_after (at_first start) actions i).world.plan (actions_after (at_first start) actions i).world m
 
 abbrev pub IsSameMaster : MasterPlan → MasterPlan → Type 0
 IsSameMaster one other = (one.name ≡ other.name) × (one.quorum ≡ other.quorum)
