@@ -4,7 +4,7 @@ pub mod Heard
 pub mod LateRun
 pub mod Merging
 pub mod Numbers
-pub mod OwnLists
+pub mod ListsOfAProcess
 pub mod Safety
 pub mod TwoLists
 pub mod TwoProcesses

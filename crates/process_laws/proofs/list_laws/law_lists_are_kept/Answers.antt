@@ -1,4 +1,4 @@
-use Rattle.process_laws.proofs.OwnLists.{lists_are_kept}
+use Rattle.process_laws.proofs.ListsOfAProcess.{lists_are_kept}
 use Rattle.process_laws.proofs.list_laws.law_lists_are_kept.Goals as goal
 
 pub returns : goal.returns
