@@ -1,4 +1,4 @@
--- The files of one group are a start: its roster is theirs, and its votes are those that they tell.
+-- The files of one group are a start: its roster is theirs, or has all their lists, and its votes are those that they tell.
 use Rattle.std.proofs.Common.{◌≡◌, ◌≢◌, ℕ, zero, suc, ◌+◌, ◌<◌, ◌≤◌, Bool, true, false, cond, Option, Some, None, List, [], ◌∷◌, ◌++◌, length, refl, sym, ap, subst, ◌∙◌, inl, inr, ⊎_elim, arith, eqb, ne_eqb}
 use Rattle.std.specs.Prelude.{All, Contains, IfSome, ◌⊎◌, ◌||◌, replicate, slice_index_or}
 use Rattle.std.specs.List.{list_any, AllZip, AllByRecursion, IsDistinct}
@@ -18,7 +18,7 @@ use Rattle.ballot_law.specs.Law.{IsWellFormed, IsFiled, IsFreshOther, IsStart}
 use Rattle.ballot_law.specs.Messages.{Vote}
 use Rattle.ballot_law.specs.NodePlaces.{node_count}
 use Rattle.ballot_law.specs.Orders.{same_addr, same_id}
-use Rattle.ballot_law.specs.Rosters.{Roster, size, id_of, master_at, no_master}
+use Rattle.ballot_law.specs.Rosters.{Roster, HasDistinctIds, size, id_of, master_at, no_master}
 use Rattle.ballot_law.specs.Worlds.{World as Group, Sentinel, Other, Ready, no_sentinel, sentinel_at, started}
 use Rattle.ballot_law.proofs.CountedVotes.{same_id-equal}
 use Rattle.ballot_law.proofs.Counting.{below_suc}
@@ -30,7 +30,9 @@ use Rattle.sentinel_conf.specs.Meaning.{ConfPlan}
 use Rattle.sentinel_conf.specs.Rewritten.{IsKeptPart, IsKeptMaster}
 use Rattle.sentinel_rules.specs.Ticks.{at_places}
 use Rattle.sentinel_rules.proofs.Choices.{length-at_places, same_addr-same}
-use Rattle.process_laws.specs.GroupStarts.{OpensAt, OneGroupIsAStart}
+use Rattle.process_laws.specs.Differing.{DifferInNodes}
+use Rattle.process_laws.specs.GroupStarts.{OpensAt, AreOpening, OneGroupIsAStart, OwnListsAreAStart}
+use Rattle.process_laws.proofs.Differing.{as_many, same_id_of, distinct, same_differs, well_formed as formed_by}
 
 -- Lists
 
@@ -171,13 +173,17 @@ is_master kept masters m c long e = ⊎_elim
 
 -- The start
 
-module _ {X : Type 0} (conf_of : X → ConfPlan) (first : X) (rest : List X) (sound : All (λ file. IsSoundConf (conf_of file)) (first ∷ rest))
-    (group : IsGroupOf conf_of (conf_of first) (first ∷ rest)) where
+-- the files of a group but for their data nodes, of which conf_of tells the meaning
+pub record IsWithin {X : Type 0} (conf_of : X → ConfPlan) (roster : Roster) (files : List X) : Type 0 where
+  pub differ : All (λ file. DifferInNodes (conf_of file).roster roster) files
+  pub alike : All (λ one. All (λ other. StartAlike (conf_of one).kept (conf_of other).kept) files) files
+  pub count : length files ≡ size roster
+  pub each : (place : ℕ) → place < size roster → list_any (λ file. same_id (id_of roster place) (conf_of file).id) files ≡ true
+
+module _ {X : Type 0} (conf_of : X → ConfPlan) (roster : Roster) (first : X) (rest : List X) (sound : All (λ file. IsSoundConf (conf_of file)) (first ∷ rest))
+    (group : IsWithin conf_of roster (first ∷ rest)) where
   abbrev files : List X
   files = first ∷ rest
-
-  abbrev roster : Roster
-  roster = (conf_of first).roster
 
   abbrev n : ℕ
   n = size roster
@@ -200,14 +206,17 @@ module _ {X : Type 0} (conf_of : X → ConfPlan) (first : X) (rest : List X) (so
   sound_at : (i : ℕ) → i < n → IsSoundConf (conf_at (slot i))
   sound_at i low = sound (slot i) first (in_slot i low).0
 
-  roster_at : (i : ℕ) → i < n → (conf_at (slot i)).roster ≡ roster
-  roster_at i low = sym (group.alike (slot i) first (in_slot i low).0).0
+  differs_at : (i : ℕ) → i < n → DifferInNodes (conf_at (slot i)).roster roster
+  differs_at i low = group.differ (slot i) first (in_slot i low).0
 
-  cards_at : (i : ℕ) → i < n → StartAlike (conf_of first).kept (kept_at i)
-  cards_at i low = (group.alike (slot i) first (in_slot i low).0).1
+  cards_at : (i j : ℕ) → i < n → j < n → StartAlike (kept_at i) (kept_at j)
+  cards_at i j low less = group.alike (slot i) first (in_slot i low).0 (slot j) first (in_slot j less).0
 
   formed_at : (i : ℕ) → i < n → IsWellFormed roster (kept_at i)
-  formed_at i low = subst (λ (r : Roster). IsWellFormed r (kept_at i)) (roster_at i low) (well_formed (conf_at (slot i)) (sound_at i low).kept)
+  formed_at i low = formed_by (conf_at (slot i)).roster roster (differs_at i low) (kept_at i) (well_formed (conf_at (slot i)) (sound_at i low).kept)
+
+  pub ids_are : HasDistinctIds roster
+  ids_are = distinct (conf_of first).roster roster (group.differ 0 first (omega arith)) (sound 0 first (omega arith)).ids
 
   abbrev node : Other
   node = record { state = Ready; held = [] }
@@ -257,7 +266,7 @@ module _ {X : Type 0} (conf_of : X → ConfPlan) (first : X) (rest : List X) (so
         files = λ i low. subst (IsWellFormed roster) (sym (file_is i low)) (formed_at i low);
         same_cards = λ i j low less m.
             ap (λ (k : Kept). card_of k m) (file_is i low) ∙
-            (sym (cards_at i low m) ∙ (cards_at j less m ∙ sym (ap (λ (k : Kept). card_of k m) (file_is j less))));
+            (cards_at i j low less m ∙ sym (ap (λ (k : Kept). card_of k m) (file_is j less)));
         stores = All-replicate IsFreshOther (node_count roster) node (inl refl, refl);
         clients = All-nil (λ client. IfSome client IsFreshOther);
         messages = refl;
@@ -275,12 +284,12 @@ module _ {X : Type 0} (conf_of : X → ConfPlan) (first : X) (rest : List X) (so
     λ profile now.
         record {
           place = refl;
-          roster_is = roster_at i low;
+          roster_is = differs_at i low;
           plan =
               record {
                 conf = sound_at i low;
-                place = subst (λ (r : Roster). i < size r) (sym (roster_at i low)) low;
-                own = ap (λ (r : Roster). id_of r i) (roster_at i low) ∙ (in_slot i low).1;
+                place = subst (λ (k : ℕ). i < k) (sym (as_many (conf_at (slot i)).roster roster (differs_at i low))) low;
+                own = same_id_of (conf_at (slot i)).roster roster (differs_at i low) i ∙ (in_slot i low).1;
               };
           file_is = sym (file_is i low);
           core = refl;
@@ -293,7 +302,7 @@ module _ {X : Type 0} (conf_of : X → ConfPlan) (first : X) (rest : List X) (so
 
   apart : (i j : ℕ) → i < n → j < n → slot i ≡ slot j → i ≡ j
   apart i j low less e =
-      (sound 0 first (omega arith)).ids i j low less ((in_slot i low).1 ∙ (ap (λ (k : ℕ). (conf_at k).id) e ∙ sym (in_slot j less).1))
+      ids_are i j low less ((in_slot i low).1 ∙ (ap (λ (k : ℕ). (conf_at k).id) e ∙ sym (in_slot j less).1))
 
   abbrev slots : ℕ → List ℕ
   slots zero = []
@@ -371,14 +380,49 @@ module _ {X : Type 0} (conf_of : X → ConfPlan) (first : X) (rest : List X) (so
   each_opened i low =
       (slice_index_or files (slot i) first, (slot i, (in_slot i low).0, any_default files (slot i) (slice_index_or files (slot i) first) first (in_slot i low).0), opens i low)
 
+abbrev conf : NamedConf → ConfPlan
+conf file = file.conf
+
+-- what the files make
+abbrev Makes : Roster → List NamedConf → Type 0
+Makes roster files = (start : Group) × HasDistinctIds roster × IsStart roster start × (length start.stores ≡ node_count roster) × AreOpening roster start files
+
+makes : (roster : Roster) (first : NamedConf) (rest : List NamedConf) → All (λ (file : NamedConf). IsSoundConf file.conf) (first ∷ rest) →
+    IsWithin conf roster (first ∷ rest) → Makes roster (first ∷ rest)
+makes roster first rest sound group = (
+  begin conf roster first rest sound group,
+  ids_are conf roster first rest sound group,
+  starts conf roster first rest sound group,
+  length-replicate (node_count roster) (node conf roster first rest sound group),
+  record { opening = each_opens conf roster first rest sound group; opened = each_opened conf roster first rest sound group },
+)
+
+pub own_lists_are_a_start : OwnListsAreAStart
+own_lists_are_a_start [] roster sound group = let some : 1 ≤ 0 = group.some in absurd (omega arith)
+own_lists_are_a_start (first ∷ rest) roster sound group =
+    makes roster first rest sound (record { differ = group.differ; alike = group.alike; count = group.count; each = group.each })
+
+-- one roster in all files
+
+module _ (first : NamedConf) (rest : List NamedConf) (group : IsGroupOf conf first.conf (first ∷ rest)) where
+  same_roster : (k : ℕ) (d : NamedConf) → k < length (first ∷ rest) → (slice_index_or (first ∷ rest) k d).conf.roster ≡ first.conf.roster
+  same_roster k d low = sym (group.alike k d low).0
+
+  alike : (k : ℕ) (d : NamedConf) (low : k < length (first ∷ rest)) (l : ℕ) (e : NamedConf) → l < length (first ∷ rest)
+      → StartAlike (slice_index_or (first ∷ rest) k d).conf.kept (slice_index_or (first ∷ rest) l e).conf.kept
+  alike k d low l e less m = sym ((group.alike k d low).1 m) ∙ (group.alike l e less).1 m
+
+  within : IsWithin conf first.conf.roster (first ∷ rest)
+  within =
+      record {
+        differ = λ k d low. same_differs (slice_index_or (first ∷ rest) k d).conf.roster first.conf.roster (same_roster k d low);
+        alike = alike;
+        count = group.count;
+        each = group.each;
+      }
+
 pub one_group_is_a_start : OneGroupIsAStart
 one_group_is_a_start [] sound group = absurd group
-one_group_is_a_start (first ∷ rest) sound group = (
-  roster (λ (file : NamedConf). file.conf) first rest sound group,
-  begin (λ (file : NamedConf). file.conf) first rest sound group,
-  (sound 0 first (omega arith)).ids,
-  starts (λ (file : NamedConf). file.conf) first rest sound group,
-  length-replicate (node_count first.conf.roster) (node (λ (file : NamedConf). file.conf) first rest sound group),
-  each_opens (λ (file : NamedConf). file.conf) first rest sound group,
-  each_opened (λ (file : NamedConf). file.conf) first rest sound group,
-)
+one_group_is_a_start (first ∷ rest) sound group =
+    let m = makes first.conf.roster first rest sound (within first rest group) in
+    (first.conf.roster, m.0, m.1, m.2, m.3, same_roster first rest group, m.4)

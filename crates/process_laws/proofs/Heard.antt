@@ -25,11 +25,12 @@ use Rattle.sentinel_rules.specs.Plans.{roster_of}
 use Rattle.sentinel_rules.specs.Steps.{IsPartsOf}
 use Rattle.sentinel_cell.specs.EntrySteps.{IsAsLeft, Brings, MovesAlone}
 use Rattle.sentinel_cell.specs.Histories.{World, IsGood}
+use Rattle.process_laws.specs.Differing.{DifferInNodes}
 use Rattle.process_laws.specs.Actions.{Process, with_process, IsSentTo, IsPublished, IsAsProcess}
 
 -- the processes stand in a world of the model, with all that was sent
 abbrev pub IsOwn : Roster → ℕ → World → Type 0
-IsOwn roster i w = (w.plan.place ≡ i) × (roster_of w.plan ≡ roster) × IsGood w
+IsOwn roster i w = (w.plan.place ≡ i) × DifferInNodes (roster_of w.plan) roster × IsGood w
 
 pub record Stands (roster : Roster) (stores : ℕ) (all : ℕ → Process) (messages : List Message) (group : Group) : Type 0 where
   pub count : length group.sentinels ≡ size roster

@@ -1,8 +1,12 @@
+pub mod Differing
 pub mod GroupStarts
 pub mod Heard
 pub mod LateRun
 pub mod Merging
+pub mod Numbers
+pub mod ListsOfAProcess
 pub mod Safety
+pub mod TwoLists
 pub mod TwoProcesses
 pub mod Reading
 pub mod Turns

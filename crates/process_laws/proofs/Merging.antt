@@ -23,7 +23,7 @@ use Rattle.ballot_law.specs.Ballots.{Parts, restored}
 use Rattle.ballot_law.specs.Law.{IsStart}
 use Rattle.ballot_law.specs.Messages.{sent, advertised, advertised_by}
 use Rattle.ballot_law.specs.Rosters.{Roster, size}
-use Rattle.ballot_law.specs.Worlds.{World as Group, Sentinel, State, Ready, Pending, Stored as IsStored, Halted as IsHalted, Stopped, sentinel_at, with_sentinel, ended, started, after_stop, said_by, elected_by, IsRightOutput, IsFree, Run, Steps}
+use Rattle.ballot_law.specs.Worlds.{World as Group, Sentinel, State, Ready, Pending, Stored as IsStored, Halted as IsHalted, Stopped, sentinel_at, with_sentinel, ended, started, after_stop, said_by, elected_by, IsRightOutput, IsFree, Move, StepOf, Run, Steps}
 use Rattle.ballot_law.proofs.Runs.{steps_join}
 use Rattle.sentinel_rules.specs.Changes.{IsAhead}
 use Rattle.sentinel_rules.specs.Facts.{IsSound}
@@ -44,6 +44,7 @@ use Rattle.sentinel_cell.specs.EntrySteps.{IsAsLeft, Brings, IsSent, MovesAlone,
 use Rattle.sentinel_cell.specs.Histories.{World, IsGood, IsOutcome, IsStep, after_outcome, next_of, same_kept, changed_card}
 use Rattle.sentinel_cell.proofs.Cards.{good_outcome}
 use Rattle.sentinel_cell.proofs.EntrySteps.{at_self, still_inside, still_alone, alone_through, tells_stored, not_stopped, stored_with, refused_steps}
+use Rattle.process_laws.proofs.Differing.{same_started, joined, advertised_same}
 use Rattle.process_laws.specs.Actions.{Action, Opened, Took, Told, Process, with_process, action_after, actions_after, output_to, sent_by, said_in, elected_in, all_sent, all_said, all_elected, IsOpened, IsSentTo, IsPublished, IsHeard, IsAction, AreActions, at_first, elected_at, ProcessesAreARun}
 use Rattle.process_laws.proofs.Heard.{IsOwn, IsBrought, Stands, one_moved, same_sentinels, free_comes, comes}
 
@@ -99,8 +100,9 @@ opens roster stores all messages i w now group h low o =
     inl ((in1, ap (λ (n : Sentinel). n.state) at1), ap (λ (n : Sentinel). with_sentinel g1 i (started roster n.file)) (sym at1)) in
     let filed : node.file ≡ w.stored = (h.each i low).file ∙ sym o.stored in
     let parts : IsPartsOf w.core (restored roster node.file) =
-    subst (λ (x : Core × Roster × Kept). IsPartsOf x.0 (restored x.1 x.2)) (λ j. (sym o.core j, o.roster_is j, (o.file_is ∙ sym (h.each i low).file) j))
-    (opened_is_sound w.plan now o.plan).1 in
+    subst (IsPartsOf w.core) (ap (λ (n : Sentinel). n.parts) (same_started (roster_of w.plan) roster o.roster_is node.file))
+    (subst (λ (x : Core × Kept). IsPartsOf x.0 (restored (roster_of w.plan) x.1)) (λ j. (sym o.core j, (o.file_is ∙ sym (h.each i low).file) j))
+    (opened_is_sound w.plan now o.plan).1) in
     let left : IsAsLeft i w g2 = record {
       inside = in2;
       state = ap (λ (n : Sentinel). n.state) at2 ∙ ap (λ (b : Bool). cond b IsHalted Ready) (sym o.runs);
@@ -153,7 +155,7 @@ own_after roster i w e Stored own h = (own.0, own.1, good_outcome w e.input e.ou
 own_after roster i w e Refused own h = (own.0, own.1, good_outcome w e.input e.outputs e.failures Refused own.2 h)
 own_after roster i w e Halted own h = (own.0, own.1, good_outcome w e.input e.outputs e.failures Halted own.2 h)
 
--- a stored entry, at the process's own place and roster
+-- a stored entry, at the process's own place, by the roster of the whole group
 abbrev StoredSteps : Roster → (i : ℕ) → World → Entry → NodeName → Group → Step → Type 0
 StoredSteps roster i w e asker group first =
     (last : Group) × Run roster (first ∷ Store (SentinelAt i) ∷ Release (SentinelAt i) ∷ []) group last × IsAsLeft i (after_outcome w e.input e.failures Stored) last
@@ -163,23 +165,36 @@ stored_at_place : (roster : Roster) (i : ℕ) (w : World) (e : Entry) (asker : N
     IsOutcome w e.input e.outputs e.failures Stored
     → IsAsLeft i w group → Brings i e.input group first → StoredSteps roster i w e asker group first
 stored_at_place roster i w e asker group first own h =
-    let P : ℕ × Roster → Type 0 = λ x. IsAsLeft x.0 w group → Brings x.0 e.input group first → StoredSteps x.1 x.0 w e asker group first in
-    let here : P (w.plan.place, roster_of w.plan) = λ is brings.
+    let P : ℕ → Type 0 = λ k. IsAsLeft k w group → Brings k e.input group first → StoredSteps roster k w e asker group first in
+    let here : P w.plan.place = λ is brings.
     let s = stored_with w e group first own.2 is brings (map (output_to asker) e.outputs)
     (λ t. All-map (IsRightOutput (roster_of w.plan) w.plan.place t.moved_to) (output_to asker) e.outputs
     (All-weaker (IsRightOutput (roster_of w.plan) w.plan.place t.moved_to) (λ o. IsRightOutput (roster_of w.plan) w.plan.place t.moved_to (output_to asker o))
     (right_to (roster_of w.plan) w.plan.place t.moved_to asker) e.outputs
     (subst (All (IsRightOutput (roster_of w.plan) w.plan.place t.moved_to)) (sym h.1) t.right))) h.0 h.3 in
-    (s.0, s.1, s.2, s.3, s.4, s.5) in
-    subst P (λ j. (own.0 j, own.1 j)) here
+    let moves : List Move = map StepOf (first ∷ Store (SentinelAt w.plan.place) ∷ Release (SentinelAt w.plan.place) ∷ []) in (
+      s.0,
+      joined (roster_of w.plan) roster own.1 moves group s.0 s.1,
+      s.2,
+      (
+        s.3.0,
+        s.3.1 ∙ ap (λ (l : List Shown). group.said ++ said_by w.plan.place l) (advertised_same (roster_of w.plan) roster own.1 (map (output_to asker) e.outputs)),
+      ),
+      s.4,
+      s.5,
+    ) in
+    subst P own.0 here
 
 refused_at_place : (roster : Roster) (i : ℕ) (w : World) (e : Entry) (left : KeptText) (group : Group) (first : Step) → IsOwn roster i w →
     IsOutcome w e.input e.outputs e.failures Refused
     → IsAsLeft i w group → Brings i e.input group first → IsDone roster i group first left w (record e { outcome = Refused }) Refused
 refused_at_place roster i w e left group first own h =
-    let P : ℕ × Roster → Type 0 = λ x. IsAsLeft x.0 w group → Brings x.0 e.input group first → IsDone x.1 x.0 group first left w (record e { outcome = Refused }) Refused in
-    let here : P (w.plan.place, roster_of w.plan) = λ is brings. refused_steps w e group first own.2 is brings left h in
-    subst P (λ j. (own.0 j, own.1 j)) here
+    let P : ℕ → Type 0 = λ k. IsAsLeft k w group → Brings k e.input group first → IsDone roster k group first left w (record e { outcome = Refused }) Refused in
+    let here : P w.plan.place = λ is brings.
+    let s = refused_steps w e group first own.2 is brings left h in
+    let moves : List Move = map StepOf (first ∷ StoreRefused (SentinelAt w.plan.place) left ∷ []) in
+    (s.0, joined (roster_of w.plan) roster own.1 moves group s.0 s.1, s.2, s.3, s.4, s.5, s.6) in
+    subst P own.0 here
 
 none_sent : (asker : NodeName) (outputs : List Output) → outputs ≡ [] → sent (map (output_to asker) outputs) ≡ []
 none_sent asker outputs e = ap (λ (l : List Output). sent (map (output_to asker) l)) e

@@ -26,6 +26,7 @@ use Rattle.failover_states.specs.Replicas.{told, is_due, is_next}
 use Rattle.sentinel_conf.specs.Facts.{IsSoundConf}
 use Rattle.sentinel_conf.specs.Rewritten.{IsKeptPart}
 use Rattle.sentinel_rules.specs.Worked.{id_a, id_b, local, mymaster}
+use Rattle.process_laws.proofs.Differing.{same_differs}
 use Rattle.process_laws.proofs.Safety.{after_both}
 use Rattle.process_laws.specs.TwoProcesses.{roster, begin, first_file, left_file, plan_at, hello_with, new_card, beginning, finding_down, electing, promoting, adopting, beginning_anew, actions, IsShown, ActionsHappen}
 use Rattle.process_laws.specs.Actions.{Action, Process, IsOpened, AreActions, action_after, actions_after, all_sent, sent_by, at_first, opened_by}
@@ -50,7 +51,7 @@ is_roster =
       made = ∣ record { given = roster; fits = refl; in_order = refl } ∣₁;
     }
 
-distinct_ids : HasDistinctIds roster
+pub distinct_ids : HasDistinctIds roster
 distinct_ids zero zero l k e = refl
 distinct_ids zero (suc zero) l k e = let f : 10 * 286331153 ≡ 11 * 286331153 = ap (λ (id : RunId). id.lo) e in absurd (omega arith)
 distinct_ids (suc zero) zero l k e = let f : 11 * 286331153 ≡ 10 * 286331153 = ap (λ (id : RunId). id.lo) e in absurd (omega arith)
@@ -104,7 +105,7 @@ starts =
 
 -- the files
 
-is_local : (port : ℕ) → 1 ≤ port → port ≤ 65535 → IsAddr (local port)
+pub is_local : (port : ℕ) → 1 ≤ port → port ≤ 65535 → IsAddr (local port)
 is_local port low high = record { ip = lit< tt; port_low = low; port_high = high }
 
 nodes_differ : (m j k : ℕ) → m < 1 → j < k → k < length (master_at roster m).nodes →
@@ -115,7 +116,7 @@ nodes_differ zero (suc j) (suc zero) l less low = absurd (omega arith)
 nodes_differ zero j (suc (suc k)) l less low = let x : suc (suc k) < 2 = low in absurd (omega arith)
 nodes_differ (suc m) j k l less low = absurd (omega arith)
 
-are_members : (i : ℕ) → i < 2 → IsAddr (slice_index_or roster.sentinels i no_member).addr × IsRunId (slice_index_or roster.sentinels i no_member).id
+pub are_members : (i : ℕ) → i < 2 → IsAddr (slice_index_or roster.sentinels i no_member).addr × IsRunId (slice_index_or roster.sentinels i no_member).id
 are_members zero l = (is_local 26379 (lit≤ tt) (lit≤ tt), record { hi = lit< tt; lo = lit< tt })
 are_members (suc zero) l = (is_local 26380 (lit≤ tt) (lit≤ tt), record { hi = lit< tt; lo = lit< tt })
 are_members (suc (suc i)) l = absurd (omega arith)
@@ -126,7 +127,7 @@ are_listed zero (suc zero) l low = is_local 6380 (lit≤ tt) (lit≤ tt)
 are_listed zero (suc (suc k)) l low = let x : suc (suc k) < 2 = low in absurd (omega arith)
 are_listed (suc m) k l low = absurd (omega arith)
 
-are_letters : All IsNameByte mymaster
+pub are_letters : All IsNameByte mymaster
 are_letters =
     letter 109 (codes "ymaster") (lit≤ tt) (lit≤ tt)
     (letter 121 (codes "master") (lit≤ tt) (lit≤ tt)
@@ -176,7 +177,7 @@ opens_well : (place : ℕ) (id : RunId) (kept : Kept) (now : ℕ) → place < 2 
 opens_well place id kept now low own is =
     record {
       place = refl;
-      roster_is = refl;
+      roster_is = same_differs roster roster refl;
       plan = record { conf = is_conf place id kept is; place = low; own = own };
       file_is = refl;
       core = refl;
@@ -186,13 +187,13 @@ opens_well place id kept now low own is =
 
 -- the vote that the other one gives, and the hello
 
-abbrev first_answer : Message
+abbrev pub first_answer : Message
 first_answer = message (SentinelAt 1) (SentinelAt 0) (Answer 0 (local 6379) true None 0)
 
-abbrev vote_given : Message
+abbrev pub vote_given : Message
 vote_given = message (SentinelAt 1) (SentinelAt 0) (Answer 0 (local 6379) true (Some id_a) 1)
 
-abbrev hello_published : Message
+abbrev pub hello_published : Message
 hello_published = message (SentinelAt 0) (StoreAt 0) (Publish (hello_with 1 new_card))
 
 -- Each action meets what is asked of it where it stands
@@ -268,11 +269,11 @@ begins_anew = (
 
 -- some actions, and those after them
 
-sent_both : (ds more : List Action) → all_sent (ds ++ more) ≡ all_sent ds ++ all_sent more
+pub sent_both : (ds more : List Action) → all_sent (ds ++ more) ≡ all_sent ds ++ all_sent more
 sent_both [] more = refl
 sent_both (d ∷ ds) more = ap (λ (l : List Message). sent_by d ++ l) (sent_both ds more) ∙ sym (append_assoc (sent_by d) (all_sent ds) (all_sent more))
 
-actions_join : (roster : Roster) (stores : ℕ) (all : ℕ → Process) (messages : List Message) (ds more : List Action) → AreActions roster stores all messages ds →
+pub actions_join : (roster : Roster) (stores : ℕ) (all : ℕ → Process) (messages : List Message) (ds more : List Action) → AreActions roster stores all messages ds →
     AreActions roster stores (actions_after all ds) (messages ++ all_sent ds) more → AreActions roster stores all messages (ds ++ more)
 actions_join roster stores all messages [] more a b = subst (λ (l : List Message). AreActions roster stores all l more) (append-nil messages) b
 actions_join roster stores all messages (d ∷ ds) more a b = (

@@ -29,6 +29,7 @@ use Rattle.sentinel_rules.specs.Ignored.{is_noticed}
 use Rattle.sentinel_rules.specs.Plans.{Plan, roster_of}
 use Rattle.sentinel_rules.specs.States.{opened}
 use Rattle.sentinel_rules.specs.Steps.{wins_of}
+use Rattle.process_laws.specs.Differing.{DifferInNodes}
 
 -- One thing that the process of the Sentinel at a place did.
 -- Opened: the process began, and its file opened the Sentinel in this world. One that ran before has ended.
@@ -111,10 +112,10 @@ opened_by plan now =
       failures = 0;
     }
 
--- the file opens the Sentinel so: with what it holds, and nothing else
+-- the file opens the Sentinel so: with what it holds, and nothing else. It may name fewer data nodes than the roster, and others than the file before it
 pub record IsOpened (roster : Roster) (i : ℕ) (file : Kept) (now : ℕ) (w : World) : Type 0 where
   pub place : w.plan.place ≡ i
-  pub roster_is : roster_of w.plan ≡ roster
+  pub roster_is : DifferInNodes (roster_of w.plan) roster
   pub plan : IsSoundPlan w.plan
   pub file_is : w.plan.conf.kept ≡ file
   pub core : w.core ≡ opened w.plan now
@@ -126,7 +127,8 @@ abbrev pub IsSentTo : List Message → (i : ℕ) → Event → Type 0
 IsSentTo messages i event =
     (message : Message) × Contains messages message × (message.target ≡ SentinelAt i) × IsForSentinels message.body × Delivers message event
 
--- the event is a hello, of those that were published at a data node before
+-- The event is a hello, of those that were published at a data node before. Its number is the one in the roster of the Sentinel that published, and nothing tells at which
+-- data node it is heard
 abbrev pub IsPublished : (stores : ℕ) → List Message → Event → Type 0
 IsPublished stores messages event =
     (message : Message) × (hello : Hello) × (store : ℕ) × Contains messages message × (message.target ≡ StoreAt store) × (store < stores) ×

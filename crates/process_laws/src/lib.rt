@@ -5,6 +5,7 @@
 
 mod laws;
 mod link_laws;
+mod list_laws;
 
 pub use laws::{
     law_actions_happen, law_late_answers_happen, law_one_group_is_a_start, law_processes_are_a_run,
@@ -12,4 +13,8 @@ pub use laws::{
 };
 pub use link_laws::{
     law_answers_are_about_it, law_answers_are_delivered, law_senders_are_free, law_targets_are_free,
+};
+pub use list_laws::{
+    law_lists_are_kept, law_lists_have_a_union, law_lists_may_differ, law_numbers_fit,
+    law_own_lists_are_a_run, law_own_lists_are_a_start,
 };
