@@ -1,5 +1,6 @@
 //! The words of the command line, by `clap`.
 
+use crate::change_words::change_command;
 use crate::failures::fail;
 use clap::builder::ValueParser;
 use clap::error::ErrorKind;
@@ -236,6 +237,7 @@ pub(crate) fn command<'a>(alloc: Global) -> Result<Command<'a>, AllocError> {
         .version(VERSION)
         .subcommand_required(true)
         .subcommand(answer(alloc)?)?
+        .subcommand(change_command(alloc)?)?
         .subcommand(check(alloc)?)?
         .subcommand(new_group(alloc)?)?
         .subcommand(new_id(alloc))?
