@@ -1,1 +1,2 @@
+pub mod ChangedRosters
 pub mod Keeping

@@ -4,9 +4,10 @@
 //! `changed_texts` makes them line by line from the mended files, reads them again, and compares them with the files of
 //! before: what they keep is a contract of that comparison.
 //!
-//! The definitions stand in `specs/Change/Keeping`.
+//! The definitions stand in `specs/Change/`: `Keeping`, and `ChangedRosters`.
 
 mod changed_lines;
+mod changed_rosters;
 mod changes;
 mod changing;
 mod keeping;

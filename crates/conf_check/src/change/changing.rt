@@ -1,11 +1,13 @@
 //! The files of a changed group.
 
-ghost use Rattle.std.specs.Prelude.{◌≡◌, IfOk, IsTrue, map};
-ghost use Rattle.conf_check.specs.Repair.GroupTexts.{AreFilesOfOneGroup};
+ghost use Rattle.std.specs.Prelude.{◌≡◌, Some, IfOk, IsTrue, map};
+ghost use Rattle.conf_check.specs.Repair.GroupTexts.{AreFilesOfOneGroup, confs_of};
 ghost use Rattle.conf_check.specs.Repair.Mended.{newest, last_epoch};
+ghost use Rattle.conf_check.specs.Change.ChangedRosters.{HasChangedRoster};
 ghost use Rattle.conf_check.specs.Change.Keeping.{Keeps, AllSay};
 
 use crate::change::changed_lines::{Edit, changed_text, text_for};
+use crate::change::changed_rosters::{all_name, roster_of};
 use crate::change::changes::{Change, ChangeFault};
 use crate::change::keeping::all_keep;
 use crate::change::refused_changes::fault_of;
@@ -13,18 +15,7 @@ use crate::group::{HoldsConf, is_one_group};
 use crate::repair::{MendFault, Newest, mended_texts, newest_among, read_all};
 use ballot_law::{Member, NoMemory, RunId, Text};
 use sentinel_conf::Conf;
-use std::alloc::{AllocError, Global};
-
-impl From<AllocError> for ChangeFault {
-    ghost use Rattle.std.specs.Prelude.{◌≡◌};
-    ghost use Rattle.conf_check.specs.declared.change.changes.ChangeFault.TheVariants.{NoMemory};
-
-    ghost from_gives = { λ _ fault. fault ≡ NoMemory };
-
-    fn from(_error: AllocError) -> ChangeFault {
-        ChangeFault::NoMemory
-    }
-}
+use std::alloc::Global;
 
 /// Why files that aren't mended aren't changed.
 fn fault_of_mending(fault: MendFault) -> ChangeFault {
@@ -44,7 +35,9 @@ fn mended<C: HoldsConf>(alloc: Global, files: &[C]) -> Result<Vec<Text>, ChangeF
 }
 
 /// What these texts say as files. `TooMany`: one of them says more than a file takes.
-fn said(alloc: Global, texts: &[Text]) -> Result<Vec<Conf>, ChangeFault> {
+fn said(alloc: Global, texts: &[Text]) -> Result<Vec<Conf>, ChangeFault>
+    ensures { IfOk result (λ confs. confs_of texts.now ≡ Some confs.items) }
+{
     match read_all(alloc, texts) {
         Ok(Some(confs)) => Ok(confs),
         Ok(None) => Err(ChangeFault::TooMany),
@@ -114,7 +107,11 @@ fn all_edited(
     };
     if let Some(new) = edit.new {
         match text_of_new(alloc, texts, confs, &edit, &new) {
-            Ok(Some(text)) => edited.push(text)?,
+            Ok(Some(text)) => {
+                if edited.push(text).is_err() {
+                    return Err(ChangeFault::NoMemory);
+                }
+            }
             Ok(None) => {}
             Err(_) => return Err(ChangeFault::NoMemory),
         }
@@ -149,9 +146,11 @@ pub fn changed_texts<C: HoldsConf>(
     change: &Change,
 ) -> Result<Vec<Text>, ChangeFault>
     ensures group { IfOk result (λ texts. AreFilesOfOneGroup texts.items) }
+    ensures roster { IfOk result (λ texts. AllSay (HasChangedRoster C.conf_of files.now change.now) texts.items) }
     ensures kept { IfOk result (λ texts. AllSay (Keeps C.conf_of files.now change.now) texts.items) }
 {
     let texts = new_texts(alloc, files, change)?;
+    let roster = roster_of(alloc, files, change)?;
     let newest = match newest_among(alloc, files) {
         Ok(newest) => newest,
         Err(fault) => return Err(fault_of_mending(fault)),
@@ -159,6 +158,9 @@ pub fn changed_texts<C: HoldsConf>(
     let confs = said(alloc, texts.as_slice())?;
     if !is_one_group(confs.as_slice()) {
         return Err(ChangeFault::NotOneRoster);
+    }
+    if !all_name(files, change, &roster, confs.as_slice()) {
+        return Err(ChangeFault::Unkept);
     }
     if !all_keep(files, &newest, change, confs.as_slice()) {
         return Err(ChangeFault::Unkept);

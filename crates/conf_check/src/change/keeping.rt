@@ -47,18 +47,31 @@ fn names_not(conf: &Conf, id: RunId) -> bool
         .any(|member| id.is_same(&member.id))
 }
 
+/// Whether two votes are for one candidate, or for none that is known.
+fn is_same_candidate(was: Option<RunId>, is: Option<RunId>) -> bool
+    ensures { IsTrue result → was ≡ is }
+{
+    was == is
+}
+
 /// Whether two votes are of one epoch and for one candidate.
 fn is_same_vote(was: &KeptMaster, is: &KeptMaster) -> bool
     ensures { IsTrue result → vote_of was.now ≡ vote_of is.now }
 {
-    was.voted == is.voted && was.candidate == is.candidate
+    if was.voted != is.voted {
+        return false;
+    }
+    is_same_candidate(was.candidate, is.candidate)
 }
 
 /// Whether no vote was given.
 fn is_no_vote(kept: &KeptMaster) -> bool
     ensures { IsTrue result → vote_of kept.now ≡ (0, None) }
 {
-    kept.voted == 0 && kept.candidate.is_none()
+    match kept.candidate {
+        None => kept.voted == 0,
+        Some(_) => false,
+    }
 }
 
 /// Whether the second have the votes of the first.
@@ -95,15 +108,24 @@ fn has_file_of<C: HoldsConf>(files: &[C], id: RunId) -> bool
     files.iter().any(|file| own_id(file.conf()).is_same(&id))
 }
 
-/// Whether each file of this Sentinel has the votes of the new one.
+/// Whether the new file has the votes of this one, where both are of one Sentinel.
+fn keeps_votes_of(file: &Conf, new: &Conf) -> bool
+    ensures { IsTrue result → same_id file.now.id new.now.id ≡ true
+        → HaveSameVotes file.now.kept.masters new.now.kept.masters }
+{
+    if !own_id(file).is_same(&own_id(new)) {
+        return true;
+    }
+    have_same_votes(kept_masters(file), kept_masters(new))
+}
+
+/// Whether the new file has the votes of each file of its Sentinel.
 fn keeps_own<C: HoldsConf>(files: &[C], new: &Conf) -> bool
     ensures { IsTrue result → All (λ file. same_id (C.conf_of file).id new.now.id ≡ true
         → HaveSameVotes (C.conf_of file).kept.masters new.now.kept.masters) files.now }
 {
-    let id = own_id(new);
     for k in 0..files.len() {
-        let file = files[k].conf();
-        if own_id(file).is_same(&id) && !have_same_votes(kept_masters(file), kept_masters(new)) {
+        if !keeps_votes_of(files[k].conf(), new) {
             return false;
         }
     }
@@ -133,7 +155,10 @@ fn keeps_votes<C: HoldsConf>(files: &[C], new: &Conf) -> bool
     if has_file_of(files, id) {
         return true;
     }
-    is_named_nowhere(files, id) && have_no_votes(kept_masters(new))
+    if !is_named_nowhere(files, id) {
+        return false;
+    }
+    have_no_votes(kept_masters(new))
 }
 
 /// Whether no configuration of the second is of an earlier epoch than that of the first.
@@ -155,7 +180,10 @@ fn are_not_below(olds: &[KeptMaster], news: &[KeptMaster]) -> bool
 fn is_not_below(was: &Conf, is: &Conf) -> bool
     ensures { IsTrue result → IsNotBelow was.now.kept is.now.kept }
 {
-    was.kept().current <= is.kept().current && are_not_below(kept_masters(was), kept_masters(is))
+    if was.kept().current > is.kept().current {
+        return false;
+    }
+    are_not_below(kept_masters(was), kept_masters(is))
 }
 
 /// Whether no epoch of the new file is below that of one of these.
@@ -196,7 +224,10 @@ fn leaves_out(change: &Change, new: &Conf) -> bool
     match change {
         Change::RemoveSentinel(id) => names_not(new, *id),
         Change::ReplaceHost(host) => {
-            !has_sentinel_at(new.roster(), host.old) && !has_node_at(new.roster(), host.old)
+            if has_sentinel_at(new.roster(), host.old) {
+                return false;
+            }
+            !has_node_at(new.roster(), host.old)
         }
         _ => true,
     }
@@ -212,14 +243,20 @@ fn has_newest(newest: &Newest, new: &Conf) -> bool
 
 /// Whether the new file keeps what those of before hold.
 fn keeps<C: HoldsConf>(files: &[C], newest: &Newest, change: &Change, new: &Conf) -> bool
-    requires { newest.now.current ≡ last_epoch (map C.conf_of files.now) }
-    requires { newest.now.cards.items ≡ newest (map C.conf_of files.now) }
+    requires current { newest.now.current ≡ last_epoch (map C.conf_of files.now) }
+    requires cards { newest.now.cards.items ≡ newest (map C.conf_of files.now) }
     ensures { IsTrue result → Keeps C.conf_of files.now change.now new.now }
 {
-    keeps_votes(files, new)
-        && is_below_none(files, new)
-        && has_newest(newest, new)
-        && leaves_out(change, new)
+    if !keeps_votes(files, new) {
+        return false;
+    }
+    if !is_below_none(files, new) {
+        return false;
+    }
+    if !has_newest(newest, new) {
+        return false;
+    }
+    leaves_out(change, new)
 }
 
 /// Whether each new file keeps what those of before hold.
@@ -229,8 +266,8 @@ pub(crate) fn all_keep<C: HoldsConf>(
     change: &Change,
     news: &[Conf],
 ) -> bool
-    requires { newest.now.current ≡ last_epoch (map C.conf_of files.now) }
-    requires { newest.now.cards.items ≡ newest (map C.conf_of files.now) }
+    requires current { newest.now.current ≡ last_epoch (map C.conf_of files.now) }
+    requires cards { newest.now.cards.items ≡ newest (map C.conf_of files.now) }
     ensures { IsTrue result → All (Keeps C.conf_of files.now change.now) news.now }
 {
     for k in 0..news.len() {
