@@ -7,6 +7,21 @@ use sentinel_conf::Conf;
 use std::alloc::{AllocError, Global};
 use tokens::ip_text;
 
+/// The step in which all files are compared with what was read.
+const SAME_FILES: &str =
+    "Compare each Sentinel's file with the one that was read here (`cmp`). If one differs, \
+a vote or a configuration came in between: start all again on their old files, and begin anew with these.";
+
+/// The step in which one file is.
+const SAME_FILE: &str =
+    "Stop one Sentinel, and compare its file with the one that was read here (`cmp`). If it \
+differs, start it again on its old file, and begin anew with copies of the files as they are.";
+
+/// The step in which a Sentinel gets its file while the others guard.
+const PUT_ONE: &str =
+    "Put its new file in the place of the old one, with its owner and mode, start it, and wait \
+until `SENTINEL CKQUORUM` counts all.";
+
 /// How the Sentinels get their new files.
 #[derive(Clone, Copy, PartialEq, Eq)]
 pub(crate) enum Order {
@@ -117,10 +132,10 @@ impl Steps {
         self.step("Put each new file in the place of the old one, with its owner and mode.")?;
         self.step("Start all Sentinels, the new one too.")?;
         let seconds = after_ms.div_ceil(1_000).saturating_add(1);
+        let (first, last) = (self.number.saturating_sub(3), self.number);
         let words = format!(in self.alloc;
-            "Nobody guards from step {} to step {}, and a master that is down then is found {seconds} s after it: prepare these steps as a script.",
-            self.number.saturating_sub(3),
-            self.number
+            "Nobody guards from step {first} to step {last}, and a master that is down then is found \
+{seconds} s after it: prepare these steps as a script."
         )?;
         self.line(words.as_str())
     }

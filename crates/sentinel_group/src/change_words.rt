@@ -10,6 +10,11 @@ use std::alloc::{AllocError, Global};
 use std::process::ExitCode;
 use tokens::{ip_of, number_of, run_id_of};
 
+/// Which directives are set.
+const DIRECTIVES: &str =
+    "write quorum, down-after-milliseconds, failover-timeout or parallel-syncs; the other lines \
+are the file's own, and are edited in it";
+
 /// The greatest value of a setting.
 const VALUE_MAX: u64 = 4_294_967_295;
 
@@ -158,12 +163,7 @@ fn setting_of(rt: HostRuntime, word: &str) -> Result<MasterSetting, ExitCode> {
         "down-after-milliseconds" => Ok(MasterSetting::DownAfter),
         "failover-timeout" => Ok(MasterSetting::FailoverTimeout),
         "parallel-syncs" => Ok(MasterSetting::ParallelSyncs),
-        _ => Err(refuse_word(
-            rt,
-            "UnknownDirective",
-            word,
-            "write quorum, down-after-milliseconds, failover-timeout or parallel-syncs; the other lines are the file's own, and are edited in it",
-        )),
+        _ => Err(refuse_word(rt, "UnknownDirective", word, DIRECTIVES)),
     }
 }
 

@@ -2,7 +2,9 @@
 
 ghost use Rattle.std.specs.Prelude.{◌≡◌, IfOk, IsTrue, All, map, filter, not};
 ghost use Rattle.ballot_law.specs.Orders.{same_addr, same_bytes, same_id};
-ghost use Rattle.conf_check.specs.Change.ChangedRosters.{moved, replaced, changed_sentinels, changed_nodes, changed_quorum, changed_master, IsChangedRoster, HasChangedRoster};
+ghost use Rattle.conf_check.specs.Change.ChangedRosters.{moved, replaced, changed_sentinels, changed_nodes};
+ghost use Rattle.conf_check.specs.Change.ChangedRosters.{changed_quorum, changed_master};
+ghost use Rattle.conf_check.specs.Change.ChangedRosters.{IsChangedRoster, HasChangedRoster};
 
 use crate::change::changes::{Change, ChangeFault, MasterSetting, Replacement};
 use crate::group::HoldsConf;

@@ -1,15 +1,16 @@
 //! Whether the new files of a changed group keep what those of before hold.
 
-ghost use Rattle.std.specs.Prelude.{◌≡◌, ◌<◌, ◌≤◌, ◌==◌, ℕ, All, IsTrue, IsFalse, IfOk, true, false, None, length, map, max};
+ghost use Rattle.std.specs.Prelude.{◌≡◌, ◌==◌, All, IsTrue, true, None, map};
 ghost use Rattle.std.specs.List.{list_any};
 ghost use Rattle.ballot_law.specs.Orders.{same_id};
 ghost use Rattle.conf_check.specs.Repair.Mended.{card_of, vote_of, cards_of, newest, last_epoch};
-ghost use Rattle.conf_check.specs.Change.Keeping.{NamesNot, IsClearOf, HaveSameVotes, HaveNoVotes, KeepsVotes, AreNotBelow, IsNotBelow, HasNewest, LeavesOut, Keeps};
+ghost use Rattle.conf_check.specs.Change.Keeping.{NamesNot, HaveSameVotes, HaveNoVotes, KeepsVotes};
+ghost use Rattle.conf_check.specs.Change.Keeping.{AreNotBelow, IsNotBelow, LeavesOut, Keeps};
 
 use crate::change::changes::Change;
 use crate::group::{HoldsConf, is_same_card, own_id};
 use crate::repair::Newest;
-use ballot_law::{Card, KeptMaster, Roster, RunId};
+use ballot_law::{Addr, Card, KeptMaster, Roster, RunId};
 use sentinel_conf::Conf;
 
 /// What a file keeps of its masters.
@@ -26,6 +27,13 @@ pub(crate) fn has_sentinel_at(roster: &Roster, ip: u32) -> bool
     roster.sentinels().iter().any(|member| member.addr.ip == ip)
 }
 
+/// Whether one of these addresses is at this ip.
+fn has_ip(addrs: &[Addr], ip: u32) -> bool
+    ensures { result ≡ list_any (λ addr. addr.ip == ip) addrs.now }
+{
+    addrs.iter().any(|addr| addr.ip == ip)
+}
+
 /// Whether a data node is at this ip.
 pub(crate) fn has_node_at(roster: &Roster, ip: u32) -> bool
     ensures { result ≡ list_any (λ master. list_any (λ addr. addr.ip == ip) master.nodes) roster.now.masters }
@@ -33,7 +41,7 @@ pub(crate) fn has_node_at(roster: &Roster, ip: u32) -> bool
     roster
         .masters()
         .iter()
-        .any(|master| master.nodes().iter().any(|addr| addr.ip == ip))
+        .any(|master| has_ip(master.nodes(), ip))
 }
 
 /// Whether no Sentinel of the file's roster has this run id.
