@@ -1,5 +1,5 @@
-//! A group that is changed: its files anew, with a replica or a Sentinel more or less, another host in the place of one,
-//! or another setting.
+//! A group that is changed: its files anew, with a replica or a Sentinel more or less, with another host in the place
+//! of one, or with another setting.
 //!
 //! `changed_texts` makes them line by line from the mended files, reads them again, and compares them with the files of
 //! before: what they keep is a contract of that comparison.

@@ -126,9 +126,7 @@ impl Steps {
     /// Adds the steps in which all Sentinels get their files.
     fn give_all(&mut self, after_ms: u64) -> Result<(), AllocError> {
         self.step("Stop all Sentinels, those that go too. From now on nobody fails over.")?;
-        self.step(
-            "Compare each Sentinel's file with the one that was read here (`cmp`). If one differs, a vote or a configuration came in between: start all again on their old files, and begin anew with these.",
-        )?;
+        self.step(SAME_FILES)?;
         self.step("Put each new file in the place of the old one, with its owner and mode.")?;
         self.step("Start all Sentinels, the new one too.")?;
         let seconds = after_ms.div_ceil(1_000).saturating_add(1);
@@ -142,12 +140,8 @@ impl Steps {
 
     /// Adds the steps in which one Sentinel after another gets its file.
     fn give_each(&mut self) -> Result<(), AllocError> {
-        self.step(
-            "Stop one Sentinel, and compare its file with the one that was read here (`cmp`). If it differs, start it again on its old file, and begin anew with copies of the files as they are.",
-        )?;
-        self.step(
-            "Put its new file in the place of the old one, with its owner and mode, start it, and wait until `SENTINEL CKQUORUM` counts all.",
-        )?;
+        self.step(SAME_FILE)?;
+        self.step(PUT_ONE)?;
         self.step("Go on with the next one. The others guard meanwhile: 0 s without a guard.")
     }
 

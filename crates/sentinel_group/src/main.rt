@@ -1,7 +1,7 @@
 //! The program `sentinel_group`: `answer` serves the commands of standard input on standard output, `serve` runs a
 //! group with its ports, `watch` runs one Sentinel over real Redis servers, `replay` plays a story of a group, `check`
-//! tells what group files make, `new-id` prints a run id for a new one, `new-group` writes the files of a new group, `change`
-//! those of a changed one.
+//! tells what group files make, `new-id` prints a run id for a new one, `new-group` writes the files of a new group,
+//! `change` those of a changed one.
 #![tactic(auto)]
 
 mod change_steps;
