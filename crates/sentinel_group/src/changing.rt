@@ -33,7 +33,7 @@ fn meaning_of(fault: ChangeFault) -> Option<&'static str> {
         ChangeFault::LastReplica => Some("it is the last replica: add another one first"),
         ChangeFault::LastSentinel => Some("it is the last Sentinel"),
         ChangeFault::ManySentinels => Some(
-            "two Sentinels are on this host: use --remove-sentinel and --add-sentinel for each, and then --replace-host",
+            "two Sentinels are on this host: use --remove-sentinel and --add-sentinel for them first",
         ),
         ChangeFault::BadQuorum => Some(
             "the quorum of a master would be 0 or above the number of Sentinels: --set quorum changes it",
@@ -53,7 +53,7 @@ fn refuse_change(rt: HostRuntime, fault: ChangeFault) -> ExitCode {
         ChangeFault::NotOneRoster => {
             let status = fail_group(&rt, GroupFault::NotOneRoster);
             let _ = eprintln!(rt;
-                "note: the files name different groups, or that of a Sentinel that stays is missing: check --group says which"
+                "note: two files name different groups, or a Sentinel that stays has no file: see check --group"
             );
             status
         }

@@ -246,7 +246,10 @@ fn has_newest(newest: &Newest, new: &Conf) -> bool
     ensures current { IsTrue result → new.now.kept.current ≡ newest.now.current }
     ensures cards { IsTrue result → cards_of new.now ≡ newest.now.cards.items }
 {
-    new.kept().current == newest.current && have_cards(new.kept().masters.as_slice(), &newest.cards)
+    if new.kept().current != newest.current {
+        return false;
+    }
+    have_cards(kept_masters(new), &newest.cards)
 }
 
 /// Whether the new file keeps what those of before hold.
