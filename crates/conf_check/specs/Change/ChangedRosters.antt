@@ -1,5 +1,5 @@
 -- The roster of a group once it is changed.
-use Rattle.std.specs.Prelude.{◌≡◌, ⊥, ℕ, ◌==◌, not, if◌then◌else◌, List, [], ◌∷◌, ◌++◌, map, filter}
+use Rattle.std.specs.Prelude.{◌≡◌, ℕ, ◌==◌, not, if◌then◌else◌, List, [], ◌∷◌, ◌++◌, map, filter}
 use Rattle.ballot_law.specs.declared.addresses.Addr.{Addr}
 use Rattle.ballot_law.specs.declared.rosters.Member.{Member}
 use Rattle.ballot_law.specs.Orders.{same_addr, same_bytes, same_id}

@@ -1,5 +1,5 @@
 -- What the new files of a changed group keep of those of before.
-use Rattle.std.specs.Prelude.{◌≡◌, ⊤, ⊥, ℕ, ◌≤◌, ◌<◌, ◌==◌, Bool, true, false, List, [], ◌∷◌, length, map, All, slice_index_or, Option, Some, None}
+use Rattle.std.specs.Prelude.{◌≡◌, ⊤, ℕ, ◌≤◌, ◌<◌, ◌==◌, Bool, true, false, List, [], ◌∷◌, length, map, All, slice_index_or, Option, Some, None}
 use Rattle.std.specs.List.{list_any}
 use Rattle.ballot_law.specs.Ballots.{no_kept}
 use Rattle.ballot_law.specs.Orders.{same_id}

@@ -139,20 +139,49 @@ fn add_kept_replica(
     }
 }
 
-/// Adds what becomes of a line.
-fn add_changed(out: &mut Vec<u8>, line: &[u8], edit: &Edit<'_>) -> Result<(), NoMemory> {
-    match (line_of(line), edit.change) {
-        (Line::State(StateLine::Monitor { name, addr, .. }), change) => {
-            add_monitor(out, line, &name, addr, change)
+/// Adds what becomes of a line that holds part of what is kept.
+fn add_state(
+    out: &mut Vec<u8>,
+    line: &[u8],
+    state: &StateLine,
+    edit: &Edit<'_>,
+) -> Result<(), NoMemory> {
+    match state {
+        StateLine::Monitor { name, addr, .. } => add_monitor(out, line, name, *addr, edit.change),
+        StateLine::KnownReplica { name, addr } => {
+            add_kept_replica(out, line, name, *addr, edit.change)
         }
-        (Line::State(StateLine::KnownReplica { name, addr }), change) => {
-            add_kept_replica(out, line, &name, addr, change)
-        }
-        (Line::State(StateLine::KnownSentinel { id, .. }), _) if edit.is_gone(&id) => Ok(()),
-        (Line::Setting(setting), Change::Set(new)) if is_set_by(&setting, new) => {
-            add_new_setting(out, new)
+        StateLine::KnownSentinel { id, .. } => {
+            if edit.is_gone(id) {
+                return Ok(());
+            }
+            add_line(out, line)
         }
         _ => add_line(out, line),
+    }
+}
+
+/// Adds a line of a setting, with another value where the change sets it.
+fn add_old_setting(
+    out: &mut Vec<u8>,
+    line: &[u8],
+    setting: &Setting,
+    change: &Change,
+) -> Result<(), NoMemory> {
+    if let Change::Set(new) = change {
+        if is_set_by(setting, new) {
+            return add_new_setting(out, new);
+        }
+    }
+    add_line(out, line)
+}
+
+/// Adds what becomes of a line.
+fn add_changed(out: &mut Vec<u8>, line: &[u8], edit: &Edit<'_>) -> Result<(), NoMemory> {
+    match line_of(line) {
+        Line::State(state) => add_state(out, line, &state, edit),
+        Line::Setting(setting) => add_old_setting(out, line, &setting, edit.change),
+        Line::Kept | Line::Faulty(_) => add_line(out, line),
     }
 }
 

@@ -36,6 +36,36 @@ fn replaced(host: &Replacement, member: Member) -> Member
     }
 }
 
+/// Where these addresses are once the host is replaced.
+fn all_moved(alloc: Global, host: &Replacement, addrs: &[Addr]) -> Result<Vec<Addr>, AllocError>
+    ensures { IfOk result (λ list. list.items ≡ map (moved host.now) addrs.now) }
+{
+    let mut list = Vec::new(alloc);
+    let mut rest = addrs;
+    while let [addr, more @ ..] = rest {
+        list.push(moved(host, *addr))?;
+        rest = more;
+    }
+    Ok(list)
+}
+
+/// Who these Sentinels are once the host is replaced.
+fn all_replaced(
+    alloc: Global,
+    host: &Replacement,
+    members: &[Member],
+) -> Result<Vec<Member>, AllocError>
+    ensures { IfOk result (λ list. list.items ≡ map (replaced host.now) members.now) }
+{
+    let mut list = Vec::new(alloc);
+    let mut rest = members;
+    while let [member, more @ ..] = rest {
+        list.push(replaced(host, *member))?;
+        rest = more;
+    }
+    Ok(list)
+}
+
 /// The Sentinels but this one.
 fn sentinels_without(
     alloc: Global,
@@ -70,10 +100,7 @@ fn changed_sentinels(
             Ok(list)
         }
         Change::RemoveSentinel(id) => sentinels_without(alloc, members, id),
-        Change::ReplaceHost(host) => members
-            .iter()
-            .map(|member| replaced(host, *member))
-            .collect(alloc),
+        Change::ReplaceHost(host) => all_replaced(alloc, host, members),
         Change::AddReplica(_) | Change::RemoveReplica(_) | Change::Set(_) => {
             Vec::from_slice(alloc, members)
         }
@@ -126,7 +153,7 @@ fn changed_nodes(
                 Vec::from_slice(alloc, nodes)
             }
         }
-        Change::ReplaceHost(host) => nodes.iter().map(|addr| moved(host, *addr)).collect(alloc),
+        Change::ReplaceHost(host) => all_moved(alloc, host, nodes),
         Change::AddSentinel(_) | Change::RemoveSentinel(_) | Change::Set(_) => {
             Vec::from_slice(alloc, nodes)
         }

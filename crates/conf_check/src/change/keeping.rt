@@ -5,12 +5,12 @@ ghost use Rattle.std.specs.List.{list_any};
 ghost use Rattle.ballot_law.specs.Orders.{same_id};
 ghost use Rattle.conf_check.specs.Repair.Mended.{card_of, vote_of, cards_of, newest, last_epoch};
 ghost use Rattle.conf_check.specs.Change.Keeping.{NamesNot, HaveSameVotes, HaveNoVotes, KeepsVotes};
-ghost use Rattle.conf_check.specs.Change.Keeping.{AreNotBelow, IsNotBelow, LeavesOut, Keeps};
+ghost use Rattle.conf_check.specs.Change.Keeping.{IsClearOf, AreNotBelow, IsNotBelow, LeavesOut, Keeps};
 
 use crate::change::changes::Change;
 use crate::group::{HoldsConf, is_same_card, own_id};
 use crate::repair::Newest;
-use ballot_law::{Addr, Card, KeptMaster, Roster, RunId};
+use ballot_law::{Addr, Card, KeptMaster, Member, Roster, RunId};
 use sentinel_conf::Conf;
 
 /// What a file keeps of its masters.
@@ -44,15 +44,21 @@ pub(crate) fn has_node_at(roster: &Roster, ip: u32) -> bool
         .any(|master| has_ip(master.nodes(), ip))
 }
 
+/// Whether one of these Sentinels has this run id.
+fn names(members: &[Member], id: RunId) -> bool
+    ensures { result ≡ list_any (λ member. same_id id member.id) members.now }
+{
+    members.iter().any(|member| id.is_same(&member.id))
+}
+
 /// Whether no Sentinel of the file's roster has this run id.
 fn names_not(conf: &Conf, id: RunId) -> bool
     ensures { IsTrue result → NamesNot id conf.now }
 {
-    !conf
-        .roster()
-        .sentinels()
-        .iter()
-        .any(|member| id.is_same(&member.id))
+    if names(conf.roster().sentinels(), id) {
+        return false;
+    }
+    true
 }
 
 /// Whether two votes are for one candidate, or for none that is known.
@@ -109,10 +115,11 @@ fn have_no_votes(masters: &[KeptMaster]) -> bool
     true
 }
 
-/// Whether one of the files is that of the Sentinel with this run id.
-fn has_file_of<C: HoldsConf>(files: &[C], id: RunId) -> bool
-    ensures { result ≡ list_any (λ file. same_id (C.conf_of file).id id) files.now }
+/// Whether one of the files is that of the Sentinel of the new one.
+fn has_file_of<C: HoldsConf>(files: &[C], new: &Conf) -> bool
+    ensures { result ≡ list_any (λ file. same_id (C.conf_of file).id new.now.id) files.now }
 {
+    let id = own_id(new);
     files.iter().any(|file| own_id(file.conf()).is_same(&id))
 }
 
@@ -156,14 +163,13 @@ fn is_named_nowhere<C: HoldsConf>(files: &[C], id: RunId) -> bool
 fn keeps_votes<C: HoldsConf>(files: &[C], new: &Conf) -> bool
     ensures { IsTrue result → KeepsVotes C.conf_of files.now new.now }
 {
-    let id = own_id(new);
     if !keeps_own(files, new) {
         return false;
     }
-    if has_file_of(files, id) {
+    if has_file_of(files, new) {
         return true;
     }
-    if !is_named_nowhere(files, id) {
+    if !is_named_nowhere(files, own_id(new)) {
         return false;
     }
     have_no_votes(kept_masters(new))
@@ -225,37 +231,45 @@ fn have_cards(masters: &[KeptMaster], cards: &[Card]) -> bool
     others.is_empty()
 }
 
+/// Whether no Sentinel and no data node of the file is at this ip.
+fn is_clear_of(conf: &Conf, ip: u32) -> bool
+    ensures { IsTrue result → IsClearOf ip conf.now }
+{
+    if has_sentinel_at(conf.roster(), ip) {
+        return false;
+    }
+    if has_node_at(conf.roster(), ip) {
+        return false;
+    }
+    true
+}
+
 /// Whether the new file names nobody who goes.
 fn leaves_out(change: &Change, new: &Conf) -> bool
     ensures { IsTrue result → LeavesOut change.now new.now }
 {
     match change {
         Change::RemoveSentinel(id) => names_not(new, *id),
-        Change::ReplaceHost(host) => {
-            if has_sentinel_at(new.roster(), host.old) {
-                return false;
-            }
-            !has_node_at(new.roster(), host.old)
-        }
+        Change::ReplaceHost(host) => is_clear_of(new, host.old),
         _ => true,
     }
 }
 
 /// Whether the new file holds the newest configurations of the files.
-fn has_newest(newest: &Newest, new: &Conf) -> bool
-    ensures current { IsTrue result → new.now.kept.current ≡ newest.now.current }
-    ensures cards { IsTrue result → cards_of new.now ≡ newest.now.cards.items }
+fn has_newest(all: &Newest, new: &Conf) -> bool
+    ensures current { IsTrue result → new.now.kept.current ≡ all.now.current }
+    ensures cards { IsTrue result → cards_of new.now ≡ all.now.cards.items }
 {
-    if new.kept().current != newest.current {
+    if new.kept().current != all.current {
         return false;
     }
-    have_cards(kept_masters(new), &newest.cards)
+    have_cards(kept_masters(new), &all.cards)
 }
 
 /// Whether the new file keeps what those of before hold.
-fn keeps<C: HoldsConf>(files: &[C], newest: &Newest, change: &Change, new: &Conf) -> bool
-    requires current { newest.now.current ≡ last_epoch (map C.conf_of files.now) }
-    requires cards { newest.now.cards.items ≡ newest (map C.conf_of files.now) }
+fn keeps<C: HoldsConf>(files: &[C], all: &Newest, change: &Change, new: &Conf) -> bool
+    requires current { all.now.current ≡ last_epoch (map C.conf_of files.now) }
+    requires cards { all.now.cards.items ≡ newest (map C.conf_of files.now) }
     ensures { IsTrue result → Keeps C.conf_of files.now change.now new.now }
 {
     if !keeps_votes(files, new) {
@@ -264,7 +278,7 @@ fn keeps<C: HoldsConf>(files: &[C], newest: &Newest, change: &Change, new: &Conf
     if !is_below_none(files, new) {
         return false;
     }
-    if !has_newest(newest, new) {
+    if !has_newest(all, new) {
         return false;
     }
     leaves_out(change, new)
@@ -273,16 +287,16 @@ fn keeps<C: HoldsConf>(files: &[C], newest: &Newest, change: &Change, new: &Conf
 /// Whether each new file keeps what those of before hold.
 pub(crate) fn all_keep<C: HoldsConf>(
     files: &[C],
-    newest: &Newest,
+    all: &Newest,
     change: &Change,
     news: &[Conf],
 ) -> bool
-    requires current { newest.now.current ≡ last_epoch (map C.conf_of files.now) }
-    requires cards { newest.now.cards.items ≡ newest (map C.conf_of files.now) }
+    requires current { all.now.current ≡ last_epoch (map C.conf_of files.now) }
+    requires cards { all.now.cards.items ≡ newest (map C.conf_of files.now) }
     ensures { IsTrue result → All (Keeps C.conf_of files.now change.now) news.now }
 {
     for k in 0..news.len() {
-        if !keeps(files, newest, change, &news[k]) {
+        if !keeps(files, all, change, &news[k]) {
             return false;
         }
     }
