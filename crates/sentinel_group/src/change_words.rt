@@ -18,35 +18,58 @@ are the file's own, and are edited in it";
 /// The greatest value of a setting.
 const VALUE_MAX: u64 = 4_294_967_295;
 
-/// The words that name a change, each with what it takes and what it does.
-const CHANGES: [(&str, &[&str], &str); 6] = [
-    ("add-replica", &["ip:port"], "Adds a replica of the master"),
-    (
-        "remove-replica",
-        &["ip:port"],
-        "Removes a replica of the master",
-    ),
-    (
-        "add-sentinel",
-        &["ip[:port]"],
-        "Adds a Sentinel; its port is 26379 where it isn't said",
-    ),
-    (
-        "remove-sentinel",
-        &["id or ip[:port]"],
-        "Removes a Sentinel",
-    ),
-    (
-        "replace-host",
-        &["old ip", "new ip"],
-        "Puts a new host in the place of one: its replicas, and a Sentinel with a new run id, at the same ports",
-    ),
-    (
-        "set",
-        &["directive", "value"],
-        "Sets quorum, down-after-milliseconds, failover-timeout or parallel-syncs of the master",
-    ),
+/// The words that name a change.
+const CHANGES: &[&str] = &[
+    "add-replica",
+    "remove-replica",
+    "add-sentinel",
+    "remove-sentinel",
+    "replace-host",
+    "set",
 ];
+
+/// What a word says that is more than one of them.
+const MANY: &str = "ManyChanges: name one change: each has steps of its own";
+
+/// What to say where no change is named.
+const NONE: &str = "NoChange: name one change, as --add-replica 10.0.0.4:6379";
+
+/// A word that names a change of a node, which is named by one value.
+fn node_word<'a>(alloc: Global, long: &'a str, value: &'a str, help: &'a str) -> Arg<'a> {
+    Arg::new(alloc, long)
+        .long(long)
+        .value_name(value)
+        .help(help)
+}
+
+/// The words that name a change of a node.
+fn node_words<'a>(alloc: Global, command: Command<'a>) -> Result<Command<'a>, AllocError> {
+    command
+        .arg(node_word(
+            alloc,
+            "add-replica",
+            "ip:port",
+            "Adds a replica of the master",
+        ))?
+        .arg(node_word(
+            alloc,
+            "remove-replica",
+            "ip:port",
+            "Removes a replica of the master",
+        ))?
+        .arg(node_word(
+            alloc,
+            "add-sentinel",
+            "ip[:port]",
+            "Adds a Sentinel; its port is 26379 where it isn't said",
+        ))?
+        .arg(node_word(
+            alloc,
+            "remove-sentinel",
+            "id or ip[:port]",
+            "Removes a Sentinel",
+        ))
+}
 
 /// The words of `change`.
 pub(crate) fn change_command<'a>(alloc: Global) -> Result<Command<'a>, AllocError> {
@@ -62,48 +85,44 @@ pub(crate) fn change_command<'a>(alloc: Global) -> Result<Command<'a>, AllocErro
         .long("master")
         .value_name("name")
         .help("Which master is changed, where the files name more than one");
-    let mut command = Command::new(alloc, "change")
+    let host = Arg::new(alloc, "replace-host")
+        .long("replace-host")
+        .num_args(2)
+        .value_names(&["old ip", "new ip"])
+        .help("Puts a host in the place of one: its replicas, and a Sentinel with a new run id");
+    let set = Arg::new(alloc, "set")
+        .long("set")
+        .num_args(2)
+        .value_names(&["directive", "value"])
+        .help("Sets quorum, down-after-milliseconds, failover-timeout or parallel-syncs");
+    let command = Command::new(alloc, "change")
         .about("Writes the files of a group anew with one change, and prints the steps to it")
         .arg(folder)?
         .arg(files)?
         .arg(master)?;
-    for (long, values, help) in &CHANGES {
-        command = command.arg(
-            Arg::new(alloc, long)
-                .long(long)
-                .num_args(values.len())
-                .value_names(values)
-                .help(help),
-        )?;
-    }
-    Ok(command)
+    node_words(alloc, command)?.arg(host)?.arg(set)
 }
 
-/// Which of the changes the words name, with its values. None and more than one are refused.
-fn named_change<'a>(
-    rt: HostRuntime,
-    words: &'a ArgMatches,
-) -> Result<(&'static str, &'a [&'a str]), ExitCode> {
+/// Refuses words that name no change, or more than one.
+fn refuse_count(rt: HostRuntime, said: &str) -> ExitCode {
+    let _ = eprintln!(rt; "sentinel_group: {said}");
+    ExitCode::from(REFUSED_WORDS)
+}
+
+/// Which of the changes the words name.
+fn named_change(rt: HostRuntime, words: &ArgMatches) -> Result<&'static str, ExitCode> {
     let mut found = None;
-    for (long, _, _) in &CHANGES {
-        if let Some(values) = words.get_strs(long) {
+    for long in CHANGES {
+        if words.get_strs(long).is_some() {
             if found.is_some() {
-                let _ = eprintln!(rt;
-                    "sentinel_group: ManyChanges: name one change: each has steps of its own"
-                );
-                return Err(ExitCode::from(REFUSED_WORDS));
+                return Err(refuse_count(rt, MANY));
             }
-            found = Some((*long, values));
+            found = Some(*long);
         }
     }
     match found {
-        Some(found) => Ok(found),
-        None => {
-            let _ = eprintln!(rt;
-                "sentinel_group: NoChange: name one change, as --add-replica 10.0.0.4:6379"
-            );
-            Err(ExitCode::from(REFUSED_WORDS))
-        }
+        Some(long) => Ok(long),
+        None => Err(refuse_count(rt, NONE)),
     }
 }
 
@@ -198,7 +217,9 @@ pub(crate) fn change_of(
     words: &ArgMatches,
     conf: &Conf,
 ) -> Result<Change, ExitCode> {
-    match named_change(rt, words)? {
+    let long = named_change(rt, words)?;
+    let values = words.get_strs(long).unwrap_or(&[]);
+    match (long, values) {
         ("add-replica", [at]) => Ok(Change::AddReplica(replica_of(rt, words, conf, at)?)),
         ("remove-replica", [at]) => Ok(Change::RemoveReplica(replica_of(rt, words, conf, at)?)),
         ("add-sentinel", [at]) => {
