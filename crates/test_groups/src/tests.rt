@@ -4,6 +4,8 @@ mod clients;
 mod confs;
 mod ending_files;
 mod groups;
+mod node_ports;
+mod note_queues;
 mod orders;
 mod outlets;
 mod played_nodes;
