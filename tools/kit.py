@@ -83,13 +83,42 @@ def kept(kind):
     return next(iter(glob.glob(f"{OUT}/{kind}/{place_of_sources()}*/{PROGRAM}")), None)
 
 
+def git(*words):
+    """What git says in the repository, or nothing where it is none, or git isn't there."""
+    if not shutil.which("git"):
+        return ""
+    how = {"stdin": subprocess.DEVNULL, "stdout": subprocess.PIPE, "stderr": subprocess.DEVNULL, "text": True}
+    return subprocess.run(["git", "-C", TOP, *words], check=False, **how).stdout.strip()
+
+
+def commit():
+    """The commit of the sources, with -dirty where they differ from it, or none."""
+    if os.path.realpath(git("rev-parse", "--show-toplevel") or "/") != TOP:
+        return "none"
+    name = git("rev-parse", "HEAD")
+    return (name or "none") + ("-dirty" if name and git("status", "--porcelain", "--", "crates", "crates.txt") else "")
+
+
+def record(program, kind, place):
+    """The record that stands beside a program, by which its --version says what it is: a line of the commit, the kit, and whether it is proved; and its sum
+    and length. A program of other bytes doesn't go by it."""
+    with open(program, "rb") as data:
+        words = data.read()
+    told = f"{PROGRAM}, commit {commit()}, kit {place.partition('.')[2] or 'unknown'}, {'proved' if kind == 'proved' else 'not proved'}"
+    return f"{told}\nsha256 {hashlib.sha256(words).hexdigest()} {len(words)}\n"
+
+
 def keep(kind, place, made):
-    """Keeps a program under the name of its sources. It is written apart and then renamed, so that nobody meets half of it."""
+    """Keeps a program under the name of its sources, with its record. It is written apart and then renamed, so that nobody meets half of it."""
     new = f"{OUT}/{kind}/new"
     shutil.rmtree(new, ignore_errors=True)
     os.makedirs(new)
     shutil.copyfile(made, f"{new}/{PROGRAM}")
     os.chmod(f"{new}/{PROGRAM}", 0o755)
+    with open(f"{new}/{PROGRAM}.version", "w", encoding="utf-8") as out:
+        out.write(record(made, kind, place))
+    # (of the same sources there may be one that was made before)
+    shutil.rmtree(f"{OUT}/{kind}/{place}", ignore_errors=True)
     os.rename(new, f"{OUT}/{kind}/{place}")
     for it in sorted(glob.glob(f"{OUT}/{kind}/*/"), key=os.path.getmtime, reverse=True)[STAY:]:
         shutil.rmtree(it)

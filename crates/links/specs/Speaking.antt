@@ -33,6 +33,10 @@ abbrev pub questions_for : Body → List Question
 questions_for (ReplicaOf to) = asks.Order ∷ asks.Order ∷ asks.Order ∷ asks.Order ∷ asks.Order ∷ asks.Order ∷ []
 questions_for body = question_of body ∷ []
 
+-- the question for the row of a master, by its name
+abbrev pub row_bytes : List ℕ → List ℕ
+row_bytes name = command_bytes (codes "SENTINEL" ∷ codes "MASTER" ∷ name ∷ [])
+
 -- ---- before all messages
 
 abbrev pub login_bytes : Login → List ℕ

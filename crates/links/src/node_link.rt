@@ -1,6 +1,6 @@
 //! A connection of a Sentinel to a node, without its socket.
 
-ghost use Rattle.std.specs.Prelude.{◌≡◌, ◌≢◌, ◌≤◌, ◌<◌, ◌↔◌, ◌++◌, ◌-◌, ℕ, true, false, Some, None, List, length, drop, OnOk, OnErr};
+ghost use Rattle.std.specs.Prelude.{◌≡◌, ◌≢◌, ◌≤◌, ◌<◌, ◌↔◌, ◌++◌, ◌-◌, ℕ, true, false, Some, None, List, length, drop, OnOk, OnErr, IfOk, IsTrue, IsFalse};
 ghost use Rattle.std.specs.List.{AllByRecursion};
 ghost use Rattle.ballot_law.specs.declared.events.Event.{Event};
 ghost use Rattle.ballot_law.specs.declared.messages.NodeName.TheVariants.{StoreAt};
@@ -8,12 +8,12 @@ ghost use Rattle.links.specs.Sessions.Links.{Receives};
 ghost use Rattle.node_texts.specs.Messages.MessageTexts.{IsWritable};
 ghost use Rattle.links.specs.declared.schedule.Stage.TheVariants.{Closed, Opening, Open};
 ghost use Rattle.links.specs.declared.schedule.Stale.TheVariants.{Unreached, Silent, NoHello};
-ghost use Rattle.links.specs.NodeLinks.{fresh, closed_at, opening_at, asked_at, IsHeardOn, IsBounded};
+ghost use Rattle.links.specs.NodeLinks.{fresh, closed_at, opening_at, asked_at, row_asked_at, IsHeardOn, IsBounded};
 ghost use Rattle.links.specs.Schedules.{IsPast, closed};
 
 use crate::schedule::{CONNECT_MS, NO_HELLO_MS, SILENT_MS, Schedule, Stale};
 use crate::sessions::{LinkFault, LinkSession};
-use crate::speaking::{Login, put_first_words, put_message};
+use crate::speaking::{Login, put_first_words, put_message, put_row_question};
 use crate::target::Target;
 use ballot_law::{Body, Event, Message, NodeName};
 use std::alloc::Global;
@@ -285,6 +285,32 @@ impl NodeLink {
         match self.target.node {
             NodeName::StoreAt(_) if !self.target.listens => self.ask_alone(Body::InfoAsk, now),
             _ => Ok(()),
+        }
+    }
+
+    /// Asks for the row of a master, by its name, where it is open, takes messages, and no answer is awaited on it, so
+    /// that the next value that comes is the answer: whether it asked. The answer is heard as that to an order, which
+    /// tells nothing. A fault closes it.
+    #[tactic(auto, using(crate::proofs::Keeping::kept_anew, crate::proofs::Keeping::kept_row))]
+    pub fn ask_row(&mut self, name: &[u8], now: u64) -> Result<bool, LinkFault>
+        ensures asked { IfOk result (λ is_asked. IsTrue is_asked
+            → (length self.old.talk.asked ≤ 0) × (self.new ≡ row_asked_at now name.now self.old)) }
+        ensures unasked { IfOk result (λ is_asked. IsFalse is_asked → self.new ≡ self.old) }
+        ensures err { OnErr result (self.new ≡ closed_at now self.old) }
+        ensures target { self.new.target ≡ self.old.target }
+    {
+        if !self.schedule.is_open() || self.target.listens || self.session.is_waiting() {
+            return Ok(false);
+        }
+        match put_row_question(&mut self.session, name) {
+            Ok(()) => {
+                self.schedule.excuse(now);
+                Ok(true)
+            }
+            Err(fault) => {
+                self.session = closed(self.alloc, self.target, &mut self.schedule, now);
+                Err(fault)
+            }
         }
     }
 

@@ -2,7 +2,7 @@
 
 ghost use Rattle.std.specs.Prelude.{◌≡◌, ◌≤◌, ◌↔◌, ◌++◌, ◌∷◌, [], length, IsOk, IfErr, OnOk, codes};
 ghost use Rattle.node_texts.specs.Messages.MessageTexts.{IsWritable, message_bytes};
-ghost use Rattle.links.specs.Speaking.{bytes_for, questions_for, command_bytes, after_order, login_bytes, login_questions, listen_bytes, listen_questions};
+ghost use Rattle.links.specs.Speaking.{bytes_for, questions_for, command_bytes, after_order, row_bytes, login_bytes, login_questions, listen_bytes, listen_questions};
 ghost use Rattle.links.specs.Sessions.Links.{question_of};
 ghost use Rattle.links.specs.declared.sessions.questions.Question.TheVariants as asks;
 
@@ -92,6 +92,19 @@ pub(crate) fn put_message(session: &mut LinkSession, message: &Message) -> Resul
     ensures bounded { OnOk result ((length session.new.unsent ≤ UNSENT_MAX) × (length session.new.asked ≤ ASKED_MAX)) }
 {
     put_words(session, message)?;
+    is_short(session)
+}
+
+/// Puts out the question for the row of a master, by its name. The answer tells nothing here. A fault is as that of
+/// `put_message`.
+pub(crate) fn put_row_question(session: &mut LinkSession, name: &[u8]) -> Result<(), LinkFault>
+    ensures ok { OnOk result (session.new ≡ record session.old {
+      unsent = session.old.unsent ++ row_bytes name.now;
+      asked = session.old.asked ++ asks.Order ∷ [];
+    }) }
+    ensures bounded { OnOk result ((length session.new.unsent ≤ UNSENT_MAX) × (length session.new.asked ≤ ASKED_MAX)) }
+{
+    session.order(&[b"SENTINEL", b"MASTER", name])?;
     is_short(session)
 }
 

@@ -1,6 +1,7 @@
 //! The words of the command line, by `clap`.
 
 use crate::failures::fail;
+use crate::versions::VERSION;
 use clap::builder::ValueParser;
 use clap::error::ErrorKind;
 use clap::{Arg, ArgAction, ArgMatches, Command, Error, value_parser};
@@ -13,9 +14,6 @@ use std::process::ExitCode;
 
 /// The exit status of refused words.
 pub(crate) const REFUSED_WORDS: u8 = 2;
-
-/// The version of the program, as `--version` prints it.
-const VERSION: &str = "0.1.0";
 
 /// The profiles of the Sentinels of a story.
 const PROFILES: [&str; 2] = ["strict", "redis"];
@@ -179,6 +177,10 @@ fn watch<'a>(alloc: Global) -> Result<Command<'a>, AllocError> {
         .long("quiet")
         .action(ArgAction::SetTrue)
         .help("Notes on standard error warnings alone, and why it ends");
+    let ready_file = Arg::new(alloc, "ready-file")
+        .long("ready-file")
+        .value_name("file")
+        .help("Makes this file once the port is open, and removes it at the end: for supervisors");
     let conf = Arg::new(alloc, "conf")
         .required(true)
         .help("The sentinel.conf of the Sentinel, which is rewritten");
@@ -188,6 +190,7 @@ fn watch<'a>(alloc: Global) -> Result<Command<'a>, AllocError> {
         )
         .arg(quiet)?
         .arg(port_threads(alloc))?
+        .arg(ready_file)?
         .arg(conf)
 }
 

@@ -15,11 +15,13 @@ mod new_folders;
 mod new_groups;
 mod new_ids;
 mod noted_store;
+mod ready_files;
 mod redis_text;
 mod replaying;
 mod serving;
 mod starting;
 mod telling;
+mod versions;
 mod watching;
 
 ghost use Rattle.std.specs.Prelude.{◌<◌, ◌-◌, ◌^◌};
@@ -34,13 +36,15 @@ use crate::new_groups::new_group;
 use crate::new_ids::new_id;
 use crate::replaying::replay;
 use crate::serving::{serve as serve_group, tell_end};
+use crate::versions::tell_version;
 use crate::watching::{tell_watched, watch, watch_level};
 use clap::ArgMatches;
+use clap::error::ErrorKind;
 use log::sink::Discard;
 use log::{LevelFilter, Logged};
 use sentinel_conf::{Conf, ConfStore, MemoryStore, read};
 use sentinel_core::{Sentinel, ServeFault};
-use sentinel_runner::NoteQueue;
+use sentinel_runner::{NoteForm, NoteQueue};
 use std::process::ExitCode;
 
 /// The configuration of a Sentinel that is given no file: it watches one master with three other Sentinels.
@@ -124,7 +128,7 @@ fn main(rt: HostRuntime) -> ExitCode {
                 }
                 // (notes have a thread of their own, which no other waits for; what it can't write, nor can a line of
                 // how the group ended)
-                let Ok((queue, writer)) = NoteQueue::open(rt, rt.alloc()) else {
+                let Ok((queue, writer)) = NoteQueue::open(rt, rt.alloc(), NoteForm::Whole) else {
                     return fail(&rt, ServeFault::NoMemory);
                 };
                 let noting = Logged::new(rt, LevelFilter::Info, queue);
@@ -134,7 +138,7 @@ fn main(rt: HostRuntime) -> ExitCode {
             }
             Some(("watch", words)) => {
                 // (as above)
-                let Ok((queue, writer)) = NoteQueue::open(rt, rt.alloc()) else {
+                let Ok((queue, writer)) = NoteQueue::open(rt, rt.alloc(), NoteForm::Bare) else {
                     return fail(&rt, ServeFault::NoMemory);
                 };
                 let noting = Logged::new(rt, watch_level(words), queue);
@@ -145,6 +149,7 @@ fn main(rt: HostRuntime) -> ExitCode {
             Some((_, words)) => answer(rt, words),
             None => answer_in_memory(rt),
         },
+        Err(error) if error.kind() == ErrorKind::DisplayVersion => tell_version(rt),
         Err(error) => tell_words(&rt, &error),
     }
 }

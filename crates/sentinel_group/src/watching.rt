@@ -8,13 +8,16 @@ use crate::failures::{fail, fail_group, refuse_conf, refuse_file, status_of_grou
 use crate::group_files::{opened, refuse_unopened_by_reason};
 use crate::locks::{FileLock, lock_file, refuse_lock};
 use crate::noted_store::NotedStore;
+use crate::ready_files::ReadyFile;
 use crate::starting::note_sentinel;
 use crate::telling::{note_watch, tell_faults, tell_watch};
 use ballot_law::{Roster, Text};
 use clap::ArgMatches;
 use client_port::{Admission, PortAddress};
-use log::{LevelFilter, Log};
-use sentinel_conf::{Conf, FileText, WatchConf, WatchFault, WatchKind, read, read_watch};
+use log::{LevelFilter, Log, info};
+use sentinel_conf::{
+    Conf, ConfStore, FileText, WatchConf, WatchFault, WatchKind, read, read_watch,
+};
 use sentinel_core::ServeFault;
 use sentinel_rules::Profile;
 use sentinel_runner::{GroupFault, PortSettings, Watch, WatchSettings};
@@ -225,6 +228,35 @@ fn locked_file<'a, R: Log>(
     }
 }
 
+/// Notes with which file and port a Sentinel starts, which masters it watches, and the warnings of its file.
+fn note_begin<R: Log>(rt: HostRuntime, noting: &R, path: &str, conf: &Conf, text: &[u8]) {
+    info!(noting; "starts with the file {path}, for the port {}", conf.port());
+    note_sentinel(noting, conf);
+    let sentinels = conf.roster().sentinels().len() as u64;
+    note_watch(rt, noting, path, sentinels, text);
+}
+
+/// Runs a Sentinel whose port is open, and keeps its ready file meanwhile.
+fn run_ready<R, S: ConfStore + Drop + Send>(
+    rt: HostRuntime,
+    noting: &R,
+    watch: Watch<S>,
+    ready: ReadyFile<'_>,
+) -> Result<(), Unwatched>
+where
+    R: Threads + Wait + Net + Clock + Log + Sync,
+{
+    if let Err(status) = ready.open(rt, noting) {
+        return Err(Unwatched::Refused(status));
+    }
+    let ended = watch.run(noting);
+    ready.close(rt);
+    match ended {
+        Ok(()) => Ok(()),
+        Err(fault) => Err(Unwatched::Fault(fault)),
+    }
+}
+
 /// Runs the Sentinel of the conf file that the words name, on which nobody else may run meanwhile; its notes go to the
 /// log of `noting`.
 pub(crate) fn watch<R>(rt: HostRuntime, noting: &R, words: &ArgMatches) -> Result<(), Unwatched>
@@ -241,19 +273,18 @@ where
         store,
         settings,
     } = file;
-    note_sentinel(noting, &conf);
     let path = words.get_str("conf").unwrap_or("");
-    let sentinels = conf.roster().sentinels().len() as u64;
-    note_watch(rt, noting, path, sentinels, text.as_slice());
+    note_begin(rt, noting, path, &conf, text.as_slice());
+    let ready = match ReadyFile::cleared(rt, noting, words.get_str("ready-file")) {
+        Ok(ready) => ready,
+        Err(status) => return Err(Unwatched::Refused(status)),
+    };
     let ended = match Watch::open(noting, rt.alloc(), conf, store, settings) {
-        Ok(watch) => watch.run(noting),
-        Err(fault) => Err(fault),
+        Ok(watch) => run_ready(rt, noting, watch, ready),
+        Err(fault) => Err(Unwatched::Fault(fault)),
     };
     drop(lock);
-    match ended {
-        Ok(()) => Ok(()),
-        Err(fault) => Err(Unwatched::Fault(fault)),
-    }
+    ended
 }
 
 /// Tells how a Sentinel ended, by a line, where standard error takes lines, and by the status.

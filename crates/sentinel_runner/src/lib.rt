@@ -18,7 +18,7 @@ mod watch;
 
 pub use group::{Group, run_group};
 pub use group_fault::{GroupFault, OrderedFault};
-pub use log_queue::{NoteQueue, NoteWriter, WAITING_MAX};
+pub use log_queue::{NoteForm, NoteQueue, NoteWriter, WAITING_MAX};
 pub use node_parts::{ServesNodes, WithPorts, WithoutPorts};
 pub use opened::{PORT_THREADS_MAX, PortSettings};
 pub use watch::{Watch, WatchSettings};

@@ -9,4 +9,4 @@ mod backlog;
 mod queue;
 
 pub use backlog::WAITING_MAX;
-pub use queue::{NoteQueue, NoteWriter};
+pub use queue::{NoteForm, NoteQueue, NoteWriter};

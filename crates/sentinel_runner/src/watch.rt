@@ -113,13 +113,14 @@ fn room_of<R: Net>(
     Ok(room.with_profile(port.profile))
 }
 
-/// Notes how many clients the port has room for, where a file lets so many in.
+/// Notes that the port is open, and how many clients it has room for, where a file lets so many in.
 fn note_room<R: Log>(rt: &R, number: u16, wanted: Option<u16>, admission: &Admission) {
+    let noting = rt.span("sentinel").with("port", number);
+    info!(noting; "port {number} is open, and clients are answered");
     let (Some(wanted), Some(most)) = (wanted, admission.limit) else {
         return;
     };
     let kept = admission.kept_seats();
-    let noting = rt.span("sentinel").with("port", number);
     info!(noting; "room for {most} connections of clients (maxclients), and {kept} seats kept for the other Sentinels");
     if most < wanted {
         warn!(noting; "maxclients is {wanted}, and the system gives descriptors for {most}: raise the limit of open files (LimitNOFILE, ulimit -n)");

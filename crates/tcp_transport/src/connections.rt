@@ -4,6 +4,7 @@ use crate::exchange::{Outgoing, SentinelEnd, TransportEnd, WatchState, exchange}
 use crate::fault_notes::note_fault;
 use crate::logins::Logins;
 use crate::peer_connection::PeerConnection;
+use crate::roster_rows::RowNotes;
 use crate::traffic::PIECE;
 use ballot_law::{Event, NodeName, Roster};
 use links::{Login, RecentFaults, TickSchedule, connection_count, ping_each, place_of, target_at};
@@ -43,6 +44,7 @@ pub struct Connections {
     logins: Logins,
     near: TransportEnd,
     faults: RecentFaults,
+    rows: RowNotes,
     room: Vec<u8>,
     alloc: Global,
 }
@@ -111,6 +113,7 @@ impl Connections {
             logins,
             near,
             faults: RecentFaults::new(alloc),
+            rows: RowNotes::new(),
             room: vec![in alloc; 0; PIECE]?,
             alloc,
         };
@@ -125,6 +128,7 @@ impl Connections {
                 let node = wire.node();
                 let login = login_of(&self.roster, &self.logins, node);
                 wire.keep(net, self.poll.registry(), Token(place), login, now);
+                wire.ask_row(&self.roster, now);
                 if wire.take_loss(now) {
                     self.near.hand_on(rt, Event::Disconnected { node }, now);
                 }
@@ -177,6 +181,17 @@ impl Connections {
             wire.serve(rt, &mut self.near, self.room.as_mut_slice(), now);
         }
         self.note_fault(rt, place, now);
+        self.note_row(rt, place, now);
+    }
+
+    /// Notes in what the file of the Sentinel differs with which the connection at this place is, where it answered with
+    /// a row.
+    fn note_row<R: Log>(&mut self, rt: &R, place: usize, now: u64) {
+        if let Some(Some(wire)) = self.wires.get_mut(place) {
+            if let Some(answer) = wire.take_row() {
+                self.rows.hear(rt, &self.roster, wire.target(), answer, now);
+            }
+        }
     }
 
     /// Notes the fault that closed the connection at this place, where none of its node was noted a moment ago.

@@ -39,7 +39,7 @@ impl fmt::Display for Told {
 
 /// A run id, as 40 hex digits.
 #[derive(Clone, Copy)]
-struct Id(RunId);
+pub(crate) struct Id(pub(crate) RunId);
 
 impl fmt::Display for Id {
     fn fmt<W: fmt::Write>(&self, f: &mut fmt::Formatter<W>) -> fmt::Result {

@@ -13,6 +13,7 @@ mod hello_notes;
 mod logins;
 mod peer_connection;
 mod replica_notes;
+mod roster_rows;
 mod tick_loop;
 mod traffic;
 

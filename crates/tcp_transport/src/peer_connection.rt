@@ -6,8 +6,9 @@ ghost use Rattle.node_texts.specs.Messages.MessageTexts.{IsWritable};
 ghost use Rattle.ballot_law.specs.Limits.{IsWithinEvent};
 
 use crate::exchange::TransportEnd;
+use crate::roster_rows::{RowHeard, RowLook};
 use crate::traffic::{Unheard, hear, send};
-use ballot_law::{Addr, Body, Event, Message, NodeName};
+use ballot_law::{Addr, Body, Event, Message, NodeName, Roster};
 use links::{FLOW_MS, LinkFault, Login, NodeLink, RateLimit, Stage, Target, is_refusal};
 use log::{Log, warn};
 use mio::net::TcpStream;
@@ -29,7 +30,7 @@ const LOOK_MS: u64 = 100;
 /// read, `is_ending` whether the system told of its end, `is_refused` whether the node refused who asks when it was
 /// heard last, `look_at` when it is to be asked what came of an order, `fault` the fault of what came that closed it
 /// last, and `shut_until` until when it stays closed, since too much came on it, `is_lost` whether it was told to be
-/// lost since it was open last.
+/// lost since it was open last, `rows` what it asks another Sentinel for its rows.
 #[derive(Drop)]
 pub(crate) struct PeerConnection {
     link: NodeLink,
@@ -42,6 +43,7 @@ pub(crate) struct PeerConnection {
     flow: RateLimit,
     shut_until: u64,
     is_lost: bool,
+    rows: RowLook,
     alloc: Global,
 }
 
@@ -94,6 +96,7 @@ impl PeerConnection {
             flow: RateLimit::new(),
             shut_until: 0,
             is_lost: false,
+            rows: RowLook::new(),
             alloc,
         }
     }
@@ -158,6 +161,7 @@ impl PeerConnection {
         if self.link.schedule().stage == Stage::Closed {
             self.stream = None;
             self.goes_on = false;
+            self.rows.end();
         }
     }
 
@@ -209,6 +213,29 @@ impl PeerConnection {
             }
         }
         self.send_out(now);
+    }
+
+    /// Asks another Sentinel for its row of a master of this roster, one after the other, where that is due. A fault has
+    /// closed it.
+    pub(crate) fn ask_row(&mut self, roster: &Roster, now: u64) {
+        let NodeName::SentinelAt(_) = self.link.target().node else {
+            return;
+        };
+        let number = self.rows.master(roster.masters().len());
+        let Some(master) = roster.masters().get(number as usize) else {
+            return;
+        };
+        if self.rows.is_due(now) {
+            if let Ok(true) = self.link.ask_row(master.name.as_slice(), now) {
+                self.rows.begin(self.alloc, number, now);
+            }
+            self.send_out(now);
+        }
+    }
+
+    /// What another Sentinel's row of the master with this number says, where an answer came since this was asked last.
+    pub(crate) fn take_row(&mut self) -> Option<(u16, RowHeard)> {
+        self.rows.take()
     }
 
     /// What was silent so far counts no more, and it sends a PING: this Sentinel stood still.
@@ -271,6 +298,14 @@ impl PeerConnection {
         self.is_refused = is_refused;
     }
 
+    /// Looks at a piece that came: at the answer to a question for a row where one is awaited, else at whether it refuses
+    /// who asks.
+    fn note_piece<R: Log>(&mut self, rt: &R, piece: &[u8]) {
+        if !self.rows.hear(piece) {
+            self.note_refusal(rt, piece);
+        }
+    }
+
     /// Reads one piece, and hands on what it tells: how long it is; the error says why none was taken, or that more
     /// comes than a node has to say: then the connection is shut for a second, so that what other nodes say isn't lost
     /// beside it.
@@ -295,7 +330,7 @@ impl PeerConnection {
         }
         match heard {
             Ok(count) => {
-                self.note_refusal(rt, room);
+                self.note_piece(rt, &room[..count]);
                 Ok(count)
             }
             Err(Unheard::Stream(kind)) => Err(kind),

@@ -83,6 +83,7 @@ pub(crate) fn hear<T: Read>(
     ensures why { IfErr result (IsWhy (T.remaining stream.old) (T.remaining stream.new) link.old events.old.items events.new.items) }
     ensures heard_on { (more : List Event) × (events.new.items ≡ events.old.items ++ more) × AllByRecursion (IsHeardOn link.old.target) more }
     ensures target { link.new.target ≡ link.old.target }
+    ensures within { IfOk result (λ count. count ≤ length room.new) }
 {
     let count = match read(stream, room) {
         Ok(count) => count,

@@ -6,7 +6,7 @@ use crate::log_queue::backlog::{Backlog, WAITING_MAX};
 use crossbeam_channel::{Receiver, RecvTimeoutError, Sender, unbounded};
 use log::kv::Source;
 use log::span::Spans;
-use log::{Line, Log, Metadata, Record};
+use log::{Level, Line, Log, Metadata, Record};
 use std::alloc::{AllocError, Global};
 use std::fmt::Display;
 use std::rt::Clock;
@@ -16,6 +16,16 @@ use std::time::Duration;
 
 /// For how long standard error may take no note at the end, in milliseconds, before those that wait are given up.
 const END_MS: u64 = 500;
+
+/// How a note is written as a line.
+#[derive(Clone, Copy, PartialEq, Eq)]
+pub enum NoteForm {
+    /// With its level, with where it comes from in the program, and with which Sentinel it is of, as
+    /// `[WARN  place] sentinel{port=26379}: text`.
+    Whole,
+    /// As its text alone, with `warning: ` before that of a warning: for a program of one Sentinel.
+    Bare,
+}
 
 /// A note that waits, and how many were lost right before it.
 #[derive(Drop)]
@@ -33,6 +43,7 @@ pub struct NoteQueue<R: Wait> {
     rt: R,
     to: Sender<QueuedNote>,
     backlog: Arc<Mutex<Backlog>, Global>,
+    form: NoteForm,
     alloc: Global,
 }
 
@@ -44,6 +55,21 @@ pub struct NoteWriter {
 }
 
 impl<R: Wait> NoteQueue<R> {
+    /// The line of a note. The error is a refused allocation.
+    fn line_of<D: Display, K: Source, S: Spans>(
+        &self,
+        record: &Record<'_, D, K, S>,
+    ) -> Result<String, AllocError> {
+        let text = record.args();
+        match (self.form, record.level()) {
+            (NoteForm::Whole, _) => String::format(self.alloc, Line::new(record)),
+            (NoteForm::Bare, Level::Error | Level::Warn) => format!(in self.alloc;
+                "warning: {text}"
+            ),
+            (NoteForm::Bare, _) => format!(in self.alloc; "{text}"),
+        }
+    }
+
     /// Has a line wait, which tells that so many notes were lost before it. It is lost where there is no memory.
     fn put(&self, lost: u64, line: String) {
         if self.to.send(&self.rt, QueuedNote { lost, line }).is_err() {
@@ -68,7 +94,7 @@ impl<R: Wait> Log for NoteQueue<R> {
         let Some(lost) = entered else {
             return;
         };
-        match String::format(self.alloc, Line::new(record)) {
+        match self.line_of(record) {
             Ok(line) => self.put(lost, line),
             Err(_) => self.backlog.lock(&self.rt).lose(lost),
         }
@@ -82,31 +108,44 @@ impl<R: Wait> Log for NoteQueue<R> {
 }
 
 /// Tells how many notes were lost, where any were.
-fn tell_lost<R: Eprint>(rt: &R, lost: u64) {
+fn tell_lost<R: Eprint>(rt: &R, form: NoteForm, lost: u64) {
     if lost > 0 {
+        let front = match form {
+            NoteForm::Whole => "[WARN  queued_notes] ",
+            NoteForm::Bare => "warning: ",
+        };
         let _ = eprintln!(rt;
-            "[WARN  queued_notes] {lost} notes were lost here: standard error took none, or there was no memory"
+            "{front}{lost} notes were lost here: standard error took none, or there was no memory"
         );
     }
 }
 
 /// Writes each note that comes, until nobody is left who could put one into the queue. A note that can't be written is
 /// lost.
-fn write_all<R: Wait + Eprint>(rt: &R, notes: &Receiver<QueuedNote>, backlog: &Mutex<Backlog>) {
+fn write_all<R: Wait + Eprint>(
+    rt: &R,
+    form: NoteForm,
+    notes: &Receiver<QueuedNote>,
+    backlog: &Mutex<Backlog>,
+) {
     for note in notes.iter(rt) {
         let QueuedNote { lost, line } = note;
-        tell_lost(rt, lost);
+        tell_lost(rt, form, lost);
         let _ = eprintln!(rt; "{line}");
         backlog.lock(rt).leave();
     }
     let lost = backlog.lock(rt).take_lost();
-    tell_lost(rt, lost);
+    tell_lost(rt, form, lost);
 }
 
 impl<R: Wait> NoteQueue<R> {
-    /// An empty queue, and the thread that writes what comes through it. The error is a refused allocation, or a thread
-    /// that can't be made.
-    pub fn open(rt: R, alloc: Global) -> Result<(NoteQueue<R>, NoteWriter), AllocError>
+    /// An empty queue of notes of this form, and the thread that writes what comes through it. The error is a refused
+    /// allocation, or a thread that can't be made.
+    pub fn open(
+        rt: R,
+        alloc: Global,
+        form: NoteForm,
+    ) -> Result<(NoteQueue<R>, NoteWriter), AllocError>
     where
         R: Threads + Eprint + Copy + Drop + Send + 'static,
         ensures { IfOk result (λ r. r.0.rt ≡ rt) }
@@ -117,7 +156,7 @@ impl<R: Wait> NoteQueue<R> {
         let written = Arc::try_clone(&backlog)?;
         let looked_at = Arc::try_clone(&backlog)?;
         let begun = thread::spawn(&rt, move || {
-            write_all(&rt, &notes, &written);
+            write_all(&rt, form, &notes, &written);
             drop(end.send(&rt, 1));
         });
         if begun.is_err() {
@@ -127,6 +166,7 @@ impl<R: Wait> NoteQueue<R> {
             rt,
             to,
             backlog,
+            form,
             alloc,
         };
         let writer = NoteWriter {
