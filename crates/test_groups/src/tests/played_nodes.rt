@@ -1,5 +1,6 @@
 //! The nodes around a Sentinel, played: a master, its replica and another Sentinel, each at a port of its own.
 
+use crate::tests::watched::PEER;
 use ballot_law::NoMemory;
 use resp2::{Frames, OutText, Value, push_bulk, push_int, push_kind, push_size};
 use std::alloc::Global;
@@ -19,8 +20,12 @@ const MOST_COMMANDS: u32 = 64;
 /// What is to be played, and what was seen of it. Each number is 0 at first, and another one once that is so.
 #[derive(Drop)]
 pub(crate) struct Signals {
-    /// The other Sentinel answers.
+    /// The other Sentinel answers, as a third one until `peer_is_itself`.
     pub(crate) peer_answers: AtomicU64,
+    /// It names its own run id.
+    pub(crate) peer_is_itself: AtomicU64,
+    /// A connection was closed on which it named another one.
+    pub(crate) peer_given_up: AtomicU64,
     /// The master has a hello for who listens.
     pub(crate) hello_comes: AtomicU64,
     /// The other Sentinel was asked for a vote.
@@ -40,6 +45,8 @@ impl Signals {
     pub(crate) fn new() -> Signals {
         Signals {
             peer_answers: AtomicU64::new(0),
+            peer_is_itself: AtomicU64::new(0),
+            peer_given_up: AtomicU64::new(0),
             hello_comes: AtomicU64::new(0),
             vote_asked: AtomicU64::new(0),
             promoted: AtomicU64::new(0),
@@ -81,6 +88,9 @@ fn has(words: &[Value], at: usize, word: &[u8]) -> bool {
     word_at(words, at).eq_ignore_ascii_case(word)
 }
 
+/// The run id of a third Sentinel.
+const THIRD: &[u8] = b"cccccccccccccccccccccccccccccccccccccccc";
+
 /// The section of INFO that a master tells.
 const INFO_OF_MASTER: &[u8] =
     b"# Replication\r\nrole:master\r\nconnected_slaves:0\r\nmaster_repl_offset:14\r\n";
@@ -94,6 +104,7 @@ struct Seat<'a> {
     frames: Frames,
     answers: OutText,
     listens: bool,
+    is_misnamed: bool,
     /// How many commands stand between a MULTI and its EXEC.
     queued: Option<usize>,
     master: u16,
@@ -106,7 +117,12 @@ impl Seat<'_> {
     fn read(&mut self) -> bool {
         let mut piece = [0u8; 4096];
         match self.stream.read(&mut piece) {
-            Ok(0) => false,
+            Ok(0) => {
+                if self.is_misnamed {
+                    set(&self.signals.peer_given_up);
+                }
+                false
+            }
             Ok(count) => self.frames.feed(&piece[..count]).is_ok(),
             Err(error) => error.kind() == ErrorKind::WouldBlock,
         }
@@ -184,6 +200,26 @@ slave_read_only:1\r\n",
         push_kind(&mut self.answers, b':', word_at(words, 4))
     }
 
+    /// Answers which run id the other Sentinel has: its own one, or a third Sentinel's.
+    fn put_id(&mut self) -> Result<(), NoMemory> {
+        if is_so(&self.signals.peer_is_itself) {
+            return push_bulk(&mut self.answers, PEER.as_bytes());
+        }
+        self.is_misnamed = true;
+        push_bulk(&mut self.answers, THIRD)
+    }
+
+    /// Answers a command of Sentinels.
+    fn answer_sentinel(&mut self, words: &[Value]) -> Result<(), NoMemory> {
+        if has(words, 1, b"MYID") {
+            return self.put_id();
+        }
+        if has(words, 1, b"IS-MASTER-DOWN-BY-ADDR") {
+            return self.put_vote(words);
+        }
+        push_kind(&mut self.answers, b'-', b"ERR unknown command")
+    }
+
     /// Answers a command that is no part of another one.
     fn answer(&mut self, words: &[Value]) -> Result<(), NoMemory> {
         if has(words, 0, b"PING") {
@@ -203,8 +239,8 @@ slave_read_only:1\r\n",
             self.queued = Some(0);
             return push_kind(&mut self.answers, b'+', b"OK");
         }
-        if has(words, 0, b"SENTINEL") && has(words, 1, b"IS-MASTER-DOWN-BY-ADDR") {
-            return self.put_vote(words);
+        if has(words, 0, b"SENTINEL") {
+            return self.answer_sentinel(words);
         }
         push_kind(&mut self.answers, b'-', b"ERR unknown command")
     }
@@ -289,6 +325,7 @@ impl<'a> PlayedNodes<'a> {
             frames: Frames::new(self.alloc),
             answers: OutText::new(self.alloc),
             listens: false,
+            is_misnamed: false,
             queued: None,
             master: self.master,
             hello: self.hello,

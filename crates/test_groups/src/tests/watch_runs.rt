@@ -1,5 +1,6 @@
 //! `Watch` runs beside nodes that are played: a master with a replica, and another Sentinel.
 
+use crate::tests::clients::{SENTINELS, shows_down};
 use crate::tests::confs::free_port;
 use crate::tests::played_nodes::{Part, PlayedNode, PlayedNodes, Signals, set};
 use crate::tests::watched::{
@@ -34,8 +35,9 @@ struct Clients<'a, T: Read + Write + Drop> {
 /// What clients saw of a Sentinel whose master is up.
 #[derive(Drop)]
 struct SeenUp {
-    /// It showed the other Sentinel down while that was silent, and up once it answered.
-    peer: (bool, bool),
+    /// It showed the other Sentinel down while that was silent, gave up a connection on which another one named itself,
+    /// still showed it down, and showed it up once it named itself.
+    peer: (bool, bool, bool, bool),
     /// What a request for a vote was answered.
     voted: Vec<u8>,
     /// What a subscriber was told.
@@ -47,6 +49,9 @@ impl<T: Read + Write + Drop> Clients<'_, T> {
     fn look_up<R: Clock>(&mut self, rt: &R) -> io::Result<SeenUp> {
         let is_down = waits_for_peer(rt, &mut self.client, true)?;
         set(&self.signals.peer_answers);
+        let is_given_up = waits_for(rt, &self.signals.peer_given_up);
+        let is_down_still = shows_down(&mut self.client, SENTINELS)?;
+        set(&self.signals.peer_is_itself);
         let is_up = waits_for_peer(rt, &mut self.client, false)?;
         let Ok(request) = self.ports.vote_of(self.alloc, 500) else {
             return Err(io::Error::from(io::ErrorKind::OutOfMemory));
@@ -56,7 +61,7 @@ impl<T: Read + Write + Drop> Clients<'_, T> {
         set(&self.signals.hello_comes);
         let told = read_all(self.alloc, &mut self.subscriber, self.told)?;
         Ok(SeenUp {
-            peer: (is_down, is_up),
+            peer: (is_down, is_given_up, is_down_still, is_up),
             voted,
             told,
         })
@@ -134,7 +139,7 @@ fn a_watch_sees_votes_and_tells(rt: HostRuntime) -> Result<(), Fail> {
     let mut nodes = PlayedNodes::new(alloc, nodes, ports.master, hello.as_bytes(), &signals);
     let (seen, ended) = look_beside(&rt, watch, &mut nodes, &mut looker, &signals);
     let seen = seen?;
-    assert_eq!(rt; seen.peer, (true, true));
+    assert_eq!(rt; seen.peer, (true, true, true, true));
     assert_eq!(rt; seen.voted.as_slice(), VOTED);
     assert_eq!(rt; seen.told.as_slice(), told.as_bytes());
     assert_eq!(rt; ended, Err(GroupFault::Halted));
@@ -157,6 +162,7 @@ struct SeenDown {
 impl<T: Read + Write + Drop> Clients<'_, T> {
     /// Looks at a Sentinel whose master is down.
     fn look_down<R: Clock>(&mut self, rt: &R) -> io::Result<SeenDown> {
+        set(&self.signals.peer_is_itself);
         set(&self.signals.peer_answers);
         let asked = waits_for(rt, &self.signals.vote_asked);
         let promoted = waits_for(rt, &self.signals.promoted);
