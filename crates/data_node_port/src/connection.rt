@@ -29,7 +29,7 @@ const UNSENT_MAX: usize = 65_536;
 /// `followed` says that a node was told to follow somebody, for nodes of which proofs know that. Those of a group say
 /// nothing by it, and what serves them can't tell the one from the other.
 pub trait ShownNodes {
-    ghost use Rattle.std.specs.Prelude.{ℕ, Option, Unit};
+    ghost use Rattle.std.specs.Prelude.{ℕ, Option};
     ghost use Rattle.ballot_law.specs.declared.addresses.Addr.{Addr};
 
     ghost followed: { Self → (number : ℕ) → Option Addr → Type 0 } = { λ _ _ _. Unit {0} };
