@@ -102,7 +102,9 @@ impl Clients {
         thread: u16,
         admission: &Admission,
         seats: Arc<Seats, Global>,
-    ) -> io::Result<Clients> {
+    ) -> io::Result<Clients>
+        ensures { IfOk result (λ clients. clients.terms.password ≡ admission.now.password) }
+    {
         Ok(Clients {
             poll: Poll::new(net)?,
             connections: Slab::new(alloc),

@@ -1,6 +1,7 @@
 //! One Sentinel of its own, which watches Redis servers and speaks to the other Sentinels over TCP.
 
-ghost use Rattle.std.specs.Prelude.{◌≡◌, ◌≢◌, ◌<◌, ◌≤◌, ◌+◌, ◌-◌, ◌^◌, IfErr, IfOk, OnOk, length};
+ghost use Rattle.std.specs.Prelude.{◌≡◌, ◌≢◌, ◌<◌, ◌≤◌, ◌+◌, ◌-◌, ◌^◌, [], false, IfErr, IfOk, OnOk, length};
+ghost use Rattle.sentinel_rules.specs.Profiles.{is_redis};
 ghost use Rattle.sentinel_runner.specs.declared.group_fault.GroupFault.TheVariants.{NotOneRoster};
 ghost use Rattle.sentinel_runner.specs.declared.opened.TheConstants.{PORT_THREADS_MAX};
 ghost use Rattle.sentinel_runner.specs.declared.watch.TheConstants.{BESIDE};
@@ -150,6 +151,7 @@ fn port_of<R: Net + Log>(
     room: PortRoom,
     admission: &Admission,
 ) -> Result<(Port, Vec<Port>), GroupFault>
+    requires asked { is_redis room.profile ≡ false → admission.now.password ≡ [] }
     ensures threads { IfOk result (λ parts. length parts.1.items + 1 ≡ room.threads) }
     ensures roster { IfErr result (λ fault. fault ≢ NotOneRoster) }
 {
@@ -168,6 +170,8 @@ impl<S: ConfStore + Drop> Watch<S> {
     /// Opens the Sentinel of this conf at clock 0, and its port; no connection is opened yet. What the conf keeps is
     /// stored once its port is had, which is served after that: where the port can't be had the store is as it was.
     ///
+    /// No password may be wanted of clients by a strict profile, which asks nobody for one.
+    ///
     /// `Halted` where the store refuses that, `PortRefused` where a port can't be had, and `NoMemory`: `NotOneRoster`
     /// never comes.
     pub fn open<R: Net + Clock + Log>(
@@ -177,7 +181,8 @@ impl<S: ConfStore + Drop> Watch<S> {
         mut store: S,
         settings: WatchSettings,
     ) -> Result<Watch<S>, GroupFault>
-        requires { S.failure_count store < 2 ^ 64 - 1 }
+        requires room { S.failure_count store < 2 ^ 64 - 1 }
+        requires asked { is_redis settings.port.profile ≡ false → settings.admission.password ≡ [] }
         ensures roster { IfErr result (λ fault. fault ≢ NotOneRoster) }
     {
         let WatchSettings {
