@@ -1,6 +1,6 @@
 //! One Sentinel of its own, which watches Redis servers and speaks to the other Sentinels over TCP.
 
-ghost use Rattle.std.specs.Prelude.{◌≡◌, ◌≢◌, ◌<◌, ◌≤◌, ◌+◌, ◌-◌, ◌^◌, [], false, IfErr, IfOk, OnOk, length};
+ghost use Rattle.std.specs.Prelude.{◌≡◌, ◌≢◌, ◌<◌, ◌≤◌, ◌+◌, ◌-◌, ◌^◌, [], false, IfErr, IfOk, IsFalse, OnOk, length};
 ghost use Rattle.sentinel_rules.specs.Profiles.{is_redis};
 ghost use Rattle.sentinel_runner.specs.declared.group_fault.GroupFault.TheVariants.{NotOneRoster};
 ghost use Rattle.sentinel_runner.specs.declared.opened.TheConstants.{PORT_THREADS_MAX};
@@ -128,6 +128,16 @@ fn note_room<R: Log>(rt: &R, number: u16, wanted: Option<u16>, admission: &Admis
     }
 }
 
+/// Whether clients of a port that is served so are to give a password, and none asks them for it.
+fn asks_in_vain(port: PortSettings, admission: &Admission) -> bool
+    ensures { IsFalse result → is_redis port.profile ≡ false → admission.now.password ≡ [] }
+{
+    match admission.password.as_slice() {
+        [] => false,
+        _ => !port.profile.is_redis(),
+    }
+}
+
 /// The sockets of its port, at these addresses.
 fn sockets_of<R: Net + Log>(
     rt: &R,
@@ -170,10 +180,8 @@ impl<S: ConfStore + Drop> Watch<S> {
     /// Opens the Sentinel of this conf at clock 0, and its port; no connection is opened yet. What the conf keeps is
     /// stored once its port is had, which is served after that: where the port can't be had the store is as it was.
     ///
-    /// No password may be wanted of clients by a strict profile, which asks nobody for one.
-    ///
-    /// `Halted` where the store refuses that, `PortRefused` where a port can't be had, and `NoMemory`: `NotOneRoster`
-    /// never comes.
+    /// `Halted` where the store refuses that, `PortRefused` where a port can't be had, or would have to want a password
+    /// of clients by a strict profile, which asks nobody for one, and `NoMemory`: `NotOneRoster` never comes.
     pub fn open<R: Net + Clock + Log>(
         rt: &R,
         alloc: Global,
@@ -181,8 +189,7 @@ impl<S: ConfStore + Drop> Watch<S> {
         mut store: S,
         settings: WatchSettings,
     ) -> Result<Watch<S>, GroupFault>
-        requires room { S.failure_count store < 2 ^ 64 - 1 }
-        requires asked { is_redis settings.port.profile ≡ false → settings.admission.password ≡ [] }
+        requires { S.failure_count store < 2 ^ 64 - 1 }
         ensures roster { IfErr result (λ fault. fault ≢ NotOneRoster) }
     {
         let WatchSettings {
@@ -191,6 +198,9 @@ impl<S: ConfStore + Drop> Watch<S> {
             admission,
             logins,
         } = settings;
+        if asks_in_vain(port, &admission) {
+            return Err(GroupFault::PortRefused);
+        }
         let (wires, far) = wires_of(rt, alloc, &conf, logins)?;
         let room = room_of(rt, alloc, &conf, port, &admission)?;
         let wanted = admission.limit;

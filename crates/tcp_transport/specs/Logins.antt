@@ -4,13 +4,23 @@ use Rattle.ballot_law.specs.declared.messages.NodeName.{NodeName}
 use Rattle.ballot_law.specs.declared.messages.NodeName.TheVariants.{StoreAt}
 use Rattle.ballot_law.specs.declared.node_places.NodePlace.{NodePlace}
 use Rattle.ballot_law.specs.NodePlaces.{node_numbered}
-use Rattle.ballot_law.specs.Rosters.{Roster}
+use Rattle.ballot_law.specs.Rosters.{Roster, MasterPlan}
 use Rattle.links.specs.Speaking.{command_bytes}
+use Rattle.sentinel_conf.specs.Meaning.{last}
+use Rattle.sentinel_conf.specs.Watch.WatchLines.{node_pass_of, node_user_of}
+use Rattle.sentinel_conf.specs.declared.watch.settings.Setting.{Setting}
 
 -- the words of a login: an empty password is none, an empty user the default one
 pub record Words : Type 0 where
   pub user : List ℕ
   pub pass : List ℕ
+
+-- the login to the nodes of a master, as the lines of a file say it
+abbrev pub login_in : List Setting → MasterPlan → Words
+login_in settings master = record {
+  user = last (node_user_of master.name) [] settings;
+  pass = last (node_pass_of master.name) [] settings;
+}
 
 -- what is sent for it
 abbrev pub sent_as : Words → List ℕ

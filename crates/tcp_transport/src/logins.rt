@@ -1,10 +1,13 @@
 //! With which words a Sentinel logs in to the data nodes of each master, and to the ports of the other Sentinels.
 
-ghost use Rattle.std.specs.Prelude.{◌≡◌, ◌++◌, ◌∷◌, [], slice_get, IfOk, OnOk};
+ghost use Rattle.std.specs.Prelude.{◌≡◌, ◌++◌, ◌∷◌, [], map, slice_get, IfOk, OnOk};
+ghost use Rattle.sentinel_conf.specs.Watch.WatchConfs.{sent_pass, sent_user};
 ghost use Rattle.links.specs.Speaking.{login_bytes};
-ghost use Rattle.tcp_transport.specs.Logins.{sent_as, sent_for};
+ghost use Rattle.tcp_transport.specs.Logins.{login_in, sent_as, sent_for};
 
+use ballot_law::Roster;
 use links::Login;
+use sentinel_conf::WatchConf;
 use std::alloc::{AllocError, Global};
 use std::marker::Model;
 
@@ -69,6 +72,22 @@ impl Logins {
                 pass: Vec::new(alloc),
             },
         }
+    }
+
+    /// Those that the lines of a file say, which watches the masters of this roster.
+    pub fn of(alloc: Global, roster: &Roster, watch: &WatchConf) -> Result<Logins, AllocError>
+        ensures masters { IfOk result (λ logins. logins.of_masters.items ≡ map (login_in watch.now) roster.now.masters) }
+        ensures sentinels { IfOk result (λ logins. logins.of_sentinels ≡ record { user = sent_user watch.now; pass = sent_pass watch.now }) }
+    {
+        let mut logins = Logins::new(alloc);
+        let mut rest = roster.masters();
+        while let [master, more @ ..] = rest {
+            let name = &master.name;
+            logins.add(alloc, watch.node_user(name), watch.node_pass(name))?;
+            rest = more;
+        }
+        logins.set_sentinels(alloc, watch.sent_user(), watch.sent_pass())?;
+        Ok(logins)
     }
 
     /// Adds the login of the next master: an empty password is none, an empty user the default one.
