@@ -8,3 +8,4 @@ pub mod Reading
 pub mod Turns
 pub mod Joining
 pub mod About
+pub mod SharedConnections

@@ -3,3 +3,4 @@ pub mod GroupStarts
 pub mod LateAnswers
 pub mod TwoProcesses
 pub mod Connections
+pub mod SharedConnections

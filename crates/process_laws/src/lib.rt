@@ -5,6 +5,7 @@
 
 mod laws;
 mod link_laws;
+mod shared_laws;
 
 pub use laws::{
     law_actions_happen, law_late_answers_happen, law_one_group_is_a_start, law_processes_are_a_run,
@@ -13,3 +14,4 @@ pub use laws::{
 pub use link_laws::{
     law_answers_are_about_it, law_answers_are_delivered, law_senders_are_free, law_targets_are_free,
 };
+pub use shared_laws::{law_later_questions_wait, law_shared_answers_are_delivered};
