@@ -98,8 +98,8 @@ impl<T: Read + Write + Drop> Connection<T> {
         nodes: &V,
         number: u16,
     ) -> Result<bool, Closed>
-        ensures follows { (words : List (List ℕ)) (rest : List ℕ) (to : Option Addr) → asks words rest ≡ turn_at self.old.session.held → Follow to ≡ ask_of words
-            → OnOk result (V.followed nodes.now number to) }
+        ensures follows { (words : List (List ℕ)) (rest : List ℕ) (to : Option Addr) → asks words rest ≡ turn_at self.old.session.held
+            → Follow to ≡ ask_of words → OnOk result (V.followed nodes.now number to) }
     {
         let Ok(next) = self.session.next() else {
             return Err(Closed);

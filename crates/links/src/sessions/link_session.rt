@@ -137,8 +137,9 @@ impl LinkSession {
     /// On a connection that listens each value after the answers is a hello that a data node passes on.
     ///
     /// `Unread` where the bytes are no RESP2, `Unasked` and `Strange` where a value answers no question or not its own,
-    /// as where a Sentinel names another run id than it is to have, and `NoMemory`: what the values before told was added, and nothing else. From then on the session answers the
-    /// same fault for good and has nothing; the caller opens the connection anew.
+    /// as where a Sentinel names another run id than it is to have, and `NoMemory`: what the values before told was
+    /// added, and nothing else. From then on the session answers the same fault for good and has nothing; the caller
+    /// opens the connection anew.
     pub fn received(&mut self, piece: &[u8], events: &mut Vec<Event>) -> Result<(), LinkFault>
         ensures received { self.old.ended ≡ None → (more : List Event) × (events.new.items ≡ events.old.items ++ more)
             × Receives self.old.node self.old.listens self.old.asked (self.old.held ++ piece.now) result more self.new.asked self.new.held }

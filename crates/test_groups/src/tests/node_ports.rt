@@ -54,8 +54,8 @@ impl ShownNodes for TwoNodes {
 }
 
 /// What a client of a data node sends, and all that it is answered until it is closed.
-const ASKED: &[u8] =
-    b"*1\r\n$4\r\nPING\r\n*1\r\n$4\r\nROLE\r\n*3\r\n$9\r\nREPLICAOF\r\n$9\r\n127.0.0.1\r\n$4\r\n7001\r\n*1\r\n$4\r\nQUIT\r\n";
+const ASKED: &[u8] = b"*1\r\n$4\r\nPING\r\n*1\r\n$4\r\nROLE\r\n\
+*3\r\n$9\r\nREPLICAOF\r\n$9\r\n127.0.0.1\r\n$4\r\n7001\r\n*1\r\n$4\r\nQUIT\r\n";
 
 const ANSWERED: &[u8] = b"+PONG\r\n*3\r\n$6\r\nmaster\r\n:14\r\n*0\r\n+OK\r\n+OK\r\n";
 
