@@ -88,6 +88,14 @@ fn has(words: &[Value], at: usize, word: &[u8]) -> bool {
     word_at(words, at).eq_ignore_ascii_case(word)
 }
 
+/// The password that the master and its replica want.
+pub(crate) const NODE_PASS: &[u8] = b"of-the-nodes";
+
+/// The user that the other Sentinel wants, and the password.
+pub(crate) const PEER_USER: &[u8] = b"watcher";
+
+pub(crate) const PEER_PASS: &[u8] = b"of-the-sentinels";
+
 /// The run id of a third Sentinel.
 const THIRD: &[u8] = b"cccccccccccccccccccccccccccccccccccccccc";
 
@@ -104,6 +112,8 @@ struct Seat<'a> {
     frames: Frames,
     answers: OutText,
     listens: bool,
+    /// Whether the password was given that the node wants.
+    is_admitted: bool,
     is_misnamed: bool,
     /// How many commands stand between a MULTI and its EXEC.
     queued: Option<usize>,
@@ -220,8 +230,26 @@ slave_read_only:1\r\n",
         push_kind(&mut self.answers, b'-', b"ERR unknown command")
     }
 
+    /// Answers AUTH: another Sentinel wants a user and a password, the other nodes a password alone.
+    fn admit(&mut self, words: &[Value]) -> Result<(), NoMemory> {
+        self.is_admitted = match self.part {
+            Part::Sentinel => has(words, 1, PEER_USER) && has(words, 2, PEER_PASS),
+            Part::Master | Part::Replica => words.len() == 2 && has(words, 1, NODE_PASS),
+        };
+        if self.is_admitted {
+            return push_kind(&mut self.answers, b'+', b"OK");
+        }
+        push_kind(&mut self.answers, b'-', b"WRONGPASS no such password")
+    }
+
     /// Answers a command that is no part of another one.
     fn answer(&mut self, words: &[Value]) -> Result<(), NoMemory> {
+        if has(words, 0, b"AUTH") {
+            return self.admit(words);
+        }
+        if !self.is_admitted {
+            return push_kind(&mut self.answers, b'-', b"NOAUTH Authentication required.");
+        }
         if has(words, 0, b"PING") {
             return push_kind(&mut self.answers, b'+', b"PONG");
         }
@@ -325,6 +353,7 @@ impl<'a> PlayedNodes<'a> {
             frames: Frames::new(self.alloc),
             answers: OutText::new(self.alloc),
             listens: false,
+            is_admitted: false,
             is_misnamed: false,
             queued: None,
             master: self.master,

@@ -2,7 +2,9 @@
 
 use crate::tests::clients::{SENTINELS, connected, shows_down};
 use crate::tests::ending_files::EndingFile;
-use crate::tests::played_nodes::{PlayedNodes, Signals, is_so, set};
+use crate::tests::played_nodes::{
+    NODE_PASS, PEER_PASS, PEER_USER, PlayedNodes, Signals, is_so, set,
+};
 use crate::tests::told_files::MOST_LOOKS;
 use ballot_law::NoMemory;
 use client_port::{Admission, PortAddress};
@@ -53,13 +55,16 @@ sentinel known-sentinel mymaster 127.0.0.1 {} {PEER}\n",
     }
 
     /// What it is told beside its conf, as the program tells it: its port is at this machine, each client is let in,
-    /// and it logs in nowhere.
+    /// and it logs in to all nodes.
     fn settings(self, alloc: Global) -> Result<WatchSettings, AllocError> {
         let mut addresses = Vec::new(alloc);
         addresses.push(PortAddress {
             address: SocketAddr::from((Ipv4Addr::LOCALHOST, self.own)),
             may_lack: false,
         })?;
+        let mut logins = Logins::new(alloc);
+        logins.add(alloc, b"", NODE_PASS)?;
+        logins.set_sentinels(alloc, PEER_USER, PEER_PASS)?;
         Ok(WatchSettings {
             addresses,
             port: PortSettings {
@@ -67,7 +72,7 @@ sentinel known-sentinel mymaster 127.0.0.1 {} {PEER}\n",
                 profile: Profile::Redis,
             },
             admission: Admission::of_all(alloc),
-            logins: Logins::new(alloc),
+            logins,
         })
     }
 
