@@ -53,7 +53,7 @@ impl<T: Read + Write + Drop> Clients<'_, T> {
         let is_down_still = shows_down(&mut self.client, SENTINELS)?;
         set(&self.signals.peer_is_itself);
         let is_up = waits_for_peer(rt, &mut self.client, false)?;
-        let Ok(request) = self.ports.vote_of(self.alloc, 500) else {
+        let Ok(request) = Ports::vote_of(self.alloc, self.ports.master, 500) else {
             return Err(io::Error::from(io::ErrorKind::OutOfMemory));
         };
         self.client.write_all(request.as_bytes())?;

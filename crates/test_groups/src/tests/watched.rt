@@ -111,11 +111,10 @@ sentinel known-sentinel mymaster 127.0.0.1 {} {PEER}\n",
         )?)
     }
 
-    /// The request for a vote of this epoch by a third Sentinel.
-    pub(crate) fn vote_of(self, alloc: Global, epoch: u64) -> Result<String, NoMemory> {
-        let master = self.master;
+    /// The other Sentinel's request for a vote of this epoch, for the master at this port.
+    pub(crate) fn vote_of(alloc: Global, port: u16, epoch: u64) -> Result<String, NoMemory> {
         Ok(format!(in alloc;
-            "SENTINEL IS-MASTER-DOWN-BY-ADDR 127.0.0.1 {master} {epoch} {PEER}\r\n"
+            "SENTINEL IS-MASTER-DOWN-BY-ADDR 127.0.0.1 {port} {epoch} {PEER}\r\n"
         )?)
     }
 }
@@ -178,7 +177,8 @@ pub(crate) fn waits_for<R: Clock>(rt: &R, number: &AtomicU64) -> bool {
     false
 }
 
-/// Has the file refuse each text, and asks for a vote that is to be stored: so the Sentinel ends.
+/// Has the file refuse each text, and asks for a vote that is to be stored, at whichever node the master is by then: so
+/// the Sentinel ends.
 pub(crate) fn end<T: Write>(
     alloc: Global,
     stream: &mut T,
@@ -186,10 +186,14 @@ pub(crate) fn end<T: Write>(
     signals: &Signals,
 ) -> io::Result<()> {
     set(&signals.refuses);
-    let Ok(request) = ports.vote_of(alloc, 900) else {
-        return Err(io::Error::from(io::ErrorKind::OutOfMemory));
-    };
-    stream.write_all(request.as_bytes())
+    for port in [ports.master, ports.replica] {
+        let Ok(request) = Ports::vote_of(alloc, port, 900) else {
+            return Err(io::Error::from(io::ErrorKind::OutOfMemory));
+        };
+        // (one that is halted closes its connections)
+        drop(stream.write_all(request.as_bytes()));
+    }
+    Ok(())
 }
 
 /// Who looks at a Sentinel that runs.
