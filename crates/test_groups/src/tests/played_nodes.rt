@@ -127,12 +127,7 @@ impl Seat<'_> {
     fn read(&mut self) -> bool {
         let mut piece = [0u8; 4096];
         match self.stream.read(&mut piece) {
-            Ok(0) => {
-                if self.is_misnamed {
-                    set(&self.signals.peer_given_up);
-                }
-                false
-            }
+            Ok(0) => false,
             Ok(count) => self.frames.feed(&piece[..count]).is_ok(),
             Err(error) => error.kind() == ErrorKind::WouldBlock,
         }
@@ -292,6 +287,13 @@ slave_read_only:1\r\n",
         true
     }
 
+    /// The connection has ended.
+    fn note_end(&self) {
+        if self.is_misnamed {
+            set(&self.signals.peer_given_up);
+        }
+    }
+
     /// Reads, answers and sends; whether the connection is whole. Another Sentinel that is silent doesn't even read.
     fn turn(&mut self) -> bool {
         if self.part == Part::Sentinel && !is_so(&self.signals.peer_answers) {
@@ -385,6 +387,7 @@ impl<'a> PlayedNodes<'a> {
         for place in &mut self.seats {
             if let Some(seat) = place {
                 if !seat.turn() {
+                    seat.note_end();
                     *place = None;
                 }
             }
