@@ -1,6 +1,6 @@
 //! Requests for votes whose epoch is too far above the Sentinel's own one.
 
-ghost use Rattle.std.specs.Prelude.{◌≡◌, IfOk};
+ghost use Rattle.std.specs.Prelude.{◌≡◌, ℕ, Option, IfOk, false};
 ghost use Rattle.ballot_law.specs.Limits.{IsWithin};
 ghost use Rattle.courteous_sessions.specs.Epochs.{is_far, heard_epoch, heard, heard_as, far_request};
 
@@ -54,6 +54,14 @@ fn heard(current: Option<u64>, command: Command) -> Command
         },
         command => command,
     }
+}
+
+/// Whether a value is the question whether a master is down, which may be a request for a vote. Any other one is heard
+/// as it is.
+pub(crate) fn is_question(asked: &Result<Command, CommandFault>) -> bool
+    ensures { result ≡ false → (current : Option ℕ) → heard_as current asked.now ≡ asked.now }
+{
+    matches!(asked, Ok(Command::IsMasterDownByAddr { .. }))
 }
 
 /// The same of a value that may be no command.

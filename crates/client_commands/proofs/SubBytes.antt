@@ -1,0 +1,35 @@
+-- The bytes of what is told to subcommands of SENTINEL, and what CLIENT KILL chose.
+use Rattle.std.proofs.Common.{◌≡◌, ℕ, zero, suc, List, [], ◌∷◌, ◌++◌, length, map, decimal, refl, sym, ap, Bool, Option, None, Some}
+use Rattle.resp2.specs.Framing.Frame.{Frame, bulk, items, count, frames_of, spelling, spellings, line_end}
+use Rattle.client_commands.specs.Choosing.{Wanted, Chosen, fits, unfit, chosen_wanted, unfit_text}
+use Rattle.client_commands.specs.Courtesies.{ClientInfo, uncached, doomed, kill_answer}
+
+count_bulks : (words : List (List ℕ)) → count (frames_of (map bulk words)) ≡ length words
+count_bulks [] = refl
+count_bulks (word ∷ words) = ap suc (count_bulks words)
+
+pub words_bytes : (words : List (List ℕ))
+    → spelling (items (frames_of (map bulk words))) ≡ 42 ∷ ((decimal (length words) ++ line_end) ++ spellings (frames_of (map bulk words)))
+words_bytes words = rw (count_bulks words) refl
+
+count_uncached : (n : ℕ) → count (uncached n) ≡ n
+count_uncached zero = refl
+count_uncached (suc n) = ap suc (count_uncached n)
+
+pub uncached_bytes : (n : ℕ) → spelling (items (uncached n)) ≡ 42 ∷ ((decimal n ++ line_end) ++ spellings (uncached n))
+uncached_bytes n = rw (count_uncached n) refl
+
+-- ---- CLIENT KILL
+
+pub chosen_is : (chosen : Chosen) (wanted : Wanted) → Some wanted ≡ chosen_wanted chosen → chosen ≡ fits wanted
+chosen_is (fits w) wanted same = ap (λ (o : Option Wanted). elim o as (λ _. Chosen) [ None ↦ fits wanted | Some x ↦ fits x ]) (sym same)
+chosen_is (unfit refusal) wanted same = let never : Some wanted ≡ None = same in absurd (cc)
+
+pub unchosen_text : (asker : ClientInfo) (by_address : Bool) (before : List ℕ) (chosen : Chosen) → None ≡ chosen_wanted chosen
+    → unfit_text before chosen ≡ spelling (kill_answer asker by_address chosen)
+unchosen_text asker by_address before (fits w) same = let never : None ≡ Some w = same in absurd (cc)
+unchosen_text asker by_address before (unfit refusal) same = refl
+
+pub unchosen_none : (asker : ClientInfo) (chosen : Chosen) → None ≡ chosen_wanted chosen → doomed asker chosen ≡ []
+unchosen_none asker (fits w) same = let never : None ≡ Some w = same in absurd (cc)
+unchosen_none asker (unfit refusal) same = refl
