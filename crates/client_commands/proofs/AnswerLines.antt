@@ -1,10 +1,10 @@
 -- No line of an answer holds a CR or LF, so each answer is one value on the wire.
 use Rattle.std.proofs.Common.{◌≡◌, ◌≢◌, ◌+◌, ◌-◌, ◌||◌, ◌&&◌, ◌==◌, not, ℕ, zero, suc, List, [], ◌∷◌, ◌++◌, map, take, length, Option, None, Some, Bool, true, false, codes, refl, sym, ◌∙◌, ap, subst, arith}
 use Rattle.std.specs.Prelude.{nat_lt, nat_le, bytes_eq}
-use Rattle.std.specs.List.{list_all, list_any}
+use Rattle.std.specs.List.{list_all}
 use Rattle.std.proofs.lemmas.Bool.{and_parts}
 use Rattle.ballot_law.specs.Words.{lower, canonical_within}
-use Rattle.resp2.specs.Framing.Frame.{Frame, FrameList, simple, fault, bulk, items, frame, frames_of, IsLine, HasLines, HaveLines}
+use Rattle.resp2.specs.Framing.Frame.{Frame, simple, fault, bulk, frames_of, IsLine, HasLines, HaveLines}
 use Rattle.client_commands.specs.declared.verbs.Verb.{Verb}
 use Rattle.client_commands.specs.declared.verbs.Verb.TheVariants.{Ping, Hello, Auth, SetName, SetInfo, GetName, Id, OfClients, Own, Kill, NoEvict, Reply, HelpOfClient, Commands, Docs, Count, HelpOfCommand, Role, Publish, Info, Sentinel}
 use Rattle.client_commands.specs.declared.subcommands.Sub.{Sub}
@@ -388,15 +388,9 @@ uncached_lines : (n : ℕ) → HaveLines (table.uncached n)
 uncached_lines zero = tt
 uncached_lines (suc n) = ((tt, (tt, tt)), uncached_lines n)
 
-more_cached : (test : Bool) (name : List ℕ) (n : ℕ) (rest : FrameList) → HaveLines rest
-    → HaveLines (elim test as (λ _. FrameList) [ true ↦ frame (bulk name) (frame (items (table.uncached n)) rest) | false ↦ rest ])
-more_cached true name n rest h = (tt, (uncached_lines n, h))
-more_cached false name n rest h = h
-
-cached_lines : (words : List (List ℕ)) (masters : List MonitoredMaster) → HaveLines (table.cached words masters)
-cached_lines words [] = tt
-cached_lines words (master ∷ masters) =
-    more_cached (list_any (bytes_eq master.name) words) master.name master.nodes (table.cached words masters) (cached_lines words masters)
+cached_lines : (masters : List MonitoredMaster) → HaveLines (table.cached masters)
+cached_lines [] = tt
+cached_lines (master ∷ masters) = (tt, (uncached_lines master.nodes, cached_lines masters))
 
 only_line : HasLines only_get
 only_line = checked (codes "ERR Only SENTINEL CONFIG GET <option> / SET <option> <value> are supported.") refl
@@ -423,7 +417,7 @@ config_lines asker (mode ∷ option ∷ value ∷ next ∷ words) = only_line
 told_lines_of : (asker : ClientInfo) (sub : Sub) (words : List (List ℕ)) → HasLines (table.sentinel_told asker sub words)
 told_lines_of asker Help words = told_have_lines sentinel_help refl
 told_lines_of asker PendingScripts words = tt
-told_lines_of asker InfoCache words = cached_lines words asker.masters
+told_lines_of asker InfoCache words = cached_lines (table.named_masters words asker.masters)
 told_lines_of asker Config words = config_lines asker words
 told_lines_of asker SetOption words = runtime_line (codes "SET") refl
 told_lines_of asker Monitor words = runtime_line (codes "MONITOR") refl

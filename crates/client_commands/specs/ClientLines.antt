@@ -36,7 +36,7 @@ to_what entry =
 unfoldable pub uncounted : (last : List ℕ) → List ℕ
 uncounted last =
     codes " multi=-1 qbuf=0 qbuf-free=0 argv-mem=0 multi-mem=0 rbs=0 rbp=0 obl=0 oll=0 omem=0 tot-mem=0 events=r"
-    ++ (labelled (codes " cmd=") last ++ (codes " user=default redir=-1 resp=2" ++ 10 ∷ []))
+    ++ (labelled (codes " cmd=") last ++ (codes " user=default redir=-1 resp=2" ++ (10 ∷ [])))
 
 -- the line of a client, where the connection with this number and this name asks by this command
 abbrev pub client_line : (id : ℕ) → (name last : List ℕ) → (now : ℕ) → ClientEntry → List ℕ

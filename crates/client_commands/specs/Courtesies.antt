@@ -438,14 +438,19 @@ abbrev pub uncached : ℕ → FrameList
 uncached zero = no_frames
 uncached (suc n) = frame (items (frames_of (int (pos 0) ∷ null_bulk ∷ []))) (uncached n)
 
--- of each master that a word names, its name, and what is kept of its data nodes
-abbrev pub cached : List (List ℕ) → List MonitoredMaster → FrameList
-cached words [] = no_frames
-cached words (master ∷ masters) =
-    elim (list_any (bytes_eq master.name) words) [
-      | true ↦ frame (bulk master.name) (frame (items (uncached master.nodes)) (cached words masters))
-      | false ↦ cached words masters
+-- the masters that a word names
+abbrev pub named_masters : List (List ℕ) → List MonitoredMaster → List MonitoredMaster
+named_masters words [] = []
+named_masters words (master ∷ masters) =
+    elim (list_any (bytes_eq master.name) words) as (λ _. List MonitoredMaster) [
+      | true ↦ master ∷ named_masters words masters
+      | false ↦ named_masters words masters
     ]
+
+-- of each its name, and what is kept of its data nodes
+abbrev pub cached : List MonitoredMaster → FrameList
+cached [] = no_frames
+cached (master ∷ masters) = frame (bulk master.name) (frame (items (uncached master.nodes)) (cached masters))
 
 -- a setting and its value, where the pattern matches its name
 abbrev pub setting : (pattern name value : List ℕ) → List (List ℕ)
@@ -471,7 +476,7 @@ config asker words = only_get
 abbrev pub sentinel_told : ClientInfo → Sub → List (List ℕ) → Frame
 sentinel_told asker Help words = told_lines sentinel_help
 sentinel_told asker PendingScripts words = items no_frames
-sentinel_told asker InfoCache words = items (cached words asker.masters)
+sentinel_told asker InfoCache words = items (cached (named_masters words asker.masters))
 sentinel_told asker Config words = config asker words
 sentinel_told asker SetOption words = not_at_runtime (codes "SET")
 sentinel_told asker Monitor words = not_at_runtime (codes "MONITOR")

@@ -151,7 +151,7 @@ where_told false text = []
 -- an empty line between two sections
 abbrev pub gap : (before : List ℕ) → List ℕ
 gap [] = []
-gap (b ∷ bs) = b ∷ bs ++ line_end
+gap (b ∷ bs) = (b ∷ bs) ++ line_end
 
 -- the sections before this one, and this one where it is told
 abbrev pub with_section : (before : List ℕ) → (told : Bool) → (section : List ℕ) → List ℕ

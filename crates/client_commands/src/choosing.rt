@@ -1,6 +1,6 @@
 //! Which clients CLIENT LIST and CLIENT KILL name.
 
-ghost use Rattle.std.specs.Prelude.{◌≡◌, Some, true, false, IfOk, OnOk};
+ghost use Rattle.std.specs.Prelude.{◌≡◌, Some, None, true, false, IfOk, OnOk};
 ghost use Rattle.client_commands.specs.Choosing.{is_number, is_text, is_kind, is_chosen, places_of, anyone, kind_named, with_id, with_kind, with_user, with_spared, with_option, with_options, chosen_by, is_fit, wanted_after, chosen_wanted, unfit_text};
 
 use crate::passwords::is_same;
@@ -262,6 +262,7 @@ impl Wanted {
     ) -> Result<bool, NoMemory>
         ensures fits { IfOk result (λ fits. fits ≡ is_fit (with_options self.old words.now)) }
         ensures wanted { IfOk result (λ fits. fits ≡ true → chosen_wanted (with_options self.old words.now) ≡ Some self.new) }
+        ensures none { IfOk result (λ fits. fits ≡ false → chosen_wanted (with_options self.old words.now) ≡ None) }
         ensures text { OnOk result (out.new ≡ unfit_text out.old (with_options self.old words.now)) }
     {
         let mut rest = words;
@@ -279,6 +280,23 @@ impl Wanted {
     }
 }
 
+/// The clients that options name, of which the one who asks is none; none where they are refused, and then the answer
+/// says so.
+fn chosen_by_options(
+    alloc: Global,
+    words: &[Text],
+    out: &mut OutText,
+) -> Result<Option<Wanted>, NoMemory>
+    ensures chosen { IfOk result (λ wanted. wanted ≡ chosen_wanted (with_options (anyone true) words.now)) }
+    ensures text { OnOk result (out.new ≡ unfit_text out.old (with_options (anyone true) words.now)) }
+{
+    let mut wanted = Wanted::anyone(true);
+    if wanted.take_options(alloc, words, out)? {
+        return Ok(Some(wanted));
+    }
+    Ok(None)
+}
+
 /// The clients that CLIENT KILL with these words names; none where it is refused, and then the answer says so.
 pub(crate) fn chosen_by(
     alloc: Global,
@@ -288,18 +306,16 @@ pub(crate) fn chosen_by(
     ensures chosen { IfOk result (λ wanted. wanted ≡ chosen_wanted (chosen_by words.now)) }
     ensures text { OnOk result (out.new ≡ unfit_text out.old (chosen_by words.now)) }
 {
-    if let [word] = words {
-        let mut wanted = Wanted::anyone(false);
-        wanted.address = Some(Text::from_slice(alloc, word.as_slice())?);
-        return Ok(Some(wanted));
+    match words {
+        [] => {
+            say(out, SYNTAX_ERROR)?;
+            Ok(None)
+        }
+        [word] => {
+            let mut wanted = Wanted::anyone(false);
+            wanted.address = Some(Text::from_slice(alloc, word.as_slice())?);
+            Ok(Some(wanted))
+        }
+        [_, _, ..] => chosen_by_options(alloc, words, out),
     }
-    if words.is_empty() {
-        say(out, SYNTAX_ERROR)?;
-        return Ok(None);
-    }
-    let mut wanted = Wanted::anyone(true);
-    if wanted.take_options(alloc, words, out)? {
-        return Ok(Some(wanted));
-    }
-    Ok(None)
 }

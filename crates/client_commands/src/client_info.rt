@@ -29,6 +29,17 @@ impl Model for MonitoredMaster {
 }
 
 impl MonitoredMaster {
+    /// The same.
+    pub(crate) fn copy(&self) -> MonitoredMaster
+        ensures { result ≡ self.now }
+    {
+        MonitoredMaster {
+            name: self.name,
+            quorum: self.quorum,
+            nodes: self.nodes,
+        }
+    }
+
     /// The name.
     pub(crate) fn name(&self) -> &[u8]
         ensures { result.now ≡ self.now.name }

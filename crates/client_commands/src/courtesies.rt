@@ -270,7 +270,7 @@ fn leave(
 
 /// What becomes of these words, which the Sentinel's rules call unknown or refuse for their number. Before the password
 /// that is wanted AUTH and HELLO alone are looked up.
-#[tactic(auto, using(crate::proofs::Lookups::known_is, crate::proofs::Lookups::refused_kind, crate::proofs::Lookups::refused_text, crate::proofs::Lookups::refused_name, crate::proofs::Lookups::refused_kills))]
+#[tactic(auto, using(crate::proofs::Lookups::known_is, crate::proofs::Lookups::refused_kind, crate::proofs::Lookups::refused_text, crate::proofs::Lookups::refused_name, crate::proofs::Lookups::refused_kills, crate::proofs::Lookups::refused_same))]
 fn answer_words(
     alloc: Global,
     asker: &mut ClientInfo,

@@ -1,12 +1,12 @@
 //! What is answered to the subcommands of SENTINEL that a Sentinel's rules don't know.
 
-ghost use Rattle.std.specs.Prelude.{◌≡◌, ◌+◌, ◌++◌, ◌∷◌, [], ℕ, List, OnOk, IfOk, bytes_eq, codes, length, map, pos, decimal};
+ghost use Rattle.std.specs.Prelude.{◌≡◌, ◌*◌, ◌++◌, ◌∷◌, OnOk, IfOk, bytes_eq, length, map, decimal};
 ghost use Rattle.std.specs.List.{list_any};
 ghost use Rattle.ballot_law.specs.Words.{lower};
 ghost use Rattle.resp2.specs.Framing.Frame as frames;
-ghost use Rattle.resp2.specs.Framing.Frame.{spelling, spellings, frames_of, count, line_end};
+ghost use Rattle.resp2.specs.Framing.Frame.{spelling, spellings, frames_of, line_end};
 ghost use Rattle.client_commands.specs.Subcommands.{not_at_runtime, no_trials};
-ghost use Rattle.client_commands.specs.Courtesies.{uncached, cached, setting, settings, config_get, config, sentinel_told};
+ghost use Rattle.client_commands.specs.Courtesies.{uncached, named_masters, cached, setting, settings, config_get, config, sentinel_told};
 
 use crate::client_info::{ClientInfo, MonitoredMaster};
 use crate::clients::{add_number, say_none};
@@ -48,6 +48,7 @@ fn refuse_trial(command: &[u8], out: &mut OutText) -> Result<(), NoMemory>
 }
 
 /// Adds that nothing is kept of the INFO of so many data nodes.
+#[tactic(auto, using(crate::proofs::Bytes::uncached_none, crate::proofs::Bytes::uncached_more))]
 fn add_uncached(out: &mut OutText, nodes: usize) -> Result<(), NoMemory>
     ensures { OnOk result (out.new ≡ out.old ++ spellings (uncached nodes)) }
 {
@@ -91,41 +92,64 @@ fn is_named(name: &[u8], words: &[Text]) -> bool
     false
 }
 
-/// Adds what is told of each master that a word names, and counts the values.
-fn add_each_cached(
-    out: &mut OutText,
+/// The masters that a word names.
+fn named_masters(
+    alloc: Global,
     words: &[Text],
     masters: &[MonitoredMaster],
-) -> Result<usize, NoMemory>
-    ensures text { OnOk result (out.new ≡ out.old ++ spellings (cached words.now masters.now)) }
-    ensures counted { IfOk result (λ count_told. count_told ≡ count (cached words.now masters.now)) }
+) -> Result<Vec<MonitoredMaster>, NoMemory>
+    ensures { IfOk result (λ named. named.items ≡ named_masters words.now masters.now) }
 {
-    let mut told: usize = 0;
+    let mut named = Vec::new(alloc);
     let mut rest = masters;
     while let [master, more @ ..] = rest {
         if is_named(master.name(), words) {
-            add_cached(out, master)?;
-            told += 2;
+            named.push(master.copy())?;
         }
         rest = more;
     }
-    Ok(told)
+    Ok(named)
+}
+
+/// Adds what is told of each of these masters.
+fn add_each_cached(out: &mut OutText, masters: &[MonitoredMaster]) -> Result<(), NoMemory>
+    ensures { OnOk result (out.new ≡ out.old ++ spellings (cached masters.now)) }
+{
+    let mut rest = masters;
+    while let [master, more @ ..] = rest {
+        add_cached(out, master)?;
+        rest = more;
+    }
+    Ok(())
+}
+
+/// The bytes of what `say_cached` tells.
+fn say_cached_bytes(out: &mut OutText, masters: &[MonitoredMaster]) -> Result<(), NoMemory>
+    ensures { OnOk result (out.new ≡ 42 ∷ ((decimal (length masters.now * 2) ++ line_end) ++ spellings (cached masters.now))) }
+{
+    say(out, b"*")?;
+    add_number(out, masters.len() as u64 * 2)?;
+    add_each_cached(out, masters)
+}
+
+/// The answer is what is kept of the INFO of these masters' data nodes.
+fn say_cached(out: &mut OutText, masters: &[MonitoredMaster]) -> Result<(), NoMemory>
+    ensures { OnOk result (out.new ≡ spelling (frames.items (cached masters.now))) }
+{
+    say_cached_bytes(out, masters)
 }
 
 /// The answer to SENTINEL INFO-CACHE with these words.
-fn say_cached(
+fn info_cache(
     alloc: Global,
     asker: &ClientInfo,
     words: &[Text],
     out: &mut OutText,
 ) -> Result<(), NoMemory>
-    ensures { OnOk result (out.new ≡ spelling (frames.items (cached words.now asker.now.masters))) }
+    ensures { OnOk result (out.new ≡ spelling (frames.items (cached (named_masters words.now asker.now.masters)))) }
 {
-    let mut text = OutText::new(alloc);
-    let told = add_each_cached(&mut text, words, asker.masters())?;
-    say(out, b"*")?;
-    add_number(out, told as u64)?;
-    out.add(text.as_slice())
+    let named = named_masters(alloc, words, asker.masters())?;
+    say_cached(out, named.as_slice())
 }
 
 /// Adds a setting and its value where the pattern matches its name.
@@ -227,10 +251,18 @@ fn config(
     ensures { OnOk result (out.new ≡ spelling (config asker.now words.now)) }
 {
     match words {
-        [mode, pattern] if is_called(b"get", mode.as_slice()) => {
-            get_config(alloc, asker, pattern.as_slice(), out)
+        [mode, pattern] => {
+            if is_called(b"get", mode.as_slice()) {
+                return get_config(alloc, asker, pattern.as_slice(), out);
+            }
+            say(out, ONLY_GET)
         }
-        [mode, _, _] if is_called(b"set", mode.as_slice()) => refuse_at_runtime(b"CONFIG SET", out),
+        [mode, _, _] => {
+            if is_called(b"set", mode.as_slice()) {
+                return refuse_at_runtime(b"CONFIG SET", out);
+            }
+            say(out, ONLY_GET)
+        }
         _ => say(out, ONLY_GET),
     }
 }
@@ -248,7 +280,7 @@ pub(crate) fn sentinel_told(
     match sub {
         Sub::Help => sentinel_help(out),
         Sub::PendingScripts => say_none(out),
-        Sub::InfoCache => say_cached(alloc, asker, words, out),
+        Sub::InfoCache => info_cache(alloc, asker, words, out),
         Sub::Config => config(alloc, asker, words, out),
         Sub::SetOption => refuse_at_runtime(b"SET", out),
         Sub::Monitor => refuse_at_runtime(b"MONITOR", out),

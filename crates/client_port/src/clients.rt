@@ -306,7 +306,7 @@ impl Clients {
         };
         let began = state.clock.now(rt);
         self.reading = began;
-        self.roll.count(&self.seats, member, began);
+        self.roll.count(&*self.seats, member, began);
         self.roll.swap(connection);
         let is_whole = connection.turn(rt, state, member, seat, began);
         self.roll.swap(connection);

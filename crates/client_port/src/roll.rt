@@ -151,7 +151,9 @@ impl Roll {
             return;
         };
         entry.heard = connection.heard();
-        (entry.channels, entry.patterns) = connection.subscriptions();
+        let (channels, patterns) = connection.subscriptions();
+        entry.channels = channels;
+        entry.patterns = patterns;
         if entry.name.as_slice() != connection.name()
             && let Ok(name) = Text::from_slice(self.alloc, connection.name())
         {

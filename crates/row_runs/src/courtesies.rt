@@ -129,7 +129,7 @@ fn tell(
     if asker.password.is_some() && asker.admitted {
         told.word("admitted")?;
     }
-    for place in &asker.port.killed {
+    for place in asker.port.killed.as_slice() {
         told.word("killed")?;
         told.number(*place as u64)?;
     }
@@ -148,10 +148,11 @@ fn tell_info(
     told: &mut Told,
 ) -> Result<(), Unplayed> {
     let mut out = OutText::new(alloc);
+    let known = port(alloc)?;
     info(
         alloc,
         &array(alloc, words)?,
-        &port(alloc)?.figures,
+        &known.figures,
         &value_of(alloc, masters)?,
         &mut out,
     )?;
@@ -161,7 +162,8 @@ fn tell_info(
 /// Tells the answer to INFO SENTINEL at a Sentinel that watches no master and is in TILT for so many milliseconds.
 fn tell_tilt(alloc: Global, millis: u32, told: &mut Told) -> Result<(), Unplayed> {
     let mut out = OutText::new(alloc);
-    let mut figures = port(alloc)?.figures;
+    let known = port(alloc)?;
+    let mut figures = known.figures;
     figures.tilt = Some(u64::from(millis));
     let mut words = Vec::new(alloc);
     words.push(Vec::from_slice(alloc, b"INFO")?)?;
@@ -177,7 +179,7 @@ fn tell_each(alloc: Global, lines: &[Vec<u8>], told: &mut Told) -> Result<(), Un
     let mut out = OutText::new(alloc);
     for line in lines {
         let mut words = Vec::new(alloc);
-        for word in line.split(|byte| *byte == b' ') {
+        for word in line.as_slice().split(|byte| *byte == b' ') {
             words.push(Vec::from_slice(alloc, word)?)?;
         }
         courtesy_of(
