@@ -316,7 +316,9 @@ list_lines asker [] = tt
 list_lines asker (option ∷ []) = syntax_line
 list_lines asker (option ∷ value ∷ words) =
     one_of (is_called (codes "id") option) _ _ (one_of (list_all is_integer (value ∷ words)) _ _ tt (checked (codes "ERR Invalid client ID") refl))
-    (one_of (is_called (codes "type") option && (length words == 0)) _ _ (kind_lines (kind_named value) value _ (λ (k : ClientKind). tt)) syntax_line)
+    (one_of (is_called (codes "type") option && (length words == 0)) _ _ (kind_lines (kind_named value) value
+    (λ (k : ClientKind). bulk (table.lines_of asker (codes "client|list") (let w : Wanted = record (anyone false) { kind = Some k } in w))) (λ (k : ClientKind). tt))
+    syntax_line)
 
 abbrev AreChosenLines : Chosen → Type 0
 AreChosenLines (fits wanted) = Unit {0}
@@ -361,7 +363,7 @@ options_lines : (wanted : Wanted) (words : List (List ℕ)) → AreChosenLines (
 options_lines wanted [] = tt
 options_lines wanted (option ∷ []) = syntax_line
 options_lines wanted (option ∷ value ∷ words) =
-    then_lines (with_option wanted option value) _ (one_option_lines wanted option value) (λ (w : Wanted). options_lines w words)
+    then_lines (with_option wanted option value) (λ (w : Wanted). with_options w words) (one_option_lines wanted option value) (λ (w : Wanted). options_lines w words)
 
 chosen_lines : (words : List (List ℕ)) → AreChosenLines (chosen_by words)
 chosen_lines [] = syntax_line

@@ -254,6 +254,7 @@ impl Wanted {
     }
 
     /// Wants what options and their values say, each in turn.
+    #[tactic(auto, using(crate::proofs::SubBytes::options_stop, crate::proofs::SubBytes::options_go, crate::proofs::SubBytes::unfit_none, crate::proofs::SubBytes::fit_text))]
     fn take_options(
         &mut self,
         alloc: Global,

@@ -4,7 +4,7 @@ use Rattle.std.specs.Option.{is_some}
 use Rattle.ballot_law.specs.declared.messages.Note.{Note}
 use Rattle.ballot_law.specs.Rosters.{Roster}
 use Rattle.pubsub.specs.declared.channel.Event.{Event}
-use Rattle.pubsub.specs.Listening.{is_listening}
+use Rattle.pubsub.specs.Listening.{Listening, is_listening}
 use Rattle.client_commands.specs.Ports.{PortFacts, no_port}
 use Rattle.client_commands.specs.Courtesies.{ClientInfo, is_stranger}
 use Rattle.sentinel_core.specs.declared.serving.fault.ServeFault.{ServeFault}
@@ -62,6 +62,16 @@ knowing_port (Courteous visit) port = Courteous (knowing_of visit port)
 abbrev pub port_before : ClientSession → PortFacts → PortFacts
 port_before (Plain talk) port = port
 port_before (Courteous visit) port = visit.asker.port
+
+-- the name that its client gave the connection
+abbrev pub name_of : ClientSession → List ℕ
+name_of (Plain talk) = []
+name_of (Courteous visit) = visit.asker.name
+
+-- to what it listens, where that is counted
+abbrev pub listening_of : ClientSession → Listening
+listening_of (Plain talk) = unsubscribed
+listening_of (Courteous visit) = visit.listening
 
 -- one that was told a current epoch or none
 abbrev pub informed : ClientSession → (current : Option ℕ) → ClientSession

@@ -1,7 +1,7 @@
 //! A session with courtesies or without.
 
 ghost use Rattle.std.specs.Prelude.{◌≡◌, ◌≤◌, ◌<◌, ◌↔◌, [], IsTrue, length, drop};
-ghost use Rattle.courteous_sessions.specs.Clients.{begun, unsent_of, held_of, listens_of, owes_password, wanting_password, with_unsent, Takes, NotifiesClient, TellsClient, knowing_epoch, port_before, knowing_port};
+ghost use Rattle.courteous_sessions.specs.Clients.{begun, unsent_of, held_of, listens_of, owes_password, wanting_password, with_unsent, Takes, NotifiesClient, TellsClient, knowing_epoch, port_before, knowing_port, name_of, listening_of};
 
 use crate::courteous_session::CourteousSession;
 use crate::epochs::FarRequest;
@@ -91,15 +91,20 @@ impl ClientSession {
     }
 
     /// The name that its client gave the connection; empty where it gave none.
-    pub fn name(&self) -> &[u8] {
+    pub fn name(&self) -> &[u8]
+        ensures { result.now ≡ name_of self.now }
+    {
         match self {
             ClientSession::Plain(_) => &[],
             ClientSession::Courteous(session) => session.name(),
         }
     }
 
-    /// To how many channels it listens, and for how many patterns; of one without courtesies no number is told.
-    pub fn subscriptions(&self) -> (u32, u32) {
+    /// To how many channels a session with courtesies listens, and for how many patterns; of one without none is counted.
+    pub fn subscriptions(&self) -> (u32, u32)
+        ensures channels { result.0 ≡ length (listening_of self.now).channels }
+        ensures patterns { result.1 ≡ length (listening_of self.now).patterns }
+    {
         match self {
             ClientSession::Plain(_) => (0, 0),
             ClientSession::Courteous(session) => session.subscriptions(),

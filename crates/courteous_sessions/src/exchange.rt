@@ -18,7 +18,7 @@ ghost use Rattle.courteous_sessions.specs.OnTheWay.{IsIdle, IsReady, IsOnTheWay,
 ghost use Rattle.courteous_sessions.specs.Visits.{Guest, guest, unsubscribed, channel_turn, introduced, TellsInfo, TellsWide, Answers, Serves, Receives};
 ghost use Rattle.pubsub.specs.Answering.{other};
 
-use crate::epochs::{FarRequest, far_request, heard_as, is_question};
+use crate::epochs::{FarRequest, far_request, heard_as, is_plain};
 use crate::questions::{ask, first_value, monitored_by};
 use ballot_law::{Command, NoMemory, Text};
 use bytes::BytesMut;
@@ -320,11 +320,13 @@ impl Exchange {
             × (self.new.knows_masters ≡ self.old.knows_masters) × (self.new.subscriptions ≡ self.old.subscriptions) }
         ensures fault { IfErr result (λ fault. (fault ≡ ServeFault.Halted) ⊎ (fault ≡ ServeFault.NoMemory)) }
     {
-        if !is_question(asked) {
-            return ask(rt, cell, seat, now, &mut self.session, asked);
+        if is_plain(self.attendant.current(), asked) {
+            ask(rt, cell, seat, now, &mut self.session, asked)?;
+            return Ok(());
         }
         let heard = self.hear(asked);
-        ask(rt, cell, seat, now, &mut self.session, &heard)
+        ask(rt, cell, seat, now, &mut self.session, &heard)?;
+        Ok(())
     }
 
     /// Has the session answer a command as it is heard, or a value that is none for this reason.
