@@ -400,7 +400,7 @@ only_line = checked (codes "ERR Only SENTINEL CONFIG GET <option> / SET <option>
 runtime_line : (command : List ℕ) → list_all is_plain_byte command ≡ true → HasLines (not_at_runtime command)
 runtime_line command h =
     around (codes "ERR SENTINEL ") command _ refl (checked command h)
-    (checked (codes " isn't supported: masters, nodes and settings are those of the files, and docs/OPERATING.md says how these are changed") refl)
+    (checked (codes " isn't supported: masters, nodes and settings are those of the files, and " ++ codes "docs/OPERATING.md says how these are changed") refl)
 
 trial_line : (command : List ℕ) → list_all is_plain_byte command ≡ true → HasLines (no_trials command)
 trial_line command h =

@@ -49,7 +49,8 @@ takes_count Debug count = true
 -- the settings and the roster are those of the files
 abbrev pub not_at_runtime : (command : List ℕ) → Frame
 not_at_runtime command =
-    fault (codes "ERR SENTINEL " ++ (command ++ codes " isn't supported: masters, nodes and settings are those of the files, and docs/OPERATING.md says how these are changed"))
+    fault (codes "ERR SENTINEL " ++ (command
+    ++ (codes " isn't supported: masters, nodes and settings are those of the files, and " ++ codes "docs/OPERATING.md says how these are changed")))
 
 abbrev pub no_failover : Frame
 no_failover = fault (codes "ERR SENTINEL FAILOVER isn't supported: docs/OPERATING.md says how a master is changed on purpose")

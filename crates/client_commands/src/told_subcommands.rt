@@ -33,9 +33,8 @@ fn refuse_at_runtime(command: &[u8], out: &mut OutText) -> Result<(), NoMemory>
 {
     say(out, b"-ERR SENTINEL ")?;
     out.add(command)?;
-    out.add(
-        b" isn't supported: masters, nodes and settings are those of the files, and docs/OPERATING.md says how these are changed\r\n",
-    )
+    out.add(b" isn't supported: masters, nodes and settings are those of the files, and ")?;
+    out.add(b"docs/OPERATING.md says how these are changed\r\n")
 }
 
 /// The answer to a command that tries failures.

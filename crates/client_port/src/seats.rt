@@ -42,8 +42,8 @@ pub(crate) fn place_of(own: Option<usize>) -> Place
     }
 }
 
-/// A connection that came, with whence it came, the seat that it took, and whether another Sentinel has its ip. One that
-/// `clears` takes a seat only where another one goes.
+/// A connection that came, with whence it came, the seat that it took, and whether another Sentinel has its ip. One
+/// that `clears` takes a seat only where another one goes.
 #[derive(Drop)]
 pub(crate) struct Newcomer {
     pub(crate) stream: TcpStream,

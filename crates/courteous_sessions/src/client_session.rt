@@ -100,7 +100,8 @@ impl ClientSession {
         }
     }
 
-    /// To how many channels a session with courtesies listens, and for how many patterns; of one without none is counted.
+    /// To how many channels a session with courtesies listens, and for how many patterns; of one without none is
+    /// counted.
     pub fn subscriptions(&self) -> (u32, u32)
         ensures channels { result.0 ≡ length (listening_of self.now).channels }
         ensures patterns { result.1 ≡ length (listening_of self.now).patterns }
