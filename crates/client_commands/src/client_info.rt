@@ -1,11 +1,13 @@
 //! What is known of a connection.
 
-ghost use Rattle.std.specs.Prelude.{◌≡◌, Some, false};
+ghost use Rattle.std.specs.Prelude.{◌≡◌, ◌++◌, Some, false, OnOk, OnErr};
 ghost use Rattle.client_commands.specs.Courtesies.{is_some, lacks_password, is_stranger, is_password};
 
 use crate::passwords::is_same;
-use ballot_law::{Name, Text};
+use crate::port_facts::PortFacts;
+use ballot_law::{Name, NoMemory, Text};
 use std::marker::Model;
+use std::mem;
 
 /// A master that a Sentinel watches.
 #[derive(Drop)]
@@ -14,6 +16,8 @@ pub struct MonitoredMaster {
     pub name: Name,
     /// How many Sentinels have to call it down before a failover.
     pub quorum: u32,
+    /// How many data nodes it has, itself too.
+    pub nodes: usize,
 }
 
 impl Model for MonitoredMaster {
@@ -21,10 +25,21 @@ impl Model for MonitoredMaster {
 
     ghost Value = { MonitoredMasterModel };
 
-    ghost view = { λ master. record { name = master.name; quorum = master.quorum } };
+    ghost view = { λ master. record { name = master.name; quorum = master.quorum; nodes = master.nodes } };
 }
 
 impl MonitoredMaster {
+    /// The same.
+    pub(crate) fn copy(&self) -> MonitoredMaster
+        ensures { result ≡ self.now }
+    {
+        MonitoredMaster {
+            name: self.name,
+            quorum: self.quorum,
+            nodes: self.nodes,
+        }
+    }
+
     /// The name.
     pub(crate) fn name(&self) -> &[u8]
         ensures { result.now ≡ self.now.name }
@@ -37,6 +52,13 @@ impl MonitoredMaster {
         ensures { result ≡ self.now.quorum }
     {
         self.quorum
+    }
+
+    /// How many data nodes it has.
+    pub(crate) fn nodes(&self) -> usize
+        ensures { result ≡ self.now.nodes }
+    {
+        self.nodes
     }
 }
 
@@ -59,6 +81,8 @@ pub struct ClientInfo {
     pub admitted: bool,
     /// The Sentinel's current epoch as it was last told; none where requests for votes of any epoch are heard.
     pub current: Option<u64>,
+    /// What its port knows, as it was last told.
+    pub port: PortFacts,
 }
 
 impl Model for ClientInfo {
@@ -66,7 +90,7 @@ impl Model for ClientInfo {
 
     ghost Value = { AskerModel };
 
-    ghost view = { λ asker. record { id = asker.id; name = asker.name; listens = asker.listens; masters = asker.masters.items; sentinels = asker.sentinels; password = asker.password; admitted = asker.admitted; current = asker.current } };
+    ghost view = { λ asker. record { id = asker.id; name = asker.name; listens = asker.listens; masters = asker.masters.items; sentinels = asker.sentinels; password = asker.password; admitted = asker.admitted; current = asker.current; port = asker.port } };
 }
 
 impl ClientInfo {
@@ -192,5 +216,28 @@ impl ClientInfo {
         ensures { self.new ≡ record self.old { admitted = admitted } }
     {
         self.admitted = admitted;
+    }
+
+    /// What its port knows.
+    pub(crate) fn port(&self) -> &PortFacts
+        ensures { result.now ≡ self.now.port }
+    {
+        &self.port
+    }
+
+    /// Has it know this of its port: what it knew before.
+    pub(crate) fn know_port(&mut self, port: PortFacts) -> PortFacts
+        ensures before { result ≡ self.old.port }
+        ensures now { self.new ≡ record self.old { port = port } }
+    {
+        mem::replace(&mut self.port, port)
+    }
+
+    /// The clients at these places are to be closed too. NoMemory: memory was refused, and nothing changed.
+    pub(crate) fn kill(&mut self, places: &[usize]) -> Result<(), NoMemory>
+        ensures ok { OnOk result (self.new ≡ record self.old { port = record self.old.port { killed = self.old.port.killed ++ places.now } }) }
+        ensures err { OnErr result (self.new ≡ self.old) }
+    {
+        self.port.kill(places)
     }
 }

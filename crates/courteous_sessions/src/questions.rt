@@ -63,6 +63,7 @@ pub(crate) fn monitored_by(alloc: Global, roster: &Roster) -> Result<Vec<Monitor
         monitored.push(MonitoredMaster {
             name: master.name,
             quorum: master.quorum,
+            nodes: master.nodes().len(),
         })?;
         rest = more;
     }
