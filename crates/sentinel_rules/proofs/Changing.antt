@@ -32,12 +32,12 @@ use Rattle.node_texts.specs.Hellos.{hello_of}
 use Rattle.node_texts.specs.Infos.{info_of}
 use Rattle.ballot_law.specs.declared.node_places.NodePlace.{NodePlace}
 use Rattle.sentinel_rules.specs.Plans.{Plan, roster_of, me, group_size, master_count, node_named}
-use Rattle.sentinel_rules.specs.States.{Core, master_of, node_of, failover_of, card_place, is_failing_over, is_tilted, is_master_down, with_master, with_failover, with_current, with_card}
+use Rattle.sentinel_rules.specs.States.{is_master_role, Core, master_of, node_of, failover_of, card_place, is_failing_over, is_tilted, is_master_down, with_master, with_failover, with_current, with_card}
 use Rattle.sentinel_rules.specs.Parts.{Part, quiet, part_if}
-use Rattle.sentinel_rules.specs.Profiles.{is_redis, election_ms, marked_at, marked, rest_of, rested}
+use Rattle.sentinel_rules.specs.Profiles.{is_asking, is_redis, election_ms, marked_at, marked, rest_of, rested}
 use Rattle.sentinel_rules.specs.Votes.{book_of, with_book, mark_for, requested}
 use Rattle.sentinel_rules.specs.Ticks.{peers_part, nodes_part, odown_part, ask_part, ask_candidate, ask_frames, is_ask_due, with_vote, with_win, turn_of, campaign_epoch, row_part, after_start, start_turn, starts_now, start_part, failover_part, judging_part, master_part, with_reading, tick}
-use Rattle.sentinel_rules.specs.News.{at_same_address, at_new_address, card_taken, is_heeded, is_newer, raised_to, adopted, hello_of_known, hello_heeded, hello_read, reported, vote_heard, answer_of, answered, pinged_at, peer_lost, lost_at, connection_lost, disconnected, pinged, info_kept, is_master_role, promotion, has_followed, reconfiguration, correction, is_reconfiguring, judged, info_at_node, info_of_node, info_read}
+use Rattle.sentinel_rules.specs.News.{at_same_address, at_new_address, card_taken, is_heeded, is_newer, raised_to, adopted, hello_of_known, hello_heeded, hello_read, reported, vote_heard, answer_of, answered, pinged_at, peer_lost, lost_at, connection_lost, disconnected, pinged, info_kept, promotion, has_followed, reconfiguration, correction, is_reconfiguring, judged, info_at_node, info_of_node, info_read}
 use Rattle.sentinel_rules.specs.Answers.{asked_of, master_with_card, commanded}
 use Rattle.sentinel_rules.specs.Takes.{next, next_at, cleared}
 use Rattle.sentinel_rules.specs.Changes.{ChangesAt, ChangesOne, InputsChangeAt, InputsChangeOne, asked_about, concerned, listed_by, told_of}
@@ -127,7 +127,7 @@ start_touches plan m now core =
     if_part m core (not (is_failing_over core m)) (λ c. quiet (after_start m (start_turn plan c m now) c)) (begun m (start_turn plan core m now) core)
 
 ask_touches : (plan : Plan) (m now : ℕ) (started : Bool) (core : Core) → Touches m core (ask_part plan m now started core).core
-ask_touches plan m now started core = known (is_master_down plan core m now && is_ask_due started (master_of core m).ask_sent now)
+ask_touches plan m now started core = known (is_asking plan core m now && is_ask_due started (master_of core m).ask_sent now)
   where
     known : (b : Bool) → Touches m core (part_if b core (λ c. record {
       core = with_master c m (record (master_of c m) { ask_sent = Some now });

@@ -24,10 +24,11 @@ use Rattle.node_texts.specs.Infos.{info_of}
 use Rattle.sentinel_rules.specs.declared.frames.Frame.TheVariants.{PingTo, InfoTo, HelloTo, AskTo, FollowTo, NoteOf}
 use Rattle.ballot_law.specs.declared.node_places.NodePlace.{NodePlace}
 use Rattle.sentinel_rules.specs.Plans.{Plan, roster_of, master_count, settings_at, node_name, node_named}
-use Rattle.sentinel_rules.specs.States.{Core, master_of, node_of, failover_of, card_place, is_failing_over, is_tilted, is_master_down, with_master, with_failover, with_card}
+use Rattle.sentinel_rules.specs.States.{is_master_role, Core, master_of, node_of, failover_of, card_place, is_failing_over, is_tilted, is_master_down, with_master, with_failover, with_card}
 use Rattle.sentinel_rules.specs.Parts.{Part, quiet, puts, then_part, part_if, frame_if, frames_from}
+use Rattle.sentinel_rules.specs.Profiles.{is_asking}
 use Rattle.sentinel_rules.specs.Ticks.{is_peer_due, peer_frames, peers_part, Sending, sending_of, is_ping_due, is_info_due, is_hello_due, node_frames, nodes_part, turn_of, promote_frames, order_frames, row_part, after_start, start_turn, starts_now, start_part, is_ask_due, ask_candidate, ask_frames, ask_part, odown_part, failover_part, judging_part, master_part, with_reading, tick}
-use Rattle.sentinel_rules.specs.News.{at_same_address, at_new_address, card_taken, is_heeded, is_newer, raised_to, adopted, hello_heeded, hello_read, is_master_role, promotion, has_followed, reconfiguration, wrong_of, can_be_followed, is_role_overdue, is_address_overdue, correction, is_reconfiguring, judged, info_kept, info_of_node, info_read}
+use Rattle.sentinel_rules.specs.News.{at_same_address, at_new_address, card_taken, is_heeded, is_newer, raised_to, adopted, hello_heeded, hello_read, promotion, has_followed, reconfiguration, wrong_of, can_be_followed, is_role_overdue, is_address_overdue, correction, is_reconfiguring, judged, info_kept, info_of_node, info_read}
 use Rattle.sentinel_rules.specs.Named.{HellosNameMasters}
 use Rattle.sentinel_rules.proofs.StepNews.{named_within}
 use Rattle.sentinel_rules.proofs.ShownOutputs.{AreNamed, named_append, named_one, named_each, named_if}
@@ -68,7 +69,7 @@ start_frames plan m now core = named_if plan (not (is_failing_over core m)) core
 
 ask_is : (plan : Plan) (m now : ℕ) (started : Bool) (core : Core) → AreNamed plan (ask_part plan m now started core).frames
 ask_is plan m now started core =
-    named_if plan (is_master_down plan core m now && is_ask_due started (master_of core m).ask_sent now) core
+    named_if plan (is_asking plan core m now && is_ask_due started (master_of core m).ask_sent now) core
     (λ c. puts (with_master c m (record (master_of c m) { ask_sent = Some now })) (frames_from (ask_frames plan m (ask_candidate plan c m)) 0 c.peers))
     (λ h. named_each plan (ask_frames plan m (ask_candidate plan core m)) (λ k x. named_one plan (not (k == plan.place)) (AskTo k m (ask_candidate plan core m)) tt) 0 core.peers)
 

@@ -26,7 +26,7 @@ use Rattle.sentinel_rules.specs.declared.frames.Frame.TheVariants.{PingTo, InfoT
 use Rattle.sentinel_rules.specs.Plans.{Plan, me, group_size, master_count, nodes_of, node_name}
 use Rattle.sentinel_rules.specs.States.{Core, MasterState, NodeState, master_of, failover_of, is_idle, is_failing_over, is_tilted, is_master_down, is_odown_at, with_master, with_failover, with_current}
 use Rattle.sentinel_rules.specs.Parts.{Part, quiet, puts, then_part, part_if, frame_if, changed_from, frames_from}
-use Rattle.sentinel_rules.specs.Profiles.{election_ms, marked_at, marked, rest_of, rested_at, rested}
+use Rattle.sentinel_rules.specs.Profiles.{is_asking, election_ms, marked_at, marked, rest_of, rested_at, rested}
 use Rattle.sentinel_rules.specs.Votes.{book_of, with_book, mark_for}
 use Rattle.sentinel_rules.specs.Ticks.{is_peer_due, peer_after, peer_frames, peers_part, Sending, sending_of, is_ping_due, is_info_due, is_hello_due, node_after, node_frames, nodes_part, campaign_epoch, known_of, turn_of, with_vote, with_win, promote_frames, order_frames, row_part, after_start, is_start_due, start_turn, starts_now, start_part, is_ask_due, ask_candidate, ask_frames, ask_part, odown_part, failover_part, judging_part, master_part, with_reading, tick}
 use Rattle.sentinel_rules.specs.Facts.{IsSoundPlan, IsSound, IsSoundMaster, IsAwaited, awaited}
@@ -374,7 +374,7 @@ ask_keeps plan m now started core p s =
     keeps_if
     plan
     64
-    (is_master_down plan core m now && is_ask_due started (master_of core m).ask_sent now)
+    (is_asking plan core m now && is_ask_due started (master_of core m).ask_sent now)
     core
     (λ c. puts (with_master c m (record (master_of c m) { ask_sent = Some now })) (frames_from (ask_frames plan m (ask_candidate plan c m)) 0 c.peers))
     s

@@ -25,7 +25,7 @@ use Rattle.failover_states.specs.Table.{Turn, turned, turn_in, table, quieted, e
 use Rattle.sentinel_rules.specs.Plans.{Plan, roster_of, me, group_size, master_count, nodes_of}
 use Rattle.sentinel_rules.specs.States.{Core, MasterState, master_of, failover_of, is_failing_over, is_tilted, is_master_down, is_odown_at, with_master, with_failover, with_current}
 use Rattle.sentinel_rules.specs.Parts.{Part, quiet, puts, then_part, part_if, changed_from, frames_from}
-use Rattle.sentinel_rules.specs.Profiles.{election_ms, rest_of, rested}
+use Rattle.sentinel_rules.specs.Profiles.{is_asking, election_ms, rest_of, rested}
 use Rattle.sentinel_rules.specs.Votes.{book_of, mark_for}
 use Rattle.sentinel_rules.specs.Ticks.{peer_after, peers_part, sending_of, node_after, nodes_part, campaign_epoch, known_of, turn_of, with_vote, with_win, row_part, after_start, is_start_due, start_turn, starts_now, start_part, is_ask_due, ask_frames, ask_candidate, ask_part, odown_part, failover_part, judging_part, master_part, with_reading, tick}
 use Rattle.sentinel_rules.specs.Facts.{IsSoundPlan, IsSound, IsAwaited}
@@ -436,7 +436,7 @@ odown_steps plan event m now core lt =
 
 ask_steps : (plan : Plan) (event : Event) (m now : ℕ) (started : Bool) (core : Core) → m < length core.masters → StepsTo plan event 0 core (ask_part plan m now started core).core
 ask_steps plan event m now started core lt =
-    steps_if plan event 0 (is_master_down plan core m now && is_ask_due started (master_of core m).ask_sent now) core
+    steps_if plan event 0 (is_asking plan core m now && is_ask_due started (master_of core m).ask_sent now) core
     (λ c. puts (with_master c m (record (master_of c m) { ask_sent = Some now })) (frames_from (ask_frames plan m (ask_candidate plan c m)) 0 c.peers))
     (λ h. twin_steps plan event 0 m core (with_master core m (record (master_of core m) { ask_sent = Some now })) lt
     (twin_master core m (record (master_of core m) { ask_sent = Some now }) lt refl))

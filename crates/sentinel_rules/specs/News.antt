@@ -6,8 +6,6 @@ use Rattle.ballot_law.specs.declared.addresses.RunId.{RunId}
 use Rattle.ballot_law.specs.declared.cards.Card.{Card}
 use Rattle.ballot_law.specs.declared.messages.NodeName.{NodeName}
 use Rattle.ballot_law.specs.declared.messages.NodeName.TheVariants.{SentinelAt, StoreAt, ClientAt, PortAt}
-use Rattle.ballot_law.specs.declared.replies.DataRole.{DataRole}
-use Rattle.ballot_law.specs.declared.replies.DataRole.TheVariants.{Master, Replica}
 use Rattle.ballot_law.specs.declared.replies.Hello.{Hello}
 use Rattle.ballot_law.specs.declared.replies.Info.{Info}
 use Rattle.ballot_law.specs.declared.replies.PingReply.{PingReply}
@@ -29,7 +27,7 @@ use Rattle.sentinel_rules.specs.declared.profiles.Profile.{Profile}
 use Rattle.sentinel_rules.specs.declared.frames.Frame.TheVariants.{FollowTo, NoteOf}
 use Rattle.ballot_law.specs.declared.node_places.NodePlace.{NodePlace}
 use Rattle.sentinel_rules.specs.Plans.{Plan, roster_of, me, group_size, master_count, settings_at, nodes_of, node_name, node_named}
-use Rattle.sentinel_rules.specs.States.{Core, MasterState, NodeState, PeerState, master_of, node_of, peer_of, failover_of, card_place, is_failing_over, is_tilted, is_master_down, with_master, with_node, with_failover, with_current, with_card}
+use Rattle.sentinel_rules.specs.States.{Core, is_master_role, says_master, MasterState, NodeState, PeerState, master_of, node_of, peer_of, failover_of, card_place, is_failing_over, is_tilted, is_master_down, with_master, with_node, with_failover, with_current, with_card}
 use Rattle.sentinel_rules.specs.Parts.{Part, quiet, puts, part_if, frame_if}
 use Rattle.sentinel_rules.specs.Profiles.{is_redis, start_at_new_address}
 
@@ -179,10 +177,6 @@ disconnected plan node core = if is_redis plan.profile then connection_lost plan
 
 -- INFO
 
-abbrev pub is_master_role : DataRole → Bool
-is_master_role Master = true
-is_master_role Replica = false
-
 -- the INFO, its moment and its role are kept
 abbrev pub with_info : (now : ℕ) → Info → NodeState → NodeState
 with_info now info node = record node { info = Some info; info_at = Some now; watch = after_role now info.role node.watch; lost = false }
@@ -222,10 +216,6 @@ wrong_since is_wrong since now = if is_wrong then Some (unwrap_or since now) els
 abbrev pub is_overdue : Option ℕ → (bound now : ℕ) → Bool
 is_overdue None bound now = false
 is_overdue (Some since) bound now = nat_lt bound (age since now)
-
-abbrev pub says_master : Option Info → Bool
-says_master None = false
-says_master (Some info) = is_master_role info.role
 
 -- the node of the configuration is up, and says that it is a master
 abbrev pub can_be_followed : Plan → Core → (m now : ℕ) → Bool

@@ -1,10 +1,12 @@
 -- What a Sentinel keeps: what its file is to hold, and what it heard, found and sent since its start.
-use Rattle.std.specs.Prelude.{ℕ, Bool, false, not, is_some, Option, None, List, length, map, replicate, slice_index_or, slice_set, ◌==◌}
+use Rattle.std.specs.Prelude.{ℕ, Bool, true, false, not, is_some, Option, Some, None, List, length, map, replicate, slice_index_or, slice_set, ◌==◌}
 use Rattle.ballot_law.specs.declared.cards.Card.{Card}
 use Rattle.ballot_law.specs.declared.cards.Kept.{Kept}
 use Rattle.ballot_law.specs.declared.hearings.HeardVote.{HeardVote}
 use Rattle.ballot_law.specs.declared.hearings.DownReport.{DownReport}
 use Rattle.ballot_law.specs.declared.records.Win.{Win}
+use Rattle.ballot_law.specs.declared.replies.DataRole.{DataRole}
+use Rattle.ballot_law.specs.declared.replies.DataRole.TheVariants.{Master, Replica}
 use Rattle.ballot_law.specs.declared.replies.Info.{Info}
 use Rattle.ballot_law.specs.Ballots.{card_of, kept_of}
 use Rattle.ballot_law.specs.Clocks.{clock}
@@ -132,7 +134,7 @@ abbrev pub card_place : Plan → Core → (m : ℕ) → ℕ
 card_place plan core m = node_place plan m (card_of core.kept m).addr
 
 abbrev pub is_idle : FailoverState → Bool
-is_idle Idle = Bool.true
+is_idle Idle = true
 is_idle (WaitStart epoch) = false
 is_idle (SelectReplica epoch) = false
 is_idle (SendPromotion epoch choice) = false
@@ -145,6 +147,16 @@ is_failing_over core m = not (is_idle (failover_of core m).state)
 
 abbrev pub is_tilted : Core → Bool
 is_tilted core = is_some core.clock.entered
+
+-- What nodes say of themselves
+
+abbrev pub is_master_role : DataRole → Bool
+is_master_role Master = true
+is_master_role Replica = false
+
+abbrev pub says_master : Option Info → Bool
+says_master None = false
+says_master (Some info) = is_master_role info.role
 
 -- What is down
 

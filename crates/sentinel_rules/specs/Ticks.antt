@@ -26,7 +26,7 @@ use Rattle.sentinel_rules.specs.declared.frames.Frame.TheVariants.{PingTo, InfoT
 use Rattle.sentinel_rules.specs.Plans.{Plan, roster_of, me, master_count, settings_at, nodes_of, addr_at, node_name}
 use Rattle.sentinel_rules.specs.States.{Core, NodeState, PeerState, master_of, node_of, failover_of, with_master, with_failover, with_current, card_place, is_failing_over, is_tilted, is_node_down, is_master_down, is_odown_at}
 use Rattle.sentinel_rules.specs.Parts.{Part, quiet, puts, then_part, part_if, frame_if, changed_from, frames_from}
-use Rattle.sentinel_rules.specs.Profiles.{may_begin, patience, with_pause, master_down_ms}
+use Rattle.sentinel_rules.specs.Profiles.{may_begin, patience, with_pause, switched_to, first_of, is_asking, master_down_ms}
 use Rattle.sentinel_rules.specs.Votes.{book_of, with_book, mark_for}
 
 -- What is due
@@ -149,10 +149,11 @@ limits_of plan core m now =
       master_down_ms = master_down_ms plan core m now;
     }
 
--- the best replica, by its place and its address
+-- the best replica, by its place and its address; after a switch that was made at the nodes it is the node that took over
 abbrev pub best_of : Plan → Core → (m now : ℕ) → Option (ℕ × Addr)
 best_of plan core m now =
-    option_map (λ k. (k, addr_at plan m k)) (choice_of (candidates_of plan core m now) now (limits_of plan core m now))
+    option_map (λ k. (k, addr_at plan m k))
+    (first_of (switched_to plan core m now) (choice_of (candidates_of plan core m now) now (limits_of plan core m now)))
 
 -- the epoch of the campaign; 0 where no failover runs
 abbrev pub campaign_epoch : Core → (m : ℕ) → ℕ
@@ -224,9 +225,9 @@ abbrev pub after_start : (m : ℕ) → Turn → Core → Core
 after_start m turn core =
     let after = with_failover core m turn.failover in if is_some turn.row then with_current after (next_epoch (book_of core m)) else after
 
--- the master was objectively down when that was last computed, and the own campaign may begin
+-- the master was objectively down when that was last computed, and the own campaign may begin; or a switch was made at the nodes
 abbrev pub is_start_due : Plan → Core → (m now : ℕ) → Bool
-is_start_due plan core m now = (master_of core m).odown && may_begin plan core m now
+is_start_due plan core m now = ((master_of core m).odown && may_begin plan core m now) || is_some (switched_to plan core m now)
 
 abbrev pub start_turn : Plan → Core → (m now : ℕ) → Turn
 start_turn plan core m now = turn_of plan core m now (is_start_due plan core m now)
@@ -255,7 +256,7 @@ ask_frames plan m candidate place peer = frame_if (not (place == plan.place)) (A
 abbrev pub ask_part : Plan → (m now : ℕ) → (started : Bool) → Core → Part
 ask_part plan m now started core =
     part_if
-    (is_master_down plan core m now && is_ask_due started (master_of core m).ask_sent now)
+    (is_asking plan core m now && is_ask_due started (master_of core m).ask_sent now)
     core
     (λ c. puts
     (with_master c m (record (master_of c m) { ask_sent = Some now }))

@@ -1,7 +1,7 @@
 //! How often a Sentinel sends what, and how long it bears what is wrong, in milliseconds.
 
 ghost use Rattle.std.specs.Prelude.{◌≡◌};
-ghost use Rattle.sentinel_rules.specs.declared.periods.TheConstants.{ASK_MS, BUSY_INFO_MS, HELLO_MS, INFO_MS, PING_MS, WRONG_ROLE_MS, LINK_MAX_S, HOLD_MS, QUIET_MS};
+ghost use Rattle.sentinel_rules.specs.declared.periods.TheConstants.{ASK_MS, BUSY_INFO_MS, HELLO_MS, INFO_MS, PING_MS, WRONG_ROLE_MS, LINK_MAX_S, HOLD_MS, QUIET_MS, SWITCHED_MS};
 ghost use Rattle.std.specs.Prelude.{◌+◌};
 ghost use Rattle.failover_states.specs.declared.periods.TheConstants.{ELECTION_MS, SPREAD_MS};
 
@@ -33,6 +33,10 @@ pub const HOLD_MS: u64 = 11_000;
 /// How long ago the last reply to a PING came, at least, of a choice that counts as gone where its connection was lost.
 pub const QUIET_MS: u64 = 1_000;
 
+/// For how long a master has said that it is a replica, at least, where that is taken for a switch that was made at the nodes: a hello of the other
+/// Sentinels' failover has come by then.
+pub const SWITCHED_MS: u64 = 2_000;
+
 /// These periods as numbers. Definitions and code cite them by name.
 pub fn law_periods()
     ensures ping { PING_MS ≡ 1000 }
@@ -42,6 +46,7 @@ pub fn law_periods()
     ensures ask { ASK_MS ≡ 1000 }
     ensures wrong_role { WRONG_ROLE_MS ≡ 8000 }
     ensures hold { HOLD_MS ≡ ELECTION_MS + SPREAD_MS }
+    ensures switched { SWITCHED_MS ≡ 2000 }
     ensures quiet { QUIET_MS ≡ 1000 }
     ensures link { LINK_MAX_S ≡ 4294967295 }
 {}

@@ -3,8 +3,8 @@
 ghost use Rattle.std.specs.Prelude.{◌≡◌, ◌≤◌};
 ghost use Rattle.ballot_law.specs.declared.rosters.TheConstants.{NODES_MAX};
 ghost use Rattle.ballot_law.specs.Clocks.{clock};
-ghost use Rattle.sentinel_rules.specs.News.{promotion, follows, follows_another, has_followed, reconfiguration, is_master_role, is_reconfiguring, wrong_since, is_overdue, says_master, can_be_followed, anew, correction, judged, info_kept, info_at_node, info_read};
-ghost use Rattle.sentinel_rules.specs.States.{failover_of};
+ghost use Rattle.sentinel_rules.specs.News.{promotion, follows, follows_another, has_followed, reconfiguration, is_reconfiguring, wrong_since, is_overdue, can_be_followed, anew, correction, judged, info_kept, info_at_node, info_read};
+ghost use Rattle.sentinel_rules.specs.States.{failover_of, is_master_role, says_master};
 ghost use Rattle.sentinel_state.specs.Parts.{with_part};
 
 use crate::inputs::cards::take_card;
