@@ -16,11 +16,11 @@ use Rattle.failover_states.specs.declared.states.Row.TheVariants.{ElectionTimeou
 use Rattle.failover_states.specs.Calls.{choice_of}
 use Rattle.failover_states.specs.Failovers.{Failover}
 use Rattle.sentinel_rules.specs.declared.assumed.TheConstants.{ASSUMED_INFO}
-use Rattle.sentinel_rules.specs.declared.periods.TheConstants.{HOLD_MS, LINK_MAX_S, QUIET_MS, SWITCHED_MS}
+use Rattle.sentinel_rules.specs.declared.periods.TheConstants.{HANDED_MS, HOLD_MS, LINK_MAX_S, QUIET_MS, SWITCHED_MS}
 use Rattle.sentinel_rules.specs.declared.profiles.Profile.{Profile}
 use Rattle.sentinel_rules.specs.declared.profiles.Profile.TheVariants.{Strict, Redis}
 use Rattle.sentinel_rules.specs.Plans.{Plan, roster_of, group_size, settings_at, nodes_of}
-use Rattle.sentinel_rules.specs.States.{Core, NodeState, node_of, peer_of, failover_of, with_failover, card_place, is_idle, says_master, node_down_since, is_node_down, is_master_down}
+use Rattle.sentinel_rules.specs.States.{Core, NodeState, master_of, node_of, peer_of, failover_of, with_failover, card_place, is_idle, is_handed, says_master, says_replica, node_down_since, is_node_down, is_master_down}
 
 abbrev pub is_redis : Profile → Bool
 is_redis Strict = false
@@ -109,13 +109,17 @@ abbrev pub is_choice_lost : Plan → Core → (m now : ℕ) → Option ℕ → B
 is_choice_lost plan core m now None = false
 is_choice_lost plan core m now (Some k) = is_node_down plan core m now k || is_gone now (node_of core m k)
 
+-- where the master was told to hand over it does so soon or never, and not at all where it refused
+abbrev pub handed_ms : Core → (m timeout : ℕ) → ℕ
+handed_ms core m timeout = if is_handed core m then (if (master_of core m).refused then 0 else min HANDED_MS timeout) else timeout
+
 -- the failover-timeout that the rows of the table go by. By the strict rule, as in Redis, a failover whose choice is lost waits for it until the timeout. In the
 -- other profile it waits no longer, and what is kept as the last start is looked at as above and not by the table
 abbrev pub patience : Plan → Core → (m now : ℕ) → ℕ
 patience plan core m now =
     let f = failover_of core m in
     by_profile plan.profile (settings_at plan m).timeout
-    (if is_idle f.state || is_choice_lost plan core m now (choice_of f.state) then 0 else (settings_at plan m).timeout)
+    (if is_idle f.state || is_choice_lost plan core m now (choice_of f.state) then 0 else handed_ms core m (settings_at plan m).timeout)
 
 -- A failover that has ended
 
@@ -161,17 +165,23 @@ passing (Some k) passes = if passes k then Some k else None
 abbrev pub is_taking_over : Plan → Core → (m now k : ℕ) → Bool
 is_taking_over plan core m now k =
     not (k == card_place plan core m)
-    && (is_down_for (node_of core m (card_place plan core m)).watch.replica_since SWITCHED_MS now
+    && (is_down_for (node_of core m (card_place plan core m)).watch.replica_since (SWITCHED_MS + pause_of plan core) now
     && (says_master (node_of core m k).info
     && not (is_node_down plan core m now k || (node_of core m k).lost)))
 
--- Where an operator has the master hand over to a replica, by Redis's own FAILOVER, neither is down. By the strict rule, as in Redis, the former master is taken
+-- Where an operator has the master hand over to a replica, by Redis's own FAILOVER, neither is down, and so it is where a master hands over after the Sentinel
+-- that told it to has gone. By the strict rule, as in Redis, the former master is taken
 -- for one that is wrong: it is down after 20 seconds, and any replica may be promoted. In the other profile the node that it follows is to be the master, and a
 -- campaign for it begins at once
 abbrev pub switched_to : Plan → Core → (m now : ℕ) → Option ℕ
 switched_to plan core m now =
     by_profile plan.profile None
     (passing (place_followed plan m (unwrap_or (node_of core m (card_place plan core m)).info ASSUMED_INFO).master) (is_taking_over plan core m now))
+
+-- the node of the configuration is up, and says that it is a replica: nobody but the node that took over may be promoted then
+abbrev pub is_given_away : Plan → Core → (m now : ℕ) → Bool
+is_given_away plan core m now =
+    by_profile plan.profile false (says_replica (node_of core m (card_place plan core m)).info && not (is_master_down plan core m now))
 
 -- the first of two, where there is one
 abbrev pub first_of : Option ℕ → Option ℕ → Option ℕ

@@ -4,9 +4,9 @@ use Rattle.ballot_law.specs.declared.addresses.Addr.{Addr}
 use Rattle.ballot_law.specs.declared.addresses.RunId.{RunId}
 use Rattle.ballot_law.specs.declared.cards.TheConstants.{MAX_EPOCH}
 use Rattle.ballot_law.specs.declared.events.Event.{Event}
-use Rattle.ballot_law.specs.declared.events.Event.TheVariants.{Answered, Pinged, InfoRead, HelloRead}
+use Rattle.ballot_law.specs.declared.events.Event.TheVariants.{Answered, Pinged, InfoRead, HelloRead, Refused}
 use Rattle.ballot_law.specs.declared.messages.Body.{Body}
-use Rattle.ballot_law.specs.declared.messages.Body.TheVariants.{Ask, Ping, InfoAsk}
+use Rattle.ballot_law.specs.declared.messages.Body.TheVariants.{Ask, Ping, InfoAsk, HandOver}
 use Rattle.ballot_law.specs.declared.messages.NodeName.{NodeName}
 use Rattle.ballot_law.specs.PingReplies.{reply_of}
 use Rattle.ballot_law.specs.Words.{then_some, some_if}
@@ -28,6 +28,7 @@ abbrev pub question_of : Body → Question
 question_of Ping = asks.Ping
 question_of InfoAsk = asks.Info
 question_of (Ask master addr epoch candidate) = asks.Ask master addr
+question_of (HandOver heir) = asks.HandOver
 question_of _ = asks.Order
 
 -- ---- the answer to the question whether a master is down
@@ -86,6 +87,11 @@ answered voter master addr None = Err Strange
 abbrev pub ask_heard : NodeName → (master : ℕ) → Addr → Frame → Result (Option Event) LinkFault
 ask_heard voter master addr (fault text) = Ok None
 ask_heard voter master addr f = answered voter master addr (vote_of f)
+
+-- an error tells that the node refuses to hand over
+abbrev pub hand_over_heard : NodeName → Frame → Option Event
+hand_over_heard node (fault text) = Some (Refused node)
+hand_over_heard node _ = None
 
 abbrev pub is_word : List ℕ → Frame → Bool
 is_word word (bulk bytes) = bytes_eq bytes word
