@@ -39,7 +39,9 @@ pub use laws::{
     law_one_leader, law_periods, law_refusals_happen, law_runs_join,
 };
 pub use memory::NoMemory;
-pub use messages::{ANSWER_MAX, Body, Heir, Message, NodeName, Note, OUTPUTS_MAX, Output, SHOWN_MAX};
+pub use messages::{
+    ANSWER_MAX, Body, Heir, Message, NodeName, Note, OUTPUTS_MAX, Output, SHOWN_MAX,
+};
 pub use names::{NAME_MAX, Name};
 pub use node_places::NodePlace;
 pub use ordering::{Placed, ordered};

@@ -140,11 +140,7 @@ impl Story {
     }
 
     /// The same of a story that is to be played by Sentinels of this profile.
-    pub fn new_as(
-        alloc: Global,
-        text: Vec<u8>,
-        profile: Profile,
-    ) -> Result<Story, ScenarioFault>
+    pub fn new_as(alloc: Global, text: Vec<u8>, profile: Profile) -> Result<Story, ScenarioFault>
         ensures story { IfOk result (λ story. (story.text ≡ text) × (story.profile ≡ profile)) }
         ensures fault { IfErr result (IsScenarioFault profile text.items) }
     {

@@ -58,11 +58,7 @@ fn add(steps: &mut Vec<Step>, told: Told) -> Result<(), ScenarioFault>
 }
 
 /// The steps of the lines of a text.
-fn steps_of_lines(
-    alloc: Global,
-    text: &[u8],
-    profile: Profile,
-) -> Result<Vec<Step>, ScenarioFault>
+fn steps_of_lines(alloc: Global, text: &[u8], profile: Profile) -> Result<Vec<Step>, ScenarioFault>
     ensures within { IfOk result (λ steps. All IsWithinStep steps.items) }
     ensures steps { IfOk result (λ steps. steps_from profile 1 (lines text.now) ≡ Ok steps.items) }
     ensures fault { IfErr result (λ fault. (fault ≡ no_memory) ⊎ (steps_from profile 1 (lines text.now) ≡ Err fault)) }

@@ -125,6 +125,7 @@ abbrev pub heard_of : NodeName → Question → Frame → Result (Option Event) 
 heard_of node asks.Ping f = ping_heard node f
 heard_of node asks.Info f = info_heard node f
 heard_of node (asks.Ask master addr) f = ask_heard node master addr f
+heard_of node asks.HandOver f = Ok (hand_over_heard node f)
 heard_of node asks.Order f = Ok None
 heard_of node asks.Hello f = hello_heard f
 

@@ -100,13 +100,7 @@ fn candidate(plan: &Plan, core: &Core, m: u16, now: u64, card_at: usize, k: usiz
 }
 
 /// Each node of a master as a replica to choose, by its place.
-fn candidates(
-    plan: &Plan,
-    core: &Core,
-    m: u16,
-    now: u64,
-    card_at: usize,
-) -> [Candidate; NODES_MAX]
+fn candidates(plan: &Plan, core: &Core, m: u16, now: u64, card_at: usize) -> [Candidate; NODES_MAX]
     requires { card_at ≡ card_place plan.now core.now m }
     ensures { take (length (nodes_of plan.now m)) result ≡ candidates_of plan.now core.now m (clock now) }
 {
