@@ -1,7 +1,7 @@
 -- A value that the Sentinel's rules answer is left to them.
 use Rattle.std.proofs.Common.{◌≡◌, ◌∙◌, ◌⊎◌, inl, inr, Option, None, Some, Bool, true, false, Result, Ok, Err, refl, ap}
 use Rattle.ballot_law.specs.declared.commands.Command.{Command}
-use Rattle.ballot_law.specs.declared.commands.Command.TheVariants.{Ping, IsMasterDownByAddr, GetMasterAddrByName, Masters, Master, Replicas, Sentinels, MyId, CkQuorum, FlushConfig, Subscribe}
+use Rattle.ballot_law.specs.declared.commands.Command.TheVariants.{Ping, IsMasterDownByAddr, GetMasterAddrByName, Masters, Master, Replicas, Sentinels, MyId, CkQuorum, Failover, FlushConfig, Subscribe}
 use Rattle.resp2.specs.Asked.{IsCommon}
 use Rattle.resp2.specs.declared.command.CommandFault.{CommandFault}
 use Rattle.resp2.specs.declared.command.CommandFault.TheVariants.{NotACommand, UnknownCommand, WrongArguments, BadAddress, BadEpoch, BadRunId, UnknownChannel}
@@ -49,6 +49,7 @@ common_wording (Master name) h = elim h [ ]
 common_wording (Replicas name) h = elim h [ ]
 common_wording (Sentinels name) h = elim h [ ]
 common_wording MyId h = elim h [ ]
+common_wording (Failover name) h = elim h [ ]
 common_wording (CkQuorum name) h = elim h [ ]
 common_wording FlushConfig h = elim h [ ]
 common_wording Subscribe h = elim h [ ]
