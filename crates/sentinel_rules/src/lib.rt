@@ -30,5 +30,5 @@ pub use periods::{
 pub use profiles::Profile;
 pub use worked::{
     law_example_answers, law_example_failover, law_example_no_failover, law_example_profiles,
-    law_example_replicas, law_example_tilt, law_example_votes,
+    law_example_replicas, law_example_switches, law_example_tilt, law_example_votes,
 };

@@ -188,8 +188,8 @@ impl Nearness {
 
 /// Who takes down what a Sentinel shows of one master at the end of a turn, at the reading of its clock, and of which
 /// masters a campaign comes near. Where no master is wanted nothing is. `is_switching` is whether a switch is under way
-/// that a client asked for, `current` the Sentinel's current epoch after
-/// the last turn, and `settling` how far it has come, where that is looked after.
+/// that a client asked for, `current` the Sentinel's current epoch after the last turn, and `settling` how far it has
+/// come, where that is looked after.
 #[derive(Drop)]
 pub(crate) struct Sight {
     current: u64,

@@ -347,8 +347,7 @@ impl TickLoop {
     }
 
     /// Has the Sentinel take what its connections hear, and ticks each master 50 to 100 ms after its last tick, or 20
-    /// while a switch is under way, until
-    /// the threads end or the Sentinel is halted, by whichever thread.
+    /// while a switch is under way, until the threads end or the Sentinel is halted, by whichever thread.
     pub fn run<J: Which, S: ConfStore, R: Wait + Clock + Log>(
         &mut self,
         rt: &R,
