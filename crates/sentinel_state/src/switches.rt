@@ -1,14 +1,12 @@
 //! Switches: those that a client asked for, and those that were made at the nodes.
 
-ghost use Rattle.std.specs.Prelude.{◌≡◌, ◌<◌, ◌≤◌, Some, None, IfSome, IsTrue, length, option_map, position};
-ghost use Rattle.ballot_law.specs.declared.addresses.Addr.{Addr as AddrModel};
-ghost use Rattle.ballot_law.specs.declared.rosters.TheConstants.{NODES_MAX};
+ghost use Rattle.std.specs.Prelude.{◌≡◌, ◌<◌, None, IfSome, IsTrue, length};
 ghost use Rattle.ballot_law.specs.Clocks.{clock};
 ghost use Rattle.failover_states.specs.Calls.{epoch_of};
 ghost use Rattle.sentinel_rules.specs.Answers.{wished};
 ghost use Rattle.sentinel_rules.specs.Plans.{nodes_of};
 ghost use Rattle.sentinel_rules.specs.Profiles.{place_followed, is_taking_over, switched_to, is_given_away, is_electing, is_asking};
-ghost use Rattle.sentinel_rules.specs.States.{is_recent, is_wished, is_same_epoch, is_planned, is_awaiting, is_handed, is_master_role, says_master, says_replica, is_master_down, card_place, failover_of, master_of, node_of, with_master};
+ghost use Rattle.sentinel_rules.specs.States.{is_recent, is_wished, is_same_epoch, is_planned, is_awaiting, is_handed, is_master_role, says_master, says_replica, is_master_down, card_place, master_of, with_master};
 ghost use Rattle.sentinel_rules.specs.Ticks.{heir_of, planned_if, with_plan};
 
 use crate::cores::Core;
