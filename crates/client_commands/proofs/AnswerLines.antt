@@ -12,7 +12,7 @@ use Rattle.client_commands.specs.declared.subcommands.Sub.TheVariants.{Help, Pen
 use Rattle.client_commands.specs.declared.hellos.Expects.{Expects}
 use Rattle.client_commands.specs.declared.hellos.Expects.TheVariants.{Start, User, Password, NewName}
 use Rattle.client_commands.specs.Refusals.{is_called, printed_byte, printed, wrong_arguments, unknown_subcommand, shown_words, unknown_command, no_option, wrong_password, no_password, no_auth, no_auth_yet, no_name, not_while_listening}
-use Rattle.resp2.specs.Commands.{command_of}
+use Rattle.resp2.specs.Commands.{redis_command_of}
 use Rattle.client_commands.specs.declared.wordings.Wording.{Wording}
 use Rattle.client_commands.specs.Courtesies as table
 use Rattle.client_commands.specs.declared.choosing.ClientKind.{ClientKind}
@@ -514,10 +514,10 @@ or_left_lines asker (Some looked) h = answered_lines asker looked h
 
 reply_lines : (asker : ClientInfo) (value : Frame) → AreAnswerLines (reply_to asker value)
 reply_lines asker value =
-    one_answer (table.is_refused (command_of value)) _ _
-    (or_left_lines asker (table.looked_up_in asker (table.is_miscounted (command_of value)) (table.words_of value))
-    (in_lines asker (table.is_miscounted (command_of value)) (table.words_of value)))
-    (one_answer (is_stranger asker) _ _ no_auth_line (own_lines (table.wording_of (command_of value))))
+    one_answer (table.is_refused (redis_command_of value)) _ _
+    (or_left_lines asker (table.looked_up_in asker (table.is_miscounted (redis_command_of value)) (table.words_of value))
+    (in_lines asker (table.is_miscounted (redis_command_of value)) (table.words_of value)))
+    (one_answer (is_stranger asker) _ _ no_auth_line (own_lines (table.wording_of (redis_command_of value))))
 
 said_by : (asker : ClientInfo) (value answer : Frame) (test : Bool) → asks_nothing value ≡ test → courtesy asker value ≡ said answer → HasLines answer
 said_by asker value answer true h is = absurd (let no = sym (unasked_is asker value h) ∙ is in cc)

@@ -3,7 +3,7 @@ use Rattle.std.proofs.Common.{◌≡◌, ◌∙◌, ◌&&◌, ◌||◌, ◌==◌
 use Rattle.std.specs.Prelude.{nat_lt, nat_le}
 use Rattle.std.specs.List.{list_any}
 use Rattle.std.proofs.lemmas.Bool.{and_parts}
-use Rattle.resp2.specs.Commands.{command_of}
+use Rattle.resp2.specs.Commands.{redis_command_of}
 use Rattle.resp2.specs.Framing.Frame.{Frame}
 use Rattle.client_commands.specs.declared.verbs.Verb.{Verb}
 use Rattle.client_commands.specs.declared.verbs.Verb.TheVariants.{Ping, Hello, Auth, SetName, SetInfo, GetName, Id, OfClients, Own, Kill, NoEvict, Reply, HelpOfClient, Commands, Docs, Count, HelpOfCommand, Role, Publish, Info, Sentinel}
@@ -88,9 +88,9 @@ told_in asker miscounted (name ∷ words) h =
 pub strangers_are_answered : (asker : ClientInfo) (value : Frame) → is_stranger asker ≡ true → kind_of (courtesy asker value) ≡ Said
 strangers_are_answered asker value h =
     one_kind (table.asks_nothing value) _ _ refl
-    (one_kind (table.is_refused (command_of value)) _ _
-    (told_in asker (table.is_miscounted (command_of value)) (words_of value) h)
-    (ap (λ (t : Bool). kind_of (elim t as (λ _. Answer) [ true ↦ said no_auth | false ↦ table.own_answer (table.wording_of (command_of value)) ])) h))
+    (one_kind (table.is_refused (redis_command_of value)) _ _
+    (told_in asker (table.is_miscounted (redis_command_of value)) (words_of value) h)
+    (ap (λ (t : Bool). kind_of (elim t as (λ _. Answer) [ true ↦ said no_auth | false ↦ table.own_answer (table.wording_of (redis_command_of value)) ])) h))
 
 -- ---- HELLO and AUTH have the words after the name
 
@@ -318,4 +318,4 @@ pub admitted_by_the_password : (asker : ClientInfo) (value : Frame) → is_stran
     → list_any (is_password asker.password) (words_of value) ≡ true
 admitted_by_the_password asker value h k =
     let given = lacking asker.password asker.admitted (or_admitted asker (left_over asker value)) h k in
-    over_needs asker (table.is_refused (command_of value)) (table.is_miscounted (command_of value)) (words_of value) given.0 given.1
+    over_needs asker (table.is_refused (redis_command_of value)) (table.is_miscounted (redis_command_of value)) (words_of value) given.0 given.1

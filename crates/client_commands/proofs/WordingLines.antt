@@ -2,7 +2,7 @@
 use Rattle.std.proofs.Common.{ℕ, zero, suc, ◌+◌, ◌-◌, Bool, true, false, List, [], ◌∷◌, length, take, drop, codes, Option, None, Some, refl}
 use Rattle.std.specs.Prelude.{◌/◌, nat_lt, bytes_eq}
 use Rattle.ballot_law.specs.Words.{some_if}
-use Rattle.resp2.specs.Commands.{command_of}
+use Rattle.resp2.specs.Commands.{redis_command_of}
 use Rattle.resp2.specs.Framing.Frame.{Frame, simple, fault, int, bulk, null_bulk, items, null_items, IsLine, HasLines}
 use Rattle.client_commands.specs.declared.wordings.Wording.{Wording}
 use Rattle.client_commands.specs.declared.wordings.Wording.TheVariants.{Rows, Quorum}
@@ -65,4 +65,4 @@ worded_lines asker (Some (Rows table)) answer h = widened_lines table answer h
 worded_lines asker (Some (Quorum name)) answer h = quorum_lines (quorum_named name asker.masters) asker.sentinels answer h
 
 pub wide_has_lines : (asker : ClientInfo) (value answer : Frame) → HasLines answer → HasLines (wide asker value answer)
-wide_has_lines asker value answer h = worded_lines asker (wording_of (command_of value)) answer h
+wide_has_lines asker value answer h = worded_lines asker (wording_of (redis_command_of value)) answer h

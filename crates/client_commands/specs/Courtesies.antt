@@ -7,7 +7,7 @@ use Rattle.ballot_law.specs.Words.{lower, canonical_within, ip_text}
 use Rattle.pubsub.specs.Globs.{matches}
 use Rattle.resp2.specs.declared.command.CommandFault.{CommandFault}
 use Rattle.resp2.specs.declared.command.CommandFault.TheVariants.{UnknownCommand, WrongArguments}
-use Rattle.resp2.specs.Commands.{command_of, words}
+use Rattle.resp2.specs.Commands.{redis_command_of, words}
 use Rattle.resp2.specs.Framing.Frame.{Frame, FrameList, simple, fault, int, bulk, null_bulk, items, null_items, no_frames, frame, frames_of, spelling}
 use Rattle.client_commands.specs.declared.verbs.Verb.{Verb}
 use Rattle.client_commands.specs.declared.verbs.Verb.TheVariants.{Ping, Hello, Auth, SetName, SetInfo, GetName, Id, OfClients, Own, Kill, NoEvict, Reply, HelpOfClient, Commands, Docs, Count, HelpOfCommand, Role, Publish, Info, Sentinel}
@@ -606,7 +606,7 @@ looked_up_in asker miscounted (name ∷ words) =
 -- the command that the rules of the Sentinel leave to the courtesies, where they do
 abbrev pub left_over : ClientInfo → Frame → Option Looked
 left_over asker value =
-    elim (is_refused (command_of value)) [ true ↦ looked_up_in asker (is_miscounted (command_of value)) (words_of value) | false ↦ None ]
+    elim (is_refused (redis_command_of value)) [ true ↦ looked_up_in asker (is_miscounted (redis_command_of value)) (words_of value) | false ↦ None ]
 
 -- the answers of the Sentinel's rules that are told in other words
 abbrev pub wording_of : Result Command CommandFault → Option Wording
@@ -650,9 +650,9 @@ asks_nothing value = false
 -- the answer to a value that asks for something
 abbrev pub reply_to : ClientInfo → Frame → Answer
 reply_to asker value =
-    elim (is_refused (command_of value)) [
-      | true ↦ or_left asker (looked_up_in asker (is_miscounted (command_of value)) (words_of value))
-      | false ↦ unless_stranger asker (own_answer (wording_of (command_of value)))
+    elim (is_refused (redis_command_of value)) [
+      | true ↦ or_left asker (looked_up_in asker (is_miscounted (redis_command_of value)) (words_of value))
+      | false ↦ unless_stranger asker (own_answer (wording_of (redis_command_of value)))
     ]
 
 -- the answer to a value of a connection

@@ -10,7 +10,7 @@ use crate::quorums::say_quorum;
 use crate::tables::Table;
 use crate::widening::say_widened;
 use ballot_law::{Command, Name, NoMemory};
-use resp2::{CommandFault, OutText, Value, command_of};
+use resp2::{CommandFault, OutText, Value, redis_command_of};
 use std::alloc::Global;
 
 /// In which words an answer is told that isn't told in the Sentinel's own.
@@ -51,7 +51,7 @@ pub fn wide(
 ) -> Result<(), NoMemory>
     ensures { OnOk result (out.new ≡ spelling (wide asker.now (view value.now) (view answer.now))) }
 {
-    match wording_of(&command_of(value)) {
+    match wording_of(&redis_command_of(value)) {
         Some(Wording::Rows(table)) => say_widened(alloc, out, table, answer),
         Some(Wording::Quorum(name)) => say_quorum(out, asker, name, answer),
         None => Err(NoMemory),

@@ -11,7 +11,7 @@ use Rattle.pubsub.proofs.OwnCommands.{own_is_other, own_is_said}
 use Rattle.pubsub.proofs.Sounding.{untold}
 use Rattle.port_sessions.specs.Listening.{note_text}
 use Rattle.ballot_law.specs.declared.commands.Command.{Command}
-use Rattle.ballot_law.specs.declared.commands.Command.TheVariants.{Ping, IsMasterDownByAddr, GetMasterAddrByName, Masters, Master, Replicas, Sentinels, MyId, CkQuorum, FlushConfig, Subscribe}
+use Rattle.ballot_law.specs.declared.commands.Command.TheVariants.{Ping, IsMasterDownByAddr, GetMasterAddrByName, Masters, Master, Replicas, Sentinels, MyId, CkQuorum, Failover, FlushConfig, Subscribe}
 use Rattle.client_commands.specs.Courtesies.{is_stranger, ClientInfo, Answer, left, widens, said, asks_masters, silent, asks_nothing, courtesy, own_answer, wording_of, kind_of}
 use Rattle.client_commands.specs.declared.courtesies.Courtesy.TheVariants.{Said}
 use Rattle.client_commands.proofs.Strangers.{strangers_are_answered}
@@ -66,6 +66,7 @@ widened_as_it_is current (Master name) h = refl
 widened_as_it_is current (Replicas name) h = refl
 widened_as_it_is current (Sentinels name) h = refl
 widened_as_it_is current MyId h = refl
+widened_as_it_is current (Failover name) h = refl
 widened_as_it_is current (CkQuorum name) h = refl
 widened_as_it_is current FlushConfig h = refl
 widened_as_it_is current Subscribe h = refl
@@ -79,6 +80,7 @@ hears_all (Master name) = refl
 hears_all (Replicas name) = refl
 hears_all (Sentinels name) = refl
 hears_all MyId = refl
+hears_all (Failover name) = refl
 hears_all (CkQuorum name) = refl
 hears_all FlushConfig = refl
 hears_all Subscribe = refl
@@ -106,6 +108,7 @@ common_differs (Master name) h e = absurd h
 common_differs (Replicas name) h e = absurd h
 common_differs (Sentinels name) h e = absurd h
 common_differs MyId h e = absurd h
+common_differs (Failover name) h e = absurd h
 common_differs (CkQuorum name) h e = absurd h
 common_differs FlushConfig h e = absurd h
 

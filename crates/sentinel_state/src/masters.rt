@@ -27,6 +27,12 @@ pub(crate) struct Master {
     pub(crate) ask_sent: Option<u64>,
     /// Whether it was objectively down at its last tick.
     pub(crate) odown: bool,
+    /// When a client last asked that it hand over, until the campaign for that begins.
+    pub(crate) wish: Option<u64>,
+    /// The epoch of that campaign.
+    pub(crate) planned: Option<u64>,
+    /// Whether it refused to hand over in it.
+    pub(crate) refused: bool,
 }
 
 impl Model for Master {
@@ -44,6 +50,9 @@ impl Model for Master {
       nodes = master.nodes.items;
       ask_sent = master.ask_sent;
       odown = master.odown;
+      wish = master.wish;
+      planned = master.planned;
+      refused = master.refused;
     } };
 
     ghost invariant = { λ master. (length master.nodes.items ≤ NODES_MAX) × HasFewPlaces master.failover };
@@ -67,6 +76,9 @@ impl Master {
             nodes: vec![in alloc; Node::new(now); nodes as usize]?,
             ask_sent: None,
             odown: false,
+            wish: None,
+            planned: None,
+            refused: false,
         })
     }
 }

@@ -9,7 +9,7 @@ use Rattle.port_answers.specs.declared.rows.MasterRow.{MasterRow}
 use Rattle.port_answers.specs.declared.rows.SentinelRow.{SentinelRow}
 use Rattle.ballot_law.specs.declared.messages.TheConstants.{ANSWER_MAX}
 use Rattle.port_answers.specs.Room.{bounded}
-use Rattle.port_answers.specs.Answers.{header, master_frame, masters_frame, replica_frame, replicas_frame, sentinel_frame, sentinels_frame, no_such_master, ok_line, quorum_reached, no_quorum, id_frame, subscribed}
+use Rattle.port_answers.specs.Answers.{header, master_frame, masters_frame, replica_frame, replicas_frame, sentinel_frame, sentinels_frame, no_such_master, ok_line, quorum_reached, no_quorum, id_frame, subscribed, in_progress, in_tilt, no_good_replica, command_fault}
 use Rattle.port_answers.specs.Limits.{IsPlace, IsMasterRow, IsReplicaRow, Fits}
 use Rattle.port_answers.proofs.Fitting.{master_fits, masters_fit, replicas_fit, sentinels_fit, lines_fit}
 use Rattle.bounded_list.proofs.Bounded.{added_both}
@@ -18,6 +18,7 @@ use Rattle.sentinel_rules.specs.Plans.{Plan, group_size, master_count, nodes_of}
 use Rattle.sentinel_rules.specs.States.{Core, card_place}
 use Rattle.sentinel_rules.specs.Answers.{places_but, numbers_from, all_masters, master_row, replica_row, sentinel_row, replica_rows, sentinel_rows}
 use Rattle.sentinel_rules.proofs.Choices.{length-numbers_from}
+use Rattle.resp2.specs.declared.command.CommandFault.TheVariants.{UnknownCommand}
 
 -- Texts of places
 
@@ -219,6 +220,18 @@ master_whole row h = (master_fits row h).whole
 
 pub unknown_whole : bounded (spelling no_such_master) ≡ spelling no_such_master
 unknown_whole = lines_fit.no_such_master.whole
+
+pub unknown_command_whole : bounded (spelling (command_fault UnknownCommand)) ≡ spelling (command_fault UnknownCommand)
+unknown_command_whole = (lines_fit.command_fault UnknownCommand).whole
+
+pub in_progress_whole : bounded (spelling in_progress) ≡ spelling in_progress
+in_progress_whole = lines_fit.in_progress.whole
+
+pub in_tilt_whole : bounded (spelling in_tilt) ≡ spelling in_tilt
+in_tilt_whole = lines_fit.in_tilt.whole
+
+pub no_good_replica_whole : bounded (spelling no_good_replica) ≡ spelling no_good_replica
+no_good_replica_whole = lines_fit.no_good_replica.whole
 
 pub ok_whole : bounded (spelling ok_line) ≡ spelling ok_line
 ok_whole = lines_fit.ok_line.whole
