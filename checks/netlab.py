@@ -86,8 +86,8 @@ def ask(address, *words, password=None, timeout=1.0):
 class Lab:
     """A master d0 with replicas d1 .., and Sentinels s0 .. of a kind each: `ours` or `redis`. `own` has the quorum and down-after of single Sentinels, by
     place; replicas know the master by the name `replicaof`, where there is one; `has_fsync` is whether stores can be made slow, which needs `cc`. The file of each
-    Sentinel also has `lines`, and the one at a place those of `more`, and that of each data node `store_lines`; `port_password` is the one that its port wants. `priorities` has those of replicas, by
-    node."""
+    Sentinel also has `lines`, and the one at a place those of `more`, and that of each data node `store_lines`; `port_password` is the one that its port
+    wants. `priorities` has those of replicas, by node."""
 
     def __init__(
         self, kinds, nodes=3, after=2000, password=None, quorum=None, timeout=10_000, own=None, replicaof=None, has_fsync=False, lines=(), more=None, port_password=None, priorities=None,
