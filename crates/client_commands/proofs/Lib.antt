@@ -8,5 +8,3 @@ pub mod Lookups
 pub mod OwnValues
 pub mod Silence
 pub mod Strangers
-pub mod WideRows
-pub mod WordingLines

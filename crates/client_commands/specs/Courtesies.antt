@@ -12,35 +12,29 @@ use Rattle.client_commands.specs.declared.verbs.Verb.{Verb}
 use Rattle.client_commands.specs.declared.verbs.Verb.TheVariants.{Ping, Hello, Auth, SetName, SetInfo, GetName, Id, NoEvict, Reply, Commands, Docs, Count, Role, Publish, Info}
 use Rattle.client_commands.specs.declared.hellos.Expects.{Expects}
 use Rattle.client_commands.specs.declared.hellos.Expects.TheVariants.{Start, User, Password, NewName}
-use Rattle.client_commands.specs.declared.wordings.Wording.{Wording}
-use Rattle.client_commands.specs.declared.wordings.Wording.TheVariants.{Rows, Quorum}
-use Rattle.client_commands.specs.declared.tables.Table.TheVariants.{OneMaster, AllMasters, OfReplicas, OfSentinels}
 use Rattle.client_commands.specs.declared.courtesies.Courtesy.{Courtesy}
-use Rattle.client_commands.specs.declared.courtesies.Courtesy.TheVariants.{Left, Widens, Said, AsksMasters}
+use Rattle.client_commands.specs.declared.courtesies.Courtesy.TheVariants.{Left, Said, AsksMasters}
 use Rattle.client_commands.specs.Refusals.{is_called, printed_byte, wrong_arguments, unknown_subcommand, unknown_command, syntax_error, wrong_password, no_password, no_auth, no_auth_yet, no_name, no_such_protocol, no_protocol, no_option, no_hello, not_while_listening}
 
 -- a master that a Sentinel watches
 pub record MonitoredMaster : Type 0 where
   pub name : List ℕ
-  pub quorum : ℕ
 
--- what is known of a connection: its number, the name that its client gave it, whether it listens to notes, the Sentinel's masters, how many Sentinels watch them, the
+-- what is known of a connection: its number, the name that its client gave it, whether it listens to notes, the Sentinel's masters, the
 -- password that is wanted of its client, where one is, and whether the client gave it; and the Sentinel's current epoch as it was last told, where that was
 pub record ClientInfo : Type 0 where
   pub id : ℕ
   pub name : List ℕ
   pub listens : Bool
   pub masters : List MonitoredMaster
-  pub sentinels : ℕ
   pub password : Option (List ℕ)
   pub admitted : Bool
   pub current : Option ℕ
 
--- what becomes of a value: the Sentinel's rules answer it, the answer that they give is told in other words, it is answered by this value, or by what is told of the
+-- what becomes of a value: the Sentinel's rules answer it, it is answered by this value, or by what is told of the
 -- Sentinel's masters, or it has no answer
 pub data Answer : Type 0 where
   left : Answer
-  widens : Answer
   said : Frame → Answer
   asks_masters : Answer
   silent : Answer
@@ -437,20 +431,6 @@ abbrev pub left_over : ClientInfo → Frame → Option Looked
 left_over asker value =
     elim (is_refused (command_of value)) [ true ↦ looked_up_in asker (is_miscounted (command_of value)) (words_of value) | false ↦ None ]
 
--- the answers of the Sentinel's rules that are told in other words
-abbrev pub wording_of : Result Command CommandFault → Option Wording
-wording_of (Ok (Master name)) = Some (Rows OneMaster)
-wording_of (Ok Masters) = Some (Rows AllMasters)
-wording_of (Ok (Replicas name)) = Some (Rows OfReplicas)
-wording_of (Ok (Sentinels name)) = Some (Rows OfSentinels)
-wording_of (Ok (CkQuorum name)) = Some (Quorum name)
-wording_of asked = None
-
--- what becomes of a value that the rules answer
-abbrev pub own_answer : Option Wording → Answer
-own_answer None = left
-own_answer (Some wording) = widens
-
 abbrev pub unless_stranger : ClientInfo → Answer → Answer
 unless_stranger asker answer = elim (is_stranger asker) [ true ↦ said no_auth | false ↦ answer ]
 
@@ -477,7 +457,7 @@ abbrev pub reply_to : ClientInfo → Frame → Answer
 reply_to asker value =
     elim (is_refused (command_of value)) [
       | true ↦ or_left asker (looked_up_in asker (is_miscounted (command_of value)) (words_of value))
-      | false ↦ unless_stranger asker (own_answer (wording_of (command_of value)))
+      | false ↦ unless_stranger asker left
     ]
 
 -- the answer to a value of a connection
@@ -492,7 +472,6 @@ asker_after asker value = record asker { name = or_same asker (left_over asker v
 
 abbrev pub kind_of : Answer → Courtesy
 kind_of left = Left
-kind_of widens = Widens
 kind_of (said answer) = Said
 kind_of asks_masters = AsksMasters
 kind_of silent = Said
@@ -500,7 +479,6 @@ kind_of silent = Said
 -- its bytes on the wire, where it is known
 abbrev pub text_of : Answer → List ℕ
 text_of left = []
-text_of widens = []
 text_of (said answer) = spelling answer
 text_of asks_masters = []
 text_of silent = []

@@ -12,8 +12,6 @@ use std::marker::Model;
 pub struct MonitoredMaster {
     /// Its name.
     pub name: Name,
-    /// How many Sentinels have to call it down before a failover.
-    pub quorum: u32,
 }
 
 impl Model for MonitoredMaster {
@@ -21,7 +19,7 @@ impl Model for MonitoredMaster {
 
     ghost Value = { MonitoredMasterModel };
 
-    ghost view = { λ master. record { name = master.name; quorum = master.quorum } };
+    ghost view = { λ master. record { name = master.name } };
 }
 
 impl MonitoredMaster {
@@ -30,13 +28,6 @@ impl MonitoredMaster {
         ensures { result.now ≡ self.now.name }
     {
         self.name.as_slice()
-    }
-
-    /// The quorum.
-    pub(crate) fn quorum(&self) -> u32
-        ensures { result ≡ self.now.quorum }
-    {
-        self.quorum
     }
 }
 
@@ -51,8 +42,6 @@ pub struct ClientInfo {
     pub listens: bool,
     /// The Sentinel's masters, in the roster's order.
     pub masters: Vec<MonitoredMaster>,
-    /// How many Sentinels watch them, this one too.
-    pub sentinels: usize,
     /// The password that is wanted of its client; none where every client is admitted.
     pub password: Option<Text>,
     /// Whether the client gave the password.
@@ -66,7 +55,7 @@ impl Model for ClientInfo {
 
     ghost Value = { AskerModel };
 
-    ghost view = { λ asker. record { id = asker.id; name = asker.name; listens = asker.listens; masters = asker.masters.items; sentinels = asker.sentinels; password = asker.password; admitted = asker.admitted; current = asker.current } };
+    ghost view = { λ asker. record { id = asker.id; name = asker.name; listens = asker.listens; masters = asker.masters.items; password = asker.password; admitted = asker.admitted; current = asker.current } };
 }
 
 impl ClientInfo {
@@ -96,13 +85,6 @@ impl ClientInfo {
         ensures { result.now ≡ self.now.masters }
     {
         self.masters.as_slice()
-    }
-
-    /// How many Sentinels there are.
-    pub(crate) fn sentinels(&self) -> usize
-        ensures { result ≡ self.now.sentinels }
-    {
-        self.sentinels
     }
 
     /// Whether a password is wanted.
@@ -157,12 +139,11 @@ impl ClientInfo {
         self.listens = listens;
     }
 
-    /// Has it know these masters, which `sentinels` Sentinels watch.
-    pub(crate) fn watch(&mut self, masters: Vec<MonitoredMaster>, sentinels: usize)
-        ensures { self.new ≡ record self.old { masters = masters.items; sentinels = sentinels } }
+    /// Has it know these masters.
+    pub(crate) fn watch(&mut self, masters: Vec<MonitoredMaster>)
+        ensures { self.new ≡ record self.old { masters = masters.items } }
     {
         self.masters = masters;
-        self.sentinels = sentinels;
     }
 
     /// Has it want this password, which its client didn't give.

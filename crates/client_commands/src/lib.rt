@@ -4,8 +4,8 @@
 //! `courtesy_of` says what becomes of a value. One that the Sentinel's rules answer is left to them; each that they
 //! call unknown, or refuse for its number of words, has exactly one answer, by the table in docs/CLIENTS.md. No
 //! Sentinel is known here, so nothing of one is changed; what INFO says comes from the Sentinel's own answer to
-//! SENTINEL MASTERS. The answers about masters, replicas, Sentinels and quorums are told in redis-sentinel's words. An
-//! `CommandReader` reads the values of a client, in whose stream a command may come as a line in place of an array.
+//! SENTINEL MASTERS. A `CommandReader` reads the values of a client, in whose stream a command may come as a line in
+//! place of an array.
 #![tactic(auto)]
 
 mod client_info;
@@ -18,12 +18,8 @@ mod laws;
 mod lines;
 mod lookup;
 mod passwords;
-mod quorums;
 mod refusals;
-mod tables;
 mod verbs;
-mod widening;
-mod wordings;
 
 pub use client_info::{ClientInfo, MonitoredMaster};
 pub use command_reader::CommandReader;
@@ -32,6 +28,4 @@ pub use infos::info;
 pub use laws::{
     law_answers_are_values, law_lines_stay, law_nothing_is_answered_to_nothing,
     law_own_values_are_left, law_strangers_reach_nothing, law_values_are_spelled_or_lines,
-    law_wide_answers_are_values, law_wide_rows_keep_fields,
 };
-pub use wordings::wide;

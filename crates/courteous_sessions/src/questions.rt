@@ -60,10 +60,7 @@ pub(crate) fn monitored_by(alloc: Global, roster: &Roster) -> Result<Vec<Monitor
     let mut monitored = Vec::new(alloc);
     let mut rest = roster.masters();
     while let [master, more @ ..] = rest {
-        monitored.push(MonitoredMaster {
-            name: master.name,
-            quorum: master.quorum,
-        })?;
+        monitored.push(MonitoredMaster { name: master.name })?;
         rest = more;
     }
     Ok(monitored)

@@ -27,6 +27,8 @@ pub(crate) struct Master {
     pub(crate) ask_sent: Option<u64>,
     /// Whether it was objectively down at its last tick.
     pub(crate) odown: bool,
+    /// Since when it has been, for those who ask.
+    pub(crate) odown_since: Option<u64>,
 }
 
 impl Model for Master {
@@ -44,6 +46,7 @@ impl Model for Master {
       nodes = master.nodes.items;
       ask_sent = master.ask_sent;
       odown = master.odown;
+      odown_since = master.odown_since;
     } };
 
     ghost invariant = { λ master. (length master.nodes.items ≤ NODES_MAX) × HasFewPlaces master.failover };
@@ -67,6 +70,7 @@ impl Master {
             nodes: vec![in alloc; Node::new(now); nodes as usize]?,
             ask_sent: None,
             odown: false,
+            odown_since: None,
         })
     }
 }

@@ -1,14 +1,14 @@
 //! INFO of data nodes: news for a failover, or a node that is wrong.
 
-ghost use Rattle.std.specs.Prelude.{◌≡◌, ◌≤◌};
+ghost use Rattle.std.specs.Prelude.{◌≡◌, ◌≤◌, Some};
 ghost use Rattle.ballot_law.specs.declared.rosters.TheConstants.{NODES_MAX};
 ghost use Rattle.ballot_law.specs.Clocks.{clock};
-ghost use Rattle.sentinel_rules.specs.News.{promotion, follows, follows_another, has_followed, reconfiguration, is_master_role, is_reconfiguring, wrong_since, is_overdue, says_master, can_be_followed, anew, correction, judged, info_kept, info_at_node, info_read};
+ghost use Rattle.sentinel_rules.specs.News.{promotion, follows, follows_another, has_followed, reconfiguration, is_master_role, is_reconfiguring, wrong_since, is_overdue, says_master, can_be_followed, anew, correction, judged, info_kept, info_at_node, announced_at, info_read};
 ghost use Rattle.sentinel_rules.specs.States.{failover_of};
 ghost use Rattle.sentinel_state.specs.Parts.{with_part};
 
 use crate::inputs::cards::take_card;
-use ballot_law::{Addr, Card, DataRole, Info, NodeName, clock_of};
+use ballot_law::{Addr, Card, DataRole, Info, NodeName, NodePlace, clock_of};
 use failover_states::FailoverState;
 use node_texts::TextFault;
 use sentinel_rules::{Frame, WRONG_ROLE_MS};
@@ -189,14 +189,30 @@ fn hear_info(state: &mut State, m: u16, k: u16, now: u64, info: &Info)
     }
 }
 
-/// Takes the INFO of a data node, as it was read. One that can't be read, or that isn't of a data node of the roster,
-/// changes nothing.
-pub fn take_info(state: &mut State, node: NodeName, now: u64, info: Result<Info, TextFault>)
-    ensures { state.new ≡ with_part state.old (info_read state.old.plan node (clock now) info state.old.core) }
+/// Whether a node may be told to clients is kept.
+fn announce(core: &mut Core, at: NodePlace, announced: bool)
+    ensures { core.new ≡ announced_at announced (Some at) core.old }
+{
+    let mut node = core.node(at.master, at.place as usize);
+    node.announce(announced);
+    core.set_node(at.master, at.place as usize, node);
+}
+
+/// Takes the INFO of a data node, as it was read, and whether it says that the node may be told to clients. One that
+/// can't be read, or that isn't of a data node of the roster, changes nothing.
+pub fn take_info(
+    state: &mut State,
+    node: NodeName,
+    now: u64,
+    info: Result<Info, TextFault>,
+    announced: bool,
+)
+    ensures { state.new ≡ with_part state.old (info_read state.old.plan node (clock now) info announced state.old.core) }
 {
     if let Ok(info) = info
         && let Some(at) = state.plan.node_named(node)
     {
+        announce(&mut state.core, at, announced);
         hear_info(state, at.master, at.place, now, &info);
     }
 }
