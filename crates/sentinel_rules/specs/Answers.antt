@@ -123,9 +123,7 @@ sentinel_row plan core now m place =
 
 -- the places below a number, but for one
 abbrev pub places_but : (one place count : ℕ) → List ℕ
-places_but one place zero = []
-places_but one place (suc count) =
-    if place == one then places_but one (place + 1) count else place ∷ places_but one (place + 1) count
+places_but one place count = places_told (λ k. k == one) place count
 
 -- each node but that of the configuration and those that aren't told, by address
 abbrev pub replica_rows : Plan → Core → (now m : ℕ) → List ReplicaRow
