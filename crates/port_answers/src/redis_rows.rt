@@ -84,9 +84,12 @@ fn shortfall(few_for_quorum: bool, few_for_majority: bool) -> &'static [u8]
     ensures { result.now ≡ shortfall few_for_quorum few_for_majority }
 {
     match (few_for_quorum, few_for_majority) {
-        (true, true) => b" usable Sentinels. Not enough available Sentinels to reach the specified quorum for this master. Not enough available Sentinels to reach the majority and authorize a failover",
-        (true, false) => b" usable Sentinels. Not enough available Sentinels to reach the specified quorum for this master",
-        (false, true) => b" usable Sentinels. Not enough available Sentinels to reach the majority and authorize a failover",
+        (true, true) =>
+            b" usable Sentinels. Not enough available Sentinels to reach the specified quorum for this master. Not enough available Sentinels to reach the majority and authorize a failover",
+        (true, false) =>
+            b" usable Sentinels. Not enough available Sentinels to reach the specified quorum for this master",
+        (false, true) =>
+            b" usable Sentinels. Not enough available Sentinels to reach the majority and authorize a failover",
         (false, false) => b" usable Sentinels. ",
     }
 }
@@ -217,10 +220,19 @@ impl AnswerText {
     pub fn add_redis_master(&mut self, row: &MasterRow)
         ensures { self.new ≡ bounded (self.old ++ spelling (redis_master_frame row.now)) }
     {
-        let fields = MASTER_FIELDS + one_if(row.failing_over) + one_if(row.down) + one_if(row.odown);
+        let fields = MASTER_FIELDS
+            + one_if(row.failing_over)
+            + one_if(row.down)
+            + one_if(row.odown);
         self.add_count(fields * 2);
         let id = id_words(row.said.id);
-        self.add_head(row.name.as_slice(), row.addr, id.as_slice(), master_flags(row), 1);
+        self.add_head(
+            row.name.as_slice(),
+            row.addr,
+            id.as_slice(),
+            master_flags(row),
+            1,
+        );
         self.add_field_if(row.failing_over, b"failover-state", stage_name(row.stage));
         self.add_pings(row.contact);
         self.add_time_if(row.down, b"s-down-time", row.contact.down_ms);

@@ -83,7 +83,11 @@ fn link(words: &[Vec<u8>]) -> Result<LinkRow, Unplayed> {
     Ok(LinkRow {
         down_ms: number(down_ms)?,
         up: !is_down(state)?,
-        master: if is_known { Some(address(ip, port)?) } else { None },
+        master: if is_known {
+            Some(address(ip, port)?)
+        } else {
+            None
+        },
         announced: announced.as_slice() == b"1".as_slice(),
     })
 }
@@ -102,18 +106,19 @@ fn stage(word: &[u8]) -> Result<FailoverStage, Unplayed> {
     }
 }
 
-/// Adds the master that the first eleven words are, in redis-sentinel's words: then come since when it is down by all
-/// accounts, the stage of its failover, four words of its connection and four of its INFO.
+/// Adds the master that the first eleven words are, in redis-sentinel's words: then come whether enough Sentinels find it
+/// down and since when, the stage of its failover, four words of its connection and four of its INFO.
 fn add_redis_master(answers: &mut AnswerText, words: &[Vec<u8>]) -> Result<(), Unplayed> {
-    if words.len() != 21 {
+    if words.len() != 22 {
         return Err(Unplayed::WrongWords);
     }
     let mut row = master(&words[..11])?;
-    row.odown_ms = number(&words[11])?;
-    row.stage = stage(&words[12])?;
+    row.odown = words[11].as_slice() == b"odown".as_slice();
+    row.odown_ms = number(&words[12])?;
+    row.stage = stage(&words[13])?;
     row.failing_over = row.stage != FailoverStage::NoFailover;
-    row.contact = contact(&words[13..17])?;
-    row.said = said(&words[17..])?;
+    row.contact = contact(&words[14..18])?;
+    row.said = said(&words[18..])?;
     answers.add_redis_master(&row);
     Ok(())
 }

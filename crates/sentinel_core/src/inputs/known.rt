@@ -1,6 +1,6 @@
 //! What rows say of nodes for those who ask.
 
-ghost use Rattle.std.specs.Prelude.{◌≡◌, unwrap_or};
+ghost use Rattle.std.specs.Prelude.{◌≡◌};
 ghost use Rattle.port_answers.specs.Limits.{IsContactRow, IsSaidRow, IsLinkRow};
 ghost use Rattle.sentinel_rules.specs.Profiles.{down_for};
 ghost use Rattle.sentinel_rules.specs.Rows.{waiting_for, contact_row, told_id, told_role, said_row, link_row, stage_of, heard_leader, heard_epoch};

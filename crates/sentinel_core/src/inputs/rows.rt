@@ -14,9 +14,7 @@ ghost use Rattle.sentinel_rules.specs.States.{card_place};
 ghost use Rattle.sentinel_rules.specs.Plans.{roster_of, master_count, nodes_of, addr_at};
 
 use crate::inputs::facts::down_for;
-use crate::inputs::known::{
-    contact_row, heard_epoch, heard_leader, link_row, said_row, stage_of,
-};
+use crate::inputs::known::{contact_row, heard_epoch, heard_leader, link_row, said_row, stage_of};
 use ballot_law::{Addr, DataRole, Member, RunId, Shown, clock_of};
 use port_answers::{AnswerText, MasterRow, ReplicaRow, SentinelRow};
 use sentinel_rules::{ASSUMED_INFO, Profile};
@@ -241,14 +239,7 @@ pub(crate) fn add_replicas(plan: &Plan, core: &Core, now: u64, m: u16, text: &mu
 
 /// Writes a Sentinel, unless it is at this place.
 #[tactic(auto, using(crate::proofs::InputsLemmas::AnswerRows::same_text))]
-fn add_sentinel_but(
-    plan: &Plan,
-    core: &Core,
-    now: u64,
-    m: u16,
-    place: u16,
-    text: &mut AnswerText,
-)
+fn add_sentinel_but(plan: &Plan, core: &Core, now: u64, m: u16, place: u16, text: &mut AnswerText)
     ensures value { text.new ≡ bounded (text.old ++ (if place == plan.now.place then []
         else spelling (sentinel_frame_by plan.now.profile (sentinel_row plan.now core.now (clock now) m place)))) }
     ensures fits { IsSentinelRow (sentinel_row plan.now core.now (clock now) m place) }
