@@ -48,3 +48,8 @@ headed count fields old mid new e f = f ∙ ap (λ t. bounded (t ++ fields_text 
 pub line_of : (old new before number behind end : List ℕ) → new ≡ bounded (old ++ (before ++ (number ++ (behind ++ end)))) →
     new ≡ bounded (old ++ (before ++ ((number ++ behind) ++ end)))
 line_of old new before number behind end e = e ∙ ap (λ t. bounded (old ++ (before ++ t))) (sym (append_assoc number behind end))
+
+-- the beginning of an array of so many values, and then its fields
+pub counted : (n count : ℕ) (fields : List (List ℕ × List ℕ)) (old mid new : List ℕ) → mid ≡ bounded (old ++ header n) → new ≡ bounded (mid ++ fields_text fields)
+    → n ≡ count → new ≡ bounded (old ++ (header count ++ fields_text fields))
+counted n count fields old mid new e f is = headed n fields old mid new e f ∙ ap (λ k. bounded (old ++ (header k ++ fields_text fields))) is

@@ -66,3 +66,14 @@ sentinel_items row =
     let fields = count_bulks (redis_sentinel_fields row) in
     let d = if_count row.down (codes "s-down-time") (decimal row.contact.down_ms) in
     omega arith
+
+-- the same, counted by parts
+pub master_total : (row : MasterRow) (a b c : ℕ) → a ≡ one_if row.failing_over → b ≡ one_if row.down → c ≡ one_if row.odown
+    → (20 + a + b + c) * 2 ≡ count (frames_of (bulks (redis_master_fields row)))
+master_total row a b c e f g = let items = master_items row in omega (arith, e, f, g)
+
+pub replica_total : (row : ReplicaRow) (b : ℕ) → b ≡ one_if row.down → (21 + b) * 2 ≡ count (frames_of (bulks (redis_replica_fields row)))
+replica_total row b f = let items = replica_items row in omega (arith, f)
+
+pub sentinel_total : (row : SentinelRow) (b : ℕ) → b ≡ one_if row.down → (14 + b) * 2 ≡ count (frames_of (bulks (redis_sentinel_fields row)))
+sentinel_total row b f = let items = sentinel_items row in omega (arith, f)
