@@ -7,7 +7,7 @@ use Rattle.port_answers.specs.Room.{bounded}
 use Rattle.port_answers.specs.Answers.{fields_text, header}
 use Rattle.bounded_list.proofs.Bounded.{added_both}
 
-fields_text-append : (xs ys : List (List ℕ × List ℕ)) → fields_text (xs ++ ys) ≡ fields_text xs ++ fields_text ys
+pub fields_text-append : (xs ys : List (List ℕ × List ℕ)) → fields_text (xs ++ ys) ≡ fields_text xs ++ fields_text ys
 fields_text-append [] ys = refl
 fields_text-append (x ∷ xs) ys =
     ap (λ t. spelling (bulk x.0) ++ (spelling (bulk x.1) ++ t)) (fields_text-append xs ys)

@@ -1,5 +1,5 @@
 -- How many fields the rows in redis-sentinel's words have.
-use Rattle.std.proofs.Common.{◌≡◌, ℕ, suc, ◌+◌, ◌*◌, ◌≤◌, Bool, true, false, List, [], ◌∷◌, ◌++◌, length, refl, ap, ◌∙◌, arith, length-append}
+use Rattle.std.proofs.Common.{◌≡◌, ℕ, ◌+◌, ◌*◌, ◌≤◌, Bool, true, false, List, [], ◌∷◌, ◌++◌, length, refl, arith, length-append, suc-mul}
 use Rattle.resp2.specs.Framing.Frame.{frames_of, count}
 use Rattle.port_answers.specs.declared.rows.MasterRow.{MasterRow}
 use Rattle.port_answers.specs.declared.rows.ReplicaRow.{ReplicaRow}
@@ -13,7 +13,7 @@ use Rattle.ballot_law.specs.declared.addresses.Addr.{Addr}
 -- each field is two bulk strings
 count_bulks : (fields : List (List ℕ × List ℕ)) → count (frames_of (bulks fields)) ≡ length fields * 2
 count_bulks [] = refl
-count_bulks (field ∷ fields) = ap (λ n. suc (suc n)) (count_bulks fields)
+count_bulks (field ∷ fields) = omega (arith, suc-mul (length fields) 2, count_bulks fields)
 
 if_count : (b : Bool) (name value : List ℕ) → length (field_if b name value) ≡ one_if b
 if_count true name value = refl
