@@ -1,12 +1,12 @@
 //! What rows say of nodes for those who ask.
 
 ghost use Rattle.std.specs.Prelude.{◌≡◌};
-ghost use Rattle.port_answers.specs.Limits.{IsContactRow, IsSaidRow, IsLinkRow};
+ghost use Rattle.port_answers.specs.Limits.{IsContactRow, IsSaidRow, IsLinkRow, IsPlaceIfAny};
 ghost use Rattle.sentinel_rules.specs.Profiles.{down_for};
 ghost use Rattle.sentinel_rules.specs.Rows.{waiting_for, contact_row, told_id, told_role, said_row, link_row, stage_of, heard_leader, heard_epoch};
 
 use crate::inputs::facts::down_for;
-use ballot_law::{DataRole, HeardVote, Info, RunId};
+use ballot_law::{Addr, DataRole, HeardVote, Info, RunId};
 use down_detector::Watch;
 use failover_states::FailoverState;
 use port_answers::{ContactRow, FailoverStage, LinkRow, SaidRow};
@@ -77,6 +77,17 @@ pub(crate) fn said_row(at: u64, assumed: DataRole, node: &Node) -> SaidRow
     }
 }
 
+/// The address of its master that a replica's INFO told.
+fn told_master(info: Info) -> Option<Addr>
+    ensures value { result ≡ info.master }
+    ensures fits { IsPlaceIfAny result }
+{
+    match info.master {
+        Some(addr) => Some(addr),
+        None => None,
+    }
+}
+
 /// What a replica's INFO said of its master.
 pub(crate) fn link_row(node: &Node) -> LinkRow
     ensures value { result ≡ link_row node.now }
@@ -86,7 +97,7 @@ pub(crate) fn link_row(node: &Node) -> LinkRow
     LinkRow {
         down_ms: info.link_down_s.min(LINK_MAX_S) * 1_000,
         up: info.link_up,
-        master: info.master,
+        master: told_master(info),
         announced: node.announced,
     }
 }
