@@ -169,8 +169,8 @@ impl CommandReader {
     }
 
     /// Attends to a value: what becomes of it. `Left`: the session is to have it. `AsksMasters`: it is INFO, whose
-    /// answer `inform` makes. `Said`: the text is its answer, of no bytes after an array without items, as an empty line
-    /// is one; else the text is empty.
+    /// answer `inform` makes. `Said`: the text is its answer, of no bytes after an array without items, as an empty
+    /// line is one; else the text is empty.
     ///
     /// `NoMemory`: memory was refused; the connection is to be closed.
     pub fn attend_to(&mut self, value: &Value) -> Result<Courtesy, NoMemory>

@@ -3,6 +3,8 @@
 ghost use Rattle.std.specs.Prelude.{◌≡◌, ◌≤◌, Some};
 ghost use Rattle.ballot_law.specs.declared.rosters.TheConstants.{NODES_MAX};
 ghost use Rattle.ballot_law.specs.Clocks.{clock};
+ghost use Rattle.node_texts.specs.Announced.{is_announced};
+ghost use Rattle.node_texts.specs.Infos.{info_of};
 ghost use Rattle.sentinel_rules.specs.News.{promotion, follows, follows_another, has_followed, reconfiguration, is_master_role, is_reconfiguring, wrong_since, is_overdue, says_master, can_be_followed, anew, correction, judged, info_kept, info_at_node, announced_at, info_read};
 ghost use Rattle.sentinel_rules.specs.States.{failover_of};
 ghost use Rattle.sentinel_state.specs.Parts.{with_part};
@@ -10,7 +12,7 @@ ghost use Rattle.sentinel_state.specs.Parts.{with_part};
 use crate::inputs::cards::take_card;
 use ballot_law::{Addr, Card, DataRole, Info, NodeName, NodePlace, clock_of};
 use failover_states::FailoverState;
-use node_texts::TextFault;
+use node_texts::{is_announced, read_info};
 use sentinel_rules::{Frame, WRONG_ROLE_MS};
 use sentinel_state::{Core, State};
 
@@ -198,21 +200,14 @@ fn announce(core: &mut Core, at: NodePlace, announced: bool)
     core.set_node(at.master, at.place as usize, node);
 }
 
-/// Takes the INFO of a data node, as it was read, and whether it says that the node may be told to clients. One that
-/// can't be read, or that isn't of a data node of the roster, changes nothing.
-pub fn take_info(
-    state: &mut State,
-    node: NodeName,
-    now: u64,
-    info: Result<Info, TextFault>,
-    announced: bool,
-)
-    ensures { state.new ≡ with_part state.old (info_read state.old.plan node (clock now) info announced state.old.core) }
+/// Takes the INFO of a data node. One that can't be read, or that isn't of a data node of the roster, changes nothing.
+pub fn take_info(state: &mut State, node: NodeName, now: u64, text: &[u8])
+    ensures { state.new ≡ with_part state.old (info_read state.old.plan node (clock now) (info_of text.now) (is_announced text.now) state.old.core) }
 {
-    if let Ok(info) = info
+    if let Ok(info) = read_info(text)
         && let Some(at) = state.plan.node_named(node)
     {
-        announce(&mut state.core, at, announced);
+        announce(&mut state.core, at, is_announced(text));
         hear_info(state, at.master, at.place, now, &info);
     }
 }
