@@ -3,9 +3,9 @@
 ghost use Rattle.std.specs.Prelude.{◌≤◌, vec_capacity};
 
 use crate::commands::{fault_of, value_of};
-use crate::given::{address, id, is_down, is_lost, number, number_32};
+use crate::given::{address, id, is_down, is_lost, maybe_id, number, number_32};
 use crate::told::{Told, Unplayed};
-use ballot_law::{ANSWER_MAX, DataRole, Name, RunId};
+use ballot_law::{ANSWER_MAX, DataRole, Name};
 use port_answers::{
     AnswerText, ContactRow, FailoverStage, LinkRow, MasterRow, ReplicaRow, SaidRow, SentinelRow,
 };
@@ -47,14 +47,6 @@ fn contact(words: &[Vec<u8>]) -> Result<ContactRow, Unplayed> {
     })
 }
 
-/// A run id, or none at `-`.
-fn id_if_any(word: &[u8]) -> Result<Option<RunId>, Unplayed> {
-    if word == b"-".as_slice() {
-        return Ok(None);
-    }
-    Ok(Some(id(word)?))
-}
-
 /// What the INFO of a node said that these four words are: its run id, when it came, its role and since when it has it.
 fn said(words: &[Vec<u8>]) -> Result<SaidRow, Unplayed> {
     let [own_id, info_ms, role, role_ms] = words else {
@@ -66,7 +58,7 @@ fn said(words: &[Vec<u8>]) -> Result<SaidRow, Unplayed> {
         _ => return Err(Unplayed::WrongWords),
     };
     Ok(SaidRow {
-        id: id_if_any(own_id)?,
+        id: maybe_id(own_id)?,
         info_ms: number(info_ms)?,
         role,
         role_ms: number(role_ms)?,
@@ -158,7 +150,7 @@ fn add_redis_sentinel(answers: &mut AnswerText, words: &[Vec<u8>]) -> Result<(),
         masters: number(&words[4])?,
         after_ms: number(&words[5])?,
         hello_ms: number(&words[6])?,
-        leader: id_if_any(&words[7])?,
+        leader: maybe_id(&words[7])?,
         leader_epoch: number(&words[8])?,
         contact: contact(&words[9..])?,
     });
