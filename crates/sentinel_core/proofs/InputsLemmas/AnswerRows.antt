@@ -163,12 +163,25 @@ told_end : (out : ℕ → Bool) (place : ℕ) (b : Bool) → length (if b then [
 told_end out place true = refl
 told_end out place false = refl
 
-pub told_last : (out : ℕ → Bool) (place count : ℕ)
+told_last : (out : ℕ → Bool) (place count : ℕ)
     → length (places_told out place (suc count)) ≡ length (places_told out place count) + (if out (place + count) then 0 else 1)
 told_last out place zero = told_end out place (out place) ∙ ap (λ k. 0 + (if out k then 0 else 1)) (sym (add-zero place))
 told_last out place (suc count) =
     told_last_test out place count (out place) (told_last out (place + 1) count)
     ∙ ap (λ k. length (places_told out place (suc count)) + (if out k then 0 else 1)) (let e : place + 1 + count ≡ place + suc count = omega arith in e)
+
+told_next : (out : ℕ → Bool) (k : ℕ) → length (places_told out 0 (k + 1)) ≡ length (places_told out 0 k) + (if out k then 0 else 1)
+told_next out k =
+    ap (λ n. length (places_told out 0 n)) (add-one k)
+    ∙ told_last out 0 k
+    ∙ ap (λ j. length (places_told out 0 k) + (if out j then 0 else 1)) (let e : 0 + k ≡ k = omega arith in e)
+
+pub told_one : (out : ℕ → Bool) (k : ℕ) → out k ≡ false → length (places_told out 0 (k + 1)) ≡ length (places_told out 0 k) + 1
+told_one out k h = told_next out k ∙ ap (λ b. length (places_told out 0 k) + (if b then 0 else 1)) h
+
+pub told_none : (out : ℕ → Bool) (k : ℕ) → out k ≡ true → length (places_told out 0 (k + 1)) ≡ length (places_told out 0 k)
+told_none out k h =
+    told_next out k ∙ ap (λ b. length (places_told out 0 k) + (if b then 0 else 1)) h ∙ add-zero (length (places_told out 0 k))
 
 -- What holds of each row
 

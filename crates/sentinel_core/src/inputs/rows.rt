@@ -185,6 +185,7 @@ fn is_left_out(plan: &Plan, core: &Core, m: u16, card_at: usize, k: usize) -> bo
 }
 
 /// How many data nodes are told as replicas.
+#[tactic(auto, using(crate::proofs::InputsLemmas::AnswerRows::told_one, crate::proofs::InputsLemmas::AnswerRows::told_none))]
 fn count_told(plan: &Plan, core: &Core, m: u16, card_at: usize) -> u64
     requires { card_at ≡ card_place plan.now core.now m }
     ensures { result ≡ length (places_told (is_left_out plan.now core.now m) 0 (length (nodes_of plan.now m))) }
@@ -289,7 +290,7 @@ fn usable_count(plan: &Plan, core: &Core, now: u64) -> u64
 }
 
 /// Writes whether enough Sentinels can take part for a failover of the master.
-#[tactic(auto, using(crate::proofs::InputsLemmas::AnswerRows::reached_whole, crate::proofs::InputsLemmas::AnswerRows::lost_whole))]
+#[tactic(auto, using(crate::proofs::InputsLemmas::AnswerRows::reached_whole, crate::proofs::InputsLemmas::AnswerRows::lost_whole, crate::proofs::InputsLemmas::AnswerRows::redis_reached_whole, crate::proofs::InputsLemmas::AnswerRows::redis_lost_whole))]
 pub(crate) fn add_quorum(plan: &Plan, core: &Core, now: u64, m: u16, text: &mut AnswerText)
     requires known { m < master_count plan.now }
     requires empty { text.old ≡ [] }
