@@ -17,6 +17,13 @@ pub enum NodeName {
     PortAt(u32),
 }
 
+/// The replica that takes over from a master: its name, which isn't on the wire, and its address.
+#[derive(Clone, Copy, PartialEq, Eq)]
+pub struct Heir {
+    pub node: NodeName,
+    pub addr: Addr,
+}
+
 /// What a message says.
 #[derive(Clone, Drop)]
 pub enum Body {
@@ -51,6 +58,9 @@ pub enum Body {
     HelloText(Hello),
     /// REPLICAOF with the address, or REPLICAOF NO ONE.
     ReplicaOf(Option<Addr>),
+    /// FAILOVER TO with the address of a replica and `HAND_OVER_MS`: a master is to hand over to it. Without one
+    /// FAILOVER ABORT: it is to stay the master.
+    HandOver(Option<Heir>),
     /// A client's question for the address of the master with this name.
     AddressAsk(Name),
     /// The answer to it: none for a name that no master has.

@@ -1,13 +1,15 @@
 -- A value that the Sentinel's rules answer is left to them.
-use Rattle.std.proofs.Common.{◌≡◌, ◌∙◌, ◌⊎◌, inl, inr, Option, None, Some, Bool, true, false, Result, Ok, Err, refl, ap}
+use Rattle.std.proofs.Common.{◌≡◌, ◌∙◌, ◌⊎◌, inl, inr, Option, None, Some, Bool, true, false, Result, Ok, Err, refl, sym, ap}
 use Rattle.ballot_law.specs.declared.commands.Command.{Command}
+use Rattle.ballot_law.specs.declared.commands.Command.TheVariants.{Failover}
 use Rattle.resp2.specs.declared.command.CommandFault.{CommandFault}
 use Rattle.resp2.specs.declared.command.CommandFault.TheVariants.{NotACommand, UnknownCommand, WrongArguments, BadAddress, BadEpoch, BadRunId, UnknownChannel}
-use Rattle.resp2.specs.Commands.{command_of}
+use Rattle.resp2.specs.Commands.{command_of, redis_command_of}
+use Rattle.resp2.proofs.Switches.{known_too, same_or_unknown}
 use Rattle.resp2.specs.Framing.Frame.{Frame}
 use Rattle.client_commands.specs.Refusals.{no_auth}
 use Rattle.client_commands.proofs.Silence.{command_asks, asked_is}
-use Rattle.client_commands.specs.Courtesies.{ClientInfo, Answer, Looked, left, said, asks_nothing, courtesy, asker_after, unless_stranger, or_left, or_same, or_admitted, is_stranger, is_refused, is_miscounted, looked_up_in, words_of}
+use Rattle.client_commands.specs.Courtesies.{ClientInfo, Answer, Looked, left, said, asks_nothing, reply_to, courtesy, asker_after, unless_stranger, or_left, or_same, or_admitted, is_stranger, is_refused, is_miscounted, looked_up_in, words_of}
 
 -- what is left over of a value that was judged so
 abbrev over : ClientInfo → Result Command CommandFault → Frame → Option Looked
@@ -29,12 +31,12 @@ pub own_is_left : (asker : ClientInfo) (value : Frame) (command : Command) → i
     → courtesy asker value ≡ left
 own_is_left asker value command known is =
     asked_is asker value (command_asks value command is)
-    ∙ ap (λ (asked : Result Command CommandFault). answer_at asker asked value) is ∙ admitted_is asker left known
+    ∙ ap (λ (asked : Result Command CommandFault). answer_at asker asked value) (known_too value command is) ∙ admitted_is asker left known
 
 pub own_is_same : (asker : ClientInfo) (value : Frame) (command : Command) → command_of value ≡ Ok command → asker_after asker value ≡ asker
 own_is_same asker value command is =
     ap (λ (asked : Result Command CommandFault).
-    let a : ClientInfo = record asker { name = or_same asker (over asker asked value); admitted = or_admitted asker (over asker asked value) } in a) is
+    let a : ClientInfo = record asker { name = or_same asker (over asker asked value); admitted = or_admitted asker (over asker asked value) } in a) (known_too value command is)
 
 judged : (asker : ClientInfo) (value : Frame) (asked : Result Command CommandFault) → is_stranger asker ≡ false
     → (answer_at asker asked value ≡ left) ⊎ ((asked ≡ Err UnknownCommand) ⊎ (asked ≡ Err WrongArguments))
@@ -51,7 +53,27 @@ refused_by : (asker : ClientInfo) (value : Frame) (test : Bool) → asks_nothing
     → (asks_nothing value ≡ true)
     ⊎ ((courtesy asker value ≡ left) ⊎ ((command_of value ≡ Err UnknownCommand) ⊎ (command_of value ≡ Err WrongArguments)))
 refused_by asker value true h known = inl h
-refused_by asker value false h known = inr (rw (asked_is asker value h) (judged asker value (command_of value) known))
+refused_by asker value false h known = inr (rw (asked_is asker value h) (as_before (same_or_unknown value) (judged asker value (redis_command_of value) known)))
+  where
+    Left : Type 0
+    Left = reply_to asker value ≡ left
+
+    unknown_before : (redis_command_of value ≡ command_of value) ⊎ (command_of value ≡ Err UnknownCommand) → redis_command_of value ≡ Err UnknownCommand →
+        (command_of value ≡ Err UnknownCommand) ⊎ (command_of value ≡ Err WrongArguments)
+    unknown_before (inl same) e = inl (sym same ∙ e)
+    unknown_before (inr unknown) e = inl unknown
+
+    wrong_before : (redis_command_of value ≡ command_of value) ⊎ (command_of value ≡ Err UnknownCommand) → redis_command_of value ≡ Err WrongArguments →
+        (command_of value ≡ Err UnknownCommand) ⊎ (command_of value ≡ Err WrongArguments)
+    wrong_before (inl same) e = inr (sym same ∙ e)
+    wrong_before (inr unknown) e = inl unknown
+
+    as_before : (redis_command_of value ≡ command_of value) ⊎ (command_of value ≡ Err UnknownCommand)
+        → Left ⊎ ((redis_command_of value ≡ Err UnknownCommand) ⊎ (redis_command_of value ≡ Err WrongArguments))
+        → Left ⊎ ((command_of value ≡ Err UnknownCommand) ⊎ (command_of value ≡ Err WrongArguments))
+    as_before from (inl answered) = inl answered
+    as_before from (inr (inl unknown)) = inr (unknown_before from unknown)
+    as_before from (inr (inr wrong)) = inr (wrong_before from wrong)
 
 pub refused_or_left : (asker : ClientInfo) (value : Frame) → is_stranger asker ≡ false
     → (asks_nothing value ≡ true)

@@ -3,13 +3,13 @@ use Rattle.std.proofs.Common.{◌≡◌, eqb, List, [], ◌∷◌, length, arith
 use Rattle.std.proofs.lemmas.Bool.{ne_eqb}
 use Rattle.ballot_law.specs.declared.commands.Command.{Command}
 use Rattle.resp2.specs.declared.command.CommandFault.TheVariants.{NotACommand}
-use Rattle.resp2.specs.Commands.{command_of}
+use Rattle.resp2.specs.Commands.{command_of, redis_command_of}
 use Rattle.resp2.specs.Framing.Frame.{Frame, simple, fault, int, bulk, null_bulk, items, null_items, no_frames, frame, frames_view}
 use Rattle.resp2.specs.declared.framing.value.Value.{Value}
 use Rattle.client_commands.specs.Courtesies.{ClientInfo, Answer, Looked, silent, asks_nothing, reply_to, courtesy, asker_after, left_over, or_same, or_admitted}
 
 -- it is no command
-nothing_asked : (value : Frame) → asks_nothing value ≡ true → command_of value ≡ Err NotACommand
+nothing_asked : (value : Frame) → asks_nothing value ≡ true → redis_command_of value ≡ Err NotACommand
 nothing_asked (items no_frames) h = refl
 nothing_asked null_items h = refl
 nothing_asked (items (frame f fs)) h = absurd (true≢false (sym h))

@@ -6,7 +6,7 @@ use Rattle.ballot_law.specs.declared.commands.Command.TheVariants.{Masters, Mast
 use Rattle.ballot_law.specs.Words.{lower, canonical_within}
 use Rattle.resp2.specs.declared.command.CommandFault.{CommandFault}
 use Rattle.resp2.specs.declared.command.CommandFault.TheVariants.{UnknownCommand, WrongArguments}
-use Rattle.resp2.specs.Commands.{command_of, words}
+use Rattle.resp2.specs.Commands.{redis_command_of, words}
 use Rattle.resp2.specs.Framing.Frame.{Frame, simple, int, bulk, null_bulk, items, null_items, no_frames, frames_of, spelling}
 use Rattle.client_commands.specs.declared.verbs.Verb.{Verb}
 use Rattle.client_commands.specs.declared.verbs.Verb.TheVariants.{Ping, Hello, Auth, SetName, SetInfo, GetName, Id, NoEvict, Reply, Commands, Docs, Count, Role, Publish, Info}
@@ -429,7 +429,7 @@ looked_up_in asker miscounted (name ∷ words) =
 -- the command that the rules of the Sentinel leave to the courtesies, where they do
 abbrev pub left_over : ClientInfo → Frame → Option Looked
 left_over asker value =
-    elim (is_refused (command_of value)) [ true ↦ looked_up_in asker (is_miscounted (command_of value)) (words_of value) | false ↦ None ]
+    elim (is_refused (redis_command_of value)) [ true ↦ looked_up_in asker (is_miscounted (redis_command_of value)) (words_of value) | false ↦ None ]
 
 abbrev pub unless_stranger : ClientInfo → Answer → Answer
 unless_stranger asker answer = elim (is_stranger asker) [ true ↦ said no_auth | false ↦ answer ]
@@ -455,8 +455,8 @@ asks_nothing value = false
 -- the answer to a value that asks for something
 abbrev pub reply_to : ClientInfo → Frame → Answer
 reply_to asker value =
-    elim (is_refused (command_of value)) [
-      | true ↦ or_left asker (looked_up_in asker (is_miscounted (command_of value)) (words_of value))
+    elim (is_refused (redis_command_of value)) [
+      | true ↦ or_left asker (looked_up_in asker (is_miscounted (redis_command_of value)) (words_of value))
       | false ↦ unless_stranger asker left
     ]
 

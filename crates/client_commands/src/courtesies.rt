@@ -15,7 +15,7 @@ use crate::lookup::looked_up;
 use crate::refusals::{is_called, refuse_listener, say};
 use crate::verbs::Verb;
 use ballot_law::{Command, NoMemory, Text};
-use resp2::{CommandFault, OutText, Value, command_of};
+use resp2::{CommandFault, OutText, Value, redis_command_of};
 use std::alloc::Global;
 
 const NO_AUTH: &[u8] = b"-NOAUTH Authentication required.\r\n";
@@ -301,7 +301,7 @@ fn reply_to(
     ensures text { OnOk result (out.new ≡ text_of (reply_to asker.old (view value.now))) }
     ensures asker { OnOk result (asker.new ≡ asker_after asker.old (view value.now)) }
 {
-    let asked = command_of(value);
+    let asked = redis_command_of(value);
     if !is_refused(&asked) {
         return leave(asker, out);
     }

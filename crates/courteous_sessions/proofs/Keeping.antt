@@ -11,7 +11,7 @@ use Rattle.pubsub.proofs.OwnCommands.{own_is_other, own_is_said}
 use Rattle.pubsub.proofs.Sounding.{untold}
 use Rattle.port_sessions.specs.Listening.{note_text}
 use Rattle.ballot_law.specs.declared.commands.Command.{Command}
-use Rattle.ballot_law.specs.declared.commands.Command.TheVariants.{Ping, IsMasterDownByAddr, GetMasterAddrByName, Masters, Master, Replicas, Sentinels, MyId, CkQuorum, FlushConfig, Subscribe}
+use Rattle.ballot_law.specs.declared.commands.Command.TheVariants.{Ping, IsMasterDownByAddr, GetMasterAddrByName, Masters, Master, Replicas, Sentinels, MyId, CkQuorum, Failover, FlushConfig, Subscribe}
 use Rattle.client_commands.specs.Courtesies.{is_stranger, ClientInfo, Answer, left, said, asks_masters, silent, asks_nothing, courtesy, kind_of}
 use Rattle.client_commands.specs.declared.courtesies.Courtesy.TheVariants.{Said}
 use Rattle.client_commands.proofs.Strangers.{strangers_are_answered}
@@ -21,6 +21,7 @@ use Rattle.resp2.specs.declared.command.CommandFault.{CommandFault}
 use Rattle.resp2.specs.declared.command.CommandFault.TheVariants.{UnknownCommand, WrongArguments}
 use Rattle.resp2.specs.Asked.{IsCommon}
 use Rattle.resp2.specs.Commands.{command_of}
+use Rattle.resp2.proofs.Switches.{known_too}
 use Rattle.resp2.specs.Framing.Frame.{Frame, FrameList, no_frames}
 use Rattle.sentinel_cell.specs.Histories.{World}
 use Rattle.courteous_sessions.specs.Visits.{Guest, guest, switches, channel_turn, Answers, Serves, ServesBy}
@@ -36,6 +37,7 @@ hears_all (Master name) = refl
 hears_all (Replicas name) = refl
 hears_all (Sentinels name) = refl
 hears_all MyId = refl
+hears_all (Failover name) = refl
 hears_all (CkQuorum name) = refl
 hears_all FlushConfig = refl
 hears_all Subscribe = refl
@@ -63,6 +65,7 @@ common_differs (Master name) h e = absurd h
 common_differs (Replicas name) h e = absurd h
 common_differs (Sentinels name) h e = absurd h
 common_differs MyId h e = absurd h
+common_differs (Failover name) h e = absurd h
 common_differs (CkQuorum name) h e = absurd h
 common_differs FlushConfig h e = absurd h
 
@@ -78,7 +81,7 @@ pub common_answers : (start : World) (now : ℕ) (asker : ClientInfo) (value : F
 common_answers start now asker value command p bytes q common known is h =
     let becomes = own_is_left asker value command known is in
     subst (λ (a : Answer). Answers start now asker a p value bytes q) (sym becomes)
-    (subst (λ (k : Result Command CommandFault). Responds start now p (heard_as asker.current k) bytes q) (sym is) h)
+    (subst (λ (k : Result Command CommandFault). Responds start now p (heard_as asker.current k) bytes q) (sym (known_too value command is)) h)
 
 -- what a value is answered that is none of Pub/Sub's
 by_others : (start : World) (now : ℕ) (g h : Guest) (value : Frame) (bytes : List ℕ) → channel_turn g.asker g.listening value ≡ other → Serves start now g value bytes h
@@ -93,7 +96,7 @@ own_as_before start now g h value command bytes known quiet differs is serves =
     let at = sym (ap (λ (x : Guest). x.party) by.2) in
     let becomes = own_is_left g.asker value command known is in
     let kept = subst (λ (a : Answer). Answers start now g.asker a g.party value bytes q) becomes by.1 in
-    let heard = subst (λ (k : Result Command CommandFault). Responds start now g.party (heard_as g.asker.current k) bytes q) is kept in
+    let heard = subst (λ (k : Result Command CommandFault). Responds start now g.party (heard_as g.asker.current k) bytes q) (known_too value command is) kept in
     let after : h ≡ guest q g.listening g.told g.asker = by.2 ∙ ap (λ (a : ClientInfo). guest q g.listening g.told a) (own_is_same g.asker value command is) in (
       subst (λ (x : Party). Responds start now g.party (heard_as g.asker.current (Ok command)) bytes x) at heard,
       subst (λ (x : Party). h ≡ guest x g.listening g.told g.asker) at after,

@@ -3,7 +3,7 @@ use Rattle.std.proofs.Common.{◌≡◌, ◌≢◌, ◌⊎◌, ℕ, Bool, true, 
 use Rattle.std.specs.Option.{is_some}
 use Rattle.std.specs.Prelude.{is_err}
 use Rattle.ballot_law.specs.declared.commands.Command.{Command}
-use Rattle.ballot_law.specs.declared.commands.Command.TheVariants.{Ping, IsMasterDownByAddr, GetMasterAddrByName, Masters, Master, Replicas, Sentinels, MyId, CkQuorum, FlushConfig, Subscribe}
+use Rattle.ballot_law.specs.declared.commands.Command.TheVariants.{Ping, IsMasterDownByAddr, GetMasterAddrByName, Masters, Master, Replicas, Sentinels, MyId, CkQuorum, Failover, FlushConfig, Subscribe}
 use Rattle.pubsub.specs.declared.answers.Turn.{Turn}
 use Rattle.pubsub.specs.declared.answers.Turn.TheVariants.{Other as Untouched, Said as Turned}
 use Rattle.pubsub.specs.Answering.{Answer as ChannelAnswer, other, said as confirmed, answer as channel_answer, turn_of, text_of as text_of_turn, listening_after}
@@ -82,6 +82,7 @@ module _ (start : World) (now : ℕ) where
     at None (Ok (Replicas name)) differs r = r.1
     at None (Ok (Sentinels name)) differs r = r.1
     at None (Ok MyId) differs r = r.1
+    at None (Ok (Failover name)) differs r = r.1
     at None (Ok (CkQuorum name)) differs r = r.1
     at None (Ok FlushConfig) differs r = r.1
 
@@ -97,6 +98,7 @@ module _ (start : World) (now : ℕ) where
   heard_otherwise current (Ok (Replicas name)) differs e = let no : ⊥ = cc in no
   heard_otherwise current (Ok (Sentinels name)) differs e = let no : ⊥ = cc in no
   heard_otherwise current (Ok MyId) differs e = let no : ⊥ = cc in no
+  heard_otherwise current (Ok (Failover name)) differs e = let no : ⊥ = cc in no
   heard_otherwise current (Ok (CkQuorum name)) differs e = let no : ⊥ = cc in no
   heard_otherwise current (Ok FlushConfig) differs e = let no : ⊥ = cc in no
 

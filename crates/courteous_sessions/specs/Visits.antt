@@ -14,7 +14,7 @@ use Rattle.sentinel_core.specs.declared.serving.fault.ServeFault.TheVariants.{Fr
 use Rattle.sentinel_core.specs.Serving.Serving.{last_line}
 use Rattle.port_sessions.specs.Notes.{none_told}
 use Rattle.port_sessions.specs.Talks.{Party, party, Responds}
-use Rattle.resp2.specs.Commands.{command_of}
+use Rattle.resp2.specs.Commands.{redis_command_of}
 use Rattle.resp2.specs.declared.framing.fault.FrameFault.{FrameFault}
 use Rattle.resp2.specs.Framing.Frame.{Frame, spelling, spellings}
 use Rattle.resp2.specs.Framing.Reading.{frame_at}
@@ -96,7 +96,7 @@ module _ (start : World) (now : ℕ) where
   -- The answer to a value by what becomes of it. One that is left is answered by the session without courtesies, a question as it is heard; a courtesy takes no turn, and
   -- changes nothing of what the seat has seen
   abbrev pub Answers : ClientInfo → Answer → Party → Frame → List ℕ → Party → Type 0
-  Answers asker left p value bytes q = Responds start now p (heard_as asker.current (command_of value)) bytes q
+  Answers asker left p value bytes q = Responds start now p (heard_as asker.current (redis_command_of value)) bytes q
   Answers asker (said answer) p value bytes q = (bytes ≡ spelling answer) × (q ≡ p)
   Answers asker asks_masters p value bytes q = TellsInfo p value bytes q
   Answers asker silent p value bytes q = (bytes ≡ []) × (q ≡ p)

@@ -24,7 +24,7 @@ use bytes::BytesMut;
 use client_commands::{ClientInfo, CommandReader, Courtesy};
 use port_sessions::Session;
 use pubsub::Subscriptions;
-use resp2::{CommandFault, FrameFault, Value, command_of};
+use resp2::{CommandFault, FrameFault, Value, redis_command_of};
 use sentinel_cell::{Seat, SharedSentinel};
 use sentinel_conf::ConfStore;
 use sentinel_core::ServeFault;
@@ -377,7 +377,7 @@ impl Exchange {
         ensures kept { (self.new.knows_masters ≡ self.old.knows_masters) × (self.new.subscriptions ≡ self.old.subscriptions) }
     {
         match kind {
-            Courtesy::Left => self.hand_on(rt, cell, seat, now, &command_of(value)),
+            Courtesy::Left => self.hand_on(rt, cell, seat, now, &redis_command_of(value)),
             Courtesy::Said => put_out(&mut self.unsent, self.attendant.text()),
             Courtesy::AsksMasters => self.tell_info(rt, cell, seat, now, value),
         }

@@ -100,6 +100,13 @@ impl Watch {
         }
     }
 
+    /// Since when the node has reported itself a replica without a break, or its master's address last changed.
+    pub fn replica_since(&self) -> Option<u64>
+        ensures { result ≡ self.now.replica_since }
+    {
+        self.replica_since
+    }
+
     /// Whether the node is subjectively down (the Redis Sentinel documentation, "SDOWN and ODOWN failure state"): it
     /// has been silent for more than `after_ms` milliseconds, or it is to be a master and has reported itself a replica
     /// without a break for more than `after_ms` and 20,000.

@@ -9,8 +9,8 @@ use Rattle.resp2.specs.declared.command.CommandFault.{CommandFault}
 use Rattle.resp2.specs.declared.command.CommandFault.TheVariants.{NotACommand, UnknownCommand, WrongArguments, BadAddress, BadEpoch, BadRunId, UnknownChannel}
 use Rattle.port_answers.specs.declared.rows.SentinelRow.{SentinelRow}
 use Rattle.ballot_law.specs.declared.messages.TheConstants.{ANSWER_MAX}
-use Rattle.port_answers.specs.Answers.{master_frame, replica_frame, sentinel_frame, masters_frame, replicas_frame, sentinels_frame, no_such_master, ok_line, quorum_reached, no_quorum, id_frame, subscribed, command_fault, protocol_error}
-use Rattle.port_answers.specs.Limits.{IsPlace, IsMasterRow, IsReplicaRow, IsSentinelRow, Fits, MasterFits, MastersFit, ReplicasFit, SentinelsFit, RedisMasterFits, RedisMastersFit, RedisReplicasFit, RedisSentinelsFit, LinesFit}
+use Rattle.port_answers.specs.Answers.{master_frame, replica_frame, sentinel_frame, masters_frame, replicas_frame, sentinels_frame, no_such_master, ok_line, in_progress, in_tilt, no_good_replica, quorum_reached, no_quorum, id_frame, subscribed, command_fault, protocol_error}
+use Rattle.port_answers.specs.Limits.{IsPlace, IsMasterRow, IsReplicaRow, Fits, MasterFits, MastersFit, ReplicasFit, SentinelsFit, LinesFit, IsSentinelRow, RedisMasterFits, RedisMastersFit, RedisReplicasFit, RedisSentinelsFit}
 use Rattle.bounded_list.proofs.Bounded.{bounded_all}
 use Rattle.port_answers.proofs.Subscribing.{subscribed_bytes}
 use Rattle.port_answers.specs.RedisRows.{redis_master_frame, redis_masters_frame, redis_replica_frame, redis_replicas_frame, redis_sentinel_frame, redis_sentinels_frame, redis_quorum_reached, redis_no_quorum, shortfall}
@@ -87,6 +87,9 @@ pub lines_fit : LinesFit
 lines_fit = record {
   no_such_master = fits no_such_master 100 (omega arith) (omega arith);
   ok_line = fits ok_line 100 (omega arith) (omega arith);
+  in_progress = fits in_progress 100 (omega arith) (omega arith);
+  in_tilt = fits in_tilt 100 (omega arith) (omega arith);
+  no_good_replica = fits no_good_replica 100 (omega arith) (omega arith);
   quorum_reached = λ usable h. fits (quorum_reached usable) 79
       (counted_size 43 (codes "OK ") (codes " usable Sentinels, quorum and majority can be reached") usable h) (omega arith);
   no_quorum = λ usable h. fits (no_quorum usable) 49 (counted_size 45 (codes "NOQUORUM ") (codes " usable Sentinels") usable h) (omega arith);

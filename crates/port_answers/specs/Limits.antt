@@ -15,7 +15,7 @@ use Rattle.port_answers.specs.declared.rows.ReplicaRow.{ReplicaRow}
 use Rattle.port_answers.specs.declared.rows.SentinelRow.{SentinelRow}
 use Rattle.ballot_law.specs.declared.messages.TheConstants.{ANSWER_MAX}
 use Rattle.port_answers.specs.Room.{bounded}
-use Rattle.port_answers.specs.Answers.{master_frame, masters_frame, replicas_frame, sentinels_frame, no_such_master, ok_line, quorum_reached, no_quorum, id_frame, subscribed, command_fault, protocol_error}
+use Rattle.port_answers.specs.Answers.{master_frame, masters_frame, replicas_frame, sentinels_frame, no_such_master, ok_line, in_progress, in_tilt, no_good_replica, quorum_reached, no_quorum, id_frame, subscribed, command_fault, protocol_error}
 use Rattle.port_answers.specs.RedisRows.{redis_master_frame, redis_masters_frame, redis_replicas_frame, redis_sentinels_frame, redis_quorum_reached, redis_no_quorum}
 
 -- an IPv4 address and a TCP port
@@ -115,6 +115,9 @@ RedisSentinelsFit = (rows : List SentinelRow) → length rows ≤ SENTINELS_MAX 
 pub record LinesFit : Type 0 where
   pub no_such_master : Fits no_such_master
   pub ok_line : Fits ok_line
+  pub in_progress : Fits in_progress
+  pub in_tilt : Fits in_tilt
+  pub no_good_replica : Fits no_good_replica
   pub quorum_reached : (usable : ℕ) → usable < 2 ^ 64 → Fits (quorum_reached usable)
   pub no_quorum : (usable : ℕ) → usable < 2 ^ 64 → Fits (no_quorum usable)
   pub id_frame : (id : RunId) → Fits (id_frame id)

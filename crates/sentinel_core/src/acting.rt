@@ -19,7 +19,8 @@ ghost use Rattle.sentinel_rules.specs.Takes.{next, next_at, part_of, answer_to};
 ghost use Rattle.sentinel_state.specs.Parts.{with_part};
 
 use crate::inputs::{
-    answer_by_text, answer_plainly, hear_answer, hear_loss, hear_pong, take_hello, take_info, tick,
+    answer_by_text, answer_plainly, answer_switch, hear_answer, hear_loss, hear_pong, hear_refusal,
+    take_hello, take_info, tick,
 };
 use crate::undo::Undo;
 use ballot_law::{Body, Command, Event, Hello, Input, Message, NodeName, Note, Output};
@@ -95,6 +96,7 @@ fn output_of(plan: &Plan, core: &Core, frame: Frame) -> Output
             send(plan, NodeName::SentinelAt(place), ask)
         }
         Frame::PromoteTo(target) => send(plan, target, Body::ReplicaOf(None)),
+        Frame::HandOverTo { target, heir } => send(plan, target, Body::HandOver(heir)),
         Frame::FollowTo { target, master } => {
             send(plan, target, Body::ReplicaOf(Some(core.card(master).addr)))
         }
@@ -118,6 +120,11 @@ fn answer(state: &mut State, now: u64, command: &Command, outbox: &mut Outbox) -
     ensures held_room { outbox.new.held_room ≡ outbox.old.held_room }
     ensures shown_room { outbox.new.shown_room ≡ outbox.old.shown_room }
 {
+    if let Command::Failover(name) = *command {
+        let text = outbox.take_text();
+        let shown = outbox.take_list();
+        return answer_switch(&state.plan, &mut state.core, now, name, text, shown);
+    }
     if let Some(body) = answer_plainly(&state.plan, &mut state.core, now, command) {
         return body;
     }
@@ -193,6 +200,10 @@ fn hear(state: &mut State, now: u64, event: &Event, former: &mut Undo)
         Event::Disconnected { node } => {
             former.begin(kept, None);
             hear_loss(state, *node);
+        }
+        Event::Refused { node } => {
+            former.begin(kept, None);
+            hear_refusal(state, *node);
         }
         Event::Command { command, .. } => {
             former.begin(kept, asked_about(command, &state.core));

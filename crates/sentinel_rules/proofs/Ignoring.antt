@@ -3,7 +3,7 @@ use Rattle.std.proofs.Common.{◌≡◌, ℕ, Bool, true, false, Option, Some, N
 use Rattle.std.specs.Prelude.{not, ◌&&◌, ◌==◌, nat_lt, is_some, Result, Ok, Err, if◌then◌else◌}
 use Rattle.ballot_law.specs.declared.addresses.Addr.{Addr}
 use Rattle.ballot_law.specs.declared.addresses.RunId.{RunId}
-use Rattle.ballot_law.specs.declared.events.Event.TheVariants.{Tick, Command, Answered, Pinged, InfoRead, HelloRead, Disconnected, Become, Handed}
+use Rattle.ballot_law.specs.declared.events.Event.TheVariants.{Tick, Command, Answered, Pinged, InfoRead, HelloRead, Disconnected, Become, Handed, Refused}
 use Rattle.ballot_law.specs.declared.messages.NodeName.{NodeName}
 use Rattle.ballot_law.specs.declared.messages.NodeName.TheVariants.{SentinelAt, StoreAt, ClientAt, PortAt}
 use Rattle.ballot_law.specs.declared.replies.Hello.{Hello}
@@ -19,7 +19,7 @@ use Rattle.ballot_law.specs.declared.node_places.NodePlace.{NodePlace}
 use Rattle.sentinel_rules.specs.Plans.{Plan, roster_of, group_size, master_count, node_named}
 use Rattle.sentinel_rules.specs.States.{Core}
 use Rattle.sentinel_rules.specs.Parts.{quiet, part_if}
-use Rattle.sentinel_rules.specs.News.{is_heeded, hello_heeded, hello_read, answered, pinged, pinged_at, lost_at, connection_lost, info_of_node, announced_at, info_read}
+use Rattle.sentinel_rules.specs.News.{is_heeded, hello_heeded, hello_read, answered, pinged, pinged_at, lost_at, connection_lost, info_of_node, info_read, refusal_at, refusal_heard, announced_at}
 use Rattle.sentinel_rules.specs.Profiles.{is_redis}
 use Rattle.sentinel_rules.specs.Takes.{cleared, shown_after}
 use Rattle.sentinel_rules.specs.Ignored.{IgnoredChangesNothing, is_hello_heeded, is_info_heeded, is_other, is_data_node, is_peer_or_node}
@@ -69,6 +69,11 @@ loss_ignored plan (StoreAt number) true core h = no_place (node_named plan (Stor
 loss_ignored plan (ClientAt number) true core h = refl
 loss_ignored plan (PortAt number) true core h = refl
 
+refusal_ignored : (plan : Plan) (at : Option NodePlace) (heard : Bool) (core : Core) → (heard && is_some at) ≡ false → (if heard then refusal_at plan at core else core) ≡ core
+refusal_ignored plan at false core h = refl
+refusal_ignored plan None true core h = refl
+refusal_ignored plan (Some at) true core h = absurd (cc)
+
 at_no_node : (plan : Plan) (now : ℕ) (at : Option NodePlace) (info : Info) (announced : Bool) (core : Core) → is_some at ≡ false →
     info_of_node plan now at info (announced_at announced at core) ≡ quiet core
 at_no_node plan now None info announced core h = refl
@@ -99,5 +104,7 @@ ignored_changes_nothing plan core now (InfoRead node text) h = alike (shown_afte
 ignored_changes_nothing plan core now (HelloRead text) h = alike (shown_after plan) _ _ (hello_ignored plan (clock now) (hello_of text) (cleared core) h)
 ignored_changes_nothing plan core now (Disconnected node) h =
     alike (λ after. shown_after plan (quiet after)) _ _ (loss_ignored plan node (is_redis plan.profile) (cleared core) h)
+ignored_changes_nothing plan core now (Refused node) h =
+    alike (λ after. shown_after plan (quiet after)) _ _ (refusal_ignored plan (node_named plan node) (is_redis plan.profile) (cleared core) h)
 ignored_changes_nothing plan core now (Become priority offset link_down) h = refl
 ignored_changes_nothing plan core now (Handed message) h = refl

@@ -1,12 +1,12 @@
 -- The commands of a Sentinel's port, and what they answer.
-use Rattle.std.specs.Prelude.{ℕ, suc, zero, ◌+◌, ◌-◌, Bool, true, false, not, ◌&&◌, nat_le, ◌==◌, Option, Some, None, unwrap_or, List, [], ◌∷◌, map, length, position, codes, if◌then◌else◌}
+use Rattle.std.specs.Prelude.{ℕ, suc, zero, ◌+◌, ◌-◌, Bool, true, false, not, ◌&&◌, ◌||◌, nat_lt, nat_le, ◌==◌, is_some, Option, Some, None, unwrap_or, List, [], ◌∷◌, map, length, position, codes, if◌then◌else◌}
 use Rattle.std.specs.List.{list_any}
 use Rattle.ballot_law.specs.declared.addresses.Addr.{Addr}
 use Rattle.ballot_law.specs.declared.addresses.RunId.{RunId}
 use Rattle.ballot_law.specs.declared.cards.KeptMaster.{KeptMaster}
 use Rattle.ballot_law.specs.declared.cards.Shown.{Shown}
 use Rattle.ballot_law.specs.declared.commands.Command.{Command}
-use Rattle.ballot_law.specs.declared.commands.Command.TheVariants.{Ping, IsMasterDownByAddr, GetMasterAddrByName, Masters, Master, Replicas, Sentinels, MyId, CkQuorum, FlushConfig, Subscribe}
+use Rattle.ballot_law.specs.declared.commands.Command.TheVariants.{Ping, IsMasterDownByAddr, GetMasterAddrByName, Masters, Master, Replicas, Sentinels, MyId, CkQuorum, Failover, FlushConfig, Subscribe}
 use Rattle.ballot_law.specs.declared.messages.Body.{Body}
 use Rattle.ballot_law.specs.declared.messages.Body.TheVariants.{Answer, PingText, AddressAnswer, PortReply}
 use Rattle.ballot_law.specs.Ballots.{card_of}
@@ -17,17 +17,19 @@ use Rattle.ballot_law.specs.Orders.{same_addr}
 use Rattle.ballot_law.specs.VotesHeard.{kept_at as kept_vote}
 use Rattle.ballot_law.specs.Rosters.{master_at, master_listing, master_named, need, id_of, no_member}
 use Rattle.resp2.specs.Framing.Frame.{Frame, spelling}
+use Rattle.resp2.specs.declared.command.CommandFault.TheVariants.{UnknownCommand}
+use Rattle.replica_choice.specs.declared.candidates.Candidate.{Candidate}
 use Rattle.port_answers.specs.declared.rows.MasterRow.{MasterRow}
 use Rattle.port_answers.specs.declared.rows.ReplicaRow.{ReplicaRow}
 use Rattle.port_answers.specs.declared.rows.SentinelRow.{SentinelRow}
-use Rattle.port_answers.specs.Answers.{no_such_master, ok_line, id_frame, subscribed}
+use Rattle.port_answers.specs.Answers.{no_such_master, ok_line, in_progress, in_tilt, no_good_replica, id_frame, subscribed, command_fault}
 use Rattle.sentinel_rules.specs.declared.assumed.TheConstants.{ASSUMED_INFO}
 use Rattle.sentinel_rules.specs.Plans.{Plan, roster_of, me, group_size, master_count, settings_at, nodes_of, addr_at}
-use Rattle.sentinel_rules.specs.States.{Core, master_of, node_of, peer_of, failover_of, card_place, is_failing_over, is_tilted, node_down_since, is_node_down, is_master_down, peer_down_since, is_peer_down, is_odown_at}
+use Rattle.sentinel_rules.specs.States.{Core, master_of, node_of, peer_of, with_master, card_place, is_failing_over, is_tilted, is_wished, is_node_down, is_master_down, is_peer_down, is_odown_at, failover_of, node_down_since, peer_down_since}
 use Rattle.sentinel_rules.specs.Parts.{shown_of}
-use Rattle.sentinel_rules.specs.Profiles.{down_for}
+use Rattle.sentinel_rules.specs.Profiles.{by_profile, down_for}
 use Rattle.sentinel_rules.specs.Rows.{contact_row, said_row, link_row, stage_of, heard_leader, heard_epoch, is_left_out, places_told, master_frame_by, masters_frame_by, replicas_frame_by, sentinels_frame_by, quorum_reached_by, no_quorum_by}
-use Rattle.sentinel_rules.specs.Ticks.{ping_period}
+use Rattle.sentinel_rules.specs.Ticks.{candidates_of, ping_period}
 use Rattle.sentinel_rules.specs.Votes.{book_of, requested}
 
 -- what a command leaves, and its answer
@@ -174,6 +176,32 @@ abbrev pub address_of : Core → Option ℕ → Option Shown
 address_of core None = None
 address_of core (Some m) = Some (shown_of core m)
 
+-- SENTINEL FAILOVER
+
+-- a replica that can be promoted, however old what it told is: in a campaign it tells more
+abbrev pub may_take_over : Candidate → Bool
+may_take_over c = (not c.sdown && nat_lt 0 c.priority) && is_some c.last_info
+
+abbrev pub has_heir : Plan → Core → (m now : ℕ) → Bool
+has_heir plan core m now = list_any may_take_over (candidates_of plan core m now)
+
+-- the campaign is to begin at the next tick
+abbrev pub wished : (m now : ℕ) → Core → Core
+wished m now core = with_master core m (record (master_of core m) { wish = Some now })
+
+-- one at a time, and none that could come to nothing from the outset
+abbrev pub switch_at : Plan → (m now : ℕ) → Core → Answered
+switch_at plan m now core =
+    if is_failing_over core m || is_wished core m now then unchanged core (reply core [] in_progress)
+    else (if is_tilted core then unchanged core (reply core [] in_tilt)
+    else (if has_heir plan core m now then record { core = wished m now core; body = reply core [] ok_line }
+    else unchanged core (reply core [] no_good_replica)))
+
+-- strict Sentinels don't know the command
+abbrev pub asked_to_switch : Plan → (now : ℕ) → Option ℕ → Core → Answered
+asked_to_switch plan now None core = unchanged core (reply core [] no_such_master)
+asked_to_switch plan now (Some m) core = switch_at plan m now core
+
 abbrev pub commanded : Plan → (now : ℕ) → Command → Core → Answered
 commanded plan now Ping core = unchanged core (PingText false (codes "PONG"))
 commanded plan now (IsMasterDownByAddr addr epoch candidate) core =
@@ -189,5 +217,7 @@ commanded plan now (Sentinels name) core =
     unchanged core (about core (named plan name) (λ m. reply core [] (sentinels_frame_by plan.profile (sentinel_rows plan core now m))))
 commanded plan now MyId core = unchanged core (reply core [] (id_frame (me plan)))
 commanded plan now (CkQuorum name) core = unchanged core (about core (named plan name) (λ m. reply core [] (quorum_frame plan core now m)))
+commanded plan now (Failover name) core =
+    by_profile plan.profile (unchanged core (reply core [] (command_fault UnknownCommand))) (asked_to_switch plan now (named plan name) core)
 commanded plan now FlushConfig core = unchanged core (reply core [] ok_line)
 commanded plan now Subscribe core = unchanged core (reply core [] subscribed)

@@ -1,13 +1,11 @@
 -- What a Sentinel hears: hellos, answers of other Sentinels, replies to PING, INFO.
-use Rattle.std.specs.Prelude.{ℕ, max, Bool, true, false, not, ◌&&◌, nat_lt, ◌==◌, Option, Some, None, unwrap_or, [], ◌∷◌, map, slice_set, Result, Ok, Err, if◌then◌else◌}
+use Rattle.std.specs.Prelude.{ℕ, max, Bool, true, false, not, ◌&&◌, nat_lt, ◌==◌, Option, Some, None, unwrap_or, List, [], ◌∷◌, ◌++◌, map, slice_set, Result, Ok, Err, if◌then◌else◌}
 use Rattle.std.specs.List.{list_any}
 use Rattle.ballot_law.specs.declared.addresses.Addr.{Addr}
 use Rattle.ballot_law.specs.declared.addresses.RunId.{RunId}
 use Rattle.ballot_law.specs.declared.cards.Card.{Card}
 use Rattle.ballot_law.specs.declared.messages.NodeName.{NodeName}
 use Rattle.ballot_law.specs.declared.messages.NodeName.TheVariants.{SentinelAt, StoreAt, ClientAt, PortAt}
-use Rattle.ballot_law.specs.declared.replies.DataRole.{DataRole}
-use Rattle.ballot_law.specs.declared.replies.DataRole.TheVariants.{Master, Replica}
 use Rattle.ballot_law.specs.declared.replies.Hello.{Hello}
 use Rattle.ballot_law.specs.declared.replies.Info.{Info}
 use Rattle.ballot_law.specs.declared.replies.PingReply.{PingReply}
@@ -26,10 +24,11 @@ use Rattle.failover_states.specs.Calls.{promoted, reconfigured}
 use Rattle.node_texts.specs.declared.faults.TextFault.{TextFault}
 use Rattle.sentinel_rules.specs.declared.periods.TheConstants.{WRONG_ROLE_MS}
 use Rattle.sentinel_rules.specs.declared.profiles.Profile.{Profile}
-use Rattle.sentinel_rules.specs.declared.frames.Frame.TheVariants.{FollowTo, NoteOf}
+use Rattle.sentinel_rules.specs.declared.frames.Frame.{Frame}
+use Rattle.sentinel_rules.specs.declared.frames.Frame.TheVariants.{PromoteTo, FollowTo, NoteOf}
 use Rattle.ballot_law.specs.declared.node_places.NodePlace.{NodePlace}
 use Rattle.sentinel_rules.specs.Plans.{Plan, roster_of, me, group_size, master_count, settings_at, nodes_of, node_name, node_named}
-use Rattle.sentinel_rules.specs.States.{Core, MasterState, NodeState, PeerState, master_of, node_of, peer_of, failover_of, card_place, is_failing_over, is_tilted, is_master_down, with_master, with_node, with_failover, with_current, with_card}
+use Rattle.sentinel_rules.specs.States.{Core, is_master_role, says_master, MasterState, NodeState, PeerState, master_of, node_of, peer_of, failover_of, card_place, is_failing_over, is_tilted, is_planned, is_handed, is_master_down, with_master, with_node, with_failover, with_current, with_card}
 use Rattle.sentinel_rules.specs.Parts.{Part, quiet, puts, part_if, frame_if}
 use Rattle.sentinel_rules.specs.Contacts.{contact_replied, role_since_after}
 use Rattle.sentinel_rules.specs.Profiles.{is_redis, start_at_new_address, candidate_place}
@@ -191,11 +190,20 @@ connection_lost plan (PortAt number) core = core
 abbrev pub disconnected : Plan → (node : NodeName) → Core → Core
 disconnected plan node core = if is_redis plan.profile then connection_lost plan node core else core
 
--- INFO
+-- Masters that refuse to hand over
 
-abbrev pub is_master_role : DataRole → Bool
-is_master_role Master = true
-is_master_role Replica = false
+abbrev pub refusal_at : Plan → Option NodePlace → Core → Core
+refusal_at plan None core = core
+refusal_at plan (Some at) core =
+    if is_handed core at.master && (at.place == card_place plan core at.master)
+    then with_master core at.master (record (master_of core at.master) { refused = true })
+    else core
+
+-- the master that a failover told to hand over answered with an error: the failover ends at the next tick
+abbrev pub refusal_heard : Plan → (node : NodeName) → Core → Core
+refusal_heard plan node core = if is_redis plan.profile then refusal_at plan (node_named plan node) core else core
+
+-- INFO
 
 -- the INFO, its moment and its role are kept, and for those who ask since when it has said that
 abbrev pub with_info : (now : ℕ) → Info → NodeState → NodeState
@@ -208,14 +216,25 @@ with_info now info node =
       role_since = role_since_after now info.role node.info node.role_since;
     }
 
+-- after a switch that was asked for the clients of both nodes are sent away, so that they ask for the master anew: these orders change nothing else at the nodes
+abbrev pub closing_frames : Plan → (m heir old : ℕ) → (planned : Bool) → List Frame
+closing_frames plan m heir old planned =
+    frame_if planned (PromoteTo (node_name plan m heir)) ++ frame_if planned (FollowTo (node_name plan m old) m)
+
+-- what is put out behind a part
+abbrev pub with_frames : Part → List Frame → Part
+with_frames part frames = record { core = part.core; frames = part.frames ++ frames }
+
 -- the chosen replica says that it is the master: the campaign's epoch and its address are the configuration
 abbrev pub promotion : Plan → (m k now : ℕ) → Info → FailoverState → Core → Part
 promotion plan m k now info (WaitPromotion epoch choice former) core =
     part_if
     ((k == choice.place) && is_master_role info.role)
     core
-    (λ c. card_taken plan m now (record { epoch = epoch; addr = choice.addr })
+    (λ c. with_frames
+    (card_taken plan m now (record { epoch = epoch; addr = choice.addr })
     (with_failover c m (promoted (WaitPromotion epoch choice former) (record (failover_of c m) { moment = now }))))
+    (closing_frames plan m k (card_place plan c m) (is_planned c m)))
 promotion plan m k now info state core = quiet core
 
 abbrev pub follows : Option Addr → Addr → Bool
@@ -243,10 +262,6 @@ wrong_since is_wrong since now = if is_wrong then Some (unwrap_or since now) els
 abbrev pub is_overdue : Option ℕ → (bound now : ℕ) → Bool
 is_overdue None bound now = false
 is_overdue (Some since) bound now = nat_lt bound (age since now)
-
-abbrev pub says_master : Option Info → Bool
-says_master None = false
-says_master (Some info) = is_master_role info.role
 
 -- the node of the configuration is up, and says that it is a master
 abbrev pub can_be_followed : Plan → Core → (m now : ℕ) → Bool

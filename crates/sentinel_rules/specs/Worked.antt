@@ -6,11 +6,11 @@ use Rattle.ballot_law.specs.declared.cards.Card.{Card}
 use Rattle.ballot_law.specs.declared.cards.Kept.{Kept}
 use Rattle.ballot_law.specs.declared.cards.TheConstants.{MAX_EPOCH}
 use Rattle.ballot_law.specs.declared.commands.Command.{Command}
-use Rattle.ballot_law.specs.declared.commands.Command.TheVariants.{Ping as PingCommand, IsMasterDownByAddr, GetMasterAddrByName, MyId, CkQuorum, FlushConfig}
+use Rattle.ballot_law.specs.declared.commands.Command.TheVariants.{Ping as PingCommand, IsMasterDownByAddr, GetMasterAddrByName, MyId, CkQuorum, Failover as FailoverCommand, FlushConfig}
 use Rattle.ballot_law.specs.declared.events.Event.{Event}
-use Rattle.ballot_law.specs.declared.events.Event.TheVariants.{Tick, Command as Commanded, Answered, Pinged, InfoRead, HelloRead}
+use Rattle.ballot_law.specs.declared.events.Event.TheVariants.{Tick, Command as Commanded, Answered, Pinged, InfoRead, HelloRead, Refused}
 use Rattle.ballot_law.specs.declared.messages.Body.{Body}
-use Rattle.ballot_law.specs.declared.messages.Body.TheVariants.{Ask, Answer, Ping, PingText, InfoAsk, Publish, ReplicaOf, AddressAnswer, PortReply}
+use Rattle.ballot_law.specs.declared.messages.Body.TheVariants.{Ask, Answer, Ping, PingText, InfoAsk, Publish, ReplicaOf, HandOver, AddressAnswer, PortReply}
 use Rattle.ballot_law.specs.declared.messages.NodeName.{NodeName}
 use Rattle.ballot_law.specs.declared.messages.NodeName.TheVariants.{SentinelAt, StoreAt, PortAt}
 use Rattle.ballot_law.specs.declared.messages.Output.{Output}
@@ -34,7 +34,7 @@ use Rattle.sentinel_conf.specs.declared.settings.Settings.{Settings}
 use Rattle.sentinel_conf.specs.declared.settings.TheConstants.{DEFAULT_SETTINGS}
 use Rattle.sentinel_rules.specs.declared.profiles.Profile.TheVariants.{Strict, Redis}
 use Rattle.sentinel_rules.specs.Plans.{Plan, roster_of}
-use Rattle.sentinel_rules.specs.States.{Core, opened, master_of, failover_of}
+use Rattle.sentinel_rules.specs.States.{Core, opened, master_of, failover_of, is_wished}
 use Rattle.sentinel_rules.specs.Votes.{book_of}
 use Rattle.sentinel_rules.specs.Ticks.{count_of}
 use Rattle.sentinel_rules.specs.Answers.{master_row, replica_rows, sentinel_rows, usable_count}
@@ -537,6 +537,97 @@ ALostCandidateHoldsNobodyBack =
     ∷ (8000, asks 2 (Some id_a))
     ∷ (9000, asks 2 None)
     ∷ []
+
+-- Switches that a client asks for
+
+abbrev pub switch_plan : Plan
+switch_plan = of_redis (group_plan (kept_at_epoch 0))
+
+abbrev pub switch_command : (now : ℕ) → ℕ × Event
+switch_command now = command_at now (FailoverCommand (Some mymaster))
+
+-- all nodes answer, and a client asks
+abbrev pub until_asked : List (ℕ × Event)
+until_asked =
+    tick_at 1000
+    ∷ pong_at 1100 0
+    ∷ pong_at 1100 1
+    ∷ pong_at 1100 2
+    ∷ master_at 1100 0
+    ∷ replica_at 1100 1 6379 100
+    ∷ replica_at 1100 2 6379 200
+    ∷ switch_command 1200
+    ∷ []
+
+-- the second Sentinel votes, and the master is told to hand over to the best replica
+abbrev pub until_handed : List (ℕ × Event)
+until_handed =
+    until_asked
+    ++ (tick_at 1300
+    ∷ (1350, Answered (SentinelAt 1) 0 (local 6379) false (Some id_a) 1)
+    ∷ tick_at 1400
+    ∷ tick_at 1500
+    ∷ tick_at 1600
+    ∷ [])
+
+abbrev pub hand_over_order : List Output
+hand_over_order = sent (StoreAt 0) (HandOver (Some (record { node = StoreAt 2; addr = local 6381 }))) ∷ []
+
+-- begun: the master is up, votes are asked for all the same, and the master is told to hand over, not the replica. done: the replica says that it is a master, and
+-- the clients of both are sent away. stays: the master refuses, is told to stay at the next tick, and no failover runs then. busy: one at a time. strict: a strict
+-- Sentinel doesn't know the command. fresh, lapsed: the campaign begins within 3,000 ms or not at all
+pub record APlannedSwitch : Type 0 where
+  pub begun :
+      rare_from switch_plan (opened switch_plan 0) until_handed
+      ≡ (1200, text_answer (codes "+OK"))
+      ∷ (1300, asks 1 (Some id_a))
+      ∷ (1600, hand_over_order)
+      ∷ []
+  pub done :
+      rare_from switch_plan (core_of switch_plan until_handed) (tick_at 1700 ∷ master_at 1750 2 ∷ [])
+      ≡ (
+        1750,
+        Tell (record { master = 0; old = local 6379; card = record { epoch = 1; addr = local 6381 } })
+            ∷ sent (StoreAt 2) (ReplicaOf None)
+            ∷ sent (StoreAt 0) (ReplicaOf (Some (local 6381)))
+            ∷ [],
+      )
+      ∷ []
+  pub stays :
+      rare_from switch_plan (core_of switch_plan until_handed) ((1650, Refused (StoreAt 0)) ∷ tick_at 1700 ∷ tick_at 1800 ∷ [])
+      ≡ (1700, sent (StoreAt 0) (HandOver None) ∷ [])
+      ∷ []
+  pub idle : (failover_of (core_of switch_plan (until_handed ++ ((1650, Refused (StoreAt 0)) ∷ tick_at 1700 ∷ []))) 0).state ≡ Idle
+  pub busy :
+      rare_from switch_plan (core_of switch_plan until_asked) (switch_command 1250 ∷ [])
+      ≡ (1250, text_answer (codes "-INPROG Failover already in progress"))
+      ∷ []
+  pub strict :
+      rare_from (group_plan (kept_at_epoch 0)) (opened (group_plan (kept_at_epoch 0)) 0) until_handed
+      ≡ (1200, text_answer (codes "-ERR unknown command"))
+      ∷ []
+  pub fresh : is_wished (core_of switch_plan until_asked) 0 4200 ≡ true
+  pub lapsed : is_wished (core_of switch_plan until_asked) 0 4201 ≡ false
+
+-- a master that handed over without being told: it says that it is a replica of a node which says that it is a master. After two seconds and the pause, which is 0
+-- here, a campaign begins; strict Sentinels go on
+abbrev pub handed_over_alone : List (ℕ × Event)
+handed_over_alone =
+    tick_at 1000
+    ∷ pong_at 1100 0
+    ∷ pong_at 1100 1
+    ∷ pong_at 1100 2
+    ∷ replica_at 1100 0 6381 100
+    ∷ replica_at 1100 1 6381 100
+    ∷ master_at 1100 2
+    ∷ tick_at 2000
+    ∷ tick_at 3000
+    ∷ tick_at 3100
+    ∷ []
+
+pub record ASwitchAtTheNodes : Type 0 where
+  pub redis : rare_from switch_plan (opened switch_plan 0) handed_over_alone ≡ (3100, asks 1 (Some id_a)) ∷ []
+  pub strict : rare_from (group_plan (kept_at_epoch 0)) (opened (group_plan (kept_at_epoch 0)) 0) handed_over_alone ≡ []
 
 -- Replicas
 

@@ -15,7 +15,7 @@ use std::alloc::Global;
 use std::sync::Wait;
 
 /// What the outputs of a tick tell: the greatest epoch in a hello or a question, and the data node that is told to be a
-/// master.
+/// master, or to which one is to hand over.
 #[derive(Clone, Copy)]
 struct Told {
     epoch: u64,
@@ -29,6 +29,7 @@ impl Told {
             Body::Ask { epoch, .. } => self.epoch = self.epoch.max(*epoch),
             Body::Publish(hello) => self.epoch = self.epoch.max(hello.current),
             Body::ReplicaOf(None) => self.promoted = number_of(message.target),
+            Body::HandOver(Some(heir)) => self.promoted = number_of(heir.node),
             _ => {}
         }
     }

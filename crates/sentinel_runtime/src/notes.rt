@@ -5,7 +5,7 @@ use crate::news::NewsLists;
 use crate::switches::{Switch, switch_of};
 use ballot_law::{Addr, Body, Event, Message, NodeName, Note, Output, Roster, Text};
 use log::kv::With;
-use log::{Level, Log, Span, info, log_enabled};
+use log::{Level, Log, Span, info, log_enabled, warn};
 use pubsub::Channel;
 use std::fmt::Display;
 use std::str::from_utf8;
@@ -116,6 +116,18 @@ fn tell_order<R: Log + Wait>(
     to.tell_replica(channel_of_order(cause), node, master);
 }
 
+/// Notes that a master which was to hand over stays, since it refused or didn't in time.
+fn tell_stay<R: Log + Wait>(to: &Announcing<'_, '_, R>, roster: &Roster, number: u16) {
+    let Some(at) = roster.node_numbered(number) else {
+        return;
+    };
+    if let Some(master) = NamedMaster::of(roster, at.master, roster.addr_at(at)) {
+        warn!(to.log(); target: "group_sentinels::notes",
+            "-switch-ended master {master}: it refused to hand over, or didn't in time, and stays the master"
+        );
+    }
+}
+
 /// Whether an INFO is that of a master.
 fn is_of_master(info: &Text) -> bool {
     from_utf8(info.as_slice())
@@ -135,6 +147,7 @@ fn tell_message<R: Log + Wait>(
         (NodeName::StoreAt(number), Body::ReplicaOf(Some(addr))) => {
             tell_order(to, roster, cause, number, *addr)
         }
+        (NodeName::StoreAt(number), Body::HandOver(None)) => tell_stay(to, roster, number),
         _ => {}
     }
 }

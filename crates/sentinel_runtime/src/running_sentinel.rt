@@ -136,6 +136,11 @@ impl<J: Which> ThreadSeat<J> {
     {
         self.sight.take_nearness()
     }
+
+    /// Whether a switch was under way at the end of the last turn that a client asked for.
+    pub fn is_switching(&self) -> bool {
+        self.sight.is_switching()
+    }
 }
 
 impl<J: Which, S: ConfStore> RunningSentinel<J, S> {

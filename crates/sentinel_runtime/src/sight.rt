@@ -153,6 +153,19 @@ fn is_campaign_near(plan: &Plan, core: &Core, at: u64, m: u16) -> bool
     flags.agreed && !flags.failing_over
 }
 
+/// Whether the failover of a master is that of a switch which a client asked for.
+fn is_any_planned(plan: &Plan, core: &Core) -> bool {
+    if !plan.profile().is_redis() {
+        return false;
+    }
+    for m in 0..plan.master_count() {
+        if core.is_planned(m) {
+            return true;
+        }
+    }
+    false
+}
+
 /// Of which masters a campaign of the Sentinel was near when they were last looked at, and the number of one that has
 /// come near since that was asked.
 #[derive(Clone, Copy)]
@@ -174,8 +187,9 @@ impl Nearness {
 }
 
 /// Who takes down what a Sentinel shows of one master at the end of a turn, at the reading of its clock, and of which
-/// masters a campaign comes near. Where no master is wanted nothing is. `current` is the Sentinel's current epoch after
-/// the last turn, and `settling` how far it has come, where that is looked after.
+/// masters a campaign comes near. Where no master is wanted nothing is. `is_switching` is whether a switch is under way
+/// that a client asked for, `current` the Sentinel's current epoch after the last turn, and `settling` how far it has
+/// come, where that is looked after.
 #[derive(Drop)]
 pub(crate) struct Sight {
     current: u64,
@@ -184,6 +198,7 @@ pub(crate) struct Sight {
     look: Option<Look>,
     ahead: Option<(u16, u64)>,
     nearness: Nearness,
+    is_switching: bool,
 }
 
 impl Sight {
@@ -199,6 +214,7 @@ impl Sight {
                 masters: [false; MASTERS_MAX],
                 come: None,
             },
+            is_switching: false,
         }
     }
 
@@ -236,6 +252,11 @@ impl Sight {
         self.nearness.come.take()
     }
 
+    /// Whether a switch was under way at the end of the last turn that a client asked for.
+    pub(crate) fn is_switching(&self) -> bool {
+        self.is_switching
+    }
+
     /// Sees whether a campaign is near, where that is wanted.
     fn see_ahead(&mut self, plan: &Plan, core: &Core) {
         if let Some((master, at)) = self.ahead {
@@ -254,6 +275,7 @@ impl Observer for Sight {
         self.look = None;
         let (plan, core) = (sentinel.plan(), sentinel.core());
         self.current = core.kept().current;
+        self.is_switching = is_any_planned(plan, core);
         if let Some((master, now)) = self.wanted {
             if master < plan.master_count() {
                 self.look = Some(Look::at(plan, core, now, master));

@@ -14,6 +14,7 @@ mod pauses;
 mod reports;
 mod sending;
 mod states;
+mod switches;
 mod votes;
 
 pub use cores::Core;

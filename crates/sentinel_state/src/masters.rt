@@ -29,6 +29,12 @@ pub(crate) struct Master {
     pub(crate) odown: bool,
     /// Since when it has been, for those who ask.
     pub(crate) odown_since: Option<u64>,
+    /// When a client last asked that it hand over, until the campaign for that begins.
+    pub(crate) wish: Option<u64>,
+    /// The epoch of that campaign.
+    pub(crate) planned: Option<u64>,
+    /// Whether it refused to hand over in it.
+    pub(crate) refused: bool,
 }
 
 impl Model for Master {
@@ -47,6 +53,9 @@ impl Model for Master {
       ask_sent = master.ask_sent;
       odown = master.odown;
       odown_since = master.odown_since;
+      wish = master.wish;
+      planned = master.planned;
+      refused = master.refused;
     } };
 
     ghost invariant = { λ master. (length master.nodes.items ≤ NODES_MAX) × HasFewPlaces master.failover };
@@ -71,6 +80,9 @@ impl Master {
             ask_sent: None,
             odown: false,
             odown_since: None,
+            wish: None,
+            planned: None,
+            refused: false,
         })
     }
 }

@@ -14,6 +14,8 @@ pub enum Question {
     Info,
     /// The answer to the question whether this master at this address is down.
     Ask { master: u16, addr: Addr },
+    /// The answer to an order to hand over, which tells something where it is an error.
+    HandOver,
     /// An answer that tells nothing, as that to PUBLISH or REPLICAOF.
     Order,
     /// What comes on a connection that listens to hellos, unasked.
@@ -31,6 +33,7 @@ pub fn question_of(body: &Body) -> Question
             master: *master,
             addr: *addr,
         },
+        Body::HandOver(_) => Question::HandOver,
         _ => Question::Order,
     }
 }

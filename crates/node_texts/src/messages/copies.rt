@@ -53,6 +53,7 @@ fn copy_of_body(alloc: Global, body: &Body) -> Result<Body, NoMemory>
         Body::Publish(hello) => Ok(Body::Publish(*hello)),
         Body::HelloText(hello) => Ok(Body::HelloText(*hello)),
         Body::ReplicaOf(addr) => Ok(Body::ReplicaOf(*addr)),
+        Body::HandOver(heir) => Ok(Body::HandOver(*heir)),
         Body::AddressAsk(name) => Ok(Body::AddressAsk(*name)),
         Body::AddressAnswer(shown) => Ok(Body::AddressAnswer(*shown)),
         Body::PortReply { shown, text } => copy_of_reply(alloc, shown, text),

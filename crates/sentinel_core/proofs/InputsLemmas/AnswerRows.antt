@@ -10,10 +10,10 @@ use Rattle.port_answers.specs.declared.rows.ReplicaRow.{ReplicaRow}
 use Rattle.port_answers.specs.declared.rows.SentinelRow.{SentinelRow}
 use Rattle.ballot_law.specs.declared.messages.TheConstants.{ANSWER_MAX}
 use Rattle.port_answers.specs.Room.{bounded}
-use Rattle.port_answers.specs.Answers.{header, no_such_master, ok_line, quorum_reached, no_quorum, id_frame, subscribed}
-use Rattle.port_answers.specs.Limits.{IsPlace, IsMasterRow, IsReplicaRow, IsSentinelRow, Fits}
+use Rattle.port_answers.specs.Answers.{header, no_such_master, ok_line, quorum_reached, no_quorum, id_frame, subscribed, in_progress, in_tilt, no_good_replica, command_fault}
+use Rattle.port_answers.specs.Limits.{IsPlace, IsMasterRow, IsReplicaRow, Fits, IsSentinelRow}
 use Rattle.port_answers.specs.RedisRows.{redis_quorum_reached, redis_no_quorum}
-use Rattle.port_answers.proofs.Fitting.{master_fits, masters_fit, replicas_fit, sentinels_fit, redis_master_fits, redis_masters_fit, redis_replicas_fit, redis_sentinels_fit, lines_fit}
+use Rattle.port_answers.proofs.Fitting.{master_fits, masters_fit, replicas_fit, sentinels_fit, lines_fit, redis_master_fits, redis_masters_fit, redis_replicas_fit, redis_sentinels_fit}
 use Rattle.bounded_list.proofs.Bounded.{added_both}
 use Rattle.port_answers.proofs.RowLemmas.{rows_text}
 use Rattle.sentinel_rules.specs.Plans.{Plan, group_size, master_count, nodes_of}
@@ -23,6 +23,7 @@ use Rattle.sentinel_rules.specs.States.{Core}
 use Rattle.sentinel_rules.specs.Rows.{is_left_out, places_told, master_frame_by, masters_frame_by, replica_frame_by, replicas_frame_by, sentinel_frame_by, sentinels_frame_by}
 use Rattle.sentinel_rules.specs.Answers.{places_but, numbers_from, all_masters, master_row, replica_row, sentinel_row, replica_rows, sentinel_rows}
 use Rattle.sentinel_rules.proofs.Choices.{length-numbers_from}
+use Rattle.resp2.specs.declared.command.CommandFault.TheVariants.{UnknownCommand}
 
 -- Texts of places
 
@@ -286,6 +287,18 @@ master_whole profile row h = (master_fits_by profile row h).whole
 
 pub unknown_whole : bounded (spelling no_such_master) ≡ spelling no_such_master
 unknown_whole = lines_fit.no_such_master.whole
+
+pub unknown_command_whole : bounded (spelling (command_fault UnknownCommand)) ≡ spelling (command_fault UnknownCommand)
+unknown_command_whole = (lines_fit.command_fault UnknownCommand).whole
+
+pub in_progress_whole : bounded (spelling in_progress) ≡ spelling in_progress
+in_progress_whole = lines_fit.in_progress.whole
+
+pub in_tilt_whole : bounded (spelling in_tilt) ≡ spelling in_tilt
+in_tilt_whole = lines_fit.in_tilt.whole
+
+pub no_good_replica_whole : bounded (spelling no_good_replica) ≡ spelling no_good_replica
+no_good_replica_whole = lines_fit.no_good_replica.whole
 
 pub ok_whole : bounded (spelling ok_line) ≡ spelling ok_line
 ok_whole = lines_fit.ok_line.whole

@@ -2,7 +2,7 @@
 use Rattle.std.specs.Prelude.{ℕ, Bool, true, false, [], ◌∷◌}
 use Rattle.ballot_law.specs.declared.messages.Body.{Body}
 use Rattle.ballot_law.specs.declared.commands.Command.{Command}
-use Rattle.ballot_law.specs.declared.commands.Command.TheVariants.{Ping, IsMasterDownByAddr, GetMasterAddrByName, Masters, Master, Replicas, Sentinels, MyId, CkQuorum, FlushConfig, Subscribe}
+use Rattle.ballot_law.specs.declared.commands.Command.TheVariants.{Ping, IsMasterDownByAddr, GetMasterAddrByName, Masters, Master, Replicas, Sentinels, MyId, CkQuorum, Failover, FlushConfig, Subscribe}
 use Rattle.sentinel_core.specs.declared.inputs.commands.Asked.{Asked}
 use Rattle.sentinel_core.specs.declared.inputs.commands.Asked.TheVariants.{Whole, Replicas as OfReplicas, Sentinels as OfSentinels, Quorum}
 use Rattle.sentinel_rules.specs.Answers.{master_row, replica_rows, sentinel_rows, quorum_frame, reply}
@@ -21,8 +21,14 @@ is_plain (Replicas name) = false
 is_plain (Sentinels name) = false
 is_plain MyId = false
 is_plain (CkQuorum name) = false
+is_plain (Failover name) = false
 is_plain FlushConfig = false
 is_plain Subscribe = false
+
+-- it asks for a switch
+abbrev pub is_switch : Command → Bool
+is_switch (Failover name) = true
+is_switch _ = false
 
 -- the answer to what is asked about the master with a number
 abbrev pub answer_about : Plan → Core → (now : ℕ) → Asked → (m : ℕ) → Body

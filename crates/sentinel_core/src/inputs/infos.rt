@@ -5,8 +5,9 @@ ghost use Rattle.ballot_law.specs.declared.rosters.TheConstants.{NODES_MAX};
 ghost use Rattle.ballot_law.specs.Clocks.{clock};
 ghost use Rattle.node_texts.specs.Announced.{is_announced};
 ghost use Rattle.node_texts.specs.Infos.{info_of};
-ghost use Rattle.sentinel_rules.specs.News.{promotion, follows, follows_another, has_followed, reconfiguration, is_master_role, is_reconfiguring, wrong_since, is_overdue, says_master, can_be_followed, anew, correction, judged, info_kept, info_at_node, announced_at, info_read};
-ghost use Rattle.sentinel_rules.specs.States.{failover_of};
+ghost use Rattle.sentinel_rules.specs.News.{closing_frames, promotion, follows, follows_another, has_followed, reconfiguration, is_reconfiguring, wrong_since, is_overdue, can_be_followed, anew, correction, judged, info_kept, info_at_node, info_read, announced_at};
+ghost use Rattle.sentinel_rules.specs.States.{failover_of, is_master_role, says_master};
+ghost use Rattle.sentinel_state.specs.Nodes.Room.{added};
 ghost use Rattle.sentinel_state.specs.Parts.{with_part};
 
 use crate::inputs::cards::take_card;
@@ -104,9 +105,26 @@ fn keep_info(core: &mut Core, m: u16, k: u16, now: u64, info: &Info)
     core.set_node(m, k as usize, node);
 }
 
+/// After a switch that a client asked for has the clients of both nodes sent away, so that they ask for the master anew.
+fn close_clients(state: &mut State, m: u16, heir: usize, old: usize, planned: bool)
+    requires { (heir ≤ NODES_MAX) × (old ≤ NODES_MAX) }
+    ensures { state.new ≡ record state.old {
+      frames
+          = added state.old.frames (closing_frames state.old.plan m heir old planned);
+    } }
+{
+    let heir = state.plan.node_name(m, heir);
+    state.frames.push_if(planned, Frame::PromoteTo(heir));
+    let target = state.plan.node_name(m, old);
+    state
+        .frames
+        .push_if(planned, Frame::FollowTo { target, master: m });
+}
+
 /// Takes the INFO of a node while a failover runs that may await a promotion: where the chosen replica says that it is
 /// a master, the campaign's epoch and the replica's address are the master's configuration.
 fn hear_promotion(state: &mut State, m: u16, k: u16, now: u64, info: &Info)
+    requires { k ≤ NODES_MAX }
     ensures { state.new ≡ with_part state.old (promotion state.old.plan m k (clock now) info.now (failover_of state.old.core m).state state.old.core) }
 {
     if let FailoverState::WaitPromotion { epoch, choice, .. } = state.core.stage(m)
@@ -114,8 +132,11 @@ fn hear_promotion(state: &mut State, m: u16, k: u16, now: u64, info: &Info)
         && is_master(info.role)
     {
         let addr = choice.addr;
+        let planned = state.core.is_planned(m);
+        let old = state.core.card_place(&state.plan, m);
         state.core.set_promoted(m, now);
         take_card(state, m, now, Card { epoch, addr });
+        close_clients(state, m, k as usize, old, planned);
     }
 }
 
