@@ -245,11 +245,15 @@ pub fn command_of(value: &Value) -> Result<Command, CommandFault>
 fn switch_words(words: &[Value]) -> Option<&[Value]>
     ensures { option_map (λ args. commands.words (frames_view args.now)) result ≡ commands.switch_words (commands.words (frames_view words.now)) }
 {
-    match words {
-        [name, word, args @ ..]
-            if is_called(word_of(name), b"SENTINEL", b"sentinel")
-                && is_called(word_of(word), b"FAILOVER", b"failover") => { Some(args) }
-        _ => None,
+    let [name, word, args @ ..] = words else {
+        return None;
+    };
+    if is_called(word_of(name), b"SENTINEL", b"sentinel")
+        && is_called(word_of(word), b"FAILOVER", b"failover")
+    {
+        Some(args)
+    } else {
+        None
     }
 }
 

@@ -88,11 +88,12 @@ fn is_stay(event: &Event) -> bool {
 
 /// The first error in what came, where it is text.
 fn error_in(piece: &[u8]) -> &str {
-    from_utf8(piece)
-        .unwrap_or("")
-        .split("\r\n")
-        .find(|line| line.starts_with('-'))
-        .unwrap_or("an error")
+    for line in from_utf8(piece).unwrap_or("").split("\r\n") {
+        if line.starts_with("-") {
+            return line;
+        }
+    }
+    "an error"
 }
 
 impl PeerConnection {
