@@ -85,7 +85,8 @@ fn shortfall(few_for_quorum: bool, few_for_majority: bool) -> &'static [u8]
 {
     match (few_for_quorum, few_for_majority) {
         (true, true) =>
-            b" usable Sentinels. Not enough available Sentinels to reach the specified quorum for this master. Not enough available Sentinels to reach the majority and authorize a failover",
+            b" usable Sentinels. Not enough available Sentinels to reach the specified quorum for this master. \
+Not enough available Sentinels to reach the majority and authorize a failover",
         (true, false) =>
             b" usable Sentinels. Not enough available Sentinels to reach the specified quorum for this master",
         (false, true) =>
