@@ -1,6 +1,7 @@
 pub mod AnswerLines
 pub mod Bytes
 pub mod Held
+pub mod HelpBytes
 pub mod LineLemmas
 pub mod LineReader
 pub mod LineStreams
@@ -8,3 +9,4 @@ pub mod Lookups
 pub mod OwnValues
 pub mod Silence
 pub mod Strangers
+pub mod SubBytes

@@ -6,7 +6,7 @@ use Rattle.resp2.specs.declared.command.CommandFault.TheVariants.{NotACommand}
 use Rattle.resp2.specs.Commands.{command_of, redis_command_of}
 use Rattle.resp2.specs.Framing.Frame.{Frame, simple, fault, int, bulk, null_bulk, items, null_items, no_frames, frame, frames_view}
 use Rattle.resp2.specs.declared.framing.value.Value.{Value}
-use Rattle.client_commands.specs.Courtesies.{ClientInfo, Answer, Looked, silent, asks_nothing, reply_to, courtesy, asker_after, left_over, or_same, or_admitted}
+use Rattle.client_commands.specs.Courtesies.{ClientInfo, Answer, Looked, silent, asks_nothing, reply_to, courtesy, asker_after, left_over, or_same, or_admitted, or_killed}
 
 -- it is no command
 nothing_asked : (value : Frame) → asks_nothing value ≡ true → redis_command_of value ≡ Err NotACommand
@@ -32,7 +32,11 @@ nothing_left asker null_bulk h = absurd (true≢false (sym h))
 -- it changes nothing of the connection
 pub same_after_nothing : (asker : ClientInfo) (value : Frame) → asks_nothing value ≡ true → asker ≡ asker_after asker value
 same_after_nothing asker value h =
-    ap (λ (over : Option Looked). let a : ClientInfo = record asker { name = or_same asker over; admitted = or_admitted asker over } in a) (sym (nothing_left asker value h))
+    ap (λ (over : Option Looked). let a : ClientInfo = record asker {
+      name = or_same asker over;
+      admitted = or_admitted asker over;
+      port = record asker.port { killed = or_killed asker over };
+    } in a) (sym (nothing_left asker value h))
 
 -- a command asks for something, and so has its answer
 pub command_asks : (value : Frame) (command : Command) → command_of value ≡ Ok command → asks_nothing value ≡ false

@@ -1,4 +1,9 @@
 pub mod Refusals
+pub mod Ports
+pub mod Choosing
+pub mod ClientLines
+pub mod Subcommands
+pub mod Helps
 pub mod Courtesies
 pub mod Infos
 pub mod Lines

@@ -1,17 +1,21 @@
 //! What is known of a connection.
 
-ghost use Rattle.std.specs.Prelude.{◌≡◌, Some, false};
+ghost use Rattle.std.specs.Prelude.{◌≡◌, ◌++◌, Some, false, OnOk, OnErr};
 ghost use Rattle.client_commands.specs.Courtesies.{is_some, lacks_password, is_stranger, is_password};
 
 use crate::passwords::is_same;
-use ballot_law::{Name, Text};
+use crate::port_facts::PortFacts;
+use ballot_law::{Name, NoMemory, Text};
 use std::marker::Model;
+use std::mem;
 
 /// A master that a Sentinel watches.
 #[derive(Drop)]
 pub struct MonitoredMaster {
     /// Its name.
     pub name: Name,
+    /// How many data nodes it has, itself too.
+    pub nodes: usize,
 }
 
 impl Model for MonitoredMaster {
@@ -19,15 +23,32 @@ impl Model for MonitoredMaster {
 
     ghost Value = { MonitoredMasterModel };
 
-    ghost view = { λ master. record { name = master.name } };
+    ghost view = { λ master. record { name = master.name; nodes = master.nodes } };
 }
 
 impl MonitoredMaster {
+    /// The same.
+    pub(crate) fn copy(&self) -> MonitoredMaster
+        ensures { result ≡ self.now }
+    {
+        MonitoredMaster {
+            name: self.name,
+            nodes: self.nodes,
+        }
+    }
+
     /// The name.
     pub(crate) fn name(&self) -> &[u8]
         ensures { result.now ≡ self.now.name }
     {
         self.name.as_slice()
+    }
+
+    /// How many data nodes it has.
+    pub(crate) fn nodes(&self) -> usize
+        ensures { result ≡ self.now.nodes }
+    {
+        self.nodes
     }
 }
 
@@ -48,6 +69,8 @@ pub struct ClientInfo {
     pub admitted: bool,
     /// The Sentinel's current epoch as it was last told; none where requests for votes of any epoch are heard.
     pub current: Option<u64>,
+    /// What its port knows, as it was last told.
+    pub port: PortFacts,
 }
 
 impl Model for ClientInfo {
@@ -55,7 +78,7 @@ impl Model for ClientInfo {
 
     ghost Value = { AskerModel };
 
-    ghost view = { λ asker. record { id = asker.id; name = asker.name; listens = asker.listens; masters = asker.masters.items; password = asker.password; admitted = asker.admitted; current = asker.current } };
+    ghost view = { λ asker. record { id = asker.id; name = asker.name; listens = asker.listens; masters = asker.masters.items; password = asker.password; admitted = asker.admitted; current = asker.current; port = asker.port } };
 }
 
 impl ClientInfo {
@@ -173,5 +196,28 @@ impl ClientInfo {
         ensures { self.new ≡ record self.old { admitted = admitted } }
     {
         self.admitted = admitted;
+    }
+
+    /// What its port knows.
+    pub(crate) fn port(&self) -> &PortFacts
+        ensures { result.now ≡ self.now.port }
+    {
+        &self.port
+    }
+
+    /// Has it know this of its port: what it knew before.
+    pub(crate) fn know_port(&mut self, port: PortFacts) -> PortFacts
+        ensures before { result ≡ self.old.port }
+        ensures now { self.new ≡ record self.old { port = port } }
+    {
+        mem::replace(&mut self.port, port)
+    }
+
+    /// The clients at these places are to be closed too. NoMemory: memory was refused, and nothing changed.
+    pub(crate) fn kill(&mut self, places: &[usize]) -> Result<(), NoMemory>
+        ensures ok { OnOk result (self.new ≡ record self.old { port = record self.old.port { killed = self.old.port.killed ++ places.now } }) }
+        ensures err { OnErr result (self.new ≡ self.old) }
+    {
+        self.port.kill(places)
     }
 }

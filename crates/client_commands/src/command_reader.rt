@@ -14,6 +14,7 @@ use crate::client_info::{ClientInfo, MonitoredMaster};
 use crate::courtesies::{Courtesy, courtesy_of};
 use crate::infos::info;
 use crate::lines::{next_common, next_value};
+use crate::port_facts::PortFacts;
 use ballot_law::{Command, NoMemory, Text};
 use resp2::{FrameFault, Frames, OutText, Value};
 use std::alloc::Global;
@@ -108,6 +109,21 @@ impl CommandReader {
         self.asker.want_password(password);
     }
 
+    /// Has it know this of its port: what it knew before.
+    pub fn know_port(&mut self, port: PortFacts) -> PortFacts
+        ensures before { result ≡ self.old.asker.port }
+        ensures now { self.new ≡ record self.old { asker = record self.old.asker { port = port } } }
+    {
+        self.asker.know_port(port)
+    }
+
+    /// The name that its client gave the connection; empty where it gave none.
+    pub fn name(&self) -> &[u8]
+        ensures { result.now ≡ self.now.asker.name }
+    {
+        self.asker.name()
+    }
+
     /// Adds the next piece of the stream, of any length. `NoMemory` leaves it unchanged. Any other fault is one that
     /// `next` has answered before, and the piece is dropped.
     pub fn feed(&mut self, piece: &[u8]) -> Result<(), FrameFault>
@@ -185,10 +201,11 @@ impl CommandReader {
     /// Has the text be the answer to this value, which is INFO, where the Sentinel answers SENTINEL MASTERS with
     /// `masters`. `NoMemory`: memory was refused; the connection is to be closed.
     pub fn inform(&mut self, value: &Value, masters: &Value) -> Result<(), NoMemory>
-        ensures text { OnOk result (self.new.text ≡ spelling (info (view value.now) (view masters.now))) }
+        ensures text { OnOk result (self.new.text ≡ spelling (info self.old.asker.port.figures (view value.now) (view masters.now))) }
         ensures asker { self.new.asker ≡ self.old.asker }
         ensures held { self.new.held ≡ self.old.held }
     {
-        info(self.alloc, value, masters, &mut self.text)
+        let figures = self.asker.port().figures();
+        info(self.alloc, value, figures, masters, &mut self.text)
     }
 }

@@ -66,7 +66,7 @@ fn is_negative(word: &[u8]) -> bool
 }
 
 /// Whether the word is the number of an integer of 64 bits with a sign.
-fn is_integer(word: &[u8]) -> bool
+pub(crate) fn is_integer(word: &[u8]) -> bool
     ensures { result ≡ is_integer word.now }
 {
     canonical_number_of(word, 0, 9_223_372_036_854_775_807).is_some() || is_negative(word)

@@ -15,7 +15,7 @@ use sentinel_runtime::{RunState, RunningSentinel, ThreadSeat, Which};
 use std::alloc::Global;
 use std::io;
 use std::net::{Ipv4Addr, Net, SocketAddr};
-use std::rt::Clock;
+use std::rt::{Clock, Files};
 use std::sync::atomic::{AtomicU64, Ordering};
 use std::sync::{Arc, Wait};
 
@@ -93,7 +93,7 @@ impl Port {
     /// Serves until `ending` isn't 0 or the Sentinel closes its port, and looks at the first of these before each
     /// connection. The error is the system's, where it tells of no connection any more. No memory is taken for that: a
     /// connection that has none is closed.
-    pub fn serve<J: Which, S: ConfStore, R: Wait + Clock + Log>(
+    pub fn serve<J: Which, S: ConfStore, R: Wait + Clock + Files + Log>(
         &mut self,
         rt: &R,
         state: &RunState,
@@ -104,6 +104,7 @@ impl Port {
         if self.clients.courteous() {
             member.tell_events();
         }
+        self.clients.serve_for(member);
         let log = member.noting(rt);
         for _ in rt.forever() {
             if ending.load(Ordering::SeqCst) != 0 || member.is_closed(state) {
@@ -114,9 +115,12 @@ impl Port {
                 self.entrance.close(rt);
                 return Err(error);
             }
+            self.clients.look_at_times(rt);
             self.answer_events(rt, state, member, seat, ending);
+            self.clients.close_killed();
             self.clients.send_events(&self.events);
             self.clients.serve_busy(rt, state, member, seat, ending);
+            self.clients.close_killed();
             self.clients.tell_news(rt, member, self.thread);
             self.look_at_silent(rt, state);
         }

@@ -55,7 +55,7 @@ module _ (start : World) (now : ℕ) where
   said_answered asker silent p value bytes is text = (text, refl)
   said_answered asker asks_masters p value bytes is text = absurd (let no : ⊥ = cc in no)
 
-  pub asked_answered : (asker : ClientInfo) (answer : Answer) (p : Party) (value : Frame) (bytes : List ℕ) (q : Party) → AsksMasters ≡ kind_of answer → TellsInfo start now p value bytes q
+  pub asked_answered : (asker : ClientInfo) (answer : Answer) (p : Party) (value : Frame) (bytes : List ℕ) (q : Party) → AsksMasters ≡ kind_of answer → TellsInfo start now asker.port.figures p value bytes q
       → Answers start now asker answer p value bytes q
   asked_answered asker left p value bytes q is h = absurd (let no : ⊥ = cc in no)
   asked_answered asker (said answer) p value bytes q is h = absurd (let no : ⊥ = cc in no)

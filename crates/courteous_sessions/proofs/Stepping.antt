@@ -4,6 +4,7 @@ use Rattle.std.specs.Option.{is_some}
 use Rattle.std.specs.Prelude.{OnOk, is_err}
 use Rattle.pubsub.specs.Listening.{Listening, is_listening}
 use Rattle.client_commands.specs.Attendants.{Attendance, TakesCommon}
+use Rattle.client_commands.specs.declared.port_facts.Figures.{Figures}
 use Rattle.client_commands.specs.Courtesies.{ClientInfo, MonitoredMaster, is_stranger}
 use Rattle.client_commands.proofs.OwnValues.{own_is_same}
 use Rattle.client_commands.specs.Infos.{info}
@@ -160,21 +161,21 @@ module _ (start : World) (now : ℕ) where
       (bytes, same ∙ is, cut_by start now stream g before.held bytes (guest_of before l talk v) why a fault)
 
   -- INFO was asked, and SENTINEL MASTERS answered
-  pub info_told : (value : Frame) (p q : Party) (answer text : List ℕ) → Responds start now p (Ok Masters) answer q
-      → (masters : Frame) × BeginsWith answer masters × (text ≡ spelling (info value masters)) → TellsInfo start now p value text q
-  info_told value p q answer text turned told =
+  pub info_told : (figures : Figures) (value : Frame) (p q : Party) (answer text : List ℕ) → Responds start now p (Ok Masters) answer q
+      → (masters : Frame) × BeginsWith answer masters × (text ≡ spelling (info figures value masters)) → TellsInfo start now figures p value text q
+  info_told figures value p q answer text turned told =
       record { answer = answer; turned = turned; told = told.0; rest = told.1.rest; first = told.1.found; bytes_are = told.2 }
 
   -- INFO was asked: the session below answered SENTINEL MASTERS, and what it put out was taken away
-  pub masters_told : (value : Frame) (talk asked left : Talk) (v w : View) (unsent out text : List ℕ)
+  pub masters_told : (figures : Figures) (value : Frame) (talk asked left : Talk) (v w : View) (unsent out text : List ℕ)
       → Responds start now (party v talk.listens) (Ok Masters) asked.unsent (party w asked.listens) × (asked.held ≡ []) → asked.ended ≡ None
-      → left ≡ record asked { unsent = [] } → (masters : Frame) × BeginsWith asked.unsent masters × (text ≡ spelling (info value masters)) → out ≡ unsent ++ text
-      → (more : List ℕ) × (out ≡ unsent ++ more) × IsIdle left × TellsInfo start now (party v talk.listens) value more (party w left.listens)
-  masters_told value talk asked left v w unsent out text turned goes_on is_left told is_out =
+      → left ≡ record asked { unsent = [] } → (masters : Frame) × BeginsWith asked.unsent masters × (text ≡ spelling (info figures value masters)) → out ≡ unsent ++ text
+      → (more : List ℕ) × (out ≡ unsent ++ more) × IsIdle left × TellsInfo start now figures (party v talk.listens) value more (party w left.listens)
+  masters_told figures value talk asked left v w unsent out text turned goes_on is_left told is_out =
       let p = party v talk.listens in
       let since : asked.listens ≡ left.listens = sym (ap (λ (t : Talk). t.listens) is_left) in
       let answer = subst (λ (x : Option ℕ). Responds start now p (Ok Masters) asked.unsent (party w x)) since turned.0 in
-      (text, is_out, idle_again asked left is_left turned.1 goes_on, info_told value p (party w left.listens) asked.unsent text answer told)
+      (text, is_out, idle_again asked left is_left turned.1 goes_on, info_told figures value p (party w left.listens) asked.unsent text answer told)
 
   -- it answered a value, and its answer was taken away as it is
   pub handed_on : (command : Result Command CommandFault) (talk asked left : Talk) (v w : View) (unsent out : List ℕ)

@@ -60,7 +60,10 @@ pub(crate) fn monitored_by(alloc: Global, roster: &Roster) -> Result<Vec<Monitor
     let mut monitored = Vec::new(alloc);
     let mut rest = roster.masters();
     while let [master, more @ ..] = rest {
-        monitored.push(MonitoredMaster { name: master.name })?;
+        monitored.push(MonitoredMaster {
+            name: master.name,
+            nodes: master.nodes().len(),
+        })?;
         rest = more;
     }
     Ok(monitored)

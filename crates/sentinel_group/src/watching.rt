@@ -21,7 +21,7 @@ use sentinel_runner::{GroupFault, PortSettings, Watch, WatchSettings};
 use std::alloc::{AllocError, Global};
 use std::net::{Ipv4Addr, Net, SocketAddr};
 use std::process::ExitCode;
-use std::rt::Clock;
+use std::rt::{Clock, Files};
 use std::sync::Wait;
 use std::thread::Threads;
 use tcp_transport::Logins;
@@ -229,7 +229,7 @@ fn locked_file<'a, R: Log>(
 /// log of `noting`.
 pub(crate) fn watch<R>(rt: HostRuntime, noting: &R, words: &ArgMatches) -> Result<(), Unwatched>
 where
-    R: Threads + Wait + Net + Clock + Log + Sync,
+    R: Threads + Wait + Net + Clock + Files + Log + Sync,
 {
     let (file, lock) = match locked_file(rt, noting, words) {
         Ok(locked) => locked,

@@ -12,7 +12,7 @@ use sentinel_conf::ConfStore;
 use sentinel_runtime::{RunFault, RunState, RunningSentinel, ThreadSeat, Which};
 use std::alloc::{AllocError, Global};
 use std::io;
-use std::rt::Clock;
+use std::rt::{Clock, Files};
 use std::sync::Wait;
 use std::sync::atomic::{AtomicU64, Ordering};
 use std::thread::{self, Threads};
@@ -38,11 +38,17 @@ pub(crate) struct PortPart<J: Which> {
 /// may be sent.
 pub(crate) trait ServesPort<M> {
     /// Serves the port until `ending` isn't 0. Then it is closed.
-    fn serve<R: Wait + Clock + Log>(self, rt: &R, state: &RunState, member: &M, ending: &AtomicU64);
+    fn serve<R: Wait + Clock + Files + Log>(
+        self,
+        rt: &R,
+        state: &RunState,
+        member: &M,
+        ending: &AtomicU64,
+    );
 }
 
 impl<J: Which, S: ConfStore> ServesPort<RunningSentinel<J, S>> for PortPart<J> {
-    fn serve<R: Wait + Clock + Log>(
+    fn serve<R: Wait + Clock + Files + Log>(
         self,
         rt: &R,
         state: &RunState,
@@ -106,7 +112,7 @@ pub(crate) fn serve_parts<'a, M: Sync, P: ServesPort<M> + Drop + Send, R>(
     ending: &'a AtomicU64,
 )
 where
-    R: Threads + Wait + Clock + Log + Sync,
+    R: Threads + Wait + Clock + Files + Log + Sync,
 {
     thread::scope(thread::scope_env(), rt, |scope| {
         let mut refused = false;

@@ -18,7 +18,7 @@ use std::alloc::{AllocError, Global};
 use std::io::ErrorKind;
 use std::marker::Brand;
 use std::net::Net;
-use std::rt::Clock;
+use std::rt::{Clock, Files};
 use std::sync::Wait;
 use std::sync::atomic::{AtomicU64, Ordering};
 use std::thread::{self, Threads};
@@ -211,7 +211,10 @@ impl<S: ConfStore + Drop> Watch<S> {
     ///
     /// `Halted` where the store refused a text, whichever thread met that; `PortRefused` where the system no longer
     /// tells of the connections, and `NoMemory` where a thread couldn't be made: `NotOneRoster` never comes.
-    pub fn run<R: Threads + Wait + Net + Clock + Log + Sync>(self, rt: &R) -> Result<(), GroupFault>
+    pub fn run<R: Threads + Wait + Net + Clock + Files + Log + Sync>(
+        self,
+        rt: &R,
+    ) -> Result<(), GroupFault>
     where
         S: Send,
         ensures roster { IfErr result (λ fault. fault ≢ NotOneRoster) }
@@ -236,7 +239,7 @@ fn run_named<J: Which + Send + Sync, S: ConfStore + Drop + Send, R, N: Net>(
     wires: Connections,
 )
 where
-    R: Threads + Wait + Clock + Log + Sync,
+    R: Threads + Wait + Clock + Files + Log + Sync,
     requires named { watching.opened.cell.id ≡ J.cell }
 {
     let Watching { opened, far, alloc } = watching;
@@ -360,7 +363,7 @@ fn run_beside<'a, M: Sync, T: Ticks<M> + Drop + Send, P: ServesPort<M> + Drop + 
     parts: WatchParts<T, P>,
 )
 where
-    R: Threads + Wait + Clock + Log + Sync,
+    R: Threads + Wait + Clock + Files + Log + Sync,
 {
     let WatchParts {
         ticks,
@@ -411,7 +414,7 @@ fn run_parts<'a, M: Sync, T, P, W: RunsWires, R>(
 where
     T: Ticks<M> + Drop + Send,
     P: ServesPort<M> + Drop + Send,
-    R: Threads + Wait + Clock + Log + Sync,
+    R: Threads + Wait + Clock + Files + Log + Sync,
 {
     thread::scope(thread::scope_env(), rt, |scope| {
         let begun = scope.spawn(move || run_beside(rt, state, member, parts));

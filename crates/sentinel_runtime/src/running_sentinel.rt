@@ -34,6 +34,9 @@ use std::marker::{Brand, PhantomData};
 use std::sync::atomic::{AtomicU64, Ordering};
 use std::sync::{Mutex, Wait};
 
+/// What stands for no reading of the clock: it is above each of them.
+const NOT_TILTED: u64 = u64::MAX;
+
 /// Which Sentinel it is. Only proofs read it.
 pub trait Which {
     ghost use Rattle.atomic_table.specs.Seated.{TableId};
@@ -48,7 +51,8 @@ impl Which for Brand {
 }
 
 /// A Sentinel of the group, which its threads share. `far` is the last request for a vote whose epoch was too far above
-/// the one that is `known`, until it is taken.
+/// the one that is `known`, until it is taken. `tilted` is the clock's reading since which it is in TILT, or
+/// `NOT_TILTED`.
 #[derive(Drop)]
 pub struct RunningSentinel<J: Which, S: ConfStore> {
     cell: SharedSentinel<S>,
@@ -58,6 +62,7 @@ pub struct RunningSentinel<J: Which, S: ConfStore> {
     known: KnownEpoch,
     far: Mutex<Option<FarRequest>>,
     halt_noted: AtomicU64,
+    tilted: AtomicU64,
     of: PhantomData<J>,
     ghost is: { cell.id ≡ J.cell },
 }
@@ -169,6 +174,7 @@ impl<J: Which, S: ConfStore> RunningSentinel<J, S> {
             known: KnownEpoch::none(),
             far: Mutex::new(None),
             halt_noted: AtomicU64::new(0),
+            tilted: AtomicU64::new(NOT_TILTED),
             of: PhantomData,
         };
         Ok((member, with_outbox(alloc, seat)))
@@ -229,6 +235,7 @@ impl<J: Which, S: ConfStore> RunningSentinel<J, S> {
             known: _,
             far: _,
             halt_noted: _,
+            tilted: _,
             of: _,
         } = self;
         let mut whole = seats.pop()?.into_seat();
@@ -301,6 +308,24 @@ impl<J: Which, S: ConfStore> RunningSentinel<J, S> {
     /// Whether it is still to be noted that it is halted; a second time it isn't.
     pub(crate) fn takes_halt_note(&self) -> bool {
         self.halt_noted.swap(1, Ordering::SeqCst) == 0
+    }
+
+    /// At this reading of the clock in milliseconds it is in TILT or isn't, as its ticks saw it.
+    pub(crate) fn note_tilt(&self, is_tilted: bool, now: u64) {
+        if !is_tilted {
+            self.tilted.store(NOT_TILTED, Ordering::SeqCst);
+        } else if self.tilted.load(Ordering::SeqCst) == NOT_TILTED {
+            self.tilted.store(now, Ordering::SeqCst);
+        }
+    }
+
+    /// For how many milliseconds it is in TILT at this reading of the clock, as far as its ticks saw it; none where it
+    /// isn't. Nothing is seen where neither notes nor events are told.
+    pub fn tilted_for(&self, now: u64) -> Option<u64> {
+        match self.tilted.load(Ordering::SeqCst) {
+            NOT_TILTED => None,
+            since => Some(now.saturating_sub(since)),
+        }
     }
 
     /// Whether its port is closed: it is halted, which a thread noted, and a halted one closes its port.

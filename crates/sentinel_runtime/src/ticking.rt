@@ -179,17 +179,18 @@ impl Ticker {
         let (now, random) = (millis_of(elapsed), u64::from(elapsed.subsec_nanos()));
         want_noted(rt, member, seat, master, now);
         let acted = member.carry_out(rt, seat, outlet, now, Event::Tick { master, random });
-        self.note_look(rt, member, seat, master);
+        self.note_look(rt, member, seat, master, now);
         goes_on_noted(rt, state, member, acted)
     }
 
-    /// Notes what the last turn took down of a master.
+    /// Notes what the last turn, at this reading of the clock, took down of a master.
     fn note_look<J: Which, S: ConfStore, R: Wait + Log>(
         &mut self,
         rt: &R,
         member: &RunningSentinel<J, S>,
         seat: &mut ThreadSeat<J>,
         master: u16,
+        now: u64,
     )
         ensures seat { (seat.new.seat ≡ seat.old.seat) × (seat.new.outbox ≡ seat.old.outbox) }
         ensures due { (self.new.due ≡ self.old.due) × (self.new.phase ≡ self.old.phase) }
@@ -197,6 +198,7 @@ impl Ticker {
         let Some(look) = seat.take_look() else {
             return;
         };
+        member.note_tilt(look.is_tilted, now);
         self.lookout.note(
             &member.announcing(rt),
             member.roster(),

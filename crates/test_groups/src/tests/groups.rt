@@ -8,7 +8,7 @@ use sentinel_conf::{Conf, MemoryStore, read};
 use sentinel_runner::{GroupFault, run_group};
 use std::alloc::Global;
 use std::net::Net;
-use std::rt::Clock;
+use std::rt::{Clock, Files};
 use std::sync::Wait;
 use std::sync::atomic::AtomicU64;
 use std::test::Fail;
@@ -48,7 +48,7 @@ fn pair<R: Net>(rt: &R, alloc: Global, quorums: (u32, u32)) -> Option<Vec<Conf>>
 }
 
 /// Runs a group that is to end at once.
-fn run_to_end<R: Threads + Wait + Net + Clock + Log + Sync>(
+fn run_to_end<R: Threads + Wait + Net + Clock + Files + Log + Sync>(
     rt: &R,
     alloc: Global,
     confs: Vec<Conf>,

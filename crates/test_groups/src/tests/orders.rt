@@ -12,7 +12,7 @@ use std::alloc::Global;
 use std::fmt::Display;
 use std::io::{self, ErrorKind, Read};
 use std::net::Net;
-use std::rt::Clock;
+use std::rt::{Clock, Files};
 use std::sync::Wait;
 use std::sync::atomic::{AtomicU64, Ordering};
 use std::test::Fail;
@@ -128,7 +128,7 @@ fn one(alloc: Global, text: &str) -> Option<(Vec<Conf>, Vec<MemoryStore>)>
 }
 
 /// Runs a group by the orders of the input: how it ended.
-fn run_by_input<R: Threads + Wait + Net + Clock + Log + Sync>(
+fn run_by_input<R: Threads + Wait + Net + Clock + Files + Log + Sync>(
     rt: &R,
     alloc: Global,
     counts: &Counts,

@@ -9,7 +9,7 @@ use log::Log;
 use sentinel_runner::{Group, GroupFault};
 use std::alloc::Global;
 use std::io::{self, Read, Write};
-use std::rt::Clock;
+use std::rt::{Clock, Files};
 use std::sync::Wait;
 use std::sync::atomic::{AtomicU64, Ordering};
 use std::test::Fail;
@@ -56,7 +56,7 @@ fn ask_for_each<T: Read + Write>(
 }
 
 /// Runs a group while both are asked.
-fn ask_beside<'a, R: Threads + Wait + Clock + Log + Sync, T: Read + Write + Drop + Send>(
+fn ask_beside<'a, R: Threads + Wait + Clock + Files + Log + Sync, T: Read + Write + Drop + Send>(
     rt: &'a R,
     alloc: Global,
     group: Group<ToldFile<'a, R>>,
