@@ -96,8 +96,8 @@ pub struct Note {
 /// Sentinels, three messages and one order to each of 256 nodes, and one promotion.
 pub const OUTPUTS_MAX: usize = 1_536;
 
-/// The greatest number of bytes of an answer of a Sentinel's port: that of a RESP2 value.
-pub const ANSWER_MAX: usize = 65_536;
+/// The greatest number of bytes of an answer of a Sentinel's port: in redis-sentinel's words 256 replicas have room.
+pub const ANSWER_MAX: usize = 262_144;
 
 /// The greatest number of configurations that one output shows: one of each master.
 pub const SHOWN_MAX: usize = MASTERS_MAX;

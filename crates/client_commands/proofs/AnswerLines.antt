@@ -13,13 +13,12 @@ use Rattle.client_commands.specs.declared.hellos.Expects.{Expects}
 use Rattle.client_commands.specs.declared.hellos.Expects.TheVariants.{Start, User, Password, NewName}
 use Rattle.client_commands.specs.Refusals.{is_called, printed_byte, printed, wrong_arguments, unknown_subcommand, shown_words, unknown_command, no_option, wrong_password, no_password, no_auth, no_auth_yet, no_name, not_while_listening}
 use Rattle.resp2.specs.Commands.{redis_command_of}
-use Rattle.client_commands.specs.declared.wordings.Wording.{Wording}
 use Rattle.client_commands.specs.Courtesies as table
 use Rattle.client_commands.specs.declared.choosing.ClientKind.{ClientKind}
 use Rattle.client_commands.specs.Choosing.{Wanted, Chosen, fits, unfit, anyone, kind_named, no_kind, no_number, with_spared, with_user, with_option, with_options, chosen_by}
 use Rattle.client_commands.specs.Subcommands.{sub_name, all_subs, sub_among, takes_count, not_at_runtime, no_trials, only_get}
 use Rattle.client_commands.specs.Helps.{sentinel_help, client_help, command_help}
-use Rattle.client_commands.specs.Courtesies.{ClientInfo, MonitoredMaster, Answer, left, widens, said, asks_masters, silent, Looked, known, refused, verb_name, Greeted, greeted, expected, taken, is_user, is_password, is_some, admits, is_stranger, lacks_password, greeted_by, is_client_name, asks_for_2, is_integer, after_first, first, or_else, hello_map, answered, asks_nothing, reply_to, courtesy, left_over, or_left}
+use Rattle.client_commands.specs.Courtesies.{ClientInfo, MonitoredMaster, Answer, left, said, asks_masters, silent, Looked, known, refused, verb_name, Greeted, greeted, expected, taken, is_user, is_password, is_some, admits, is_stranger, lacks_password, greeted_by, is_client_name, asks_for_2, is_integer, after_first, first, or_else, hello_map, answered, asks_nothing, reply_to, courtesy, left_over, or_left}
 use Rattle.client_commands.proofs.Silence.{asked_is, unasked_is}
 
 -- ---- lines
@@ -431,7 +430,6 @@ told_lines_of asker Debug words = trial_line (codes "DEBUG") refl
 
 abbrev AreAnswerLines : Answer → Type 0
 AreAnswerLines left = Unit {0}
-AreAnswerLines widens = Unit {0}
 AreAnswerLines (said answer) = HasLines answer
 AreAnswerLines asks_masters = Unit {0}
 AreAnswerLines silent = ⊥
@@ -504,10 +502,6 @@ in_lines asker miscounted [] = tt
 in_lines asker miscounted (name ∷ words) =
     maybe (table.names_channels (name ∷ words) || table.is_barred asker name) _ _ tt (looked_up_lines miscounted name words)
 
-own_lines : (own : Option Wording) → AreAnswerLines (table.own_answer own)
-own_lines None = tt
-own_lines (Some own) = tt
-
 or_left_lines : (asker : ClientInfo) (looked : Option Looked) → AreLinesOrNone looked → AreAnswerLines (or_left asker looked)
 or_left_lines asker None h = one_answer (is_stranger asker) _ _ no_auth_line tt
 or_left_lines asker (Some looked) h = answered_lines asker looked h
@@ -517,7 +511,7 @@ reply_lines asker value =
     one_answer (table.is_refused (redis_command_of value)) _ _
     (or_left_lines asker (table.looked_up_in asker (table.is_miscounted (redis_command_of value)) (table.words_of value))
     (in_lines asker (table.is_miscounted (redis_command_of value)) (table.words_of value)))
-    (one_answer (is_stranger asker) _ _ no_auth_line (own_lines (table.wording_of (redis_command_of value))))
+    (one_answer (is_stranger asker) _ _ no_auth_line tt)
 
 said_by : (asker : ClientInfo) (value answer : Frame) (test : Bool) → asks_nothing value ≡ test → courtesy asker value ≡ said answer → HasLines answer
 said_by asker value answer true h is = absurd (let no = sym (unasked_is asker value h) ∙ is in cc)

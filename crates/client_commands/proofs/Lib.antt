@@ -10,5 +10,3 @@ pub mod OwnValues
 pub mod Silence
 pub mod Strangers
 pub mod SubBytes
-pub mod WideRows
-pub mod WordingLines

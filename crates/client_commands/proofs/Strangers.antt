@@ -90,7 +90,7 @@ strangers_are_answered asker value h =
     one_kind (table.asks_nothing value) _ _ refl
     (one_kind (table.is_refused (redis_command_of value)) _ _
     (told_in asker (table.is_miscounted (redis_command_of value)) (words_of value) h)
-    (ap (λ (t : Bool). kind_of (elim t as (λ _. Answer) [ true ↦ said no_auth | false ↦ table.own_answer (table.wording_of (redis_command_of value)) ])) h))
+    (ap (λ (t : Bool). kind_of (elim t as (λ _. Answer) [ true ↦ said no_auth | false ↦ table.left ])) h))
 
 -- ---- HELLO and AUTH have the words after the name
 

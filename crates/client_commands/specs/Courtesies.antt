@@ -15,11 +15,8 @@ use Rattle.client_commands.specs.declared.subcommands.Sub.{Sub}
 use Rattle.client_commands.specs.declared.subcommands.Sub.TheVariants.{Help, PendingScripts, InfoCache, Config, SetOption, Monitor, Remove, Reset, Failover, Simulate, Debug}
 use Rattle.client_commands.specs.declared.hellos.Expects.{Expects}
 use Rattle.client_commands.specs.declared.hellos.Expects.TheVariants.{Start, User, Password, NewName}
-use Rattle.client_commands.specs.declared.wordings.Wording.{Wording}
-use Rattle.client_commands.specs.declared.wordings.Wording.TheVariants.{Rows, Quorum}
-use Rattle.client_commands.specs.declared.tables.Table.TheVariants.{OneMaster, AllMasters, OfReplicas, OfSentinels}
 use Rattle.client_commands.specs.declared.courtesies.Courtesy.{Courtesy}
-use Rattle.client_commands.specs.declared.courtesies.Courtesy.TheVariants.{Left, Widens, Said, AsksMasters}
+use Rattle.client_commands.specs.declared.courtesies.Courtesy.TheVariants.{Left, Said, AsksMasters}
 use Rattle.client_commands.specs.declared.port_facts.Figures.{Figures}
 use Rattle.client_commands.specs.Ports.{PortFacts}
 use Rattle.client_commands.specs.Choosing.{Wanted, Chosen, fits, unfit, anyone, kind_named, no_kind, chosen_by, places_of}
@@ -31,10 +28,9 @@ use Rattle.client_commands.specs.Refusals.{is_called, printed_byte, wrong_argume
 -- a master that a Sentinel watches, and how many data nodes it has in all
 pub record MonitoredMaster : Type 0 where
   pub name : List ℕ
-  pub quorum : ℕ
   pub nodes : ℕ
 
--- what is known of a connection: its number, the name that its client gave it, whether it listens to notes, the Sentinel's masters, how many Sentinels watch them, the
+-- what is known of a connection: its number, the name that its client gave it, whether it listens to notes, the Sentinel's masters, the
 -- password that is wanted of its client, where one is, and whether the client gave it; the Sentinel's current epoch as it was last told, where that was; and what its
 -- port knows
 pub record ClientInfo : Type 0 where
@@ -42,17 +38,15 @@ pub record ClientInfo : Type 0 where
   pub name : List ℕ
   pub listens : Bool
   pub masters : List MonitoredMaster
-  pub sentinels : ℕ
   pub password : Option (List ℕ)
   pub admitted : Bool
   pub current : Option ℕ
   pub port : PortFacts
 
--- what becomes of a value: the Sentinel's rules answer it, the answer that they give is told in other words, it is answered by this value, or by what is told of the
+-- what becomes of a value: the Sentinel's rules answer it, it is answered by this value, or by what is told of the
 -- Sentinel's masters, or it has no answer
 pub data Answer : Type 0 where
   left : Answer
-  widens : Answer
   said : Frame → Answer
   asks_masters : Answer
   silent : Answer
@@ -608,20 +602,6 @@ abbrev pub left_over : ClientInfo → Frame → Option Looked
 left_over asker value =
     elim (is_refused (redis_command_of value)) [ true ↦ looked_up_in asker (is_miscounted (redis_command_of value)) (words_of value) | false ↦ None ]
 
--- the answers of the Sentinel's rules that are told in other words
-abbrev pub wording_of : Result Command CommandFault → Option Wording
-wording_of (Ok (Master name)) = Some (Rows OneMaster)
-wording_of (Ok Masters) = Some (Rows AllMasters)
-wording_of (Ok (Replicas name)) = Some (Rows OfReplicas)
-wording_of (Ok (Sentinels name)) = Some (Rows OfSentinels)
-wording_of (Ok (CkQuorum name)) = Some (Quorum name)
-wording_of asked = None
-
--- what becomes of a value that the rules answer
-abbrev pub own_answer : Option Wording → Answer
-own_answer None = left
-own_answer (Some wording) = widens
-
 abbrev pub unless_stranger : ClientInfo → Answer → Answer
 unless_stranger asker answer = elim (is_stranger asker) [ true ↦ said no_auth | false ↦ answer ]
 
@@ -652,7 +632,7 @@ abbrev pub reply_to : ClientInfo → Frame → Answer
 reply_to asker value =
     elim (is_refused (redis_command_of value)) [
       | true ↦ or_left asker (looked_up_in asker (is_miscounted (redis_command_of value)) (words_of value))
-      | false ↦ unless_stranger asker (own_answer (wording_of (redis_command_of value)))
+      | false ↦ unless_stranger asker left
     ]
 
 -- the answer to a value of a connection
@@ -672,7 +652,6 @@ asker_after asker value =
 
 abbrev pub kind_of : Answer → Courtesy
 kind_of left = Left
-kind_of widens = Widens
 kind_of (said answer) = Said
 kind_of asks_masters = AsksMasters
 kind_of silent = Said
@@ -680,7 +659,6 @@ kind_of silent = Said
 -- its bytes on the wire, where it is known
 abbrev pub text_of : Answer → List ℕ
 text_of left = []
-text_of widens = []
 text_of (said answer) = spelling answer
 text_of asks_masters = []
 text_of silent = []

@@ -6,8 +6,5 @@ pub mod Subcommands
 pub mod Helps
 pub mod Courtesies
 pub mod Infos
-pub mod Widening
-pub mod Quorums
-pub mod Wordings
 pub mod Lines
 pub mod Attendants

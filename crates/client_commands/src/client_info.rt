@@ -14,8 +14,6 @@ use std::mem;
 pub struct MonitoredMaster {
     /// Its name.
     pub name: Name,
-    /// How many Sentinels have to call it down before a failover.
-    pub quorum: u32,
     /// How many data nodes it has, itself too.
     pub nodes: usize,
 }
@@ -25,7 +23,7 @@ impl Model for MonitoredMaster {
 
     ghost Value = { MonitoredMasterModel };
 
-    ghost view = { λ master. record { name = master.name; quorum = master.quorum; nodes = master.nodes } };
+    ghost view = { λ master. record { name = master.name; nodes = master.nodes } };
 }
 
 impl MonitoredMaster {
@@ -35,7 +33,6 @@ impl MonitoredMaster {
     {
         MonitoredMaster {
             name: self.name,
-            quorum: self.quorum,
             nodes: self.nodes,
         }
     }
@@ -45,13 +42,6 @@ impl MonitoredMaster {
         ensures { result.now ≡ self.now.name }
     {
         self.name.as_slice()
-    }
-
-    /// The quorum.
-    pub(crate) fn quorum(&self) -> u32
-        ensures { result ≡ self.now.quorum }
-    {
-        self.quorum
     }
 
     /// How many data nodes it has.
@@ -73,8 +63,6 @@ pub struct ClientInfo {
     pub listens: bool,
     /// The Sentinel's masters, in the roster's order.
     pub masters: Vec<MonitoredMaster>,
-    /// How many Sentinels watch them, this one too.
-    pub sentinels: usize,
     /// The password that is wanted of its client; none where every client is admitted.
     pub password: Option<Text>,
     /// Whether the client gave the password.
@@ -90,7 +78,7 @@ impl Model for ClientInfo {
 
     ghost Value = { AskerModel };
 
-    ghost view = { λ asker. record { id = asker.id; name = asker.name; listens = asker.listens; masters = asker.masters.items; sentinels = asker.sentinels; password = asker.password; admitted = asker.admitted; current = asker.current; port = asker.port } };
+    ghost view = { λ asker. record { id = asker.id; name = asker.name; listens = asker.listens; masters = asker.masters.items; password = asker.password; admitted = asker.admitted; current = asker.current; port = asker.port } };
 }
 
 impl ClientInfo {
@@ -120,13 +108,6 @@ impl ClientInfo {
         ensures { result.now ≡ self.now.masters }
     {
         self.masters.as_slice()
-    }
-
-    /// How many Sentinels there are.
-    pub(crate) fn sentinels(&self) -> usize
-        ensures { result ≡ self.now.sentinels }
-    {
-        self.sentinels
     }
 
     /// Whether a password is wanted.
@@ -181,12 +162,11 @@ impl ClientInfo {
         self.listens = listens;
     }
 
-    /// Has it know these masters, which `sentinels` Sentinels watch.
-    pub(crate) fn watch(&mut self, masters: Vec<MonitoredMaster>, sentinels: usize)
-        ensures { self.new ≡ record self.old { masters = masters.items; sentinels = sentinels } }
+    /// Has it know these masters.
+    pub(crate) fn watch(&mut self, masters: Vec<MonitoredMaster>)
+        ensures { self.new ≡ record self.old { masters = masters.items } }
     {
         self.masters = masters;
-        self.sentinels = sentinels;
     }
 
     /// Has it want this password, which its client didn't give.

@@ -4,7 +4,7 @@ ghost use Rattle.std.specs.Prelude.{◌≡◌, ℕ, List, [], None, IfOk, OnOk};
 ghost use Rattle.resp2.specs.Commands as commands;
 ghost use Rattle.resp2.specs.Framing.Frame as frames;
 ghost use Rattle.resp2.specs.Framing.Frame.{view, frames_view, spelling};
-ghost use Rattle.client_commands.specs.Courtesies.{ClientInfo, known, executed, while_listening, name_after, admitted_after, killed_after, killed_by, or_killed, is_for_strangers, is_barred, admitted_by, or_admitted, words_of, is_miscounted, is_refused, names_channels, answered, named, looked_up_in, own_answer, unless_stranger, or_left, or_same, asks_nothing, reply_to, courtesy, asker_after, kind_of, text_of};
+ghost use Rattle.client_commands.specs.Courtesies.{ClientInfo, known, executed, while_listening, name_after, admitted_after, killed_after, killed_by, or_killed, is_for_strangers, is_barred, admitted_by, or_admitted, words_of, is_miscounted, is_refused, names_channels, answered, named, looked_up_in, left, unless_stranger, or_left, or_same, asks_nothing, reply_to, courtesy, asker_after, kind_of, text_of};
 
 use crate::client_info::ClientInfo;
 use crate::clients::{
@@ -18,7 +18,6 @@ use crate::lookup::looked_up;
 use crate::refusals::{is_called, refuse_listener, say};
 use crate::told_subcommands::sentinel_told;
 use crate::verbs::Verb;
-use crate::wordings::{Wording, wording_of};
 use ballot_law::{Command, NoMemory, Text};
 use resp2::{CommandFault, OutText, Value, redis_command_of};
 use std::alloc::Global;
@@ -30,8 +29,6 @@ const NO_AUTH: &[u8] = b"-NOAUTH Authentication required.\r\n";
 pub enum Courtesy {
     /// The Sentinel's rules answer it.
     Left,
-    /// The Sentinel's rules answer it, and the answer is then told in redis-sentinel's words.
-    Widens,
     /// Its answer is told, where it has one.
     Said,
     /// It is INFO, whose answer is made of that to SENTINEL MASTERS.
@@ -247,25 +244,18 @@ fn answer_known(
     Ok(kind_of(verb))
 }
 
-/// What becomes of a value that the rules of the Sentinel answer, the answer being told in other words where there are
-/// some: it is left to them, once the client gave the password that is wanted.
-fn leave(
-    asker: &ClientInfo,
-    wording: Option<Wording>,
-    out: &mut OutText,
-) -> Result<Courtesy, NoMemory>
+/// What becomes of a value that the rules of the Sentinel answer: it is left to them, once the client gave the password
+/// that is wanted.
+fn leave(asker: &ClientInfo, out: &mut OutText) -> Result<Courtesy, NoMemory>
     requires { out.old ≡ [] }
-    ensures kind { IfOk result (λ kind. kind ≡ kind_of (unless_stranger asker.now (own_answer wording))) }
-    ensures text { OnOk result (out.new ≡ text_of (unless_stranger asker.now (own_answer wording))) }
+    ensures kind { IfOk result (λ kind. kind ≡ kind_of (unless_stranger asker.now left)) }
+    ensures text { OnOk result (out.new ≡ text_of (unless_stranger asker.now left)) }
 {
     if asker.is_stranger() {
         say(out, NO_AUTH)?;
         return Ok(Courtesy::Said);
     }
-    match wording {
-        Some(_) => Ok(Courtesy::Widens),
-        None => Ok(Courtesy::Left),
-    }
+    Ok(Courtesy::Left)
 }
 
 /// What becomes of these words, which the Sentinel's rules call unknown or refuse for their number. Before the password
@@ -288,10 +278,10 @@ fn answer_words(
     }) }
 {
     let Some((name, more)) = words.split_first() else {
-        return leave(asker, None, out);
+        return leave(asker, out);
     };
     if names_channels(words) || is_barred(asker, name.as_slice()) {
-        return leave(asker, None, out);
+        return leave(asker, out);
     }
     match looked_up(miscounted, name.as_slice(), more, out)? {
         Some((verb, args)) => answer_known(alloc, asker, verb, args, out),
@@ -332,7 +322,7 @@ fn reply_to(
 {
     let asked = redis_command_of(value);
     if !is_refused(&asked) {
-        return leave(asker, wording_of(&asked), out);
+        return leave(asker, out);
     }
     let words = words_of(alloc, value)?;
     answer_words(alloc, asker, is_miscounted(&asked), words.as_slice(), out)

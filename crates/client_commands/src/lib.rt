@@ -6,8 +6,7 @@
 //! call unknown, or refuse for its number of words, has exactly one answer, by the table in docs/CLIENTS.md. No
 //! Sentinel is known here, so nothing of one is changed; what INFO says comes from the Sentinel's own answer to
 //! SENTINEL MASTERS and from the figures of the port. These are handed over as `PortFacts` with the port's clients, of
-//! which CLIENT LIST tells, and some of which CLIENT KILL names to be closed. The answers about masters, replicas,
-//! Sentinels and quorums are told in redis-sentinel's words. A `CommandReader` reads the values of a client, in whose
+//! which CLIENT LIST tells, and some of which CLIENT KILL names to be closed. A `CommandReader` reads the values of a client, in whose
 //! stream a command may come as a line in place of an array.
 #![tactic(auto)]
 
@@ -26,14 +25,10 @@ mod listing;
 mod lookup;
 mod passwords;
 mod port_facts;
-mod quorums;
 mod refusals;
 mod subcommands;
-mod tables;
 mod told_subcommands;
 mod verbs;
-mod widening;
-mod wordings;
 
 pub use client_info::{ClientInfo, MonitoredMaster};
 pub use command_reader::CommandReader;
@@ -42,7 +37,5 @@ pub use infos::info;
 pub use laws::{
     law_answers_are_values, law_lines_stay, law_nothing_is_answered_to_nothing,
     law_own_values_are_left, law_strangers_reach_nothing, law_values_are_spelled_or_lines,
-    law_wide_answers_are_values, law_wide_rows_keep_fields,
 };
 pub use port_facts::{ClientEntry, Figures, PortFacts};
-pub use wordings::wide;

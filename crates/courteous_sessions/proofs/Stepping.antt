@@ -8,7 +8,6 @@ use Rattle.client_commands.specs.declared.port_facts.Figures.{Figures}
 use Rattle.client_commands.specs.Courtesies.{ClientInfo, MonitoredMaster, is_stranger}
 use Rattle.client_commands.proofs.OwnValues.{own_is_same}
 use Rattle.client_commands.specs.Infos.{info}
-use Rattle.client_commands.specs.Wordings.{wide}
 use Rattle.resp2.specs.Asked.{IsCommon}
 use Rattle.resp2.specs.Commands.{command_of}
 use Rattle.sentinel_core.specs.declared.serving.fault.ServeFault.{ServeFault}
@@ -25,10 +24,8 @@ use Rattle.client_commands.specs.Lines.{value_at, Answers as Reads}
 use Rattle.client_commands.proofs.LineStreams.{value_is_frame}
 use Rattle.sentinel_cell.specs.declared.view.View.{View}
 use Rattle.sentinel_cell.specs.Histories.{World}
-use Rattle.sentinel_rules.specs.Plans.{roster_of}
-use Rattle.ballot_law.specs.Rosters.{size}
 use Rattle.courteous_sessions.specs.Epochs.{heard_as}
-use Rattle.courteous_sessions.specs.Visits.{Guest, guest, masters_of, introduced, TellsInfo, TellsWide, BeginsNotes, Serves, Breaks, Receives}
+use Rattle.courteous_sessions.specs.Visits.{Guest, guest, masters_of, introduced, TellsInfo, BeginsNotes, Serves, Breaks, Receives}
 use Rattle.courteous_sessions.specs.OnTheWay.{IsIdle, IsReady, IsTuned, BeginsWith, IsOnTheWay, IsDone, Drains, Refuses, guest_of}
 use Rattle.courteous_sessions.proofs.Keeping.{common_turn, common_answers}
 use Rattle.courteous_sessions.proofs.Serving.{was_read, served_by_others, value_served, all_served, refused, cut_by, begun, was_received}
@@ -42,13 +39,12 @@ ok_of (Ok x) is h = h
 ok_of (Err e) is h = absurd (true≢false is)
 
 -- the masters were told
-pub introduced_now : (start : World) (knows : Bool) (before after : Attendance) (masters : List MonitoredMaster) (sentinels : ℕ) → knows ≡ false → masters ≡ masters_of start
-    → sentinels ≡ size (roster_of start.plan) → after ≡ record before { asker = record before.asker { masters = masters; sentinels = sentinels } }
+pub introduced_now : (start : World) (knows : Bool) (before after : Attendance) (masters : List MonitoredMaster) → knows ≡ false → masters ≡ masters_of start
+    → after ≡ record before { asker = record before.asker { masters = masters } }
     → after ≡ record before { asker = introduced start knows before.asker }
-introduced_now start true before after masters sentinels is same count told = absurd (true≢false is)
-introduced_now start false before after masters sentinels is same count told =
-    let with = λ (ms : List MonitoredMaster) (n : ℕ). let a : Attendance = record before { asker = record before.asker { masters = ms; sentinels = n } } in a in
-    told ∙ ap (λ (ms : List MonitoredMaster). with ms sentinels) same ∙ ap (λ (n : ℕ). with (masters_of start) n) count
+introduced_now start true before after masters is same told = absurd (true≢false is)
+introduced_now start false before after masters is same told =
+    told ∙ ap (λ (ms : List MonitoredMaster). let a : Attendance = record before { asker = record before.asker { masters = ms } } in a) same
 
 -- where no whole value is held, nothing changes
 reads_none : {V : Type 0} (view : V → Frame) (held after : Held) → held ≡ reading (bytes_in held) → Reads view held (Ok None) after → after ≡ held
@@ -180,20 +176,6 @@ module _ (start : World) (now : ℕ) where
       let since : asked.listens ≡ left.listens = sym (ap (λ (t : Talk). t.listens) is_left) in
       let answer = subst (λ (x : Option ℕ). Responds start now p (Ok Masters) asked.unsent (party w x)) since turned.0 in
       (text, is_out, idle_again asked left is_left turned.1 goes_on, info_told figures value p (party w left.listens) asked.unsent text answer told)
-
-  -- the session below answered a value, whose answer is told with more fields, and what it put out was taken away
-  pub wide_told : (asker : ClientInfo) (value : Frame) (talk asked left : Talk) (v w : View) (unsent out text : List ℕ)
-      → Responds start now (party v talk.listens) (command_of value) asked.unsent (party w asked.listens) × (asked.held ≡ []) → asked.ended ≡ None
-      → left ≡ record asked { unsent = [] } → (answer : Frame) × BeginsWith asked.unsent answer × (text ≡ spelling (wide asker value answer)) → out ≡ unsent ++ text
-      → (more : List ℕ) × (out ≡ unsent ++ more) × IsIdle left × TellsWide start now asker (party v talk.listens) value more (party w left.listens)
-  wide_told asker value talk asked left v w unsent out text turned goes_on is_left told is_out =
-      let p = party v talk.listens in
-      let since : asked.listens ≡ left.listens = sym (ap (λ (t : Talk). t.listens) is_left) in
-      let answer = subst (λ (x : Option ℕ). Responds start now p (command_of value) asked.unsent (party w x)) since turned.0 in
-      let wide_answer : TellsWide start now asker p value text (party w left.listens) =
-      record { answer = asked.unsent; turned = answer; told = told.0; rest = told.1.rest; first = told.1.found; bytes_are = told.2 }
-      in
-      (text, is_out, idle_again asked left is_left turned.1 goes_on, wide_answer)
 
   -- it answered a value, and its answer was taken away as it is
   pub handed_on : (command : Result Command CommandFault) (talk asked left : Talk) (v w : View) (unsent out : List ℕ)

@@ -22,7 +22,7 @@ use Rattle.courteous_sessions.specs.declared.client_session.ClientSession.TheVar
 -- what is known of a connection at its beginning
 abbrev pub newcomer : (id : ℕ) → ClientInfo
 newcomer id =
-    record { id = id; name = []; listens = false; masters = []; sentinels = 0; password = None; admitted = false; current = None; port = no_port }
+    record { id = id; name = []; listens = false; masters = []; password = None; admitted = false; current = None; port = no_port }
 
 -- a session with courtesies to which no bytes came
 abbrev pub arrived : (id : ℕ) → Visit

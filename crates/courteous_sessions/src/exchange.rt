@@ -7,7 +7,6 @@ ghost use Rattle.client_commands.specs.Courtesies.{Answer, is_stranger, kind_of,
 ghost use Rattle.port_sessions.specs.Notes.{none_told};
 ghost use Rattle.port_sessions.specs.Talks.{party, Responds};
 ghost use Rattle.client_commands.specs.Infos.{info};
-ghost use Rattle.client_commands.specs.Wordings.{wide};
 ghost use Rattle.resp2.specs.Asked.{IsCommon};
 ghost use Rattle.ballot_law.specs.Limits.{IsWithin};
 ghost use Rattle.resp2.specs.Framing.Frame.{Frame, view, spelling, HasLines, IsFrame};
@@ -15,7 +14,7 @@ ghost use Rattle.resp2.specs.Framing.Stream.{reading, held_size, bytes_in};
 ghost use Rattle.courteous_sessions.specs.Clients.{newcomer};
 ghost use Rattle.courteous_sessions.specs.Epochs.{heard_as};
 ghost use Rattle.courteous_sessions.specs.OnTheWay.{IsIdle, IsReady, IsOnTheWay, IsSameAsker, Steps, Drains, Refuses, BeginsWith, guest_of};
-ghost use Rattle.courteous_sessions.specs.Visits.{Guest, guest, unsubscribed, channel_turn, introduced, TellsInfo, TellsWide, Answers, Serves, Receives};
+ghost use Rattle.courteous_sessions.specs.Visits.{Guest, guest, unsubscribed, channel_turn, introduced, TellsInfo, Answers, Serves, Receives};
 ghost use Rattle.pubsub.specs.Answering.{other};
 
 use crate::epochs::{FarRequest, far_request, heard_as, is_plain};
@@ -66,7 +65,6 @@ fn newcomer(alloc: Global, id: u64) -> ClientInfo
         name: Text::from_vec(Vec::new(alloc)),
         listens: false,
         masters: Vec::new(alloc),
-        sentinels: 0,
         password: None,
         admitted: false,
         current: None,
@@ -272,8 +270,7 @@ impl Exchange {
         }
         match monitored_by(self.alloc, cell.roster()) {
             Ok(masters) => {
-                let sentinels = cell.roster().sentinels().len();
-                self.attendant.note_masters(masters, sentinels);
+                self.attendant.note_masters(masters);
                 self.knows_masters = true;
                 Ok(())
             }
@@ -399,50 +396,6 @@ impl Exchange {
         self.attendant.inform(value, &masters)
     }
 
-    /// Answers a value by what the session answers to it, told in redis-sentinel's words.
-    fn tell_wide<S: ConfStore, R: Wait>(
-        &mut self,
-        rt: &R,
-        cell: &SharedSentinel<S>,
-        seat: &mut Seat,
-        now: u64,
-        value: &Value,
-    ) -> Result<(), ServeFault>
-        requires own { seat.old.cell ≡ cell.now.id }
-        requires idle { IsIdle self.old.session }
-        ensures own { seat.new.cell ≡ seat.old.cell }
-        ensures answered { OnOk result ((more : List ℕ) × (self.new.unsent.items ≡ self.old.unsent.items ++ more) × IsIdle self.new.session
-            × TellsWide cell.now.start now self.old.attendant.asker (party seat.old.view self.old.session.listens) (view value.now) more
-            (party seat.new.view self.new.session.listens)) }
-        ensures same { IsSameAsker self.old.attendant self.new.attendant }
-        ensures told { self.new.session.told ≡ self.old.session.told }
-        ensures err { OnErr result (self.new.unsent.items ≡ self.old.unsent.items) }
-        ensures fault { IfErr result (λ fault. (fault ≡ ServeFault.Halted) ⊎ (fault ≡ ServeFault.NoMemory)) }
-        ensures kept { (self.new.knows_masters ≡ self.old.knows_masters) × (self.new.subscriptions ≡ self.old.subscriptions) }
-    {
-        let asked = redis_command_of(value);
-        ask(rt, cell, seat, now, &mut self.session, &asked)?;
-        if self.widen(value).is_err() {
-            return Err(ServeFault::NoMemory);
-        }
-        self.drop_answers();
-        put_out(&mut self.unsent, self.attendant.text())
-    }
-
-    /// Has the attendant's text be the answer to the value, by the answer that the session has to it.
-    fn widen(&mut self, value: &Value) -> Result<(), NoMemory>
-        ensures text { OnOk result ((answer : Frame) × BeginsWith self.old.session.unsent answer
-            × (self.new.attendant.text ≡ spelling (wide self.old.attendant.asker (view value.now) answer))) }
-        ensures asker { self.new.attendant.asker ≡ self.old.attendant.asker }
-        ensures held { self.new.attendant.held ≡ self.old.attendant.held }
-        ensures session { self.new.session ≡ self.old.session }
-        ensures unsent { self.new.unsent ≡ self.old.unsent }
-        ensures kept { (self.new.knows_masters ≡ self.old.knows_masters) × (self.new.subscriptions ≡ self.old.subscriptions) }
-    {
-        let answer = first_value(self.alloc, self.session.unsent())?;
-        self.attendant.widen(value, &answer)
-    }
-
     /// Puts out the line of a frame's fault, and gives the fault that ends the session.
     fn refuse(&mut self, fault: FrameFault) -> ServeFault
         ensures attendant { self.new.attendant ≡ self.old.attendant }
@@ -484,7 +437,6 @@ impl Exchange {
     {
         match kind {
             Courtesy::Left => self.hand_on(rt, cell, seat, now, &redis_command_of(value)),
-            Courtesy::Widens => self.tell_wide(rt, cell, seat, now, value),
             Courtesy::Said => put_out(&mut self.unsent, self.attendant.text()),
             Courtesy::AsksMasters => self.tell_info(rt, cell, seat, now, value),
         }

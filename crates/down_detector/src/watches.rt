@@ -55,6 +55,13 @@ impl Watch {
         }
     }
 
+    /// When its last valid answer to a PING came; before the first one when the watch was opened.
+    pub fn silent_from(&self) -> u64
+        ensures { result ≡ self.now.silent_from }
+    {
+        self.silent_from
+    }
+
     /// The node answered a PING. A valid answer ends its silence, any other changes nothing.
     pub fn heard(&mut self, now: u64, reply: PingReply)
         ensures stands { (opened : ℕ) (calls : List WatchCall) → StandsForCalls self.old opened calls

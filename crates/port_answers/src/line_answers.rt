@@ -29,7 +29,7 @@ fn fault_text(fault: CommandFault) -> &'static [u8]
 impl AnswerText {
     /// Adds a text, a number, another text, and CR LF.
     #[tactic(auto, using(bounded_list::proofs::Bounded::added_both))]
-    fn add_counted(&mut self, before: &[u8], number: u64, behind: &[u8])
+    pub(crate) fn add_counted(&mut self, before: &[u8], number: u64, behind: &[u8])
         ensures { self.new
             ≡ bounded (self.old ++ (before.now ++ (decimal number ++ (behind.now ++ line_end)))) }
     {

@@ -3,27 +3,22 @@
 ghost use Rattle.resp2.specs.Framing.Frame.{view, HasLines};
 
 use crate::commands::{array, tell_command, value_of};
-use crate::given::number_32;
 use crate::told::{Told, Unplayed};
 use ballot_law::{Addr, Name, RunId, Text};
 use client_commands::{
     ClientEntry, ClientInfo, CommandReader, Courtesy, Figures, MonitoredMaster, PortFacts,
-    courtesy_of, info, wide,
+    courtesy_of, info,
 };
 use resp2::{FrameFault, OutText, Value, write_value};
 use std::alloc::Global;
 
-/// The master `mymaster` with this quorum.
-fn mymaster(alloc: Global, quorum: u32) -> Result<Vec<MonitoredMaster>, Unplayed> {
+/// The master `mymaster`.
+fn mymaster(alloc: Global) -> Result<Vec<MonitoredMaster>, Unplayed> {
     let mut masters = Vec::new(alloc);
     let Some(name) = Name::from_slice(b"mymaster") else {
         return Err(Unplayed::WrongWords);
     };
-    masters.push(MonitoredMaster {
-        name,
-        quorum,
-        nodes: 3,
-    })?;
+    masters.push(MonitoredMaster { name, nodes: 3 })?;
     Ok(masters)
 }
 
@@ -88,8 +83,7 @@ fn asker(alloc: Global, name: &[u8], listens: bool) -> Result<ClientInfo, Unplay
         id: 21,
         name: Text::from_slice(alloc, name)?,
         listens,
-        masters: mymaster(alloc, 2)?,
-        sentinels: 3,
+        masters: mymaster(alloc)?,
         password: None,
         admitted: false,
         current: None,
@@ -109,7 +103,6 @@ fn locked(alloc: Global, admitted: bool) -> Result<ClientInfo, Unplayed> {
 fn tell_kind(kind: Courtesy, text: &[u8], told: &mut Told) -> Result<(), Unplayed> {
     match kind {
         Courtesy::Left => told.word("left"),
-        Courtesy::Widens => told.word("widens"),
         Courtesy::Said => told.bytes(text),
         Courtesy::AsksMasters => told.word("asks_masters"),
     }
@@ -193,44 +186,6 @@ fn tell_each(alloc: Global, lines: &[Vec<u8>], told: &mut Told) -> Result<(), Un
     Ok(())
 }
 
-/// Tells the answer to a command with these words with redis-sentinel's fields, where a Sentinel answers it with
-/// `answer`.
-fn tell_wide(
-    alloc: Global,
-    answer: &[u8],
-    words: &[Vec<u8>],
-    told: &mut Told,
-) -> Result<(), Unplayed> {
-    let mut out = OutText::new(alloc);
-    wide(
-        alloc,
-        &asker(alloc, b"", false)?,
-        &array(alloc, words)?,
-        &value_of(alloc, answer)?,
-        &mut out,
-    )?;
-    told.bytes(out.as_slice())
-}
-
-/// Tells the answer to CKQUORUM in redis-sentinel's words, where a Sentinel gives this one, `mymaster` has this quorum,
-/// and there are so many Sentinels.
-fn tell_quorum(
-    alloc: Global,
-    quorum: u32,
-    sentinels: u32,
-    answer: &[u8],
-    words: &[Vec<u8>],
-    told: &mut Told,
-) -> Result<(), Unplayed> {
-    let mut asker = asker(alloc, b"", false)?;
-    asker.masters = mymaster(alloc, quorum)?;
-    asker.sentinels = sentinels as usize;
-    let mut out = OutText::new(alloc);
-    let answer = value_of(alloc, answer)?;
-    wide(alloc, &asker, &array(alloc, words)?, &answer, &mut out)?;
-    told.bytes(out.as_slice())
-}
-
 /// Tells a value by its bytes.
 fn tell_value(alloc: Global, value: &Value, told: &mut Told) -> Result<(), Unplayed>
     requires { HasLines (view value.now) }
@@ -240,8 +195,8 @@ fn tell_value(alloc: Global, value: &Value, told: &mut Told) -> Result<(), Unpla
     told.bytes(out.as_slice())
 }
 
-/// Tells what becomes of a value, one that is left by its bytes; of INFO also its answer, and of a command whose answer
-/// is told in other words its bytes and that answer, where the Sentinel answers with no masters.
+/// Tells what becomes of a value, one that is left by its bytes; of INFO also its answer, where the Sentinel answers
+/// with no masters.
 fn tell_one(
     alloc: Global,
     attendant: &mut CommandReader,
@@ -255,11 +210,6 @@ fn tell_one(
     match kind {
         Courtesy::Said => Ok(()),
         Courtesy::Left => tell_value(alloc, value, told),
-        Courtesy::Widens => {
-            tell_value(alloc, value, told)?;
-            attendant.widen(value, &array(alloc, &[])?)?;
-            told.bytes(attendant.text())
-        }
         Courtesy::AsksMasters => {
             attendant.inform(value, &array(alloc, &[])?)?;
             told.bytes(attendant.text())
@@ -371,11 +321,6 @@ pub(crate) fn play(
         ("info", [masters, words @ ..]) => tell_info(alloc, masters, words, told),
         ("tilt", [millis]) => tell_tilt(alloc, number_32(millis)?, told),
         ("ask_each", lines) => tell_each(alloc, lines, told),
-        ("widen", [answer, words @ ..]) => tell_wide(alloc, answer, words, told),
-        ("quorum", [quorum, sentinels, answer, words @ ..]) => {
-            let (quorum, sentinels) = (number_32(quorum)?, number_32(sentinels)?);
-            tell_quorum(alloc, quorum, sentinels, answer, words, told)
-        }
         ("take_common", pieces) => tell_common(alloc, &mut attendant(alloc)?, pieces, told),
         ("attend", pieces) => tell_stream(alloc, &mut attendant(alloc)?, pieces, told),
         ("attend_listening", pieces) => tell_stream(alloc, &mut listening(alloc)?, pieces, told),

@@ -24,7 +24,7 @@ use crate::inputs::{
 };
 use crate::undo::Undo;
 use ballot_law::{Body, Command, Event, Hello, Input, Message, NodeName, Note, Output};
-use node_texts::{TextFault, read_hello, read_info};
+use node_texts::{TextFault, read_hello};
 use sentinel_outbox::{Outbox, Phase, Stores};
 use sentinel_rules::{
     Frame, law_hellos_name_masters, law_inputs_change_one_card, law_inputs_keep_sound,
@@ -175,7 +175,7 @@ fn hear(state: &mut State, now: u64, event: &Event, former: &mut Undo)
         }
         Event::InfoRead { node, text } => {
             former.begin(kept, listed_by(&state.plan, *node));
-            take_info(state, *node, now, read_info(text.as_slice()));
+            take_info(state, *node, now, text.as_slice());
         }
         Event::HelloRead { text } => {
             let hello = read_hello(text.as_slice());

@@ -12,6 +12,7 @@ mod facts;
 mod failing_over;
 mod hellos;
 mod infos;
+mod known;
 mod replies;
 mod rows;
 mod ticks;

@@ -1,5 +1,5 @@
 -- An input changes at most the current epoch and the entry of the master that its event concerns.
-use Rattle.std.proofs.Common.{◌≡◌, ◌≢◌, ℕ, zero, suc, ◌+◌, Bool, true, false, Option, Some, None, refl, sym, ap, ◌∙◌, []}
+use Rattle.std.proofs.Common.{◌≡◌, ◌≢◌, ℕ, zero, suc, ◌+◌, Bool, true, false, Option, Some, None, refl, sym, ap, ◌∙◌, [], subst}
 use Rattle.std.specs.Prelude.{Result, Ok, Err, is_some, nat_lt, not, ◌&&◌, ◌==◌, if◌then◌else◌, ◌||◌}
 use Rattle.std.proofs.lemmas.Option.{same_Some}
 use Rattle.ballot_law.specs.declared.addresses.Addr.{Addr}
@@ -30,6 +30,7 @@ use Rattle.failover_states.specs.Table.{Turn}
 use Rattle.node_texts.specs.declared.faults.TextFault.{TextFault}
 use Rattle.node_texts.specs.Hellos.{hello_of}
 use Rattle.node_texts.specs.Infos.{info_of}
+use Rattle.node_texts.specs.Announced.{is_announced}
 use Rattle.ballot_law.specs.declared.node_places.NodePlace.{NodePlace}
 use Rattle.port_answers.specs.Answers.{ok_line, in_progress, in_tilt, no_good_replica, command_fault}
 use Rattle.resp2.specs.declared.command.CommandFault.TheVariants.{UnknownCommand}
@@ -38,10 +39,10 @@ use Rattle.sentinel_rules.specs.declared.profiles.Profile.TheVariants.{Strict, R
 use Rattle.sentinel_rules.specs.Plans.{Plan, roster_of, me, group_size, master_count, node_named}
 use Rattle.sentinel_rules.specs.States.{is_master_role, Core, master_of, node_of, failover_of, card_place, is_failing_over, is_tilted, is_master_down, with_master, with_failover, with_current, with_card, is_wished, is_handed, is_planned}
 use Rattle.sentinel_rules.specs.Parts.{Part, quiet, part_if}
-use Rattle.sentinel_rules.specs.Profiles.{is_asking, is_redis, election_ms, marked_at, marked, rest_of, rested, by_profile}
+use Rattle.sentinel_rules.specs.Profiles.{is_asking, is_redis, election_ms, marked_at, marked, rest_of, rested, by_profile, candidate_place}
 use Rattle.sentinel_rules.specs.Votes.{book_of, with_book, mark_for, requested}
 use Rattle.sentinel_rules.specs.Ticks.{peers_part, nodes_part, odown_part, ask_part, ask_candidate, ask_frames, is_ask_due, with_vote, with_win, turn_of, campaign_epoch, row_part, after_start, start_turn, starts_now, start_part, failover_part, judging_part, master_part, with_reading, tick, planned_start, with_plan}
-use Rattle.sentinel_rules.specs.News.{at_same_address, at_new_address, card_taken, is_heeded, is_newer, raised_to, adopted, hello_of_known, hello_heeded, hello_read, reported, vote_heard, answer_of, answered, pinged_at, peer_lost, lost_at, connection_lost, disconnected, pinged, info_kept, promotion, has_followed, reconfiguration, correction, is_reconfiguring, judged, info_at_node, info_of_node, info_read, refusal_at, refusal_heard, with_frames, closing_frames}
+use Rattle.sentinel_rules.specs.News.{at_same_address, at_new_address, card_taken, is_heeded, is_newer, raised_to, adopted, hello_of_known, hello_heeded, hello_read, reported, vote_heard, answer_of, answered, pinged_at, peer_lost, lost_at, connection_lost, disconnected, pinged, info_kept, promotion, has_followed, reconfiguration, correction, is_reconfiguring, judged, info_at_node, info_of_node, info_read, refusal_at, refusal_heard, with_frames, closing_frames, greeted_at, greeted, announced_at}
 use Rattle.sentinel_rules.specs.Answers.{asked_of, master_with_card, commanded, Answered, unchanged, reply, named, has_heir, wished, asked_to_switch}
 use Rattle.sentinel_rules.specs.Takes.{next, next_at, cleared}
 use Rattle.sentinel_rules.specs.Changes.{ChangesAt, ChangesOne, InputsChangeAt, InputsChangeOne, asked_about, concerned, listed_by, told_of}
@@ -211,9 +212,25 @@ at_if_part : (master : Option ℕ) (core : Core) (test : Bool) (part : Core → 
 at_if_part master core true part f = f
 at_if_part master core false part f = same master core
 
+-- what keeps all that the file holds comes before
+at_after : (master : Option ℕ) (core first core2 : Core) → first.kept ≡ core.kept → At master first core2 → At master core core2
+at_after master core first core2 e f = subst (λ (kept : Kept). ChangesAt master kept core2.kept) e f
+
+greeted_kept : (now : ℕ) (at : Option ℕ) (core : Core) → (greeted_at now at core).kept ≡ core.kept
+greeted_kept now None core = refl
+greeted_kept now (Some place) core = refl
+
+announced_kept : (announced : Bool) (at : Option NodePlace) (core : Core) → (announced_at announced at core).kept ≡ core.kept
+announced_kept announced None core = refl
+announced_kept announced (Some at) core = refl
+
 heeded_at : (plan : Plan) (now : ℕ) (m : Option ℕ) (hello : Hello) (core : Core) → At m core (hello_heeded plan now m hello core).core
 heeded_at plan now None hello core = same None core
-heeded_at plan now (Some m) hello core = at_master m core (hello_of_known plan m now hello core).core (known_touches plan m now hello core)
+heeded_at plan now (Some m) hello core = at_after (Some m) core first (hello_of_known plan m now hello first).core (greeted_kept now (candidate_place plan (Some hello.id)) core)
+    (at_master m first (hello_of_known plan m now hello first).core (known_touches plan m now hello first))
+  where
+    first : Core
+    first = greeted plan now hello core
 
 hello_at : (plan : Plan) (now : ℕ) (read : Result Hello TextFault) (core : Core) → At (told_of plan read) core (hello_read plan now read core).core
 hello_at plan now (Err fault) core = same None core
@@ -321,10 +338,13 @@ info_at plan now (Some at) info core =
     (chained at.master core first (info_at_node plan at.master at.place now info core).core (λ k apart. refl)
     (if_part at.master first (not (is_tilted first)) (judged plan at.master at.place now info) (judged_touches plan at.master at.place now info first)))
 
-read_at : (plan : Plan) (node : NodeName) (now : ℕ) (read : Result Info TextFault) (core : Core) →
-    At (listed_by (node_named plan node)) core (info_read plan node now read core).core
-read_at plan node now (Err fault) core = same (listed_by (node_named plan node)) core
-read_at plan node now (Ok info) core = info_at plan now (node_named plan node) info core
+read_at : (plan : Plan) (node : NodeName) (now : ℕ) (read : Result Info TextFault) (announced : Bool) (core : Core) →
+    At (listed_by (node_named plan node)) core (info_read plan node now read announced core).core
+read_at plan node now (Err fault) announced core = same (listed_by (node_named plan node)) core
+read_at plan node now (Ok info) announced core =
+    let first = announced_at announced (node_named plan node) core in
+    at_after (listed_by (node_named plan node)) core first (info_of_node plan now (node_named plan node) info first).core
+    (announced_kept announced (node_named plan node) core) (info_at plan now (node_named plan node) info first)
 
 -- Commands
 
@@ -375,7 +395,7 @@ input_at plan now (Tick m random) core = at_master m core (tick plan m random no
 input_at plan now (Commanded sender command) core = commanded_at plan now command core
 input_at plan now (AnswerCame voter m addr down leader epoch) core = answer_at plan voter m now addr down leader epoch core
 input_at plan now (Pinged node reply) core = ping_at plan node now reply core
-input_at plan now (InfoRead node text) core = read_at plan node now (info_of text) core
+input_at plan now (InfoRead node text) core = read_at plan node now (info_of text) (is_announced text) core
 input_at plan now (HelloRead text) core = hello_at plan now (hello_of text) core
 input_at plan now (Disconnected node) core = loss_at plan node core
 input_at plan now (Refused node) core = refused_at plan node core

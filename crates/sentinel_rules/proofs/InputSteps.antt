@@ -20,8 +20,10 @@ use Rattle.ballot_law.specs.Orders.{same_addr}
 use Rattle.ballot_law.specs.Worlds.{IsRightOutput}
 use Rattle.node_texts.specs.Hellos.{hello_of}
 use Rattle.node_texts.specs.Infos.{info_of}
+use Rattle.node_texts.specs.Announced.{is_announced}
+use Rattle.sentinel_rules.specs.Rows.{master_frame_by, masters_frame_by, replicas_frame_by, sentinels_frame_by}
 use Rattle.resp2.specs.Framing.Frame.{Frame as Reply, Frame}
-use Rattle.port_answers.specs.Answers.{master_frame, masters_frame, replicas_frame, sentinels_frame, no_such_master, ok_line, id_frame, subscribed, in_progress, in_tilt, no_good_replica, command_fault}
+use Rattle.port_answers.specs.Answers.{no_such_master, ok_line, id_frame, subscribed, in_progress, in_tilt, no_good_replica, command_fault}
 use Rattle.resp2.specs.declared.command.CommandFault.TheVariants.{UnknownCommand}
 use Rattle.sentinel_rules.specs.Profiles.{by_profile}
 use Rattle.sentinel_rules.specs.declared.profiles.Profile.{Profile}
@@ -180,16 +182,16 @@ commanded_right plan parts target now (IsMasterDownByAddr addr epoch candidate) 
 commanded_right plan parts target now Ping core s t is = silent plan parts target (PingText false (codes "PONG")) refl refl refl refl
 commanded_right plan parts target now (GetMasterAddrByName name) core s t is = address_right plan core parts target (named plan name) is
 commanded_right plan parts target now Masters core s t is = reply_right plan core parts target (all_masters plan)
-    (masters_frame (map (master_row plan core now) (all_masters plan))) is
+    (masters_frame_by plan.profile (map (master_row plan core now) (all_masters plan))) is
 commanded_right plan parts target now (Master name) core s t is =
-    about_right plan core parts target (named plan name) (λ m. reply core (m ∷ []) (master_frame (master_row plan core now m))) is
-    (λ m. reply_right plan core parts target (m ∷ []) (master_frame (master_row plan core now m)) is)
+    about_right plan core parts target (named plan name) (λ m. reply core (m ∷ []) (master_frame_by plan.profile (master_row plan core now m))) is
+    (λ m. reply_right plan core parts target (m ∷ []) (master_frame_by plan.profile (master_row plan core now m)) is)
 commanded_right plan parts target now (Replicas name) core s t is =
-    about_right plan core parts target (named plan name) (λ m. reply core [] (replicas_frame (replica_rows plan core now m))) is
-    (λ m. reply_right plan core parts target [] (replicas_frame (replica_rows plan core now m)) is)
+    about_right plan core parts target (named plan name) (λ m. reply core [] (replicas_frame_by plan.profile (replica_rows plan core now m))) is
+    (λ m. reply_right plan core parts target [] (replicas_frame_by plan.profile (replica_rows plan core now m)) is)
 commanded_right plan parts target now (Sentinels name) core s t is =
-    about_right plan core parts target (named plan name) (λ m. reply core [] (sentinels_frame (sentinel_rows plan core now))) is
-    (λ m. reply_right plan core parts target [] (sentinels_frame (sentinel_rows plan core now)) is)
+    about_right plan core parts target (named plan name) (λ m. reply core [] (sentinels_frame_by plan.profile (sentinel_rows plan core now m))) is
+    (λ m. reply_right plan core parts target [] (sentinels_frame_by plan.profile (sentinel_rows plan core now m)) is)
 commanded_right plan parts target now MyId core s t is = reply_right plan core parts target [] (id_frame (me plan)) is
 commanded_right plan parts target now (CkQuorum name) core s t is =
     about_right plan core parts target (named plan name) (λ m. reply core [] (quorum_frame plan core now m)) is
@@ -250,9 +252,10 @@ input_by plan core parts now (Pinged node reply) p s is h =
     take_of_part plan core parts (Pinged node reply) 0 (quiet (pinged plan node now reply (cleared core))) (omega arith) p is
     (pinged_sound plan node now reply (cleared core) s) (pinged_steps plan (Pinged node reply) node now reply (cleared core) s) tt
 input_by plan core parts now (InfoRead node text) p s is h =
-    take_of_part plan core parts (InfoRead node text) 1 (info_read plan node now (info_of text) (cleared core)) (omega arith) p is
-    (info_keeps plan node now (info_of text) (cleared core) s).sound (info_steps plan (InfoRead node text) node now (info_of text) (cleared core) s)
-    (info_frames plan node now (info_of text) (cleared core))
+    take_of_part plan core parts (InfoRead node text) 1 (info_read plan node now (info_of text) (is_announced text) (cleared core)) (omega arith) p is
+    (info_keeps plan node now (info_of text) (is_announced text) (cleared core) s).sound
+    (info_steps plan (InfoRead node text) node now (info_of text) (is_announced text) (cleared core) s)
+    (info_frames plan node now (info_of text) (is_announced text) (cleared core))
 input_by plan core parts now (HelloRead text) p s is h =
     take_of_part plan core parts (HelloRead text) 2 (hello_read plan now (hello_of text) (cleared core)) (omega arith) p is
     (hello_keeps plan now text (cleared core) s).sound (hello_steps plan now text (cleared core) s) (hello_frames plan now (hello_of text) (cleared core))

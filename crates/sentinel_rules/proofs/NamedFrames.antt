@@ -21,15 +21,16 @@ use Rattle.failover_states.specs.Table.{Turn}
 use Rattle.node_texts.specs.declared.faults.TextFault.{TextFault}
 use Rattle.node_texts.specs.Hellos.{hello_of}
 use Rattle.node_texts.specs.Infos.{info_of}
+use Rattle.node_texts.specs.Announced.{is_announced}
 use Rattle.sentinel_rules.specs.declared.frames.Frame.TheVariants.{PingTo, InfoTo, HelloTo, AskTo, FollowTo, NoteOf, HandOverTo}
 use Rattle.ballot_law.specs.declared.node_places.NodePlace.{NodePlace}
 use Rattle.sentinel_rules.specs.Plans.{Plan, roster_of, master_count, settings_at, node_name, node_named}
 use Rattle.sentinel_rules.specs.States.{is_master_role, Core, master_of, node_of, failover_of, card_place, is_failing_over, is_tilted, is_master_down, with_master, with_failover, with_card, is_planned}
 use Rattle.sentinel_rules.specs.Parts.{Part, quiet, puts, then_part, part_if, frame_if, frames_from}
-use Rattle.sentinel_rules.specs.Profiles.{is_asking}
 use Rattle.sentinel_rules.specs.Ticks.{is_peer_due, peer_frames, peers_part, Sending, sending_of, is_ping_due, is_info_due, is_hello_due, node_frames, nodes_part, turn_of, promote_frames, order_frames, row_part, after_start, start_turn, starts_now, start_part, is_ask_due, ask_candidate, ask_frames, ask_part, odown_part, failover_part, judging_part, master_part, with_reading, tick, planned_start, order_to, hands_over}
-use Rattle.sentinel_rules.specs.News.{at_same_address, at_new_address, card_taken, is_heeded, is_newer, raised_to, adopted, hello_heeded, hello_read, promotion, has_followed, reconfiguration, wrong_of, can_be_followed, is_role_overdue, is_address_overdue, correction, is_reconfiguring, judged, info_kept, info_of_node, info_read, closing_frames, with_frames}
+use Rattle.sentinel_rules.specs.News.{at_same_address, at_new_address, card_taken, is_heeded, is_newer, raised_to, adopted, hello_heeded, hello_read, promotion, has_followed, reconfiguration, wrong_of, can_be_followed, is_role_overdue, is_address_overdue, correction, is_reconfiguring, judged, info_kept, info_of_node, info_read, closing_frames, with_frames, announced_at, greeted}
 use Rattle.sentinel_rules.specs.Named.{HellosNameMasters, IsNamed}
+use Rattle.sentinel_rules.specs.Profiles.{is_asking}
 use Rattle.sentinel_rules.proofs.StepNews.{named_within}
 use Rattle.sentinel_rules.proofs.ShownOutputs.{AreNamed, named_append, named_one, named_each, named_if}
 
@@ -126,7 +127,8 @@ heeded_frames : (plan : Plan) (now : ℕ) (m : Option ℕ) (hello : Hello) (core
     AreNamed plan (hello_heeded plan now m hello core).frames
 heeded_frames plan now None hello core found = tt
 heeded_frames plan now (Some m) hello core found =
-    named_if plan (is_newer plan (raised_to hello.current core) m hello.card) (raised_to hello.current core) (adopted plan m now hello.card)
+    named_if plan (is_newer plan (raised_to hello.current (greeted plan now hello core)) m hello.card) (raised_to hello.current (greeted plan now hello core))
+    (adopted plan m now hello.card)
     (λ h. taken_frames plan m now hello.card _ (named_master (roster_of plan) hello.master m found).0)
 
 pub hello_frames : (plan : Plan) (now : ℕ) (read : Result Hello TextFault) (core : Core) → AreNamed plan (hello_read plan now read core).frames
@@ -177,9 +179,11 @@ of_node_frames plan now (Some at) info core within =
     named_if plan (not (is_tilted (info_kept at.master at.place now info core))) (info_kept at.master at.place now info core) (judged plan at.master at.place now info)
     (λ h. judged_frames plan at.master at.place now info (info_kept at.master at.place now info core) (within at refl))
 
-pub info_frames : (plan : Plan) (node : NodeName) (now : ℕ) (read : Result Info TextFault) (core : Core) → AreNamed plan (info_read plan node now read core).frames
-info_frames plan node now (Err fault) core = tt
-info_frames plan node now (Ok info) core = of_node_frames plan now (node_named plan node) info core (named_within plan node)
+pub info_frames : (plan : Plan) (node : NodeName) (now : ℕ) (read : Result Info TextFault) (announced : Bool) (core : Core) →
+    AreNamed plan (info_read plan node now read announced core).frames
+info_frames plan node now (Err fault) announced core = tt
+info_frames plan node now (Ok info) announced core =
+    of_node_frames plan now (node_named plan node) info (announced_at announced (node_named plan node) core) (named_within plan node)
 
 -- One input
 
@@ -188,7 +192,7 @@ hellos_name_masters plan now (Tick m random) core = tick_frames plan m random no
 hellos_name_masters plan now (Command sender command) core = tt
 hellos_name_masters plan now (Answered voter m addr down leader epoch) core = tt
 hellos_name_masters plan now (Pinged node reply) core = tt
-hellos_name_masters plan now (InfoRead node text) core = info_frames plan node now (info_of text) core
+hellos_name_masters plan now (InfoRead node text) core = info_frames plan node now (info_of text) (is_announced text) core
 hellos_name_masters plan now (HelloRead text) core = hello_frames plan now (hello_of text) core
 hellos_name_masters plan now (Disconnected node) core = tt
 hellos_name_masters plan now (Refused node) core = tt

@@ -37,9 +37,9 @@ use Rattle.sentinel_rules.specs.declared.frames.Frame.{Frame}
 use Rattle.sentinel_rules.specs.Plans.{Plan, roster_of, group_size, master_count, settings_at, nodes_of, node_name, node_named}
 use Rattle.sentinel_rules.specs.States.{is_master_role, Core, MasterState, NodeState, master_of, node_of, peer_of, failover_of, card_place, is_failing_over, is_tilted, with_master, with_node, with_failover, with_card, is_handed, is_planned}
 use Rattle.sentinel_rules.specs.Parts.{Part, quiet, puts, part_if, frame_if}
-use Rattle.sentinel_rules.specs.News.{hello_soon, moved, at_same_address, at_new_address, card_taken, is_heeded, is_newer, raised_to, adopted, hello_of_known, hello_heeded, hello_read, reported, vote_heard, answer_of, answered, node_pinged, peer_pinged, pinged_at, pinged, node_lost, peer_lost, lost_at, connection_lost, disconnected, with_info, promotion, has_followed, reconfiguration, Wrong, wrong_of, can_be_followed, is_role_overdue, is_address_overdue, anew, correction, is_reconfiguring, judged, info_kept, info_at_node, info_of_node, info_read, closing_frames, with_frames, refusal_at, refusal_heard}
+use Rattle.sentinel_rules.specs.News.{hello_soon, moved, at_same_address, at_new_address, card_taken, is_heeded, is_newer, raised_to, adopted, hello_of_known, hello_heeded, hello_read, reported, vote_heard, answer_of, answered, node_pinged, peer_pinged, pinged_at, pinged, node_lost, peer_lost, lost_at, connection_lost, disconnected, with_info, promotion, has_followed, reconfiguration, Wrong, wrong_of, can_be_followed, is_role_overdue, is_address_overdue, anew, correction, is_reconfiguring, judged, info_kept, info_at_node, info_of_node, info_read, closing_frames, with_frames, refusal_at, refusal_heard, peer_greeted, greeted_at, greeted, node_announced, announced_at}
 use Rattle.sentinel_rules.specs.Facts.{IsSound, IsAwaited, awaited}
-use Rattle.sentinel_rules.specs.Profiles.{is_redis}
+use Rattle.sentinel_rules.specs.Profiles.{is_redis, candidate_place}
 use Rattle.sentinel_rules.proofs.KeptParts.{kept_at, kept_with, kept_raised, other_entry}
 use Rattle.sentinel_rules.proofs.Framing.{sound_at, sound_master, sound_current, sound_alike, nodes_with, master_same}
 use Rattle.sentinel_rules.proofs.Turns.{IsSoundFailover, ended_sound}
@@ -153,10 +153,17 @@ known_keeps plan m now text hello core spelled s =
     t : IsSound plan high
     t = raised_sound plan hello.current core spelled.is_hello.current s
 
+pub greeted_at_sound : (plan : Plan) (now : ℕ) (at : Option ℕ) (core : Core) → IsSound plan core → IsSound plan (greeted_at now at core)
+greeted_at_sound plan now None core s = s
+greeted_at_sound plan now (Some place) core s =
+    sound_alike plan core (record core { peers = slice_set core.peers place (peer_greeted now (peer_of core place)) }) refl refl
+    (length-set core.peers place (peer_greeted now (peer_of core place))) s
+
 heeded_keeps : (plan : Plan) (now : ℕ) (m : Option ℕ) (text : List ℕ) (hello : Hello) (core : Core) → SpellsHello text hello → IsSound plan core →
     KeepsSound plan 1 (hello_heeded plan now m hello core)
 heeded_keeps plan now None text hello core spelled s = keeps_quiet plan 1 core s
-heeded_keeps plan now (Some m) text hello core spelled s = known_keeps plan m now text hello core spelled s
+heeded_keeps plan now (Some m) text hello core spelled s =
+    known_keeps plan m now text hello (greeted plan now hello core) spelled (greeted_at_sound plan now (candidate_place plan (Some hello.id)) core s)
 
 read_keeps : (plan : Plan) (now : ℕ) (text : List ℕ) (read : Result Hello TextFault) (core : Core) → hello_of text ≡ read → IsSound plan core →
     KeepsSound plan 1 (hello_read plan now read core)
@@ -372,6 +379,13 @@ of_node_keeps : (plan : Plan) (now : ℕ) (at : Option NodePlace) (info : Info) 
 of_node_keeps plan now None info core s = keeps_quiet plan 3 core s
 of_node_keeps plan now (Some at) info core s = at_node_keeps plan at.master at.place now info core s
 
-pub info_keeps : (plan : Plan) (node : NodeName) (now : ℕ) (read : Result Info TextFault) (core : Core) → IsSound plan core → KeepsSound plan 3 (info_read plan node now read core)
-info_keeps plan node now (Err fault) core s = keeps_quiet plan 3 core s
-info_keeps plan node now (Ok info) core s = of_node_keeps plan now (node_named plan node) info core s
+pub announced_at_sound : (plan : Plan) (announced : Bool) (at : Option NodePlace) (core : Core) → IsSound plan core → IsSound plan (announced_at announced at core)
+announced_at_sound plan announced None core s = s
+announced_at_sound plan announced (Some at) core s = node_sound plan core at.master at.place (node_announced announced (node_of core at.master at.place)) s
+
+pub info_keeps : (plan : Plan) (node : NodeName) (now : ℕ) (read : Result Info TextFault) (announced : Bool) (core : Core) → IsSound plan core →
+    KeepsSound plan 3 (info_read plan node now read announced core)
+info_keeps plan node now (Err fault) announced core s = keeps_quiet plan 3 core s
+info_keeps plan node now (Ok info) announced core s =
+    of_node_keeps plan now (node_named plan node) info (announced_at announced (node_named plan node) core)
+    (announced_at_sound plan announced (node_named plan node) core s)

@@ -28,6 +28,7 @@ use Rattle.sentinel_rules.specs.States.{Core, MasterState, NodeState, master_of,
 use Rattle.sentinel_rules.specs.Parts.{Part, quiet, puts, then_part, part_if, frame_if, changed_from, frames_from}
 use Rattle.sentinel_rules.specs.Profiles.{is_asking, election_ms, marked_at, marked, rest_of, rested_at, rested}
 use Rattle.sentinel_rules.specs.Votes.{book_of, with_book, mark_for}
+use Rattle.sentinel_rules.specs.Contacts.{since_after}
 use Rattle.sentinel_rules.specs.Ticks.{is_peer_due, peer_after, peer_frames, peers_part, Sending, sending_of, is_ping_due, is_info_due, is_hello_due, node_after, node_frames, nodes_part, campaign_epoch, known_of, turn_of, with_vote, with_win, promote_frames, order_frames, row_part, after_start, is_start_due, start_turn, starts_now, start_part, is_ask_due, ask_candidate, ask_frames, ask_part, odown_part, failover_part, judging_part, master_part, with_reading, tick, planned_start, with_plan, planned_if, hands_over}
 use Rattle.sentinel_rules.specs.Facts.{IsSoundPlan, IsSound, IsSoundMaster, IsAwaited, awaited}
 use Rattle.sentinel_rules.proofs.KeptParts.{kept_at, kept_with, kept_raised, other_entry, own_entry as own}
@@ -163,9 +164,14 @@ odown_keeps plan m now core s =
     keeps_quiet
     plan
     0
-    (with_master core m (record (master_of core m) { odown = is_odown_at plan core m now }))
-    (sound_master plan core m (record (master_of core m) { odown = is_odown_at plan core m now }) s
-    (λ lt. master_alike plan core.kept m (master_of core m) (record (master_of core m) { odown = is_odown_at plan core m now }) (s.each m lt) refl refl refl refl))
+    (with_master core m found)
+    (sound_master plan core m found s (λ lt. master_alike plan core.kept m (master_of core m) found (s.each m lt) refl refl refl refl))
+  where
+    found : MasterState
+    found = record (master_of core m) {
+      odown = is_odown_at plan core m now;
+      odown_since = since_after (is_odown_at plan core m now) now (master_of core m).odown_since;
+    }
 
 -- Votes
 

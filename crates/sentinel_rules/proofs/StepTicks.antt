@@ -27,6 +27,7 @@ use Rattle.sentinel_rules.specs.States.{Core, MasterState, master_of, failover_o
 use Rattle.sentinel_rules.specs.Parts.{Part, quiet, puts, then_part, part_if, changed_from, frames_from}
 use Rattle.sentinel_rules.specs.Profiles.{is_asking, election_ms, rest_of, rested}
 use Rattle.sentinel_rules.specs.Votes.{book_of, mark_for}
+use Rattle.sentinel_rules.specs.Contacts.{since_after}
 use Rattle.sentinel_rules.specs.Ticks.{peer_after, peers_part, sending_of, node_after, nodes_part, campaign_epoch, known_of, turn_of, with_vote, with_win, row_part, after_start, is_start_due, start_turn, starts_now, start_part, is_ask_due, ask_frames, ask_candidate, ask_part, odown_part, failover_part, judging_part, master_part, with_reading, tick, planned_start, with_plan, planned_if}
 use Rattle.sentinel_rules.specs.Facts.{IsSoundPlan, IsSound, IsAwaited}
 use Rattle.sentinel_rules.specs.Steps.{campaign_in, IsOpenOf, IsPartsOf}
@@ -447,7 +448,10 @@ nodes_steps plan event m now core lt =
 
 odown_steps : (plan : Plan) (event : Event) (m now : ℕ) (core : Core) → m < length core.masters → StepsTo plan event 0 core (odown_part plan m now core).core
 odown_steps plan event m now core lt =
-    let new : MasterState = record (master_of core m) { odown = is_odown_at plan core m now } in
+    let new : MasterState = record (master_of core m) {
+      odown = is_odown_at plan core m now;
+      odown_since = since_after (is_odown_at plan core m now) now (master_of core m).odown_since;
+    } in
     twin_steps plan event 0 m core (with_master core m new) lt (twin_master core m new lt refl)
 
 ask_steps : (plan : Plan) (event : Event) (m now : ℕ) (started : Bool) (core : Core) → m < length core.masters → StepsTo plan event 0 core (ask_part plan m now started core).core

@@ -19,11 +19,14 @@ use Rattle.failover_states.specs.declared.states.FailoverState.TheVariants.{Idle
 use Rattle.failover_states.specs.Calls.{epoch_of}
 use Rattle.failover_states.specs.Failovers.{Failover}
 use Rattle.failover_states.specs.Replicas.{untouched}
+use Rattle.sentinel_rules.specs.declared.contacts.Contact.{Contact}
+use Rattle.sentinel_rules.specs.Contacts.{new_contact}
 use Rattle.sentinel_rules.specs.declared.periods.TheConstants.{WISH_MS}
 use Rattle.sentinel_rules.specs.Plans.{Plan, roster_of, group_size, settings_at, node_place}
 
 -- of a data node: its watch, when its last valid reply to a PING came, its last INFO and when it came, when it was last sent a
--- PING, an INFO and a hello, since when it has been wrong: as a master, or with another master; and whether of a connection to it was last heard that it was lost
+-- PING, an INFO and a hello, since when it has been wrong: as a master, or with another master; and whether of a connection to it was last heard that it was lost. For those who ask:
+-- its connection, since when it has said that it has its role, and whether it may be told to clients
 pub record NodeState : Type 0 where
   pub watch : WatchState
   pub last_ping : Option ℕ
@@ -35,16 +38,23 @@ pub record NodeState : Type 0 where
   pub wrong_role : Option ℕ
   pub wrong_address : Option ℕ
   pub lost : Bool
+  pub contact : Contact
+  pub role_since : ℕ
+  pub announced : Bool
 
--- of a Sentinel: its watch, when it was last sent a PING, and whether of a connection to it was last heard that it was lost
+-- of a Sentinel: its watch, when it was last sent a PING, and whether of a connection to it was last heard that it was lost. For those who ask:
+-- its connection, and when its last hello came
 pub record PeerState : Type 0 where
   pub watch : WatchState
   pub ping_sent : Option ℕ
   pub lost : Bool
+  pub contact : Contact
+  pub greeted : ℕ
 
 -- of a master: the votes heard, by the voter's place; the failover; what the other Sentinels last said, by place; its nodes; when
 -- the other Sentinels were last asked; whether it was objectively down at its last tick; when a client last asked that it hand over to a replica, until the
--- campaign for that begins; the epoch of that campaign, and whether the master refused to hand over in it
+-- campaign for that begins; the epoch of that campaign, and whether the master refused to hand over in it. For those who ask
+-- since when it has been objectively down
 pub record MasterState : Type 0 where
   pub heard : List (Option HeardVote)
   pub failover : Failover
@@ -52,6 +62,7 @@ pub record MasterState : Type 0 where
   pub nodes : List NodeState
   pub ask_sent : Option ℕ
   pub odown : Bool
+  pub odown_since : Option ℕ
   pub wish : Option ℕ
   pub planned : Option ℕ
   pub refused : Bool
@@ -80,10 +91,13 @@ new_node now =
       wrong_role = None;
       wrong_address = None;
       lost = false;
+      contact = new_contact now;
+      role_since = now;
+      announced = true;
     }
 
 abbrev pub new_peer : (now : ℕ) → PeerState
-new_peer now = record { watch = opened_at now; ping_sent = None; lost = false }
+new_peer now = record { watch = opened_at now; ping_sent = None; lost = false; contact = new_contact now; greeted = now }
 
 abbrev pub no_failover : (nodes : ℕ) → Failover
 no_failover nodes = record { state = Idle; entered = 0; last_start = None; replicas = replicate nodes untouched; moment = 0 }
@@ -97,6 +111,7 @@ new_master sentinels nodes now =
       nodes = replicate nodes (new_node now);
       ask_sent = None;
       odown = false;
+      odown_since = None;
       wish = None;
       planned = None;
       refused = false;
@@ -218,8 +233,11 @@ abbrev pub is_master_down : Plan → Core → (m now : ℕ) → Bool
 is_master_down plan core m now = is_node_down plan core m now (card_place plan core m)
 
 -- a Sentinel goes by the first master's setting
+abbrev pub peer_down_since : Plan → Core → (now place : ℕ) → Option ℕ
+peer_down_since plan core now place = down_since_of (peer_of core place).watch now (settings_at plan 0).after_ms false
+
 abbrev pub is_peer_down : Plan → Core → (now place : ℕ) → Bool
-is_peer_down plan core now place = is_some (down_since_of (peer_of core place).watch now (settings_at plan 0).after_ms false)
+is_peer_down plan core now place = is_some (peer_down_since plan core now place)
 
 abbrev pub is_odown_at : Plan → Core → (m now : ℕ) → Bool
 is_odown_at plan core m now =

@@ -7,6 +7,7 @@ use Rattle.ballot_law.specs.declared.messages.Output.{Output}
 use Rattle.ballot_law.specs.Clocks.{clock}
 use Rattle.node_texts.specs.Hellos.{hello_of}
 use Rattle.node_texts.specs.Infos.{info_of}
+use Rattle.node_texts.specs.Announced.{is_announced}
 use Rattle.sentinel_rules.specs.Plans.{Plan}
 use Rattle.sentinel_rules.specs.States.{Core}
 use Rattle.sentinel_rules.specs.Parts.{Part, quiet, output_of, send}
@@ -20,7 +21,7 @@ part_of plan now (Tick m random) core = tick plan m random now core
 part_of plan now (Commanded sender command) core = quiet core
 part_of plan now (AnswerCame voter m addr down leader epoch) core = quiet (answered plan voter m now addr down leader epoch core)
 part_of plan now (Pinged node reply) core = quiet (pinged plan node now reply core)
-part_of plan now (InfoRead node text) core = info_read plan node now (info_of text) core
+part_of plan now (InfoRead node text) core = info_read plan node now (info_of text) (is_announced text) core
 part_of plan now (HelloRead text) core = hello_read plan now (hello_of text) core
 part_of plan now (Disconnected node) core = quiet (disconnected plan node core)
 part_of plan now (Refused node) core = quiet (refusal_heard plan node core)

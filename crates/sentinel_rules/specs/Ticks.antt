@@ -23,6 +23,7 @@ use Rattle.sentinel_rules.specs.declared.assumed.TheConstants.{ASSUMED_INFO}
 use Rattle.sentinel_rules.specs.declared.periods.TheConstants.{PING_MS, INFO_MS, BUSY_INFO_MS, HEIR_INFO_MS, HELLO_MS, ASK_MS}
 use Rattle.sentinel_rules.specs.declared.frames.Frame.{Frame}
 use Rattle.sentinel_rules.specs.declared.frames.Frame.TheVariants.{PingTo, InfoTo, HelloTo, AskTo, PromoteTo, HandOverTo, FollowTo}
+use Rattle.sentinel_rules.specs.Contacts.{contact_asked, since_after}
 use Rattle.sentinel_rules.specs.Plans.{Plan, roster_of, me, master_count, settings_at, nodes_of, addr_at, node_name}
 use Rattle.sentinel_rules.specs.States.{Core, NodeState, PeerState, master_of, node_of, failover_of, with_master, with_failover, with_current, card_place, is_failing_over, is_tilted, is_wished, is_planned, is_handed, is_node_down, is_master_down, is_odown_at}
 use Rattle.sentinel_rules.specs.Parts.{Part, quiet, puts, then_part, part_if, frame_if, changed_from, frames_from}
@@ -49,7 +50,11 @@ abbrev pub is_peer_due : Plan → (now place : ℕ) → PeerState → Bool
 is_peer_due plan now place peer = not (place == plan.place) && is_due peer.ping_sent now (ping_period plan 0)
 
 abbrev pub peer_after : Plan → (now place : ℕ) → PeerState → PeerState
-peer_after plan now place peer = record peer { ping_sent = sent_at (is_peer_due plan now place peer) now peer.ping_sent }
+peer_after plan now place peer =
+    record peer {
+      ping_sent = sent_at (is_peer_due plan now place peer) now peer.ping_sent;
+      contact = contact_asked (is_peer_due plan now place peer) now peer.contact;
+    }
 
 abbrev pub peer_frames : Plan → (now place : ℕ) → PeerState → List Frame
 peer_frames plan now place peer = frame_if (is_peer_due plan now place peer) (PingTo (SentinelAt place))
@@ -111,6 +116,7 @@ node_after s k node =
       ping_sent = sent_at (is_ping_due s node) s.now node.ping_sent;
       info_sent = sent_at (is_info_due s k node) s.now node.info_sent;
       hello_sent = sent_at (is_hello_due s node) s.now node.hello_sent;
+      contact = contact_asked (is_ping_due s node) s.now node.contact;
     }
 
 abbrev pub node_frames : Plan → (m : ℕ) → Sending → (k : ℕ) → NodeState → List Frame
@@ -307,7 +313,12 @@ ask_part plan m now started core =
 -- The tick
 
 abbrev pub odown_part : Plan → (m now : ℕ) → Core → Part
-odown_part plan m now core = quiet (with_master core m (record (master_of core m) { odown = is_odown_at plan core m now }))
+odown_part plan m now core =
+    quiet
+    (with_master core m (record (master_of core m) {
+      odown = is_odown_at plan core m now;
+      odown_since = since_after (is_odown_at plan core m now) now (master_of core m).odown_since;
+    }))
 
 -- a start where one is due, a row where a failover runs, the questions
 abbrev pub failover_part : Plan → (m now : ℕ) → Core → Part

@@ -18,6 +18,7 @@ use Rattle.ballot_law.specs.declared.messages.Output.TheVariants.{Send, Tell}
 use Rattle.ballot_law.specs.declared.replies.Hello.{Hello}
 use Rattle.ballot_law.specs.declared.replies.PingReply.TheVariants.{Pong}
 use Rattle.ballot_law.specs.declared.rosters.Member.{Member}
+use Rattle.ballot_law.specs.declared.replies.DataRole.TheVariants.{Master, Replica}
 use Rattle.ballot_law.specs.Hellos.{hello_text}
 use Rattle.ballot_law.specs.Rosters.{need}
 use Rattle.ballot_law.specs.VotesHeard.{own_votes}
@@ -26,6 +27,9 @@ use Rattle.failover_states.specs.declared.states.FailoverState.{FailoverState}
 use Rattle.failover_states.specs.declared.states.FailoverState.TheVariants.{Idle, WaitStart, SelectReplica, SendPromotion, WaitPromotion, ReconfReplicas, UpdateConfig}
 use Rattle.node_texts.specs.declared.faults.TextFault.TheVariants.{FieldCount, EpochTooLarge}
 use Rattle.node_texts.specs.Hellos.{hello_of}
+use Rattle.port_answers.specs.declared.known_rows.FailoverStage.TheVariants.{WaitStart as StageWaitStart}
+use Rattle.port_answers.specs.declared.rows.ReplicaRow.{ReplicaRow}
+use Rattle.port_answers.specs.declared.rows.SentinelRow.{SentinelRow}
 use Rattle.sentinel_conf.specs.declared.settings.Settings.{Settings}
 use Rattle.sentinel_conf.specs.declared.settings.TheConstants.{DEFAULT_SETTINGS}
 use Rattle.sentinel_rules.specs.declared.profiles.Profile.TheVariants.{Strict, Redis}
@@ -690,6 +694,37 @@ AReplicaOfAnotherFollows =
 
 -- What clients are shown
 
+-- a replica at this port, of which PONG and INFO came 1,600 ms ago; the first PING since was sent 500 ms later
+abbrev pub replica_shown : (port offset : ℕ) → ReplicaRow
+replica_shown port offset =
+    record {
+      addr = local port;
+      down = false;
+      disconnected = false;
+      priority = 100;
+      offset = offset;
+      after_ms = 5000;
+      contact = record { ping_ms = 1100; valid_ms = 1600; reply_ms = 1600; down_ms = 0 };
+      said = record { id = None; info_ms = 1600; role = Replica; role_ms = 1600 };
+      link = record { down_ms = 0; up = true; master = Some (local 6379); announced = true };
+    }
+
+-- a Sentinel that never answered, and for whom it voted
+abbrev pub sentinel_shown : RunId → (port : ℕ) → Option RunId → (epoch : ℕ) → SentinelRow
+sentinel_shown id port leader epoch =
+    record {
+      id = id;
+      addr = local port;
+      down = true;
+      disconnected = false;
+      masters = 1;
+      after_ms = 5000;
+      hello_ms = 7100;
+      leader = leader;
+      leader_epoch = epoch;
+      contact = record { ping_ms = 7100; valid_ms = 7100; reply_ms = 7100; down_ms = 2100 };
+    }
+
 -- during the failover: the Sentinels that never answered a PING are down
 pub record ShownInAFailover : Type 0 where
   pub master :
@@ -708,15 +743,15 @@ pub record ShownInAFailover : Type 0 where
         timeout = 180000;
         parallel_syncs = 1;
         epoch = 0;
+        odown_ms = 100;
+        stage = StageWaitStart;
+        contact = record { ping_ms = 7100; valid_ms = 7100; reply_ms = 7100; down_ms = 2100 };
+        said = record { id = None; info_ms = 0; role = Master; role_ms = 7100 };
       }
   pub replicas :
       replica_rows failover_plan (failing_at 7100) 7100 0
-      ≡ record { addr = local 6380; down = false; disconnected = false; priority = 100; offset = 100 }
-      ∷ record { addr = local 6381; down = false; disconnected = false; priority = 100; offset = 200 }
-      ∷ []
+      ≡ replica_shown 6380 100 ∷ replica_shown 6381 200 ∷ []
   pub sentinels :
-      sentinel_rows failover_plan (failing_at 7100) 7100
-      ≡ record { id = id_b; addr = local 26380; down = true; disconnected = false }
-      ∷ record { id = id_c; addr = local 26381; down = true; disconnected = false }
-      ∷ []
+      sentinel_rows failover_plan (failing_at 7100) 7100 0
+      ≡ sentinel_shown id_b 26380 (Some id_a) 1 ∷ sentinel_shown id_c 26381 None 0 ∷ []
   pub usable : usable_count failover_plan (failing_at 7100) 7100 ≡ 1

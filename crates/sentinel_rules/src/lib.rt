@@ -10,6 +10,7 @@
 #![tactic(auto)]
 
 mod assumed;
+mod contacts;
 mod frames;
 mod laws;
 mod periods;
@@ -17,6 +18,7 @@ mod profiles;
 mod worked;
 
 pub use assumed::ASSUMED_INFO;
+pub use contacts::Contact;
 pub use frames::{FRAMES_MAX, Frame};
 pub use laws::{
     law_hellos_name_masters, law_ignored_inputs_change_nothing, law_inputs_are_steps,

@@ -4,7 +4,7 @@ ghost use Rattle.std.specs.Prelude.{◌≡◌, ◌<◌, ◌≤◌, length, map, 
 ghost use Rattle.ballot_law.specs.declared.rosters.TheConstants.{MASTERS_MAX, NODES_MAX, SENTINELS_MAX};
 ghost use Rattle.ballot_law.specs.Ballots.{card_of, kept_of, voted_of};
 ghost use Rattle.ballot_law.specs.Clocks.{clock};
-ghost use Rattle.sentinel_rules.specs.States.{opened, is_tilted, card_place, node_down_since, is_node_down, is_master_down, is_peer_down, is_odown_at, is_failing_over, is_idle, new_master, with_current, with_card, with_node, node_of, no_node, peer_of};
+ghost use Rattle.sentinel_rules.specs.States.{opened, is_tilted, card_place, node_down_since, is_node_down, is_master_down, peer_down_since, is_peer_down, is_odown_at, is_failing_over, is_idle, new_master, with_current, with_card, with_node, node_of, no_node, peer_of};
 ghost use Rattle.sentinel_rules.specs.Answers.{master_with_card};
 ghost use Rattle.sentinel_rules.specs.Ticks.{with_reading};
 ghost use Rattle.sentinel_rules.specs.Plans.{roster_of, group_size, master_count};
@@ -239,13 +239,19 @@ impl Core {
         self.is_node_down(plan, m, now, card_at, card_at)
     }
 
+    /// Since when the Sentinel at a place has been subjectively down, by the first master's `down-after-milliseconds`.
+    pub fn peer_down_since(&self, plan: &Plan, now: u64, place: usize) -> Option<u64>
+        ensures { result ≡ peer_down_since plan.now self.now (clock now) place }
+    {
+        let after_ms = plan.settings(0).after_ms;
+        self.peer(place).watch.sdown_since(now, after_ms, false)
+    }
+
     /// Whether the Sentinel at a place is subjectively down, by the first master's `down-after-milliseconds`.
     pub fn is_peer_down(&self, plan: &Plan, now: u64, place: usize) -> bool
         ensures { result ≡ is_peer_down plan.now self.now (clock now) place }
     {
-        self.peer(place)
-            .watch
-            .is_sdown(now, plan.settings(0).after_ms, false)
+        self.peer_down_since(plan, now, place).is_some()
     }
 
     /// Whether a master is objectively down: this Sentinel, as `own` says, and enough of the others found it down.
@@ -318,6 +324,16 @@ impl Core {
         match self.kept_node(m, k) {
             Some(node) => node.lost,
             None => false,
+        }
+    }
+
+    /// Whether a data node may be told to clients.
+    pub fn is_announced(&self, m: u16, k: usize) -> bool
+        ensures { result ≡ (node_of self.now m k).announced }
+    {
+        match self.kept_node(m, k) {
+            Some(node) => node.announced,
+            None => true,
         }
     }
 

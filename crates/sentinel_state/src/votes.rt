@@ -3,15 +3,17 @@
 ghost use Rattle.std.specs.Prelude.{◌≡◌};
 ghost use Rattle.ballot_law.specs.Ballots.{kept_of};
 ghost use Rattle.ballot_law.specs.Clocks.{clock};
+ghost use Rattle.ballot_law.specs.VotesHeard.{kept_at};
 ghost use Rattle.sentinel_rules.specs.News.{vote_heard};
 ghost use Rattle.sentinel_rules.specs.Profiles.{marked_at};
+ghost use Rattle.sentinel_rules.specs.States.{master_of};
 ghost use Rattle.sentinel_rules.specs.Ticks.{with_vote, pick_of, count_of};
 ghost use Rattle.sentinel_rules.specs.Votes.{book_of, with_book, mark_for, requested};
 
 use crate::cores::Core;
 use crate::nodes::Plan;
 use crate::pauses::election_ms;
-use ballot_law::{RunId, clock_of};
+use ballot_law::{HeardVote, RunId, clock_of};
 use failover_states::SPREAD_MS;
 use sentinel_rules::Profile;
 use vote_book::VoteBook;
@@ -98,6 +100,16 @@ impl Core {
             && (voter as usize) < master.heard.voters()
         {
             master.heard.hear(voter, leader, epoch);
+        }
+    }
+
+    /// The last vote for a master that was heard of the Sentinel at a place.
+    pub fn heard_vote(&self, m: u16, voter: u16) -> Option<HeardVote>
+        ensures { result ≡ kept_at (master_of self.now m).heard voter }
+    {
+        match self.masters.get(m as usize) {
+            Some(master) => master.heard.vote_of(voter),
+            None => None,
         }
     }
 

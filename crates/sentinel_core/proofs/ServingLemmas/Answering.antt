@@ -18,7 +18,7 @@ use Rattle.ballot_law.specs.declared.messages.Output.TheVariants.{Send, Tell}
 use Rattle.ballot_law.specs.Ballots.{no_kept, voted_of}
 use Rattle.ballot_law.specs.Clocks.{clock}
 use Rattle.ballot_law.specs.Rosters.{MasterPlan}
-use Rattle.port_answers.specs.Answers.{command_fault, master_frame, replicas_frame, sentinels_frame, ok_line, in_progress, in_tilt, no_good_replica}
+use Rattle.port_answers.specs.Answers.{command_fault, ok_line, in_progress, in_tilt, no_good_replica}
 use Rattle.bounded_list.specs.BoundedLists.{bounded as within_limit}
 use Rattle.port_answers.specs.Room.{bounded}
 use Rattle.resp2.specs.declared.command.CommandFault.{CommandFault}
@@ -30,6 +30,7 @@ use Rattle.sentinel_conf.specs.Rewritten.{IsKeptMaster, IsKeptPart}
 use Rattle.sentinel_rules.proofs.ShownEpochs.{voted_within}
 use Rattle.sentinel_rules.specs.Answers.{commanded, asked_of, master_with_card, named, about, reply, master_row, replica_rows, sentinel_rows, quorum_frame, Answered, unchanged, has_heir, wished, asked_to_switch}
 use Rattle.sentinel_rules.specs.Plans.{Plan}
+use Rattle.sentinel_rules.specs.Rows.{master_frame_by, replicas_frame_by, sentinels_frame_by}
 use Rattle.sentinel_rules.specs.States.{Core, is_failing_over, is_tilted, is_wished}
 use Rattle.sentinel_rules.specs.Takes.{next, cleared}
 use Rattle.node_texts.specs.Messages.MessageTexts.{IsWritable}
@@ -88,9 +89,9 @@ command_writable plan now (IsMasterDownByAddr addr epoch candidate) core h =
 command_writable plan now (GetMasterAddrByName name) core h = tt
 command_writable plan now Masters core h = tt
 command_writable plan now (Master name) core h =
-    about_writable core (named plan name) (λ m. m ∷ []) (λ m. master_frame (master_row plan core now m))
-command_writable plan now (Replicas name) core h = about_writable core (named plan name) (λ m. []) (λ m. replicas_frame (replica_rows plan core now m))
-command_writable plan now (Sentinels name) core h = about_writable core (named plan name) (λ m. []) (λ m. sentinels_frame (sentinel_rows plan core now))
+    about_writable core (named plan name) (λ m. m ∷ []) (λ m. master_frame_by plan.profile (master_row plan core now m))
+command_writable plan now (Replicas name) core h = about_writable core (named plan name) (λ m. []) (λ m. replicas_frame_by plan.profile (replica_rows plan core now m))
+command_writable plan now (Sentinels name) core h = about_writable core (named plan name) (λ m. []) (λ m. sentinels_frame_by plan.profile (sentinel_rows plan core now m))
 command_writable plan now MyId core h = tt
 command_writable plan now (CkQuorum name) core h = about_writable core (named plan name) (λ m. []) (λ m. quorum_frame plan core now m)
 command_writable plan now (Failover name) core h =

@@ -5,15 +5,17 @@ ghost use Rattle.ballot_law.specs.declared.messages.Body.TheVariants.{PingText, 
 ghost use Rattle.ballot_law.specs.declared.messages.TheConstants.{ANSWER_MAX, SHOWN_MAX};
 ghost use Rattle.ballot_law.specs.Clocks.{clock};
 ghost use Rattle.resp2.specs.Framing.Frame.{spelling};
-ghost use Rattle.resp2.specs.declared.command.CommandFault.TheVariants.{UnknownCommand};
-ghost use Rattle.port_answers.specs.Answers.{masters_frame, no_such_master, ok_line, in_progress, in_tilt, no_good_replica, id_frame, subscribed, command_fault};
+ghost use Rattle.port_answers.specs.Answers.{no_such_master, ok_line, in_progress, in_tilt, no_good_replica, id_frame, subscribed, command_fault};
 ghost use Rattle.sentinel_rules.specs.Answers.{master_with_card, asked_of, master_row, all_masters, reply, named, about, address_of, switch_at, asked_to_switch, commanded};
 ghost use Rattle.sentinel_rules.specs.Plans.{roster_of, me, master_count};
+ghost use Rattle.sentinel_rules.specs.Rows.{masters_frame_by};
 ghost use Rattle.sentinel_core.specs.Inputs.Plain.{is_plain, is_switch, answer_about};
+ghost use Rattle.resp2.specs.declared.command.CommandFault.TheVariants.{UnknownCommand};
 
 use crate::inputs::facts::has_heir;
 use crate::inputs::rows::{
-    add_masters, add_quorum, add_replicas, add_sentinels, master_row, shown_card, shown_masters,
+    add_master, add_masters, add_quorum, add_replicas, add_sentinels, master_row, shown_card,
+    shown_masters,
 };
 use ballot_law::{Addr, Body, Command, Name, RunId, ShortText, Shown, ShownList};
 use port_answers::AnswerText;
@@ -203,7 +205,7 @@ fn answer_masters(plan: &Plan, core: &Core, now: u64, text: AnswerText, shown: V
     requires text { text ≡ [] }
     requires room { SHOWN_MAX ≤ vec_capacity shown }
     requires list { shown.items ≡ [] }
-    ensures { result ≡ reply core.now (all_masters plan.now) (masters_frame (map (master_row plan.now core.now (clock now)) (all_masters plan.now))) }
+    ensures { result ≡ reply core.now (all_masters plan.now) (masters_frame_by plan.now.profile (map (master_row plan.now core.now (clock now)) (all_masters plan.now))) }
 {
     let mut text = text;
     add_masters(plan, core, now, &mut text);
@@ -235,7 +237,8 @@ fn answer_about(
     let mut shown = shown;
     match asked {
         Asked::Whole => {
-            text.add_master(&master_row(plan, core, now, m));
+            let row = master_row(plan, core, now, m);
+            add_master(plan.profile(), &row, &mut text);
             shown.push_reserved(shown_card(core, m));
             reply(text, shown)
         }
@@ -244,7 +247,7 @@ fn answer_about(
             reply(text, shown)
         }
         Asked::Sentinels => {
-            add_sentinels(plan, core, now, &mut text);
+            add_sentinels(plan, core, now, m, &mut text);
             reply(text, shown)
         }
         Asked::Quorum => {

@@ -19,7 +19,7 @@ use sentinel_state::{Core, Plan, State};
 use std::marker::Model;
 
 /// For how long something has been down, in milliseconds.
-fn down_for(since: Option<u64>, now: u64) -> u64
+pub(crate) fn down_for(since: Option<u64>, now: u64) -> u64
     ensures { result ≡ down_for since now }
 {
     match since {

@@ -1,17 +1,19 @@
 //! INFO of data nodes: news for a failover, or a node that is wrong.
 
-ghost use Rattle.std.specs.Prelude.{◌≡◌, ◌≤◌};
+ghost use Rattle.std.specs.Prelude.{◌≡◌, ◌≤◌, Some};
 ghost use Rattle.ballot_law.specs.declared.rosters.TheConstants.{NODES_MAX};
 ghost use Rattle.ballot_law.specs.Clocks.{clock};
-ghost use Rattle.sentinel_rules.specs.News.{closing_frames, promotion, follows, follows_another, has_followed, reconfiguration, is_reconfiguring, wrong_since, is_overdue, can_be_followed, anew, correction, judged, info_kept, info_at_node, info_read};
+ghost use Rattle.node_texts.specs.Announced.{is_announced};
+ghost use Rattle.node_texts.specs.Infos.{info_of};
+ghost use Rattle.sentinel_rules.specs.News.{closing_frames, promotion, follows, follows_another, has_followed, reconfiguration, is_reconfiguring, wrong_since, is_overdue, can_be_followed, anew, correction, judged, info_kept, info_at_node, info_read, announced_at};
 ghost use Rattle.sentinel_rules.specs.States.{failover_of, is_master_role, says_master};
 ghost use Rattle.sentinel_state.specs.Nodes.Room.{added};
 ghost use Rattle.sentinel_state.specs.Parts.{with_part};
 
 use crate::inputs::cards::take_card;
-use ballot_law::{Addr, Card, DataRole, Info, NodeName, clock_of};
+use ballot_law::{Addr, Card, DataRole, Info, NodeName, NodePlace, clock_of};
 use failover_states::FailoverState;
-use node_texts::TextFault;
+use node_texts::{is_announced, read_info};
 use sentinel_rules::{Frame, WRONG_ROLE_MS};
 use sentinel_state::{Core, State};
 
@@ -210,14 +212,23 @@ fn hear_info(state: &mut State, m: u16, k: u16, now: u64, info: &Info)
     }
 }
 
-/// Takes the INFO of a data node, as it was read. One that can't be read, or that isn't of a data node of the roster,
-/// changes nothing.
-pub fn take_info(state: &mut State, node: NodeName, now: u64, info: Result<Info, TextFault>)
-    ensures { state.new ≡ with_part state.old (info_read state.old.plan node (clock now) info state.old.core) }
+/// Whether a node may be told to clients is kept.
+fn announce(core: &mut Core, at: NodePlace, announced: bool)
+    ensures { core.new ≡ announced_at announced (Some at) core.old }
 {
-    if let Ok(info) = info
+    let mut node = core.node(at.master, at.place as usize);
+    node.announce(announced);
+    core.set_node(at.master, at.place as usize, node);
+}
+
+/// Takes the INFO of a data node. One that can't be read, or that isn't of a data node of the roster, changes nothing.
+pub fn take_info(state: &mut State, node: NodeName, now: u64, text: &[u8])
+    ensures { state.new ≡ with_part state.old (info_read state.old.plan node (clock now) (info_of text.now) (is_announced text.now) state.old.core) }
+{
+    if let Ok(info) = read_info(text)
         && let Some(at) = state.plan.node_named(node)
     {
+        announce(&mut state.core, at, is_announced(text));
         hear_info(state, at.master, at.place, now, &info);
     }
 }

@@ -57,7 +57,7 @@ fn find_odown(state: &mut State, m: u16, now: u64, down: bool)
     ensures { state.new ≡ with_part state.old (odown_part state.old.plan m (clock now) state.old.core) }
 {
     let odown = state.core.is_odown(&state.plan, m, now, down);
-    state.core.set_odown(m, odown);
+    state.core.set_odown(m, now, odown);
 }
 
 /// A start where one is due, a row where a failover runs, and the questions to the other Sentinels.

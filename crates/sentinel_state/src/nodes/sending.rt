@@ -8,6 +8,7 @@ ghost use Rattle.sentinel_rules.specs.Parts.{changed_from, frames_from};
 ghost use Rattle.sentinel_rules.specs.Ticks.{is_due, sent_at, ping_period, is_peer_due, peer_after, peer_frames, had_link_down, is_at, is_ping_due, is_info_due, is_hello_due, node_after, node_frames};
 ghost use Rattle.sentinel_state.specs.Nodes.Room.{added};
 
+use crate::nodes::contacts::wait;
 use crate::nodes::frame_list::FrameList;
 use crate::nodes::node::Node;
 use crate::nodes::peers::Peer;
@@ -57,6 +58,7 @@ impl Peer {
         let due = self.is_ping_due(plan, now, place);
         frames.push_if(due, Frame::PingTo(NodeName::SentinelAt(place as u16)));
         self.ping_sent = sent_at(due, now, self.ping_sent);
+        wait(&mut self.contact, due, now);
     }
 }
 
@@ -190,6 +192,7 @@ impl Node {
             },
         );
         self.ping_sent = sent_at(ping, sending.now, self.ping_sent);
+        wait(&mut self.contact, ping, sending.now);
         self.info_sent = sent_at(info, sending.now, self.info_sent);
         self.hello_sent = sent_at(hello, sending.now, self.hello_sent);
     }
