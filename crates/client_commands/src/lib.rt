@@ -6,8 +6,8 @@
 //! call unknown, or refuse for its number of words, has exactly one answer, by the table in docs/CLIENTS.md. No
 //! Sentinel is known here, so nothing of one is changed; what INFO says comes from the Sentinel's own answer to
 //! SENTINEL MASTERS and from the figures of the port. These are handed over as `PortFacts` with the port's clients, of
-//! which CLIENT LIST tells, and some of which CLIENT KILL names to be closed. A `CommandReader` reads the values of a client, in whose
-//! stream a command may come as a line in place of an array.
+//! which CLIENT LIST tells, and some of which CLIENT KILL names to be closed. A `CommandReader` reads the values of a
+//! client, in whose stream a command may come as a line in place of an array.
 #![tactic(auto)]
 
 mod choosing;

@@ -129,7 +129,8 @@ impl TickSchedule {
         self.ticked = now;
     }
 
-    /// A switch is under way that a client asked for: the next ticks are due soon after those that began at this reading.
+    /// A switch is under way that a client asked for: the next ticks are due soon after those that began at this
+    /// reading.
     pub fn hurry(&mut self, now: u64)
         ensures soon { now + HURRY_MS < 2 ^ 64 → self.new.tick_due ≡ min self.old.tick_due (now + HURRY_MS) }
         ensures turned { (self.new.turned ≡ self.old.turned) × (self.new.ticked ≡ self.old.ticked) }

@@ -47,8 +47,8 @@ fn add_report(alloc: Global, text: &mut OutText, report: &Report) -> Result<(), 
     Ok(())
 }
 
-/// Plays the scenario of Sentinels of this profile in a world that has begun, line by line, and gives its lines, each with what it caused as
-/// comments after it. All that is run so is one run from the start.
+/// Plays the scenario of Sentinels of this profile in a world that has begun, line by line, and gives its lines, each
+/// with what it caused as comments after it. All that is run so is one run from the start.
 pub(crate) fn trace(
     alloc: Global,
     world: &mut FaultWorld,

@@ -34,8 +34,8 @@ pub const HOLD_MS: u64 = 11_000;
 /// How long ago the last reply to a PING came, at least, of a choice that counts as gone where its connection was lost.
 pub const QUIET_MS: u64 = 1_000;
 
-/// For how long a master has said that it is a replica, at least, where that is taken for a switch that was made at the nodes: a hello of the other
-/// Sentinels' failover has come by then.
+/// For how long a master has said that it is a replica, at least, where that is taken for a switch that was made at the
+/// nodes: a hello of the other Sentinels' failover has come by then.
 pub const SWITCHED_MS: u64 = 2_000;
 
 /// For how long a switch that was asked for waits for the tick at which its campaign begins; after that it lapses.

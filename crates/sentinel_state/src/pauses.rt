@@ -162,8 +162,8 @@ impl Core {
         }
     }
 
-    /// How long a failover waits for a choice: not for long where the master was told to hand over, and not at all where
-    /// it refused.
+    /// How long a failover waits for a choice: not for long where the master was told to hand over, and not at all
+    /// where it refused.
     fn handed_ms(&self, m: u16, timeout: u64) -> u64
         ensures { result ≡ handed_ms self.now m timeout }
     {

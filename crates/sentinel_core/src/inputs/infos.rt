@@ -105,7 +105,8 @@ fn keep_info(core: &mut Core, m: u16, k: u16, now: u64, info: &Info)
     core.set_node(m, k as usize, node);
 }
 
-/// After a switch that a client asked for has the clients of both nodes sent away, so that they ask for the master anew.
+/// After a switch that a client asked for has the clients of both nodes sent away, so that they ask for the master
+/// anew.
 fn close_clients(state: &mut State, m: u16, heir: usize, old: usize, planned: bool)
     requires { (heir ≤ NODES_MAX) × (old ≤ NODES_MAX) }
     ensures { state.new ≡ record state.old {
