@@ -237,7 +237,7 @@ fn run_ready<R, S: ConfStore + Drop + Send>(
     ready: ReadyFile<'_>,
 ) -> Result<(), Unwatched>
 where
-    R: Threads + Wait + Net + Clock + Log + Sync,
+    R: Threads + Wait + Net + Clock + Files + Log + Sync,
 {
     if let Err(status) = ready.open(rt, noting) {
         return Err(Unwatched::Refused(status));
