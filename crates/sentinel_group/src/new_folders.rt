@@ -41,6 +41,12 @@ fn write_files(rt: HostRuntime, folder: &str, files: &[NewFile<'_>]) -> io::Resu
     opened.sync_all()
 }
 
+/// Writes the files into the folder beside, which then gets the name of the folder.
+fn fill(rt: HostRuntime, folder: &str, beside: &str, files: &[NewFile<'_>]) -> io::Result<()> {
+    write_files(rt, beside, files)?;
+    fs::rename(&rt, beside, folder)
+}
+
 /// Writes the files into a folder that isn't there, or is empty. They are written into one beside it, `<folder>.new`,
 /// which then gets its name: so a kill leaves the folder as it was or with all files, and so does an error.
 pub(crate) fn write_folder(rt: HostRuntime, folder: &str, files: &[NewFile<'_>]) -> io::Result<()> {
@@ -52,7 +58,7 @@ pub(crate) fn write_folder(rt: HostRuntime, folder: &str, files: &[NewFile<'_>])
     let mut how = DirBuilder::new();
     how.mode(OWNER_ALONE);
     how.create(&rt, beside)?;
-    let written = write_files(rt, beside, files).and_then(|()| fs::rename(&rt, beside, folder));
+    let written = fill(rt, folder, beside, files);
     if written.is_err() {
         let _ = fs::remove_dir_all(&rt, beside);
     }

@@ -135,16 +135,18 @@ fn password_of(rt: HostRuntime, words: &ArgMatches) -> Result<Vec<u8>, ExitCode>
 /// How many Sentinels have to find the master down, as the words say: more than half of them where they don't.
 fn quorum_of(rt: HostRuntime, words: &ArgMatches, sentinels: usize) -> Result<u32, ExitCode> {
     let quorum = match words.get_one::<u32>("quorum") {
-        Some(quorum) => quorum as usize,
-        None => (sentinels / 2).saturating_add(1),
+        Some(quorum) => quorum,
+        None => u32::try_from(sentinels / 2)
+            .unwrap_or(u32::MAX)
+            .saturating_add(1),
     };
-    if quorum == 0 || quorum > sentinels {
+    if quorum == 0 || quorum as usize > sentinels {
         let _ = eprintln!(rt;
             "sentinel_group: BadQuorum: write a number from 1 to {sentinels}, the number of Sentinels"
         );
         return Err(ExitCode::from(REFUSED_WORDS));
     }
-    Ok(quorum as u32)
+    Ok(quorum)
 }
 
 /// Refuses words of which two name one address.
