@@ -3,6 +3,7 @@
 ghost use Rattle.resp2.specs.Framing.Frame.{view, HasLines};
 
 use crate::commands::{array, tell_command, value_of};
+use crate::given::number_32;
 use crate::told::{Told, Unplayed};
 use ballot_law::{Addr, Name, RunId, Text};
 use client_commands::{
