@@ -12,3 +12,4 @@ pub mod Reading
 pub mod Turns
 pub mod Joining
 pub mod About
+pub mod SharedConnections

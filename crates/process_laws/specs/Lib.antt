@@ -6,3 +6,4 @@ pub mod OwnLists
 pub mod TwoLists
 pub mod TwoProcesses
 pub mod Connections
+pub mod SharedConnections

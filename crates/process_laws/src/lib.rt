@@ -6,6 +6,7 @@
 mod laws;
 mod link_laws;
 mod list_laws;
+mod shared_laws;
 
 pub use laws::{
     law_actions_happen, law_late_answers_happen, law_one_group_is_a_start, law_processes_are_a_run,
@@ -18,3 +19,4 @@ pub use list_laws::{
     law_lists_are_kept, law_lists_have_a_union, law_lists_may_differ, law_numbers_fit,
     law_own_lists_are_a_run, law_own_lists_are_a_start,
 };
+pub use shared_laws::{law_later_questions_wait, law_shared_answers_are_delivered};

@@ -1,6 +1,7 @@
 //! One Sentinel of its own, which watches Redis servers and speaks to the other Sentinels over TCP.
 
-ghost use Rattle.std.specs.Prelude.{◌≡◌, ◌≢◌, ◌<◌, ◌≤◌, ◌+◌, ◌-◌, ◌^◌, IfErr, IfOk, OnOk, length};
+ghost use Rattle.std.specs.Prelude.{◌≡◌, ◌≢◌, ◌<◌, ◌≤◌, ◌+◌, ◌-◌, ◌^◌, [], false, IfErr, IfOk, IsFalse, OnOk, length};
+ghost use Rattle.sentinel_rules.specs.Profiles.{is_redis};
 ghost use Rattle.sentinel_runner.specs.declared.group_fault.GroupFault.TheVariants.{NotOneRoster};
 ghost use Rattle.sentinel_runner.specs.declared.opened.TheConstants.{PORT_THREADS_MAX};
 ghost use Rattle.sentinel_runner.specs.declared.watch.TheConstants.{BESIDE};
@@ -127,6 +128,16 @@ fn note_room<R: Log>(rt: &R, number: u16, wanted: Option<u16>, admission: &Admis
     }
 }
 
+/// Whether clients of a port that is served so are to give a password, and none asks them for it.
+fn asks_in_vain(port: PortSettings, admission: &Admission) -> bool
+    ensures { IsFalse result → is_redis port.profile ≡ false → admission.now.password ≡ [] }
+{
+    match admission.password.as_slice() {
+        [] => false,
+        _ => !port.profile.is_redis(),
+    }
+}
+
 /// The sockets of its port, at these addresses.
 fn sockets_of<R: Net + Log>(
     rt: &R,
@@ -150,6 +161,7 @@ fn port_of<R: Net + Log>(
     room: PortRoom,
     admission: &Admission,
 ) -> Result<(Port, Vec<Port>), GroupFault>
+    requires asked { is_redis room.profile ≡ false → admission.now.password ≡ [] }
     ensures threads { IfOk result (λ parts. length parts.1.items + 1 ≡ room.threads) }
     ensures roster { IfErr result (λ fault. fault ≢ NotOneRoster) }
 {
@@ -168,8 +180,8 @@ impl<S: ConfStore + Drop> Watch<S> {
     /// Opens the Sentinel of this conf at clock 0, and its port; no connection is opened yet. What the conf keeps is
     /// stored once its port is had, which is served after that: where the port can't be had the store is as it was.
     ///
-    /// `Halted` where the store refuses that, `PortRefused` where a port can't be had, and `NoMemory`: `NotOneRoster`
-    /// never comes.
+    /// `Halted` where the store refuses that, `PortRefused` where a port can't be had, or would have to want a password
+    /// of clients by a strict profile, which asks nobody for one, and `NoMemory`: `NotOneRoster` never comes.
     pub fn open<R: Net + Clock + Log>(
         rt: &R,
         alloc: Global,
@@ -186,6 +198,9 @@ impl<S: ConfStore + Drop> Watch<S> {
             admission,
             logins,
         } = settings;
+        if asks_in_vain(port, &admission) {
+            return Err(GroupFault::PortRefused);
+        }
         let (wires, far) = wires_of(rt, alloc, &conf, logins)?;
         let room = room_of(rt, alloc, &conf, port, &admission)?;
         let wanted = admission.limit;
