@@ -57,11 +57,8 @@ fn differ_in_nodes(one: &Roster, other: &Roster) -> bool {
     if some.len() != others.len() {
         return false;
     }
-    for m in 0..some.len() {
-        if !some[m].name.is_same(others[m].name) {
-            return false;
-        }
-        if some[m].quorum != others[m].quorum {
+    for (own, new) in some.iter().zip(others.iter()) {
+        if !own.name.is_same(new.name) || own.quorum != new.quorum {
             return false;
         }
     }
@@ -77,8 +74,8 @@ fn hold_the_same(one: &Kept, other: &Kept) -> bool {
     if some.len() != others.len() {
         return false;
     }
-    for m in 0..some.len() {
-        if some[m].card != others[m].card {
+    for (own, new) in some.iter().zip(others.iter()) {
+        if own.card != new.card {
             return false;
         }
     }
