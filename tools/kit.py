@@ -25,7 +25,7 @@ TOP = os.path.dirname(os.path.dirname(os.path.realpath(__file__)))
 OUT = f"{TOP}/out"
 PROGRAM = "sentinel_group"
 # A crate of more lines than that gets four jobs.
-LONG = 12_000
+LONG = 2_500
 # How many programs of each kind stay, the newest, so that whoever goes back to earlier sources finds theirs.
 STAY = 4
 

@@ -1,7 +1,8 @@
 //! The steps to a changed group: what an operator does with the new files, in which order, and for how long nobody
 //! guards meanwhile.
 
-use ballot_law::{Addr, Kept, Member, Name, Roster};
+use crate::change_orders::Order;
+use ballot_law::{Addr, Member, Name};
 use conf_check::{Change, MasterSetting, NewSetting};
 use sentinel_conf::Conf;
 use std::alloc::{AllocError, Global};
@@ -35,65 +36,6 @@ or a configuration came in between: keep it, make this change in it by hand, and
 
 /// The step in which the changed Sentinel guards again.
 const START_ONE: &str = "Start it, and wait until `SENTINEL CKQUORUM` counts all.";
-
-/// How the Sentinels get their new files.
-#[derive(Clone, Copy, PartialEq, Eq)]
-pub(crate) enum Order {
-    /// All are stopped before the first one gets its file, and started after the last one has: the files name other
-    /// Sentinels, masters or quorums.
-    AllAtOnce,
-    /// The same, since a new file holds another epoch or configuration than the one of before.
-    AllMended,
-    /// One after another, while the others guard.
-    OneByOne,
-}
-
-/// Whether the two name the same Sentinels, and the same masters with the same quorums: data nodes alone may differ.
-fn differ_in_nodes(one: &Roster, other: &Roster) -> bool {
-    if one.sentinels() != other.sentinels() {
-        return false;
-    }
-    let (some, others) = (one.masters(), other.masters());
-    if some.len() != others.len() {
-        return false;
-    }
-    for (own, new) in some.iter().zip(others.iter()) {
-        if !own.name.is_same(new.name) || own.quorum != new.quorum {
-            return false;
-        }
-    }
-    true
-}
-
-/// Whether two files hold the same current epoch, and the same configuration of each master.
-fn hold_the_same(one: &Kept, other: &Kept) -> bool {
-    if one.current != other.current {
-        return false;
-    }
-    let (some, others) = (one.masters.as_slice(), other.masters.as_slice());
-    if some.len() != others.len() {
-        return false;
-    }
-    for (own, new) in some.iter().zip(others.iter()) {
-        if own.card != new.card {
-            return false;
-        }
-    }
-    true
-}
-
-/// The order for the file of a Sentinel and its new one. The laws hold while files differ in data nodes alone, and
-/// settings are each Sentinel's own. They are not proved where files name other Sentinels, masters or quorums. Nor may
-/// a file be put in place that holds more than its own Sentinel has heard, while others run.
-pub(crate) fn order_of(old: &Conf, new: &Conf) -> Order {
-    if !differ_in_nodes(old.roster(), new.roster()) {
-        return Order::AllAtOnce;
-    }
-    if !hold_the_same(old.kept(), new.kept()) {
-        return Order::AllMended;
-    }
-    Order::OneByOne
-}
 
 /// A data node that one of two files names.
 #[derive(Clone, Copy)]

@@ -1,6 +1,7 @@
 //! `change`: the files of a group with one change.
 
-use crate::change_steps::{Order, Steps, address_text, order_of};
+use crate::change_orders::{Order, order_of};
+use crate::change_steps::{Steps, address_text};
 use crate::change_words::change_of;
 use crate::checking::confs_of;
 use crate::command_line::REFUSED_WORDS;
