@@ -188,7 +188,7 @@ fn opened_of<S: ConfStore + Drop>(
     ports: (Port, Vec<Port>),
     room: PortRoom,
 ) -> Result<Opened<S>, GroupFault>
-    requires { S.failure_count store < 2 ^ 64 - 1 }
+    requires room { S.failure_count store < 2 ^ 64 - 1 }
     requires threads { length ports.1.items + 1 ≡ room.threads }
     ensures roster { IfErr result (λ fault. fault ≢ NotOneRoster) }
     ensures seats { IfOk result (λ opened. opened.beside ≡ BESIDE) }
