@@ -13,3 +13,4 @@ pub mod Turns
 pub mod Joining
 pub mod About
 pub mod SharedConnections
+pub mod HeardAnswers

@@ -7,3 +7,4 @@ pub mod TwoLists
 pub mod TwoProcesses
 pub mod Connections
 pub mod SharedConnections
+pub mod HeardAnswers

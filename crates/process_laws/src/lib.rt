@@ -13,7 +13,8 @@ pub use laws::{
     law_processes_are_safe,
 };
 pub use link_laws::{
-    law_answers_are_about_it, law_answers_are_delivered, law_senders_are_free, law_targets_are_free,
+    law_answers_are_about_it, law_answers_are_delivered, law_delivered_answers_are_heard,
+    law_senders_are_free, law_targets_are_free,
 };
 pub use list_laws::{
     law_lists_are_kept, law_lists_have_a_union, law_lists_may_differ, law_numbers_fit,
