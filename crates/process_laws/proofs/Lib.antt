@@ -14,3 +14,5 @@ pub mod Joining
 pub mod About
 pub mod SharedConnections
 pub mod HeardAnswers
+pub mod Pieces
+pub mod Openings

@@ -8,3 +8,4 @@ pub mod TwoProcesses
 pub mod Connections
 pub mod SharedConnections
 pub mod HeardAnswers
+pub mod Openings

@@ -20,4 +20,7 @@ pub use list_laws::{
     law_lists_are_kept, law_lists_have_a_union, law_lists_may_differ, law_numbers_fit,
     law_own_lists_are_a_run, law_own_lists_are_a_start,
 };
-pub use shared_laws::{law_later_questions_wait, law_shared_answers_are_delivered};
+pub use shared_laws::{
+    law_later_questions_wait, law_new_connections_deliver, law_pieces_are_a_connection,
+    law_shared_answers_are_delivered,
+};
