@@ -16,3 +16,4 @@ pub mod SharedConnections
 pub mod HeardAnswers
 pub mod Pieces
 pub mod Openings
+pub mod OwnActions

@@ -9,3 +9,4 @@ pub mod Connections
 pub mod SharedConnections
 pub mod HeardAnswers
 pub mod Openings
+pub mod OwnActions
