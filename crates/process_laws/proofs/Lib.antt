@@ -6,6 +6,7 @@ pub mod Merging
 pub mod Numbers
 pub mod ListsOfAProcess
 pub mod Safety
+pub mod TwoFiles
 pub mod TwoLists
 pub mod TwoProcesses
 pub mod Reading
