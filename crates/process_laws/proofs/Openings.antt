@@ -23,6 +23,7 @@ use Rattle.links.specs.declared.sessions.questions.Question.{Question}
 use Rattle.links.specs.declared.sessions.questions.Question.TheVariants.{Order, Identity}
 use Rattle.links.specs.declared.speaking.Login.{Login}
 use Rattle.links.specs.declared.speaking.Login.TheVariants.{Without, Pass, User}
+use Rattle.links.specs.Speaking.{login_questions}
 use Rattle.links.specs.Sessions.Links.{question_of, listed, heard_of, named, Tells}
 use Rattle.links.specs.Sessions.LongValues.{told_value, told_of, IsLinkValue, whole_lines}
 use Rattle.links.proofs.SessionsLemmas.Values.{value_plain}

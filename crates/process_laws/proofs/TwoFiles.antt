@@ -159,9 +159,9 @@ module _ (port : ℕ) (above : 6379 < port) (low : port ≤ 65535) where
         kept = is;
       }
 
-  pub opens_well : (whole : Roster) → DifferInNodes lists whole → (place : ℕ) (id : RunId) (kept : Kept) (now : ℕ) → place < 2 → id_of lists place ≡ id →
-      IsKeptPart (plan_with lists place id kept).conf kept → IsOpened whole place kept now (opened_by (plan_with lists place id kept) now)
-  opens_well whole lists_within place id kept now few own is =
+  pub opens_well : (all : Roster) → DifferInNodes lists all → (place : ℕ) (id : RunId) (kept : Kept) (now : ℕ) → place < 2 → id_of lists place ≡ id →
+      IsKeptPart (plan_with lists place id kept).conf kept → IsOpened all place kept now (opened_by (plan_with lists place id kept) now)
+  opens_well _ lists_within place id kept now few own is =
       record {
         place = refl;
         roster_is = lists_within;
