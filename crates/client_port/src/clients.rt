@@ -106,7 +106,9 @@ impl Clients {
         thread: u16,
         admission: &Admission,
         seats: Arc<Seats, Global>,
-    ) -> io::Result<Clients> {
+    ) -> io::Result<Clients>
+        ensures { IfOk result (λ clients. clients.terms.password ≡ admission.now.password) }
+    {
         let poll = Poll::new(net)?;
         let news = match admission.limit {
             Some(_) => Some(Waker::new(poll.registry(), NEWS)?),

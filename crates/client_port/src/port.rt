@@ -1,6 +1,7 @@
 //! A port that serves its clients.
 
-ghost use Rattle.std.specs.Prelude.{◌≡◌, ◌+◌, IfOk, length};
+ghost use Rattle.std.specs.Prelude.{◌≡◌, ◌+◌, [], false, All, IfOk, length};
+ghost use Rattle.sentinel_rules.specs.Profiles.{is_redis};
 
 use crate::admission::Admission;
 use crate::clients::Clients;
@@ -33,7 +34,9 @@ pub struct Port {
 
 impl Port {
     /// What the thread with this number serves.
-    fn of(alloc: Global, clients: Clients, entrance: Acceptor, thread: u16) -> io::Result<Port> {
+    fn of(alloc: Global, clients: Clients, entrance: Acceptor, thread: u16) -> io::Result<Port>
+        ensures { IfOk result (λ port. port.clients.terms.password ≡ clients.terms.password) }
+    {
         Ok(Port {
             clients,
             entrance,
@@ -59,7 +62,7 @@ impl Port {
     /// Lets those in who come to these sockets, with so much room for all of them: what the first thread serves, and
     /// what each further one does, in their order. The first one accepts, and each connection goes to the thread that
     /// has the fewest; one for which none has room is closed. An error is the system's; `OutOfMemory` is a refused
-    /// allocation.
+    /// allocation. Each of them wants the password of who lets them in; a strict profile has none to want.
     pub fn open_at<N: Net>(
         net: &N,
         alloc: Global,
@@ -67,7 +70,11 @@ impl Port {
         room: PortRoom,
         admission: &Admission,
     ) -> io::Result<(Port, Vec<Port>)>
-        ensures { IfOk result (λ parts. length parts.1.items + 1 ≡ room.threads) }
+        requires asked { is_redis room.profile ≡ false → admission.now.password ≡ [] }
+        ensures threads { IfOk result (λ parts. length parts.1.items + 1 ≡ room.threads) }
+        ensures first { IfOk result (λ parts. parts.0.clients.terms.password ≡ admission.now.password) }
+        ensures others { IfOk result (λ parts. All (λ port. port.clients.terms.password ≡ admission.now.password)
+            parts.1.items) }
     {
         let seats = Arc::new(alloc, Seats::open(alloc, admission)?)?;
         let mut desks = Vec::new(alloc);

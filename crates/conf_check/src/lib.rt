@@ -1,13 +1,17 @@
 //! What an operator is told of conf files: every fault, warnings, what the files of a group make and in what they
-//! differ, such files mended, and the files of a new group.
+//! differ, such files mended, the files of a new group, and those of a changed one.
 #![tactic(auto)]
 
+mod change;
 mod creation;
 mod errors;
 mod group;
 mod repair;
 mod warnings;
 
+pub use change::{
+    Change, ChangeFault, MasterSetting, NewSetting, Replacement, ReplicaOf, changed_texts,
+};
 pub use creation::{
     NewGroup, NewGroupFault, is_password, new_group_texts, node_address, sentinel_address,
     shared_address,

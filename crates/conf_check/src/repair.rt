@@ -14,6 +14,8 @@ mod mending;
 mod sides;
 
 pub use groups::are_one_group;
+pub(crate) use groups::read_all;
 pub use laws::{law_mended_files_agree, law_mending_keeps_the_votes, law_no_epoch_falls};
 pub use mending::{MendFault, mended_texts};
+pub(crate) use mending::{Newest, newest_among};
 pub use sides::add_sides;

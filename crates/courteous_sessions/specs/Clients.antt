@@ -123,11 +123,12 @@ notified roster note visit =
     record visit { unsent = visit.unsent ++ spellings (told_of roster note visit.listening); told = slice_set visit.told note.master (Some note.card.epoch) }
 
 -- What became of a note: what the connection is told of it, on its channel and for its patterns, joins what is unsent, and it is remembered as told; or it isn't due;
--- or it is due and memory for it was refused
+-- or it is due and memory for it was refused: then it may count as told, and nothing else changed
 abbrev pub NotifiesVisit : {E : Type 0} → Roster → Note → (entry : ℕ) → Visit → Result Bool E → Visit → Type 0
 NotifiesVisit roster note entry visit (Ok true) after = (is_due (talk_of visit) note entry ≡ true) × (after ≡ notified roster note visit)
 NotifiesVisit roster note entry visit (Ok false) after = (is_due (talk_of visit) note entry ≡ false) × (after ≡ visit)
-NotifiesVisit roster note entry visit (Err refused) after = (is_due (talk_of visit) note entry ≡ true) × (after.unsent ≡ visit.unsent)
+NotifiesVisit roster note entry visit (Err refused) after =
+    (is_due (talk_of visit) note entry ≡ true) × (after ≡ (let v : Visit = record visit { told = after.told } in v))
 
 abbrev pub NotifiesClient : {E : Type 0} → Roster → Note → (entry : ℕ) → ClientSession → Result Bool E → ClientSession → Type 0
 NotifiesClient roster note entry (Plain talk) result (Plain after) = Notifies roster note entry talk result after

@@ -183,7 +183,7 @@ impl CourteousSession {
 
     /// Tells the client of a note, where it is due, as `Session::notify` has it: whether it is. It is told on its
     /// channel, and for each pattern that matches that, in the form of Pub/Sub. After `NoMemory` the client misses a
-    /// note: the connection is to be closed.
+    /// note, which may count as told to it, and nothing else changed: the connection is to be closed.
     pub fn notify(&mut self, roster: &Roster, note: &Note, entry: u64) -> Result<bool, NoMemory>
         requires { note.now.master < length roster.now.masters }
         ensures { NotifiesVisit roster.now note.now entry self.old result self.new }

@@ -29,10 +29,11 @@ NextOf (asks words rest) old next new = (next ≡ Some (ask_of words)) × (new �
 NextOf waits old next new = (next ≡ None) × (new ≡ old)
 NextOf broken old next new = (next ≡ None) × (new ≡ record { held = []; unsent = old.unsent ++ protocol_error; ends = true })
 
--- the first command of the bytes held; where no command begins with them, the client is told so, and it ends. After a refused growth one command may be lost
+-- the first command of the bytes held; where no command begins with them, the client is told so, and it ends. After a refused growth commands may be lost,
+-- and of what isn't sent nothing
 abbrev pub Nexts : {E : Type 0} → Talk → Result (Option Ask) E → Talk → Type 0
 Nexts old (Ok next) new = NextOf (turn_at old.held) old next new
-Nexts old (Err why) new = Unit {0}
+Nexts old (Err why) new = (new.unsent ≡ old.unsent) × (new.ends ≡ old.ends)
 
 -- ---- its answer
 

@@ -1,6 +1,10 @@
 //! One client's connection to a data node.
 
-ghost use Rattle.std.specs.Prelude.{IfSome};
+ghost use Rattle.std.specs.Prelude.{◌≡◌, ℕ, List, Option, OnOk, IfSome};
+ghost use Rattle.ballot_law.specs.declared.addresses.Addr.{Addr};
+ghost use Rattle.data_node_port.specs.Asks.{ask_of};
+ghost use Rattle.data_node_port.specs.Readings.{asks, turn_at};
+ghost use Rattle.data_node_port.specs.declared.asks.Ask.TheVariants.{Follow};
 ghost use Rattle.node_texts.specs.Infos.{IsInfo};
 
 use crate::asks::Ask;
@@ -21,13 +25,22 @@ const STEPS_MAX: u32 = 16;
 const UNSENT_MAX: usize = 65_536;
 
 /// The data nodes that have ports, by their numbers.
+///
+/// `followed` says that a node was told to follow somebody, for nodes of which proofs know that. Those of a group say
+/// nothing by it, and what serves them can't tell the one from the other.
 pub trait ShownNodes {
+    ghost use Rattle.std.specs.Prelude.{ℕ, Option};
+    ghost use Rattle.ballot_law.specs.declared.addresses.Addr.{Addr};
+
+    ghost followed: { Self → (number : ℕ) → Option Addr → Type 0 } = { λ _ _ _. Unit {0} };
+
     /// What the node with this number shows; none where it is stopped, or where there is no such node.
     fn shown<R: Wait + Clock>(&self, rt: &R, number: u16) -> Option<Info>
         ensures { IfSome result IsInfo };
 
     /// Has the node with this number follow the master at the address, or nobody. It does nothing where it is stopped.
-    fn follow<R: Wait + Clock>(&self, rt: &R, number: u16, follows: Option<Addr>);
+    fn follow<R: Wait + Clock>(&self, rt: &R, number: u16, follows: Option<Addr>)
+        ensures { followed self.now number follows };
 }
 
 /// The connection is to be closed: memory was refused, or the node has stopped.
@@ -76,13 +89,18 @@ impl<T: Read + Write + Drop> Connection<T> {
         self.readable && !self.is_over() && self.session.unsent().len() < UNSENT_MAX
     }
 
-    /// Answers the next command as the node with this number: whether there was one.
+    /// Answers the next command as the node with this number: whether there was one. An order to follow somebody is
+    /// carried out.
+    #[tactic(auto, using(crate::proofs::Talking::asked_of, crate::proofs::Talking::asks_something))]
     fn answer_next<V: ShownNodes, R: Wait + Clock>(
         &mut self,
         rt: &R,
         nodes: &V,
         number: u16,
-    ) -> Result<bool, Closed> {
+    ) -> Result<bool, Closed>
+        ensures follows { (words : List (List ℕ)) (rest : List ℕ) (to : Option Addr) → asks words rest ≡ turn_at self.old.session.held
+            → Follow to ≡ ask_of words → OnOk result (V.followed nodes.now number to) }
+    {
         let Ok(next) = self.session.next() else {
             return Err(Closed);
         };

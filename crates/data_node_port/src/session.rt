@@ -90,7 +90,8 @@ impl Session {
     /// Tells the client that its bytes are no commands, and ends.
     fn break_off(&mut self) -> Result<(), NoMemory>
         requires { self.old.held ≡ [] }
-        ensures { OnOk result (self.new ≡ record { held = []; unsent = self.old.unsent ++ protocol_error; ends = true }) }
+        ensures ok { OnOk result (self.new ≡ record { held = []; unsent = self.old.unsent ++ protocol_error; ends = true }) }
+        ensures err { OnErr result ((self.new.unsent ≡ self.old.unsent) × (self.new.ends ≡ self.old.ends)) }
     {
         if self.unsent.extend_from_slice(BROKEN).is_err() {
             return Err(NoMemory);
@@ -102,7 +103,7 @@ impl Session {
     /// What is asked next; none where more bytes are needed, and once it ends. Where no command begins with the bytes
     /// held, the client is told so by an error, and it ends.
     ///
-    /// `NoMemory`: memory was refused, and commands are lost; the connection is to be closed.
+    /// `NoMemory`: memory was refused, and commands are lost; what isn't sent stays. The connection is to be closed.
     #[tactic(auto, using(crate::proofs::Talking::asked_next, crate::proofs::Talking::waits_next, crate::proofs::Talking::broken_next, crate::proofs::Talking::ended_next))]
     pub fn next(&mut self) -> Result<Option<Ask>, NoMemory>
         ensures { Nexts self.old result self.new }

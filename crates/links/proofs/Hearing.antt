@@ -2,6 +2,9 @@
 use Rattle.std.proofs.Common.{◌≡◌, ℕ, ◌+◌, ◌≤◌, ◌<◌, Bool, true, false, cond, List, [], ◌∷◌, ◌++◌, length, Option, Some, None, Result, Ok, Err, refl, sym, ap, ◌∙◌, subst, arith}
 use Rattle.std.specs.List.{AllByRecursion}
 use Rattle.ballot_law.specs.declared.addresses.Addr.{Addr}
+use Rattle.ballot_law.specs.declared.addresses.RunId.{RunId}
+use Rattle.ballot_law.specs.Orders.{same_id}
+use Rattle.ballot_law.specs.Words.{run_id}
 use Rattle.ballot_law.specs.declared.events.Event.{Event}
 use Rattle.resp2.specs.Framing.Frame.{Frame, FrameList, simple, fault, int, bulk, null_bulk, items, null_items}
 use Rattle.links.specs.declared.sessions.fault.LinkFault.{LinkFault}
@@ -10,7 +13,7 @@ use Rattle.links.specs.declared.sessions.questions.Question.{Question}
 use Rattle.links.specs.declared.sessions.questions.Question.TheVariants as asks
 use Rattle.links.specs.declared.sessions.replies.Vote.{Vote}
 use Rattle.links.specs.Sessions.LongValues.{told_value}
-use Rattle.links.specs.Sessions.Links.{next_asked, heard_of, ping_heard, info_heard, answered, ask_heard, vote_of, hello_in, hello_in_list, hello_of_list, hello_heard, is_confirmed, begins_message, list_of, listed, Tells}
+use Rattle.links.specs.Sessions.Links.{next_asked, heard_of, ping_heard, info_heard, answered, ask_heard, named, id_heard, vote_of, hello_in, hello_in_list, hello_of_list, hello_heard, is_confirmed, begins_message, list_of, listed, Tells}
 use Rattle.links.specs.declared.target.Target.{Target}
 use Rattle.links.specs.NodeLinks.{IsHeardOn, IsAsked}
 
@@ -55,6 +58,23 @@ module _ (target : Target) where
   ask_on master addr null_items = answered_on master addr (vote_of null_items)
   ask_on master addr (items fs) = answered_on master addr (vote_of (items fs))
 
+  named_if : (same : Bool) → MayTell (cond same (Ok None) (Err Strange))
+  named_if true = tt
+  named_if false = tt
+
+  named_on : (id : RunId) (other : Option RunId) → MayTell (named id other)
+  named_on id (Some other) = named_if (same_id id other)
+  named_on id None = tt
+
+  id_on : (id : RunId) (f : Frame) → MayTell (id_heard id f)
+  id_on id (simple text) = tt
+  id_on id (fault text) = tt
+  id_on id (int z) = tt
+  id_on id (bulk text) = named_on id (run_id text)
+  id_on id null_bulk = tt
+  id_on id null_items = tt
+  id_on id (items fs) = tt
+
   hello_in_on : target.listens ≡ true → (f : Frame) → MayTell (hello_in f)
   hello_in_on listens (simple text) = tt
   hello_in_on listens (fault text) = tt
@@ -96,6 +116,7 @@ module _ (target : Target) where
   value_on asks.Info f may = info_on f
   value_on (asks.Ask master addr) f may = ask_on master addr f
   value_on asks.Order f may = tt
+  value_on (asks.Identity id) f may = id_on id f
   value_on asks.Hello f may = hello_on may f
 
   asked_awaits : (q : Question) → IsAsked q → MayAwait q
@@ -103,6 +124,7 @@ module _ (target : Target) where
   asked_awaits asks.Info is = tt
   asked_awaits (asks.Ask master addr) is = tt
   asked_awaits asks.Order is = tt
+  asked_awaits (asks.Identity id) is = tt
   asked_awaits asks.Hello is = absurd is
 
   -- what is awaited next, and what is asked then

@@ -2,6 +2,7 @@
 use Rattle.std.proofs.Common.{◌≡◌, ℕ, ◌+◌, ◌≤◌, ◌<◌, Bool, true, false, List, [], ◌∷◌, ◌++◌, length, drop, Option, Some, None, Result, Ok, Err, refl, sym, ap, ◌∙◌, subst, arith}
 use Rattle.std.proofs.lemmas.List.{length-drop}
 use Rattle.std.specs.List.{AllByRecursion}
+use Rattle.ballot_law.specs.declared.addresses.RunId.{RunId}
 use Rattle.ballot_law.specs.declared.events.Event.{Event}
 use Rattle.ballot_law.specs.declared.messages.Body.{Body}
 use Rattle.ballot_law.specs.declared.messages.Body.TheVariants as bodies
@@ -19,7 +20,7 @@ use Rattle.links.specs.declared.speaking.TheConstants.{UNSENT_MAX}
 use Rattle.links.specs.declared.target.Target.{Target}
 use Rattle.links.specs.NodeLinks.{fresh, IsAsked, IsHeardOn, IsKept}
 use Rattle.links.specs.Schedules.{excused}
-use Rattle.links.specs.Speaking.{bytes_for, questions_for, row_bytes, login_bytes, login_questions, listen_bytes, listen_questions}
+use Rattle.links.specs.Speaking.{bytes_for, questions_for, row_bytes, login_bytes, login_questions, id_bytes, id_questions, listen_bytes, listen_questions}
 use Rattle.links.proofs.Hearing.{all_append, told}
 
 kept_fresh : (target : Target) → IsKept target (fresh target)
@@ -46,33 +47,54 @@ listen_asked : (listens : Bool) → AllByRecursion IsAsked (listen_questions lis
 listen_asked true = (tt, tt)
 listen_asked false = tt
 
-few_first : (login : Login) (listens : Bool) → length (login_questions login ++ listen_questions listens) ≤ ASKED_MAX
-few_first Without true = omega arith
-few_first Without false = omega arith
-few_first (Pass pass) true = omega arith
-few_first (Pass pass) false = omega arith
-few_first (User user pass) true = omega arith
-few_first (User user pass) false = omega arith
+id_asked : (id : Option RunId) → AllByRecursion IsAsked (id_questions id)
+id_asked None = tt
+id_asked (Some id) = (tt, tt)
 
-kept_spoken : (target : Target) (login : Login) (listens : Bool) → length (login_bytes login ++ listen_bytes listens) ≤ UNSENT_MAX
-    → IsKept target (record (fresh target) { unsent = login_bytes login ++ listen_bytes listens; asked = login_questions login ++ listen_questions listens })
-kept_spoken target login listens short = record {
+few_first : (login : Login) (id : Option RunId) (listens : Bool) → length (login_questions login ++ (id_questions id ++ listen_questions listens)) ≤ ASKED_MAX
+few_first Without None true = omega arith
+few_first Without None false = omega arith
+few_first Without (Some id) true = omega arith
+few_first Without (Some id) false = omega arith
+few_first (Pass pass) None true = omega arith
+few_first (Pass pass) None false = omega arith
+few_first (Pass pass) (Some id) true = omega arith
+few_first (Pass pass) (Some id) false = omega arith
+few_first (User user pass) None true = omega arith
+few_first (User user pass) None false = omega arith
+few_first (User user pass) (Some id) true = omega arith
+few_first (User user pass) (Some id) false = omega arith
+
+-- the bytes before all messages, and what their answers will be about
+abbrev first_bytes : Login → Option RunId → (listens : Bool) → List ℕ
+first_bytes login id listens = login_bytes login ++ (id_bytes id ++ listen_bytes listens)
+
+abbrev first_questions : Login → Option RunId → (listens : Bool) → List Question
+first_questions login id listens = login_questions login ++ (id_questions id ++ listen_questions listens)
+
+first_asked : (login : Login) (id : Option RunId) (listens : Bool) → AllByRecursion IsAsked (first_questions login id listens)
+first_asked login id listens =
+    all_append IsAsked (login_questions login) (id_questions id ++ listen_questions listens) (login_asked login)
+    (all_append IsAsked (id_questions id) (listen_questions listens) (id_asked id) (listen_asked listens))
+
+kept_spoken : (target : Target) (login : Login) (id : Option RunId) (listens : Bool) → length (first_bytes login id listens) ≤ UNSENT_MAX
+    → IsKept target (record (fresh target) { unsent = first_bytes login id listens; asked = first_questions login id listens })
+kept_spoken target login id listens short = record {
   node = refl;
   listens = refl;
   going = refl;
-  questions = all_append IsAsked (login_questions login) (listen_questions listens) (login_asked login) (listen_asked listens);
-  bounded = record { unsent = short; asked = few_first login listens; kept = omega arith };
+  questions = first_asked login id listens;
+  bounded = record { unsent = short; asked = few_first login id listens; kept = omega arith };
 }
 
-pub kept_first : (target : Target) (login : Login) (listens : Bool) (before talk : Link) → before ≡ fresh target
-    → talk ≡ record before { unsent = before.unsent ++ (login_bytes login ++ listen_bytes listens); asked = before.asked ++ (login_questions login ++ listen_questions listens) }
+pub kept_first : (target : Target) (login : Login) (id : Option RunId) (listens : Bool) (before talk : Link) → before ≡ fresh target
+    → talk ≡ record before { unsent = before.unsent ++ (login_bytes login ++ (id_bytes id ++ listen_bytes listens)); asked = before.asked ++ (login_questions login ++ (id_questions id ++ listen_questions listens)) }
     → length talk.unsent ≤ UNSENT_MAX → IsKept target talk
-kept_first target login listens before talk anew is short =
-    let spoken : talk ≡ record (fresh target) { unsent = login_bytes login ++ listen_bytes listens; asked = login_questions login ++ listen_questions listens } =
-    is ∙ ap (λ (t : Link). record t { unsent = t.unsent ++ (login_bytes login ++ listen_bytes listens); asked = t.asked ++ (login_questions login ++ listen_questions listens) })
-    anew in
-    let fits : length (login_bytes login ++ listen_bytes listens) ≤ UNSENT_MAX = subst (λ (t : Link). length t.unsent ≤ UNSENT_MAX) spoken short in
-    subst (IsKept target) (sym spoken) (kept_spoken target login listens fits)
+kept_first target login id listens before talk anew is short =
+    let spoken : talk ≡ record (fresh target) { unsent = first_bytes login id listens; asked = first_questions login id listens } =
+    is ∙ ap (λ (t : Link). record t { unsent = t.unsent ++ first_bytes login id listens; asked = t.asked ++ first_questions login id listens }) anew in
+    let fits : length (first_bytes login id listens) ≤ UNSENT_MAX = subst (λ (t : Link). length t.unsent ≤ UNSENT_MAX) spoken short in
+    subst (IsKept target) (sym spoken) (kept_spoken target login id listens fits)
 
 -- ---- a message
 

@@ -14,7 +14,7 @@ use Rattle.links.specs.declared.speaking.Login.{Login}
 use Rattle.links.specs.declared.speaking.TheConstants.{UNSENT_MAX}
 use Rattle.links.specs.declared.target.Target.{Target}
 use Rattle.links.specs.Schedules.{begun, closed, excused}
-use Rattle.links.specs.Speaking.{bytes_for, questions_for, row_bytes, login_bytes, login_questions, listen_bytes, listen_questions}
+use Rattle.links.specs.Speaking.{bytes_for, questions_for, row_bytes, login_bytes, login_questions, id_bytes, id_questions, listen_bytes, listen_questions}
 
 -- which node it is to, its times, and what is asked, held and unsent on it
 pub record State : Type 0 where
@@ -36,8 +36,8 @@ opening_at now login state = record {
   target = state.target;
   schedule = begun now state.schedule;
   talk = record (fresh state.target) {
-    unsent = login_bytes login ++ listen_bytes state.target.listens;
-    asked = login_questions login ++ listen_questions state.target.listens;
+    unsent = login_bytes login ++ (id_bytes state.target.id ++ listen_bytes state.target.listens);
+    asked = login_questions login ++ (id_questions state.target.id ++ listen_questions state.target.listens);
   };
 }
 

@@ -1,5 +1,6 @@
 -- What goes over a connection for a message, and what comes before all messages.
-use Rattle.std.specs.Prelude.{Bool, true, false, List, [], ◌∷◌, ◌++◌, ℕ, codes}
+use Rattle.std.specs.Prelude.{Bool, true, false, List, [], ◌∷◌, ◌++◌, Option, Some, None, ℕ, codes}
+use Rattle.ballot_law.specs.declared.addresses.RunId.{RunId}
 use Rattle.ballot_law.specs.declared.messages.Body.{Body}
 use Rattle.ballot_law.specs.declared.messages.Body.TheVariants.{ReplicaOf}
 use Rattle.node_texts.specs.Messages.MessageTexts.{message_bytes, words_frame, hello_channel}
@@ -47,6 +48,15 @@ login_bytes (User user pass) = command_bytes (codes "AUTH" ∷ user.now ∷ pass
 abbrev pub login_questions : Login → List Question
 login_questions Without = []
 login_questions _ = asks.Order ∷ []
+
+-- the question for the run id of a Sentinel that is to have this one
+abbrev pub id_bytes : Option RunId → List ℕ
+id_bytes None = []
+id_bytes (Some id) = command_bytes (codes "SENTINEL" ∷ codes "MYID" ∷ [])
+
+abbrev pub id_questions : Option RunId → List Question
+id_questions None = []
+id_questions (Some id) = asks.Identity id ∷ []
 
 abbrev pub listen_bytes : (listens : Bool) → List ℕ
 listen_bytes true = command_bytes (codes "SUBSCRIBE" ∷ hello_channel ∷ [])

@@ -23,6 +23,7 @@ pub record IsSentinel (roster : Roster) (place : ℕ) (target : Target) : Type 0
   pub node : target.node ≡ SentinelAt place
   pub within : place < size roster
   pub addr : target.addr ≡ (slice_index_or roster.sentinels place no_member).addr
+  pub id : target.id ≡ Some (slice_index_or roster.sentinels place no_member).id
   pub speaks : target.listens ≡ false
 
 -- a connection to the data node with this number
@@ -31,6 +32,7 @@ pub record IsStore (roster : Roster) (number : ℕ) (target : Target) : Type 0 w
   pub at : NodePlace
   pub numbered : node_numbered roster.masters 0 number ≡ Some at
   pub addr : target.addr ≡ addr_in roster at
+  pub id : target.id ≡ None
 
 -- the connection at this place
 abbrev pub IsOf : Roster → (place : ℕ) → Target → Type 0

@@ -132,15 +132,15 @@ impl NodeLink {
         self.session = closed(self.alloc, self.target, &mut self.schedule, now);
     }
 
-    /// It is being opened from now on, and what comes before all messages is unsent. A fault, as a login that is too
-    /// long, leaves it closed.
+    /// It is being opened from now on, and what comes before all messages is unsent: the login, and to a Sentinel the
+    /// question for its run id. A fault, as a login that is too long, leaves it closed.
     #[tactic(auto, using(crate::proofs::Keeping::kept_first))]
     pub fn open(&mut self, login: Login<'_>, now: u64) -> Result<(), LinkFault>
         ensures ok { OnOk result (self.new ≡ opening_at now login.entry self.old) }
         ensures err { OnErr result (self.new ≡ closed_at now self.old) }
     {
         let mut session = fresh(self.alloc, self.target);
-        match put_first_words(&mut session, login, self.target.listens) {
+        match put_first_words(&mut session, login, self.target.id, self.target.listens) {
             Ok(()) => {
                 self.session = session;
                 self.schedule.begin(now);

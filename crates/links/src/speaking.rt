@@ -2,12 +2,12 @@
 
 ghost use Rattle.std.specs.Prelude.{◌≡◌, ◌≤◌, ◌↔◌, ◌++◌, ◌∷◌, [], length, IsOk, IfErr, OnOk, codes};
 ghost use Rattle.node_texts.specs.Messages.MessageTexts.{IsWritable, message_bytes};
-ghost use Rattle.links.specs.Speaking.{bytes_for, questions_for, command_bytes, after_order, row_bytes, login_bytes, login_questions, listen_bytes, listen_questions};
+ghost use Rattle.links.specs.Speaking.{bytes_for, questions_for, command_bytes, after_order, row_bytes, login_bytes, login_questions, id_bytes, id_questions, listen_bytes, listen_questions};
 ghost use Rattle.links.specs.Sessions.Links.{question_of};
 ghost use Rattle.links.specs.declared.sessions.questions.Question.TheVariants as asks;
 
 use crate::sessions::{ASKED_MAX, LinkFault, LinkSession};
-use ballot_law::{Body, Message};
+use ballot_law::{Body, Message, RunId};
 
 /// How many bytes may be unsent; a connection on which more are is given up.
 pub const UNSENT_MAX: usize = 65_536;
@@ -122,6 +122,19 @@ fn put_login(session: &mut LinkSession, login: Login<'_>) -> Result<(), LinkFaul
     }
 }
 
+/// Puts out the question for the run id of a Sentinel, where it is to have this one.
+fn put_id_question(session: &mut LinkSession, id: Option<RunId>) -> Result<(), LinkFault>
+    ensures ok { OnOk result (session.new ≡ record session.old {
+      unsent = session.old.unsent ++ id_bytes id;
+      asked = session.old.asked ++ id_questions id;
+    }) }
+{
+    match id {
+        Some(id) => session.ask_id(id),
+        None => Ok(()),
+    }
+}
+
 /// Puts out that the connection listens to hellos, where it does.
 fn put_listening(session: &mut LinkSession, listens: bool) -> Result<(), LinkFault>
     ensures ok { OnOk result (session.new ≡ record session.old {
@@ -136,21 +149,25 @@ fn put_listening(session: &mut LinkSession, listens: bool) -> Result<(), LinkFau
     }
 }
 
-/// Puts out what comes before all messages: the login, and that the connection listens to hellos, where it does.
+/// Puts out what comes before all messages: the login, the question for the run id of a Sentinel, and that the
+/// connection listens to hellos, where it does.
 ///
-/// The answers tell nothing. A fault is as that of `put_message`.
+/// The answers tell nothing, but a Sentinel with another run id isn't who was asked. A fault is as that of
+/// `put_message`.
 pub(crate) fn put_first_words(
     session: &mut LinkSession,
     login: Login<'_>,
+    id: Option<RunId>,
     listens: bool,
 ) -> Result<(), LinkFault>
     ensures ok { OnOk result (session.new ≡ record session.old {
-      unsent = session.old.unsent ++ (login_bytes login.entry ++ listen_bytes listens);
-      asked = session.old.asked ++ (login_questions login.entry ++ listen_questions listens);
+      unsent = session.old.unsent ++ (login_bytes login.entry ++ (id_bytes id ++ listen_bytes listens));
+      asked = session.old.asked ++ (login_questions login.entry ++ (id_questions id ++ listen_questions listens));
     }) }
     ensures bounded { OnOk result (length session.new.unsent ≤ UNSENT_MAX) }
 {
     put_login(session, login)?;
+    put_id_question(session, id)?;
     put_listening(session, listens)?;
     is_short(session)
 }

@@ -5,14 +5,16 @@ ghost use Rattle.ballot_law.specs.NodePlaces.{node_count};
 ghost use Rattle.ballot_law.specs.declared.messages.NodeName.TheVariants.{SentinelAt};
 ghost use Rattle.links.specs.Targets.{place_of, connection_count, IsStore, IsOf};
 
-use ballot_law::{Addr, NodeName, Roster};
+use ballot_law::{Addr, NodeName, Roster, RunId};
 
-/// The node at the other end of a connection, and its address. A Sentinel has one connection to each other Sentinel; to
-/// each data node it has one for its messages, and one that listens to hellos.
+/// The node at the other end of a connection, and its address. A Sentinel has one connection to each other Sentinel,
+/// which is to name itself by the run id `id`; to each data node, which has none, it has one for its messages, and one
+/// that listens to hellos.
 #[derive(Clone, Copy)]
 pub struct Target {
     pub node: NodeName,
     pub addr: Addr,
+    pub id: Option<RunId>,
     pub listens: bool,
 }
 
@@ -71,6 +73,7 @@ fn store_target(roster: &Roster, number: usize, listens: bool) -> Option<Target>
         Some(at) => Some(Target {
             node: NodeName::StoreAt(number as u16),
             addr: roster.addr_at(at),
+            id: None,
             listens,
         }),
         None => None,
@@ -94,6 +97,7 @@ pub fn target_at(roster: &Roster, own: u16, place: usize) -> Option<Target>
         return Some(Target {
             node: NodeName::SentinelAt(place as u16),
             addr: sentinels[place].addr,
+            id: Some(sentinels[place].id),
             listens: false,
         });
     }

@@ -6,3 +6,7 @@ pub mod OwnLists
 pub mod TwoLists
 pub mod TwoProcesses
 pub mod Connections
+pub mod SharedConnections
+pub mod HeardAnswers
+pub mod Openings
+pub mod OwnActions

@@ -2,14 +2,16 @@
 //! and how they are mended.
 
 use crate::conf_files::conf_of;
-use crate::given::{joined, number, text};
+use crate::given::{addr, id, joined, number, number_32, text};
 use crate::told::{Told, Unplayed};
-use ballot_law::Text;
+use ballot_law::{Member, Name, Text};
 use conf_check::{
-    Directives, ID_BYTES, MendFault, NamedConf, Report, add_notes, add_sides, add_warnings,
-    add_watch_warnings, are_one_group, id_line, mended_texts,
+    Change, ChangeFault, Directives, ID_BYTES, MasterSetting, MendFault, NamedConf, NewSetting,
+    Replacement, ReplicaOf, Report, add_notes, add_sides, add_warnings, add_watch_warnings,
+    are_one_group, changed_texts, id_line, mended_texts,
 };
 use std::alloc::Global;
+use tokens::ip_of;
 
 /// The name of a file that is told of.
 const PATH: &str = "a.conf";
@@ -92,6 +94,84 @@ fn tell_mended(alloc: Global, files: &[NamedConf], told: &mut Told) -> Result<()
     }
 }
 
+/// The master's name that the word spells.
+fn name(word: &[u8]) -> Result<Name, Unplayed> {
+    match Name::from_slice(word) {
+        Some(name) => Ok(name),
+        None => Err(Unplayed::WrongWords),
+    }
+}
+
+/// The replica of these words.
+fn replica(master: &[u8], at: &[u8]) -> Result<ReplicaOf, Unplayed> {
+    Ok(ReplicaOf {
+        master: name(master)?,
+        addr: addr(at)?,
+    })
+}
+
+/// The ip that the word spells.
+fn ip(word: &[u8]) -> Result<u32, Unplayed> {
+    match ip_of(word) {
+        Some(ip) => Ok(ip),
+        None => Err(Unplayed::WrongWords),
+    }
+}
+
+/// The setting of this name.
+fn setting(word: &[u8]) -> Result<MasterSetting, Unplayed> {
+    match word {
+        b"quorum" => Ok(MasterSetting::Quorum),
+        b"down_after" => Ok(MasterSetting::DownAfter),
+        b"failover_timeout" => Ok(MasterSetting::FailoverTimeout),
+        b"parallel_syncs" => Ok(MasterSetting::ParallelSyncs),
+        _ => Err(Unplayed::WrongWords),
+    }
+}
+
+/// The change of this kind with these words.
+fn change(kind: &[u8], one: &[u8], two: &[u8], three: &[u8]) -> Result<Change, Unplayed> {
+    match kind {
+        b"AddReplica" => Ok(Change::AddReplica(replica(one, two)?)),
+        b"RemoveReplica" => Ok(Change::RemoveReplica(replica(one, two)?)),
+        b"AddSentinel" => Ok(Change::AddSentinel(Member {
+            id: id(one)?,
+            addr: addr(two)?,
+        })),
+        b"RemoveSentinel" => Ok(Change::RemoveSentinel(id(one)?)),
+        b"ReplaceHost" => Ok(Change::ReplaceHost(Replacement {
+            old: ip(one)?,
+            new: ip(two)?,
+            id: id(three)?,
+        })),
+        b"Set" => Ok(Change::Set(NewSetting {
+            master: name(one)?,
+            setting: setting(two)?,
+            value: number_32(three)?,
+        })),
+        _ => Err(Unplayed::WrongWords),
+    }
+}
+
+/// Tells the texts of files once their group is changed, or why it isn't.
+fn tell_changed(alloc: Global, words: &[Vec<u8>], told: &mut Told) -> Result<(), Unplayed> {
+    let [kind, one, two, three, files @ ..] = words else {
+        return Err(Unplayed::WrongWords);
+    };
+    let change = change(kind, one, two, three)?;
+    let files = files_of(alloc, files)?;
+    match changed_texts(alloc, files.as_slice(), &change) {
+        Ok(texts) => {
+            for text in texts.as_slice() {
+                told.bytes(text.as_slice())?;
+            }
+            told.nothing()
+        }
+        Err(ChangeFault::NoMemory) => Err(Unplayed::NoMemory),
+        Err(fault) => told.shown(&fault),
+    }
+}
+
 /// Tells all faults of the file with these bytes.
 fn tell_notes(alloc: Global, file: &[u8], told: &mut Told) -> Result<(), Unplayed> {
     let mut out = Vec::from_slice(alloc, BEFORE)?;
@@ -147,6 +227,7 @@ pub(crate) fn play(
     match (call, words) {
         ("id_line", [bytes]) => tell_id(alloc, bytes, told),
         ("are_one_group", words) => tell_one_group(alloc, words, told),
+        ("changed_texts", words) => tell_changed(alloc, words, told),
         ("add_notes", file) => tell_notes(alloc, &joined(alloc, file)?, told),
         ("add_warnings" | "add_watch_warnings", [sentinels, file @ ..]) => {
             let file = joined(alloc, file)?;

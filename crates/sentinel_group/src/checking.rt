@@ -39,7 +39,7 @@ fn named_conf(rt: HostRuntime, path: &str) -> Result<NamedConf, ExitCode> {
 }
 
 /// What the files say. Each file that is refused is told, and then the status tells it too.
-fn confs_of(rt: HostRuntime, paths: &[&str]) -> Result<Vec<NamedConf>, ExitCode> {
+pub(crate) fn confs_of(rt: HostRuntime, paths: &[&str]) -> Result<Vec<NamedConf>, ExitCode> {
     let mut confs = Vec::new(rt.alloc());
     let mut refused = None;
     for path in paths {

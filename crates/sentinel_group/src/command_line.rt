@@ -1,5 +1,6 @@
 //! The words of the command line, by `clap`.
 
+use crate::change_words::change_command;
 use crate::failures::fail;
 use crate::versions::VERSION;
 use clap::builder::ValueParser;
@@ -239,6 +240,7 @@ pub(crate) fn command<'a>(alloc: Global) -> Result<Command<'a>, AllocError> {
         .version(VERSION)
         .subcommand_required(true)
         .subcommand(answer(alloc)?)?
+        .subcommand(change_command(alloc)?)?
         .subcommand(check(alloc)?)?
         .subcommand(new_group(alloc)?)?
         .subcommand(new_id(alloc))?

@@ -1,8 +1,13 @@
 //! The program `sentinel_group`: `answer` serves the commands of standard input on standard output, `serve` runs a
 //! group with its ports, `watch` runs one Sentinel over real Redis servers, `replay` plays a story of a group, `check`
-//! tells what group files make, `new-id` prints a run id for a new one, `new-group` writes the files of a new group.
+//! tells what group files make, `new-id` prints a run id for a new one, `new-group` writes the files of a new group,
+//! `change` those of a changed one.
 #![tactic(auto)]
 
+mod change_orders;
+mod change_steps;
+mod change_words;
+mod changing;
 mod checking;
 mod command_line;
 mod conf_paths;
@@ -26,6 +31,7 @@ mod watching;
 
 ghost use Rattle.std.specs.Prelude.{◌<◌, ◌-◌, ◌^◌};
 
+use crate::changing::change;
 use crate::checking::check;
 use crate::command_line::{command, refuse_unread, tell_words, words};
 use crate::conf_paths::ConfPath;
@@ -117,6 +123,7 @@ fn main(rt: HostRuntime) -> ExitCode {
     };
     match command.try_get_matches_from(words.as_slice()) {
         Ok(matches) => match matches.subcommand() {
+            Some(("change", words)) => change(rt, words),
             Some(("check", words)) => check(rt, words),
             Some(("new-group", words)) => new_group(rt, words),
             Some(("new-id", _)) => new_id(rt),

@@ -1,6 +1,6 @@
 //! New folders of files that can hold passwords: whole, or not there.
 
-use crate::new_files::make_file;
+use crate::new_files::{make_file, make_file_as};
 use ballot_law::Text;
 use std::fs::{self, DirBuilder, File};
 use std::io::{self, ErrorKind, Write};
@@ -14,6 +14,8 @@ const OWNER_ALONE: u32 = 0o700;
 pub(crate) struct NewFile<'a> {
     pub(crate) name: String,
     pub(crate) text: &'a Text,
+    /// The file whose mode it gets; its owner's alone where there is none.
+    pub(crate) model: Option<&'a str>,
 }
 
 /// The path of a file in a folder.
@@ -28,7 +30,10 @@ fn path_in(rt: HostRuntime, folder: &str, name: &str) -> io::Result<String> {
 fn write_files(rt: HostRuntime, folder: &str, files: &[NewFile<'_>]) -> io::Result<()> {
     for file in files {
         let path = path_in(rt, folder, file.name.as_str())?;
-        let mut made = make_file(rt, path.as_str())?;
+        let mut made = match file.model {
+            Some(model) => make_file_as(rt, path.as_str(), model)?,
+            None => make_file(rt, path.as_str())?,
+        };
         made.write_all(file.text.as_slice())?;
         made.sync_all()?;
     }

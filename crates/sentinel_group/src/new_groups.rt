@@ -21,25 +21,25 @@ use tokens::{ip_text, run_id_of};
 const DOWN_AFTER_MS: u32 = 5_000;
 
 /// What the name of a master is to be.
-const NAMES: &str = "write 1 to 64 letters, digits, '.', '-' and '_'";
+pub(crate) const NAMES: &str = "write 1 to 64 letters, digits, '.', '-' and '_'";
 
 /// The bytes of a run id as a text.
 const RUN_ID_LENGTH: usize = 40;
 
 /// Tells what is wrong with a word, and what to write; the status tells it too.
-fn refuse_word(rt: HostRuntime, kind: &str, word: &str, remedy: &str) -> ExitCode {
+pub(crate) fn refuse_word(rt: HostRuntime, kind: &str, word: &str, remedy: &str) -> ExitCode {
     let _ = eprintln!(rt; "sentinel_group: {kind}: '{word}': {remedy}");
     ExitCode::from(REFUSED_WORDS)
 }
 
 /// Tells that memory was refused.
-fn want_memory(rt: HostRuntime) -> ExitCode {
+pub(crate) fn want_memory(rt: HostRuntime) -> ExitCode {
     fail(&rt, ServeFault::NoMemory)
 }
 
 /// Whose address a word is to be.
 #[derive(Clone, Copy)]
-enum Named {
+pub(crate) enum Named {
     Node,
     Sentinel,
 }
@@ -62,14 +62,19 @@ impl Named {
     }
 }
 
+/// The address that the word spells.
+pub(crate) fn address_of(rt: HostRuntime, word: &str, whose: Named) -> Result<Addr, ExitCode> {
+    match whose.address(word) {
+        Some(addr) => Ok(addr),
+        None => Err(refuse_word(rt, "BadAddress", word, whose.remedy())),
+    }
+}
+
 /// The addresses that these words spell.
 fn addresses_of(rt: HostRuntime, words: &[&str], whose: Named) -> Result<Vec<Addr>, ExitCode> {
     let mut addrs = Vec::new(rt.alloc());
     for word in words {
-        let Some(addr) = whose.address(word) else {
-            return Err(refuse_word(rt, "BadAddress", word, whose.remedy()));
-        };
-        if addrs.push(addr).is_err() {
+        if addrs.push(address_of(rt, word, whose)?).is_err() {
             return Err(want_memory(rt));
         }
     }
@@ -77,7 +82,7 @@ fn addresses_of(rt: HostRuntime, words: &[&str], whose: Named) -> Result<Vec<Add
 }
 
 /// A run id of the system's random bytes.
-fn random_id(rt: HostRuntime) -> Result<RunId, ExitCode> {
+pub(crate) fn random_id(rt: HostRuntime) -> Result<RunId, ExitCode> {
     let mut bytes = [0; ID_BYTES];
     if rt.fill_bytes(&mut bytes).is_err() {
         return Err(fail(&rt, ServeFault::Read));
@@ -157,7 +162,7 @@ fn refuse_shared(rt: HostRuntime, nodes: &[Addr], sentinels: &[Addr]) -> Result<
     let ip = str::from_utf8(ip.as_slice()).unwrap_or("");
     let port = addr.port;
     let _ = eprintln!(rt;
-        "sentinel_group: SharedAddress: {ip}:{port} is named twice: each node and each Sentinel has an address of its own"
+        "sentinel_group: SharedAddress: {ip}:{port} is named twice: each node and Sentinel has an address of its own"
     );
     Err(ExitCode::from(REFUSED_WORDS))
 }
@@ -198,7 +203,7 @@ fn group_of(rt: HostRuntime, words: &ArgMatches) -> Result<NewGroup, ExitCode> {
 }
 
 /// The name of the file of a Sentinel at this address.
-fn file_name(rt: HostRuntime, addr: Addr) -> Result<String, ExitCode> {
+pub(crate) fn file_name(rt: HostRuntime, addr: Addr) -> Result<String, ExitCode> {
     let ip = ip_text(addr.ip);
     let ip = str::from_utf8(ip.as_slice()).unwrap_or("");
     let port = addr.port;
@@ -226,7 +231,14 @@ fn files_of<'a>(
     let mut files = Vec::new(rt.alloc());
     for (member, text) in group.sentinels.iter().zip(texts.iter()) {
         let name = file_name(rt, member.addr)?;
-        if files.push(NewFile { name, text }).is_err() {
+        if files
+            .push(NewFile {
+                name,
+                text,
+                model: None,
+            })
+            .is_err()
+        {
             return Err(want_memory(rt));
         }
     }
@@ -234,7 +246,7 @@ fn files_of<'a>(
 }
 
 /// Tells why a folder isn't written, with the system's reason.
-fn refuse_folder(rt: HostRuntime, folder: &str, error: io::Error) -> ExitCode {
+pub(crate) fn refuse_folder(rt: HostRuntime, folder: &str, error: io::Error) -> ExitCode {
     let kind = match error.kind() {
         io::ErrorKind::DirectoryNotEmpty => "NotEmpty",
         _ => "Unwritable",

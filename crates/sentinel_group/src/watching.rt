@@ -1,6 +1,8 @@
 //! `watch`: one Sentinel that watches Redis servers.
 
-ghost use Rattle.std.specs.Prelude.{◌≡◌, ◌<◌, ◌-◌, ◌^◌, IfOk};
+ghost use Rattle.std.specs.Prelude.{◌≡◌, ◌<◌, ◌-◌, ◌^◌, [], IfOk};
+ghost use Rattle.sentinel_conf.specs.Meaning.{last};
+ghost use Rattle.sentinel_conf.specs.Watch.WatchLines.{own_pass_of};
 
 use crate::command_line::port_threads_of;
 use crate::conf_paths::ConfPath;
@@ -11,7 +13,7 @@ use crate::noted_store::NotedStore;
 use crate::ready_files::ReadyFile;
 use crate::starting::note_sentinel;
 use crate::telling::{note_watch, tell_faults, tell_watch};
-use ballot_law::{Roster, Text};
+use ballot_law::Text;
 use clap::ArgMatches;
 use client_port::{Admission, PortAddress};
 use log::{LevelFilter, Log, info};
@@ -76,17 +78,6 @@ pub(crate) fn refuse_watch(
     }
 }
 
-/// With which words the Sentinel logs in to the nodes of each master, and to the other Sentinels.
-fn logins_of(alloc: Global, roster: &Roster, watch: &WatchConf) -> Result<Logins, AllocError> {
-    let mut logins = Logins::new(alloc);
-    for master in roster.masters() {
-        let name = &master.name;
-        logins.add(alloc, watch.node_user(name), watch.node_pass(name))?;
-    }
-    logins.set_sentinels(alloc, watch.sent_user(), watch.sent_pass())?;
-    Ok(logins)
-}
-
 /// The ip of each other Sentinel of the group.
 fn peers_of(alloc: Global, conf: &Conf) -> Result<Vec<u32>, AllocError> {
     let mut peers = Vec::new(alloc);
@@ -101,7 +92,9 @@ fn peers_of(alloc: Global, conf: &Conf) -> Result<Vec<u32>, AllocError> {
 /// Whom its port lets in: in the protected mode, where no password is wanted, the clients of this machine alone, at
 /// whichever ips it listens. Where as many clients are there as may be, the client goes that has been silent for
 /// longest; seats for the other Sentinels are kept.
-fn admission_of(alloc: Global, conf: &Conf, watch: &WatchConf) -> Result<Admission, AllocError> {
+fn admission_of(alloc: Global, conf: &Conf, watch: &WatchConf) -> Result<Admission, AllocError>
+    ensures { IfOk result (λ admission. admission.password ≡ last own_pass_of [] watch.now) }
+{
     let password = Vec::from_slice(alloc, watch.own_pass())?;
     Ok(Admission {
         near_only: watch.protected_mode() && password.is_empty(),
@@ -139,7 +132,7 @@ fn taken_settings(
         addresses: addresses_of(alloc, conf, watch)?,
         port,
         admission: admission_of(alloc, conf, watch)?,
-        logins: logins_of(alloc, conf.roster(), watch)?,
+        logins: Logins::of(alloc, conf.roster(), watch)?,
     })
 }
 

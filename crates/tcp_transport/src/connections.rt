@@ -1,5 +1,9 @@
 //! All connections of a Sentinel.
 
+ghost use Rattle.std.specs.Prelude.{◌≡◌};
+ghost use Rattle.links.specs.Speaking.{login_bytes};
+ghost use Rattle.tcp_transport.specs.Logins.{sent_to};
+
 use crate::exchange::{Outgoing, SentinelEnd, TransportEnd, WatchState, exchange};
 use crate::fault_notes::note_fault;
 use crate::logins::Logins;
@@ -81,7 +85,9 @@ fn pings_of(conf: &Conf, node: NodeName) -> u64 {
 }
 
 /// The login of a node: that of its master's nodes, or that of all other Sentinels.
-fn login_of<'a>(roster: &Roster, logins: &'a Logins, node: NodeName) -> Login<'a> {
+fn login_of<'a>(roster: &Roster, logins: &'a Logins, node: NodeName) -> Login<'a>
+    ensures { login_bytes result ≡ sent_to roster.now logins.now.of_masters.items logins.now.of_sentinels node }
+{
     let NodeName::StoreAt(number) = node else {
         return logins.of_sentinels();
     };

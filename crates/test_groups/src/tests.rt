@@ -3,6 +3,8 @@
 mod clients;
 mod confs;
 mod groups;
+mod node_ports;
+mod note_queues;
 mod orders;
 mod outlets;
 mod ports;

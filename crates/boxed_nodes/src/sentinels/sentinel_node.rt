@@ -179,7 +179,7 @@ impl Node for SentinelNode {
         self.sentinel.won()
     }
 
-    // Many clauses: nine are the trait's, said again for this node, and the last seven are those of the Sentinel
+    // Many clauses: nine are the trait's, said again for this node, and the last eight are those of the Sentinel
     // inside.
     fn take(&mut self, input: &Input, outbox: &mut Outbox) -> Result<Took, TakeFault>
         requires { IsTakeable input.now.event }
@@ -202,6 +202,7 @@ impl Node for SentinelNode {
             ↔ (self.new.sentinel.core.kept ≢ self.old.sentinel.core.kept)) }
         ensures pending { IfOk result (λ took. self.new.sentinel.phase
             ≡ phase.Pending (took.changed || is_flush input.entry.now.event)) }
+        ensures plan { OnOk result (self.new.sentinel.plan ≡ self.old.sentinel.plan) }
         ensures stored { OnOk result (self.new.sentinel.stored ≡ self.old.sentinel.stored) }
         ensures file { self.new.file ≡ self.old.file }
         ensures same { OnErr result (self.new.sentinel ≡ self.old.sentinel) }

@@ -50,20 +50,20 @@ pub fn is_password(bytes: &[u8]) -> bool {
 }
 
 /// Adds words.
-fn add(out: &mut Vec<u8>, words: &str) -> Result<(), NoMemory> {
+pub(crate) fn add(out: &mut Vec<u8>, words: &str) -> Result<(), NoMemory> {
     out.extend_from_slice(words.as_bytes())?;
     Ok(())
 }
 
 /// Adds an ip and a port as two words.
-fn add_addr(out: &mut Vec<u8>, addr: Addr) -> Result<(), NoMemory> {
+pub(crate) fn add_addr(out: &mut Vec<u8>, addr: Addr) -> Result<(), NoMemory> {
     out.extend_from_slice(ip_text(addr.ip).as_slice())?;
     add(out, " ")?;
     add_number(out, u64::from(addr.port))
 }
 
 /// Adds the words with which a line about the master begins.
-fn begin(out: &mut Vec<u8>, directive: &str, name: &Name) -> Result<(), NoMemory> {
+pub(crate) fn begin(out: &mut Vec<u8>, directive: &str, name: &Name) -> Result<(), NoMemory> {
     add(out, "sentinel ")?;
     add(out, directive)?;
     add(out, " ")?;
@@ -72,7 +72,7 @@ fn begin(out: &mut Vec<u8>, directive: &str, name: &Name) -> Result<(), NoMemory
 }
 
 /// Adds a line with a number of the master.
-fn add_setting(
+pub(crate) fn add_setting(
     out: &mut Vec<u8>,
     directive: &str,
     name: &Name,
@@ -96,7 +96,7 @@ fn add_quoted(out: &mut Vec<u8>, bytes: &[u8]) -> Result<(), NoMemory> {
 }
 
 /// Adds the lines of the Sentinel itself.
-fn add_own(out: &mut Vec<u8>, own: &Member) -> Result<(), NoMemory> {
+pub(crate) fn add_own(out: &mut Vec<u8>, own: &Member) -> Result<(), NoMemory> {
     add(out, "port ")?;
     add_number(out, u64::from(own.addr.port))?;
     add(out, "\nsentinel announce-ip ")?;

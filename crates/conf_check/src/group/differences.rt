@@ -55,7 +55,7 @@ fn difference_of_rosters(one: &Roster, other: &Roster) -> Difference {
 }
 
 /// Whether the two are one configuration.
-fn is_same_card(one: Card, other: Card) -> bool
+pub(crate) fn is_same_card(one: Card, other: Card) -> bool
     ensures { IsTrue result ↔ (one ≡ other) }
 {
     one == other

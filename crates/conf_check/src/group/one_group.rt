@@ -29,7 +29,7 @@ impl HoldsConf for Conf {
 }
 
 /// The run id of a file's own Sentinel.
-fn own_id(conf: &Conf) -> RunId
+pub(crate) fn own_id(conf: &Conf) -> RunId
     ensures { result ≡ conf.now.id }
 {
     conf.roster().sentinels()[conf.place() as usize].id

@@ -9,7 +9,7 @@ use sentinel_conf::{Conf, ConfKind, read};
 use std::alloc::Global;
 
 /// What these texts say as files, in order; None where one of them can't be read.
-fn read_all(alloc: Global, texts: &[Text]) -> Result<Option<Vec<Conf>>, NoMemory>
+pub(crate) fn read_all(alloc: Global, texts: &[Text]) -> Result<Option<Vec<Conf>>, NoMemory>
     ensures { IfOk result (λ found. MatchOption found (confs_of texts.now ≡ None) (λ confs. confs_of texts.now ≡ Some confs.items)) }
 {
     let mut confs = Vec::new(alloc);

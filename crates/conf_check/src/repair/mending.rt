@@ -3,7 +3,7 @@
 ghost use Rattle.std.specs.Prelude.{◌≡◌, ◌≢◌, IfOk, IfErr, max, true, false, map};
 ghost use Rattle.std.specs.List.{AllByRecursion};
 ghost use Rattle.sentinel_conf.specs.Rewritten.{rewritten};
-ghost use Rattle.conf_check.specs.Repair.Mended.{card_of, cards_of, newer, newer_each, newest_from, last_epoch_from, with_cards, kept_with, mended_text, agree, all_agree, is_settled, AreCardsOf, Fits, HaveRoster, HaveOneRoster};
+ghost use Rattle.conf_check.specs.Repair.Mended.{card_of, cards_of, newer, newer_each, newest_from, newest, last_epoch_from, last_epoch, with_cards, kept_with, mended_text, agree, all_agree, is_settled, AreCardsOf, Fits, HaveRoster, HaveOneRoster};
 ghost use Rattle.conf_check.specs.declared.repair.mending.MendFault.TheVariants.{NotOneRoster, TwoAddresses};
 
 use crate::group::HoldsConf;
@@ -39,9 +39,9 @@ impl From<AllocError> for MendFault {
 
 /// The greatest current epoch of files, and their newest configurations, master by master.
 #[derive(Drop)]
-struct Newest {
-    current: u64,
-    cards: Vec<Card>,
+pub(crate) struct Newest {
+    pub(crate) current: u64,
+    pub(crate) cards: Vec<Card>,
 }
 
 /// The configurations that are kept of these masters.
@@ -134,6 +134,21 @@ fn newest_of<C: HoldsConf>(alloc: Global, first: &Conf, more: &[C]) -> Result<Ne
         rest = behind;
     }
     Ok(newest)
+}
+
+/// The newest configurations of the files, and their greatest current epoch; none where there are no files. The faults
+/// are those of `mended_texts`, but no `TwoAddresses`.
+pub(crate) fn newest_among<C: HoldsConf>(alloc: Global, files: &[C]) -> Result<Newest, MendFault>
+    ensures current { IfOk result (λ it. it.current ≡ last_epoch (map C.conf_of files.now)) }
+    ensures cards { IfOk result (λ it. it.cards.items ≡ newest (map C.conf_of files.now)) }
+{
+    match files.split_first() {
+        Some((first, more)) => newest_of(alloc, first.conf(), more),
+        None => {
+            let cards = Vec::new(alloc);
+            Ok(Newest { current: 0, cards })
+        }
+    }
 }
 
 /// Whether each of these is of an earlier epoch than the newest, or at its address.

@@ -8,8 +8,9 @@ use Rattle.ballot_law.specs.declared.events.Event.TheVariants.{Answered, Pinged,
 use Rattle.ballot_law.specs.declared.messages.Body.{Body}
 use Rattle.ballot_law.specs.declared.messages.Body.TheVariants.{Ask, Ping, InfoAsk}
 use Rattle.ballot_law.specs.declared.messages.NodeName.{NodeName}
+use Rattle.ballot_law.specs.Orders.{same_id}
 use Rattle.ballot_law.specs.PingReplies.{reply_of}
-use Rattle.ballot_law.specs.Words.{then_some, some_if}
+use Rattle.ballot_law.specs.Words.{then_some, some_if, run_id}
 use Rattle.node_texts.specs.Messages.MessageTexts.{hello_channel}
 use Rattle.resp2.specs.Commands.{candidate}
 use Rattle.resp2.specs.Framing.Frame.{Frame, FrameList, no_frames, frame, simple, fault, int, bulk, items}
@@ -87,6 +88,16 @@ abbrev pub ask_heard : NodeName → (master : ℕ) → Addr → Frame → Result
 ask_heard voter master addr (fault text) = Ok None
 ask_heard voter master addr f = answered voter master addr (vote_of f)
 
+-- who has another run id, or none, is another one than who was asked; an error tells nothing
+abbrev pub named : RunId → Option RunId → Result (Option Event) LinkFault
+named id (Some other) = if same_id id other then Ok None else Err Strange
+named id None = Err Strange
+
+abbrev pub id_heard : RunId → Frame → Result (Option Event) LinkFault
+id_heard id (bulk text) = named id (run_id text)
+id_heard id (fault text) = Ok None
+id_heard id _ = Err Strange
+
 abbrev pub is_word : List ℕ → Frame → Bool
 is_word word (bulk bytes) = bytes_eq bytes word
 is_word word _ = false
@@ -120,6 +131,7 @@ heard_of node asks.Ping f = ping_heard node f
 heard_of node asks.Info f = info_heard node f
 heard_of node (asks.Ask master addr) f = ask_heard node master addr f
 heard_of node asks.Order f = Ok None
+heard_of node (asks.Identity id) f = id_heard id f
 heard_of node asks.Hello f = hello_heard f
 
 -- ---- one connection

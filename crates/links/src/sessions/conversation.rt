@@ -1,6 +1,6 @@
 //! What was asked over a connection, what came, and what isn't sent yet.
 
-ghost use Rattle.std.specs.Prelude.{◌≡◌, ◌↔◌, ◌≤◌, ◌<◌, ◌++◌, ◌∷◌, ℕ, List, [], map, length, drop, IsTrue, IsFalse, IfOk, IfErr, IfSome, IfNone, None, OnOk, OnErr};
+ghost use Rattle.std.specs.Prelude.{◌≡◌, ◌↔◌, ◌≤◌, ◌<◌, ◌++◌, ◌∷◌, ℕ, List, [], codes, map, length, drop, IsTrue, IsFalse, IfOk, IfErr, IfSome, IfNone, None, OnOk, OnErr};
 ghost use Rattle.ballot_law.specs.declared.events.Event.{Event};
 ghost use Rattle.node_texts.specs.Messages.MessageTexts.{message_bytes, words_frame, IsWritable};
 ghost use Rattle.resp2.specs.Framing.Frame.{view, spelling};
@@ -14,7 +14,7 @@ use crate::sessions::fault::LinkFault;
 use crate::sessions::long_frames::LongFrames;
 use crate::sessions::questions::{Question, question_of};
 use crate::sessions::replies::heard_of;
-use ballot_law::{Event, Message, NoMemory, NodeName};
+use ballot_law::{Event, Message, NoMemory, NodeName, RunId};
 use bytes::BytesMut;
 use node_texts::message_text;
 use resp2::{FrameFault, OutText, Value, push_bulk, push_size};
@@ -168,6 +168,24 @@ impl Conversation {
             return Err(LinkFault::NoMemory);
         }
         self.put_out(&text, Question::Order)
+    }
+
+    /// Puts out the question for the run id of a Sentinel that is to have this one, or changes nothing.
+    pub(crate) fn ask_id(&mut self, id: RunId) -> Result<(), LinkFault>
+        ensures node { self.new.node ≡ self.old.node }
+        ensures listens { self.new.listens ≡ self.old.listens }
+        ensures frames { self.new.frames ≡ self.old.frames }
+        ensures ok { OnOk result ((self.new.unsent.items ≡ self.old.unsent.items ++ spelling (words_frame (codes "SENTINEL" ∷ codes "MYID" ∷ [])))
+            × (self.new.asked.items ≡ self.old.asked.items ++ Question.Identity id ∷ [])) }
+        ensures few { OnOk result (length self.new.asked.items ≤ ASKED_MAX) }
+        ensures err { OnErr result ((self.new.unsent.items ≡ self.old.unsent.items) × (self.new.asked.items ≡ self.old.asked.items)) }
+        ensures fault { IfErr result (IsRefused self.old.asked.items) }
+    {
+        let mut text = OutText::new(self.alloc);
+        if push_words(&mut text, &[b"SENTINEL", b"MYID"]).is_err() {
+            return Err(LinkFault::NoMemory);
+        }
+        self.put_out(&text, Question::Identity { id })
     }
 
     /// What the next value answers.

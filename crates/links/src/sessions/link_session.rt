@@ -1,6 +1,6 @@
 //! A connection's conversation as its callers see it.
 
-ghost use Rattle.std.specs.Prelude.{◌≡◌, ◌↔◌, ◌≤◌, ◌<◌, ◌++◌, ◌∷◌, List, [], map, length, drop, true, false, None, OnOk, OnErr, IfErr, IfOk, IfSome, IsTrue};
+ghost use Rattle.std.specs.Prelude.{◌≡◌, ◌↔◌, ◌≤◌, ◌<◌, ◌++◌, ◌∷◌, List, [], codes, map, length, drop, true, false, None, OnOk, OnErr, IfErr, IfOk, IfSome, IsTrue};
 ghost use Rattle.ballot_law.specs.declared.events.Event.{Event};
 ghost use Rattle.node_texts.specs.Messages.MessageTexts.{message_bytes, words_frame, IsWritable};
 ghost use Rattle.resp2.specs.Framing.Frame.{spelling};
@@ -10,7 +10,7 @@ ghost use Rattle.links.specs.Sessions.Links.{question_of, IsRefused, Receives};
 use crate::sessions::conversation::{ASKED_MAX, Conversation};
 use crate::sessions::fault::LinkFault;
 use crate::sessions::long_bulk::HELD_MAX;
-use ballot_law::{Event, Message, NodeName};
+use ballot_law::{Event, Message, NodeName, RunId};
 use std::alloc::Global;
 use std::marker::Model;
 
@@ -93,6 +93,19 @@ impl LinkSession {
         self.talk.order(words)
     }
 
+    /// Puts out SENTINEL MYID, to a Sentinel that is to have this run id. A refusal changes nothing.
+    pub fn ask_id(&mut self, id: RunId) -> Result<(), LinkFault>
+        ensures ok { OnOk result (self.new ≡ record self.old {
+          unsent = self.old.unsent ++ spelling (words_frame (codes "SENTINEL" ∷ codes "MYID" ∷ []));
+          asked = self.old.asked ++ asks.Identity id ∷ [];
+        }) }
+        ensures few { OnOk result (length self.new.asked ≤ ASKED_MAX) }
+        ensures err { OnErr result (self.new ≡ self.old) }
+        ensures fault { IfErr result (IsRefused self.old.asked) }
+    {
+        self.talk.ask_id(id)
+    }
+
     /// The bytes that aren't sent yet.
     pub fn unsent(&self) -> &[u8]
         ensures { result.now ≡ self.now.unsent }
@@ -120,12 +133,13 @@ impl LinkSession {
     ///
     /// A value answers the oldest question: a PING's is `Pinged`, an INFO's `InfoRead`, and the answer to the question
     /// whether a master is down is `Answered` with the master and the address of that question; the answers to other
-    /// messages tell nothing, and so does an error in answer to an INFO or to such a question. On a connection that
-    /// listens each value after the answers is a hello that a data node passes on.
+    /// messages tell nothing, and so does an error in answer to an INFO, to such a question, or to that for a run id.
+    /// On a connection that listens each value after the answers is a hello that a data node passes on.
     ///
     /// `Unread` where the bytes are no RESP2, `Unasked` and `Strange` where a value answers no question or not its own,
-    /// and `NoMemory`: what the values before told was added, and nothing else. From then on the session answers the
-    /// same fault for good and has nothing; the caller opens the connection anew.
+    /// as where a Sentinel names another run id than it is to have, and `NoMemory`: what the values before told was
+    /// added, and nothing else. From then on the session answers the same fault for good and has nothing; the caller
+    /// opens the connection anew.
     pub fn received(&mut self, piece: &[u8], events: &mut Vec<Event>) -> Result<(), LinkFault>
         ensures received { self.old.ended ≡ None → (more : List Event) × (events.new.items ≡ events.old.items ++ more)
             × Receives self.old.node self.old.listens self.old.asked (self.old.held ++ piece.now) result more self.new.asked self.new.held }

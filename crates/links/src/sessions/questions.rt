@@ -3,7 +3,7 @@
 ghost use Rattle.std.specs.Prelude.{◌≡◌};
 ghost use Rattle.links.specs.Sessions.Links.{question_of};
 
-use ballot_law::{Addr, Body};
+use ballot_law::{Addr, Body, RunId};
 
 /// What the answer to a message will be about.
 #[derive(Clone, Copy, PartialEq, Eq)]
@@ -16,6 +16,8 @@ pub enum Question {
     Ask { master: u16, addr: Addr },
     /// An answer that tells nothing, as that to PUBLISH or REPLICAOF.
     Order,
+    /// The answer to SENTINEL MYID of a Sentinel that is to have this run id.
+    Identity { id: RunId },
     /// What comes on a connection that listens to hellos, unasked.
     Hello,
 }

@@ -3,7 +3,7 @@
 ghost use Rattle.std.specs.Prelude.{◌≡◌, map};
 ghost use Rattle.resp2.specs.Commands as commands;
 ghost use Rattle.resp2.specs.Framing.Frame.{view, frames_view};
-ghost use Rattle.links.specs.Sessions.Links.{is_down, epoch_of, leader_of, vote_of, votes_of, ping_heard, info_heard, ask_heard, heard_of, is_word, is_confirmed, begins_message, hello_of_list, hello_heard};
+ghost use Rattle.links.specs.Sessions.Links.{is_down, epoch_of, leader_of, vote_of, votes_of, ping_heard, info_heard, ask_heard, named, id_heard, heard_of, is_word, is_confirmed, begins_message, hello_of_list, hello_heard};
 
 use crate::sessions::fault::LinkFault;
 use crate::sessions::questions::Question;
@@ -139,6 +139,34 @@ fn ask_heard(
     }
 }
 
+/// What it tells that a Sentinel which is to have this run id has that one, or none.
+fn named(id: RunId, other: Option<RunId>) -> Result<Option<Event>, LinkFault>
+    ensures { result ≡ named id other }
+{
+    match other {
+        Some(other) => {
+            if id.is_same(&other) {
+                Ok(None)
+            } else {
+                Err(LinkFault::Strange)
+            }
+        }
+        None => Err(LinkFault::Strange),
+    }
+}
+
+/// What the answer to SENTINEL MYID tells, of a Sentinel that is to have this run id; an error tells nothing.
+fn id_heard(id: RunId, value: &Value) -> Result<Option<Event>, LinkFault>
+    ensures { result ≡ id_heard id (view value.now) }
+{
+    match value {
+        Value::Bulk(text) => named(id, run_id_of(text.as_slice())),
+        Value::Fault(_) => Ok(None),
+        Value::Simple(_) | Value::Int(_) | Value::Items(_) => Err(LinkFault::Strange),
+        Value::NullBulk | Value::NullItems => Err(LinkFault::Strange),
+    }
+}
+
 /// Whether the value is a bulk string of this word.
 fn is_word(value: &Value, word: &[u8]) -> bool
     ensures { result ≡ is_word word.now (view value.now) }
@@ -209,6 +237,7 @@ pub(crate) fn heard_of(
         Question::Info => info_heard(node, value),
         Question::Ask { master, addr } => ask_heard(node, master, addr, &value),
         Question::Order => Ok(None),
+        Question::Identity { id } => id_heard(id, &value),
         Question::Hello => hello_heard(value),
     }
 }

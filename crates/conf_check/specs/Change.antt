@@ -1,0 +1,2 @@
+pub mod ChangedRosters
+pub mod Keeping

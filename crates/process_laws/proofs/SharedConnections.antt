@@ -1,0 +1,189 @@
+-- A connection to a port that has courtesies and other connections.
+use Rattle.std.proofs.Common.{◌≡◌, ◌≢◌, ℕ, false, List, [], ◌∷◌, ◌++◌, map, refl, ap, sym, ◌∙◌, subst, append_assoc, Option, Some, None, Result, Ok}
+use Rattle.std.specs.List.{flat_map, AllByRecursion}
+use Rattle.ballot_law.specs.declared.commands.Command.{Command}
+use Rattle.ballot_law.specs.declared.commands.Command.TheVariants.{Ping as PingCommand, IsMasterDownByAddr, Subscribe}
+use Rattle.ballot_law.specs.declared.events.Event.{Event}
+use Rattle.ballot_law.specs.declared.messages.Body.{Body}
+use Rattle.ballot_law.specs.declared.messages.Body.TheVariants.{Ask, Answer, Ping, PingText, InfoAsk, InfoText, Publish, HelloText, ReplicaOf, AddressAsk, AddressAnswer, PortReply, RoleAsk, RoleText, Done}
+use Rattle.ballot_law.specs.declared.messages.NodeName.{NodeName}
+use Rattle.ballot_law.specs.declared.messages.NodeName.TheVariants.{SentinelAt}
+use Rattle.ballot_law.specs.declared.messages.Output.TheVariants.{Send}
+use Rattle.client_commands.specs.Courtesies.{is_stranger}
+use Rattle.courteous_sessions.specs.Epochs.{heard, heard_as}
+use Rattle.courteous_sessions.specs.Visits.{Guest, guest, Serves}
+use Rattle.courteous_sessions.proofs.Keeping.{own_as_before}
+use Rattle.links.specs.declared.sessions.questions.Question.{Question}
+use Rattle.links.specs.Sessions.Links.{question_of, next_asked, listed, heard_of, Tells}
+use Rattle.links.specs.Sessions.LongValues.{told_value, IsLinkValue}
+use Rattle.links.proofs.SessionsLemmas.Values.{value_plain}
+use Rattle.node_texts.specs.Messages.Deliveries.{heard as delivery}
+use Rattle.node_texts.specs.Messages.MessageTexts.{message_bytes, body_frame}
+use Rattle.port_sessions.specs.Talks.{Responds}
+use Rattle.pubsub.specs.Listening.{is_listening}
+use Rattle.resp2.specs.declared.command.CommandFault.{CommandFault}
+use Rattle.resp2.specs.Commands.{command_of}
+use Rattle.resp2.specs.Framing.Frame.{Frame, spelling, IsFrame}
+use Rattle.resp2.proofs.Asks.{ask_again}
+use Rattle.resp2.proofs.FramingLemmas.Streams.{one_spelling}
+use Rattle.sentinel_cell.specs.declared.entry.Entry.{Entry}
+use Rattle.sentinel_cell.specs.declared.view.View.{View}
+use Rattle.sentinel_cell.specs.Histories.{World, replay}
+use Rattle.process_laws.specs.Connections.{IsAskable, Fits, answer_body, port_answer, IsDelivered, AreDelivered}
+use Rattle.process_laws.specs.SharedConnections.{IsNear, ServedBeside, SharedAnswersAreDelivered, LaterQuestionsWait}
+use Rattle.process_laws.proofs.Joining.{spelled_some, first_asked, others_asked, by_first}
+use Rattle.process_laws.proofs.Turns.{replied_to, question_spelled}
+
+-- ---- what the seat did meanwhile
+
+-- the delivery of an answer that was released later than a view is one that was released later than an earlier view
+pub later_delivered : (start : World) (asker : NodeName) (v u : View) (more : List Entry) (question : Body) (event : Event) (w : View) → u.front ≡ v.front ++ more
+    → IsDelivered start asker u question event w → IsDelivered start asker v question event w
+later_delivered start asker v u more question event w later d =
+    let history : u.front ++ d.between ≡ v.front ++ (more ++ d.between) = ap (λ (l : List Entry). l ++ d.between) later ∙ append_assoc v.front more d.between in
+    record {
+      now = d.now;
+      command = d.command;
+      delivered = d.delivered;
+      between = more ++ d.between;
+      entry = d.entry;
+      front = d.front ∙ ap (λ (l : List Entry). l ++ d.entry ∷ []) history;
+      legal = d.legal;
+      input = d.input;
+      outcome = d.outcome;
+      released = subst (λ (l : List Entry). d.entry.outputs ≡ Send (port_answer (replay start l) d.now d.command) ∷ []) history d.released;
+      is_event = subst
+          (λ (l : List Entry). let answer = answer_body (replay start l) d.now d.command in Fits question answer → delivery (SentinelAt start.plan.place) answer ≡ Some event)
+          history d.is_event;
+    }
+
+-- ---- the answer to a question
+
+-- what a question is answered as without courtesies, and what is known then
+pub record RespondsAlike (start : World) (now : ℕ) (g : Guest) (question : Body) (bytes : List ℕ) (h : Guest) : Type 0 where
+  pub responds : Responds start now g.party (command_of (body_frame question)) bytes h.party
+  pub same : h ≡ guest h.party g.listening g.told g.asker
+
+-- by the command that a value is, which is heard as it is and told as it is
+alike : (start : World) (now : ℕ) (g : Guest) (read : Result Command CommandFault) (command heard_command : Command) (bytes answer : List ℕ) (h : Guest)
+    → read ≡ Ok command → heard_command ≡ command → bytes ≡ answer → Responds start now g.party (Ok heard_command) answer h.party
+    → Responds start now g.party read bytes h.party
+alike start now g read command heard_command bytes answer h is near told r =
+    subst (λ (c : Result Command CommandFault). Responds start now g.party c bytes h.party) (sym is)
+    (subst (λ (b : List ℕ). Responds start now g.party (Ok command) b h.party) (sym told)
+    (subst (λ (c : Command). Responds start now g.party (Ok c) answer h.party) near r))
+
+no_subscribe_ping : PingCommand ≢ Subscribe
+no_subscribe_ping e = let no : ⊥ = cc in no
+
+ping_read : command_of (body_frame Ping) ≡ Ok PingCommand
+ping_read = refl
+
+by_ok : (one other : Command) → ◌≡◌ {A = Result Command CommandFault} (Ok one) (Ok other) → one ≡ other
+by_ok one other e = cc
+
+pub responds_alike : (start : World) (now : ℕ) (g : Guest) (question : Body) (bytes : List ℕ) (h : Guest) → IsAskable question → is_stranger g.asker ≡ false
+    → is_listening g.listening ≡ false → IsNear g (body_frame question) → Serves start now g (body_frame question) bytes h → RespondsAlike start now g question bytes h
+responds_alike start now g Ping bytes h askable known quiet near serves =
+    let own = own_as_before start now g h (body_frame Ping) PingCommand bytes known quiet no_subscribe_ping ping_read serves in
+    record { responds = alike start now g (command_of (body_frame Ping)) PingCommand PingCommand bytes own.0 h ping_read refl own.2 own.1; same = own.3 }
+responds_alike start now g (Ask m addr epoch candidate) bytes h askable known quiet near serves =
+    let command = IsMasterDownByAddr addr epoch candidate in
+    let value = body_frame (Ask m addr epoch candidate) in
+    let read : command_of value ≡ Ok command = ask_again addr epoch candidate askable.0 askable.1 askable.2 in
+    let own = own_as_before start now g h value command bytes known quiet (λ e. let no : ⊥ = cc in no) read serves in
+    let same_command = by_ok (heard g.asker.current command) command (ap (heard_as g.asker.current) (sym read) ∙ (near ∙ read)) in
+    record { responds = alike start now g (command_of value) command (heard g.asker.current command) bytes own.0 h read same_command own.2 own.1; same = own.3 }
+responds_alike start now g (Answer n addr down leader voted) bytes h askable known quiet near serves = absurd askable
+responds_alike start now g (PingText is_error text) bytes h askable known quiet near serves = absurd askable
+responds_alike start now g InfoAsk bytes h askable known quiet near serves = absurd askable
+responds_alike start now g (InfoText info) bytes h askable known quiet near serves = absurd askable
+responds_alike start now g (Publish hello) bytes h askable known quiet near serves = absurd askable
+responds_alike start now g (HelloText hello) bytes h askable known quiet near serves = absurd askable
+responds_alike start now g (ReplicaOf to) bytes h askable known quiet near serves = absurd askable
+responds_alike start now g (AddressAsk name) bytes h askable known quiet near serves = absurd askable
+responds_alike start now g (AddressAnswer shown) bytes h askable known quiet near serves = absurd askable
+responds_alike start now g (PortReply shown text) bytes h askable known quiet near serves = absurd askable
+responds_alike start now g RoleAsk bytes h askable known quiet near serves = absurd askable
+responds_alike start now g (RoleText role) bytes h askable known quiet near serves = absurd askable
+responds_alike start now g Done bytes h askable known quiet near serves = absurd askable
+
+-- ---- the whole connection
+
+pub delivered : (start : World) (asker : NodeName) (questions : List Body) (g : Guest) (values : List Frame) (unread not_yet_got bytes : List ℕ) (h : Guest)
+    (replies : List Frame) (held not_yet_come : List ℕ) (events : List Event) (left : List Question)
+    → AllByRecursion IsAskable questions → is_stranger g.asker ≡ false → is_listening g.listening ≡ false → g.party.listens ≡ None
+    → flat_map message_bytes questions ≡ (flat_map spelling values ++ unread) ++ not_yet_got → AllByRecursion IsFrame values
+    → ServedBeside start g values bytes h
+    → bytes ≡ (flat_map spelling replies ++ held) ++ not_yet_come → AllByRecursion IsLinkValue replies
+    → Tells (SentinelAt start.plan.place) false (map question_of questions) replies events left
+    → AreDelivered start asker g.party.view questions events
+delivered start asker questions g values unread not_yet_got bytes h [] held not_yet_come events left askable known quiet silent sent whole served put_out read tells =
+    subst (λ (all : List Event). AreDelivered start asker g.party.view questions all) (sym tells.0) tt
+delivered start asker [] g values unread not_yet_got bytes h (r ∷ rs) held not_yet_come events left askable known quiet silent sent whole served put_out read tells =
+    absurd (let e = tells.4 in let no : ⊥ = cc in no)
+delivered start asker (a ∷ questions) g [] unread not_yet_got bytes h (r ∷ rs) held not_yet_come events left askable known quiet silent sent whole served put_out read tells =
+    absurd (spelled_some r ((flat_map spelling rs ++ held) ++ not_yet_come) (sym served.0 ∙ put_out ∙ by_first r rs held not_yet_come))
+delivered start asker (a ∷ questions) g (x ∷ xs) unread not_yet_got bytes h (r ∷ rs) held not_yet_come events left askable known quiet silent sent whole served put_out read
+    tells =
+    let voter = SentinelAt start.plan.place in
+    let s = question_spelled a askable.0 in
+    let asked_bytes : spelling (body_frame a) ++ flat_map message_bytes questions ≡ spelling x ++ ((flat_map spelling xs ++ unread) ++ not_yet_got) =
+    ap (λ (t : List ℕ). t ++ flat_map message_bytes questions) (sym s.bytes) ∙ sent ∙ by_first x xs unread not_yet_got in
+    let question_is = one_spelling (body_frame a) x (flat_map message_bytes questions) ((flat_map spelling xs ++ unread) ++ not_yet_got) s.plain whole.0.plain asked_bytes in
+    let now = served.0 in
+    let next = served.1 in
+    let middle = served.2 in
+    let first = served.3 in
+    let others = served.4 in
+    let later = served.6 in
+    let near : IsNear next (body_frame a) = subst (IsNear next) (sym question_is.0) served.7 in
+    let serves : Serves start now next (body_frame a) first middle = subst (λ (f : Frame). Serves start now next f first middle) (sym question_is.0) served.8 in
+    let alike = responds_alike start now next a first middle askable.0 (later.known ∙ known) (ap is_listening later.quiet ∙ quiet) near serves in
+    let reply = replied_to start asker now next.party a first middle.party askable.0 (later.silent ∙ silent) alike.responds in
+    let reply_bytes : spelling reply.0.value ++ others ≡ spelling r ++ ((flat_map spelling rs ++ held) ++ not_yet_come) =
+    ap (λ (t : List ℕ). t ++ others) (sym reply.0.spelled) ∙ sym served.5 ∙ put_out ∙ by_first r rs held not_yet_come in
+    let reply_is = one_spelling reply.0.value r others ((flat_map spelling rs ++ held) ++ not_yet_come) reply.0.plain (value_plain r read.0) reply_bytes in
+    let next_is : next_asked false (question_of a ∷ map question_of questions) ≡ Some (tells.0, tells.1) = tells.4 in
+    let same_question : question_of a ≡ tells.0 = first_asked (question_of a) tells.0 (map question_of questions) tells.1 next_is in
+    let same_others : tells.1 ≡ map question_of questions = others_asked (question_of a) tells.0 (map question_of questions) tells.1 next_is in
+    let heard_it : heard_of voter (question_of a) (told_value reply.0.value) ≡ Ok tells.2 =
+    ap (λ (k : Question). heard_of voter k (told_value reply.0.value)) same_question ∙ ap (λ (f : Frame). heard_of voter tells.0 (told_value f)) reply_is.0 ∙ tells.5 in
+    let event = reply.0.hears tells.2 heard_it in
+    let all : events ≡ event.0 ∷ tells.3 = tells.6 ∙ ap (λ (e : Option Event). listed e ++ tells.3) event.1 in
+    let known_then : is_stranger middle.asker ≡ false = ap (λ (x : Guest). is_stranger x.asker) alike.same ∙ (later.known ∙ known) in
+    let quiet_then : is_listening middle.listening ≡ false = ap (λ (x : Guest). is_listening x.listening) alike.same ∙ (ap is_listening later.quiet ∙ quiet) in
+    let after = delivered start asker questions middle xs unread not_yet_got others h rs held not_yet_come tells.3 left askable.1 known_then quiet_then reply.1 question_is.1
+    whole.1 served.9 reply_is.1 read.1
+    (subst (λ (k : List Question). Tells voter false k rs tells.3 left) same_others tells.7) in
+    let here = later_delivered start asker g.party.view next.party.view later.more a event.0 middle.party.view later.front event.2 in
+    subst (λ (list : List Event). AreDelivered start asker g.party.view (a ∷ questions) list) (sym all) (middle.party.view, here, after)
+
+pub shared_answers_are_delivered : SharedAnswersAreDelivered
+shared_answers_are_delivered start asker g questions events c =
+    delivered start asker questions g c.values c.unread c.not_yet_got c.bytes c.h c.replies c.held c.not_yet_come events c.left c.askable c.known c.quiet c.silent
+    (c.sent ∙ ap (λ (t : List ℕ). t ++ c.not_yet_got) c.parts.0) c.parts.1 c.served (c.put_out ∙ ap (λ (t : List ℕ). t ++ c.not_yet_come) c.read.0) c.read.1 c.tells
+
+-- ---- questions that are asked later
+
+-- the same values tell the same where more questions wait behind those that they answer
+tells_more : (node : NodeName) (asked more left : List Question) (values : List Frame) (events : List Event) → Tells node false asked values events left
+    → Tells node false (asked ++ more) values events (left ++ more)
+tells_more node asked more left [] events t = (t.0, ap (λ (l : List Question). l ++ more) t.1)
+tells_more node [] more left (value ∷ values) events t = absurd (let e = t.4 in let no : ⊥ = cc in no)
+tells_more node (q ∷ asked) more left (value ∷ values) events t =
+    let first : q ≡ t.0 = first_asked q t.0 asked t.1 t.4 in
+    let others : t.1 ≡ asked = others_asked q t.0 asked t.1 t.4 in
+    let next : next_asked false (q ∷ (asked ++ more)) ≡ Some (t.0, t.1 ++ more) =
+    ap (λ (x : Question). Some (x, asked ++ more)) first ∙ ap (λ (l : List Question). Some (t.0, l ++ more)) (sym others) in
+    (t.0, t.1 ++ more, t.2, t.3, next, t.5, t.6, tells_more node t.1 more left values t.3 t.7)
+
+pub later_questions_wait : LaterQuestionsWait
+later_questions_wait node asked more left stream held events h = record {
+  values = h.values;
+  rest = h.rest;
+  parts = h.parts;
+  waits = h.waits;
+  held_is = h.held_is;
+  tells = tells_more node asked more left h.values events h.tells;
+}

@@ -1,0 +1,248 @@
+//! The words of `change`, and the change that they ask for.
+
+use crate::command_line::REFUSED_WORDS;
+use crate::new_groups::{NAMES, Named, address_of, random_id, refuse_word};
+use ballot_law::{Member, Name, RunId};
+use clap::{Arg, ArgAction, ArgMatches, Command};
+use conf_check::{Change, MasterSetting, NewSetting, Replacement, ReplicaOf};
+use sentinel_conf::Conf;
+use std::alloc::{AllocError, Global};
+use std::process::ExitCode;
+use tokens::{ip_of, number_of, run_id_of};
+
+/// Which directives are set.
+const DIRECTIVES: &str =
+    "write quorum, down-after-milliseconds, failover-timeout or parallel-syncs; the other lines \
+are the file's own, and are edited in it";
+
+/// The greatest value of a setting.
+const VALUE_MAX: u64 = 4_294_967_295;
+
+/// The words that name a change.
+const CHANGES: &[&str] = &[
+    "add-replica",
+    "remove-replica",
+    "add-sentinel",
+    "remove-sentinel",
+    "replace-host",
+    "set",
+];
+
+/// What a word says that is more than one of them.
+const MANY: &str = "ManyChanges: name one change: each has steps of its own";
+
+/// What to say where no change is named.
+const NONE: &str = "NoChange: name one change, as --add-replica 10.0.0.4:6379";
+
+/// A word that names a change of a node, which is named by one value.
+fn node_word<'a>(alloc: Global, long: &'a str, value: &'a str, help: &'a str) -> Arg<'a> {
+    Arg::new(alloc, long)
+        .long(long)
+        .value_name(value)
+        .help(help)
+}
+
+/// The words that name a change of a node.
+fn node_words<'a>(alloc: Global, command: Command<'a>) -> Result<Command<'a>, AllocError> {
+    command
+        .arg(node_word(
+            alloc,
+            "add-replica",
+            "ip:port",
+            "Adds a replica of the master",
+        ))?
+        .arg(node_word(
+            alloc,
+            "remove-replica",
+            "ip:port",
+            "Removes a replica of the master",
+        ))?
+        .arg(node_word(
+            alloc,
+            "add-sentinel",
+            "ip[:port]",
+            "Adds a Sentinel; its port is 26379 where it isn't said",
+        ))?
+        .arg(node_word(
+            alloc,
+            "remove-sentinel",
+            "id or ip[:port]",
+            "Removes a Sentinel",
+        ))
+}
+
+/// The words of `change`.
+pub(crate) fn change_command<'a>(alloc: Global) -> Result<Command<'a>, AllocError> {
+    let folder = Arg::new(alloc, "folder").required(true).help(
+        "The folder for the new files, which is made; one that is there has to be empty",
+    );
+    let files = Arg::new(alloc, "conf")
+        .required(true)
+        .num_args(1..)
+        .action(ArgAction::Append)
+        .help("The sentinel.conf of each Sentinel, or a copy of it");
+    let master = Arg::new(alloc, "master")
+        .long("master")
+        .value_name("name")
+        .help("Which master is changed, where the files name more than one");
+    let host = Arg::new(alloc, "replace-host")
+        .long("replace-host")
+        .num_args(2)
+        .value_names(&["old ip", "new ip"])
+        .help("Puts a host in the place of one: its replicas, and a Sentinel with a new run id");
+    let set = Arg::new(alloc, "set")
+        .long("set")
+        .num_args(2)
+        .value_names(&["directive", "value"])
+        .help("Sets quorum, down-after-milliseconds, failover-timeout or parallel-syncs");
+    let command = Command::new(alloc, "change")
+        .about("Writes the files of a group anew with one change, and prints the steps to it")
+        .arg(folder)?
+        .arg(files)?
+        .arg(master)?;
+    node_words(alloc, command)?.arg(host)?.arg(set)
+}
+
+/// Refuses words that name no change, or more than one.
+fn refuse_count(rt: HostRuntime, said: &str) -> ExitCode {
+    let _ = eprintln!(rt; "sentinel_group: {said}");
+    ExitCode::from(REFUSED_WORDS)
+}
+
+/// Which of the changes the words name.
+fn named_change(rt: HostRuntime, words: &ArgMatches) -> Result<&'static str, ExitCode> {
+    let mut found = None;
+    for long in CHANGES {
+        if words.get_strs(long).is_some() {
+            if found.is_some() {
+                return Err(refuse_count(rt, MANY));
+            }
+            found = Some(*long);
+        }
+    }
+    match found {
+        Some(long) => Ok(long),
+        None => Err(refuse_count(rt, NONE)),
+    }
+}
+
+/// The master that is changed: the one that the words name, or the only one of the files.
+fn master_of(rt: HostRuntime, words: &ArgMatches, conf: &Conf) -> Result<Name, ExitCode> {
+    if let Some(word) = words.get_str("master") {
+        return match Name::from_slice(word.as_bytes()) {
+            Some(name) => Ok(name),
+            None => Err(refuse_word(rt, "BadName", word, NAMES)),
+        };
+    }
+    match conf.roster().masters() {
+        [master] => Ok(master.name),
+        _ => {
+            let _ = eprintln!(rt;
+                "sentinel_group: WhichMaster: the files name more than one master: say --master <name>"
+            );
+            Err(ExitCode::from(REFUSED_WORDS))
+        }
+    }
+}
+
+/// The ip that the word spells.
+fn host_of(rt: HostRuntime, word: &str) -> Result<u32, ExitCode> {
+    match ip_of(word.as_bytes()) {
+        Some(ip) if ip != 0 => Ok(ip),
+        _ => Err(refuse_word(
+            rt,
+            "BadAddress",
+            word,
+            "write the ip of a host, as 10.0.0.1",
+        )),
+    }
+}
+
+/// The run id of the Sentinel that the word names, by its run id or its address.
+fn sentinel_of(rt: HostRuntime, word: &str, conf: &Conf) -> Result<RunId, ExitCode> {
+    if let Some(id) = run_id_of(word.as_bytes()) {
+        return Ok(id);
+    }
+    let addr = address_of(rt, word, Named::Sentinel)?;
+    match conf
+        .roster()
+        .sentinels()
+        .iter()
+        .find(|it| it.addr.is_same(&addr))
+    {
+        Some(member) => Ok(member.id),
+        None => Err(refuse_word(rt, "NoSuchSentinel", word, "no file names a Sentinel there")),
+    }
+}
+
+/// The setting that the word names.
+fn setting_of(rt: HostRuntime, word: &str) -> Result<MasterSetting, ExitCode> {
+    match word {
+        "quorum" => Ok(MasterSetting::Quorum),
+        "down-after-milliseconds" => Ok(MasterSetting::DownAfter),
+        "failover-timeout" => Ok(MasterSetting::FailoverTimeout),
+        "parallel-syncs" => Ok(MasterSetting::ParallelSyncs),
+        _ => Err(refuse_word(rt, "UnknownDirective", word, DIRECTIVES)),
+    }
+}
+
+/// The value that the word spells.
+fn value_of(rt: HostRuntime, word: &str) -> Result<u32, ExitCode> {
+    match number_of(word.as_bytes(), 0, VALUE_MAX) {
+        Some(number) => Ok(number as u32),
+        None => Err(refuse_word(
+            rt,
+            "BadNumber",
+            word,
+            "write a number of at most 4294967295",
+        )),
+    }
+}
+
+/// The replica at the address that the word spells.
+fn replica_of(
+    rt: HostRuntime,
+    words: &ArgMatches,
+    conf: &Conf,
+    word: &str,
+) -> Result<ReplicaOf, ExitCode> {
+    let addr = address_of(rt, word, Named::Node)?;
+    let master = master_of(rt, words, conf)?;
+    Ok(ReplicaOf { master, addr })
+}
+
+/// The change that the words ask for, of the group of this file.
+pub(crate) fn change_of(
+    rt: HostRuntime,
+    words: &ArgMatches,
+    conf: &Conf,
+) -> Result<Change, ExitCode> {
+    let long = named_change(rt, words)?;
+    let values = words.get_strs(long).unwrap_or(&[]);
+    match (long, values) {
+        ("add-replica", [at]) => Ok(Change::AddReplica(replica_of(rt, words, conf, at)?)),
+        ("remove-replica", [at]) => Ok(Change::RemoveReplica(replica_of(rt, words, conf, at)?)),
+        ("add-sentinel", [at]) => {
+            let addr = address_of(rt, at, Named::Sentinel)?;
+            let id = random_id(rt)?;
+            Ok(Change::AddSentinel(Member { id, addr }))
+        }
+        ("remove-sentinel", [word]) => Ok(Change::RemoveSentinel(sentinel_of(rt, word, conf)?)),
+        ("replace-host", [old, new]) => {
+            let (old, new) = (host_of(rt, old)?, host_of(rt, new)?);
+            let id = random_id(rt)?;
+            Ok(Change::ReplaceHost(Replacement { old, new, id }))
+        }
+        ("set", [directive, value]) => {
+            let setting = setting_of(rt, directive)?;
+            let value = value_of(rt, value)?;
+            let master = master_of(rt, words, conf)?;
+            Ok(Change::Set(NewSetting {
+                master,
+                setting,
+                value,
+            }))
+        }
+        (long, _) => Err(refuse_word(rt, "WrongWords", long, "sentinel_group change --help")),
+    }
+}
