@@ -330,7 +330,7 @@ impl<J: Which, S: ConfStore> UsesLinks<RunningSentinel<J, S>> for LinkedPart<J> 
                     alloc,
                     back,
                 } = part;
-                run_timer(rt, alloc, state, links, member, &mut seat, ending);
+                run_timer(rt, state, links, member, &mut seat, ending);
                 drop(back.send(rt, Back::Seat(seat)));
             }
             LinkedPart::Link(part) => {

@@ -1,7 +1,8 @@
 //! A Sentinel at work: `State` is its plan, what it keeps (`Core`), and what the input in hand has put out so far.
 //!
 //! `Core` has the calls that read what is kept and those that set a part of it. Nothing here takes memory but the
-//! opening. Each call's contract is an equation with the definitions of `sentinel_rules`. What an input does stands in
+//! opening. Each call's contract is an equation with the definitions of `sentinel_rules`. What its rules do that somebody
+//! may want to hear of, it keeps as a `Notice` until that is taken; contracts don't see these. What an input does stands in
 //! `sentinel_core`: each part of it is a call on the `State` with one clause, `state.new ≡ with_part state.old ..`.
 #![tactic(auto)]
 
@@ -10,11 +11,14 @@ mod cores;
 mod failovers;
 mod masters;
 mod nodes;
+mod notices;
+mod noting;
 mod pauses;
 mod reports;
 mod sending;
 mod states;
 mod switches;
+mod told;
 mod votes;
 
 pub use cores::Core;
@@ -22,4 +26,5 @@ pub use nodes::{
     FrameList, Node, Peer, Plan, Sending, greet_soon, move_all, ping_period, send_each_node,
     send_each_peer,
 };
+pub use notices::{MasterNotice, MasterThen, NOTICES_MAX, Notice, ReplicaNotice};
 pub use states::State;
