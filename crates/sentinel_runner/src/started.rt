@@ -279,7 +279,6 @@ fn none_for_want<S>(state: &RunState, stop: &AtomicU64) -> Option<Left<S>> {
 #[derive(Drop)]
 struct TimerPart<J: Which> {
     seat: ThreadSeat<J>,
-    alloc: Global,
     back: Sender<Back<J>>,
 }
 
@@ -325,11 +324,7 @@ impl<J: Which, S: ConfStore> UsesLinks<RunningSentinel<J, S>> for LinkedPart<J> 
     ) {
         match self {
             LinkedPart::Timer(part) => {
-                let TimerPart {
-                    mut seat,
-                    alloc,
-                    back,
-                } = part;
+                let TimerPart { mut seat, back } = part;
                 run_timer(rt, state, links, member, &mut seat, ending);
                 drop(back.send(rt, Back::Seat(seat)));
             }
@@ -374,7 +369,6 @@ impl<J: Which> Seated<J> {
         };
         let timer = TimerPart {
             seat: timer,
-            alloc,
             back: back.clone()?,
         };
         let link = LinkPart {

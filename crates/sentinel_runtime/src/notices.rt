@@ -159,7 +159,12 @@ pub(crate) fn tell_notice<R: Log + Wait>(
             if let Some(master) = named(roster, of)
                 && let Some(sentinel) = roster.sentinels().get(place as usize)
             {
-                tell_sentinel(to, channel_of_down(down), NamedSentinel::of(*sentinel), master);
+                tell_sentinel(
+                    to,
+                    channel_of_down(down),
+                    NamedSentinel::of(*sentinel),
+                    master,
+                );
             }
         }
         Notice::Brought { of, by } => {

@@ -11,7 +11,7 @@ ghost use Rattle.sentinel_rules.specs.Plans.{roster_of, group_size, master_count
 
 use crate::masters::Master;
 use crate::nodes::{Node, Peer, Plan};
-use crate::notices::{Notice, Notices};
+use crate::notices::Notices;
 use ballot_law::{Addr, Card, Info, Kept, KeptMaster, KeptMasters, NoMemory, RunId, Win};
 use down_detector::{Tilt, is_odown};
 use failover_states::FailoverState;
@@ -274,9 +274,7 @@ impl Core {
     pub fn set_current(&mut self, epoch: u64)
         ensures { self.new ≡ with_current self.old epoch }
     {
-        if epoch > self.kept.current {
-            self.notices.push(Notice::NewEpoch(epoch));
-        }
+        self.notices.see_epoch(self.kept.current, epoch);
         self.kept.current = epoch;
     }
 

@@ -177,6 +177,13 @@ impl Notices {
         self.is_tilted = is_tilted;
     }
 
+    /// The current epoch is this one, and was `before`.
+    pub(crate) fn see_epoch(&mut self, before: u64, epoch: u64) {
+        if before < epoch {
+            self.push(Notice::NewEpoch(epoch));
+        }
+    }
+
     /// The last vote is this one, and was one of the epoch `before`.
     pub(crate) fn see_vote(&mut self, before: u64, epoch: u64, leader: Option<RunId>) {
         if let Some(leader) = leader

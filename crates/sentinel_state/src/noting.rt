@@ -28,7 +28,7 @@ impl Core {
     }
 
     /// Notes that this happened to a master.
-    pub fn note_master(&mut self, m: u16, what: MasterNotice)
+    fn note_master(&mut self, m: u16, what: MasterNotice)
         ensures { self.new ≡ self.old }
     {
         let of = self.then(m);
@@ -41,6 +41,24 @@ impl Core {
     {
         let of = self.then(m);
         self.notices.push_replica(of, place, what);
+    }
+
+    /// Notes that this happened to a master, where the test holds.
+    pub fn note_master_if(&mut self, test: bool, m: u16, what: MasterNotice)
+        ensures { self.new ≡ self.old }
+    {
+        if test {
+            self.note_master(m, what);
+        }
+    }
+
+    /// Notes that this happened to the data node at a place, where the test holds.
+    pub fn note_replica_if(&mut self, test: bool, m: u16, place: u16, what: ReplicaNotice)
+        ensures { self.new ≡ self.old }
+    {
+        if test {
+            self.note_replica(m, place, what);
+        }
     }
 
     /// Notes whose hello brings a configuration of a master, where it has another address.

@@ -200,9 +200,9 @@ fn promote_choice(state: &mut State, m: u16, planned: bool, hands_over: bool, ro
         heir: None,
     };
     state.frames.push_if(planned && is_too_late(row), stay);
-    if planned && is_too_late(row) {
-        state.core.note_master(m, MasterNotice::Stays);
-    }
+    state
+        .core
+        .note_master_if(planned && is_too_late(row), m, MasterNotice::Stays);
 }
 
 /// Tells replicas to follow the new master, by address.

@@ -114,11 +114,9 @@ fn close_clients(state: &mut State, m: u16, heir: usize, old: usize, planned: bo
           = added state.old.frames (closing_frames state.old.plan m heir old planned);
     } }
 {
-    if planned {
-        state
-            .core
-            .note_replica(m, old as u16, ReplicaNotice::Converted);
-    }
+    state
+        .core
+        .note_replica_if(planned, m, old as u16, ReplicaNotice::Converted);
     let heir = state.plan.node_name(m, heir);
     state.frames.push_if(planned, Frame::PromoteTo(heir));
     let target = state.plan.node_name(m, old);
@@ -166,17 +164,6 @@ fn can_be_followed(state: &State, m: u16, now: u64) -> bool
         && says_master(state.core.info(m, place))
 }
 
-/// Notes that a node which isn't the one of the configuration is told to follow that, and why.
-fn note_correction(core: &mut Core, m: u16, k: u16, as_master: bool, as_stray: bool)
-    ensures { core.new ≡ core.old }
-{
-    if as_master {
-        core.note_replica(m, k, ReplicaNotice::Converted);
-    } else if as_stray {
-        core.note_replica(m, k, ReplicaNotice::Corrected);
-    }
-}
-
 /// Takes the INFO of a node that isn't the one of the configuration, while no failover runs: where it has long said
 /// that it is a master, or had another master, it is told to follow the node of the configuration.
 fn correct(state: &mut State, m: u16, k: u16, now: u64, info: &Info)
@@ -196,7 +183,9 @@ fn correct(state: &mut State, m: u16, k: u16, now: u64, info: &Info)
     node.wrong_role = anew(role_told, at, role);
     node.wrong_address = anew(address_told, at, address);
     state.core.set_node(m, k as usize, node);
-    note_correction(&mut state.core, m, k, role_told, address_told);
+    let core = &mut state.core;
+    core.note_replica_if(role_told, m, k, ReplicaNotice::Converted);
+    core.note_replica_if(address_told, m, k, ReplicaNotice::Corrected);
     let target = state.plan.node_name(m, k as usize);
     state.frames.push_if(
         role_told || address_told,
