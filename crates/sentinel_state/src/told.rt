@@ -27,9 +27,10 @@ pub(crate) struct Told {
     sentinels: [bool; SENTINELS_MAX],
 }
 
-/// How many of the first ones are down.
-fn down_count(down: &[bool], count: usize) -> usize {
-    down.iter().take(count).filter(|is_down| **is_down).count()
+/// Whether all of so many are down but one, the master itself or this Sentinel, which isn't among them.
+fn are_others_down(down: &[bool], count: usize) -> bool {
+    let down_count = down.iter().take(count).filter(|is_down| **is_down).count();
+    down_count + 1 >= count
 }
 
 impl Told {
@@ -96,8 +97,8 @@ impl Told {
     pub(crate) fn see_all_down(&mut self, nodes: usize, sentinels: usize) -> bool {
         let all_down = self.down
             && sentinels > 1
-            && down_count(&self.replicas, nodes) + 1 >= nodes
-            && down_count(&self.sentinels, sentinels) + 1 >= sentinels;
+            && are_others_down(&self.replicas, nodes)
+            && are_others_down(&self.sentinels, sentinels);
         let is_new = all_down && !self.all_down;
         self.all_down = all_down;
         is_new
