@@ -168,7 +168,7 @@ impl Sight {
             let Some(notice) = sentinel.take_notice() else {
                 return;
             };
-            drop(self.notices.push(notice));
+            let _ = self.notices.push(notice);
         }
     }
 }

@@ -11,6 +11,7 @@ mod cores;
 mod failovers;
 mod masters;
 mod nodes;
+mod noted;
 mod notices;
 mod noting;
 mod pauses;
@@ -18,7 +19,6 @@ mod reports;
 mod sending;
 mod states;
 mod switches;
-mod told;
 mod votes;
 
 pub use cores::Core;

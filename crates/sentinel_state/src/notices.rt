@@ -1,7 +1,7 @@
 //! What a Sentinel notes of what its rules do, until somebody takes it to tell it. Nothing rests on it, and no contract
 //! speaks of it: it stands outside what contracts see of a Sentinel.
 
-use crate::told::Told;
+use crate::noted::Noted;
 use ballot_law::{Addr, Member, NODES_MAX, RunId, SENTINELS_MAX};
 use std::alloc::{AllocError, Global};
 use std::sync::atomic::{AtomicU64, Ordering};
@@ -119,7 +119,7 @@ pub(crate) struct Notices {
     count: u64,
     taken: AtomicU64,
     is_tilted: bool,
-    masters: Vec<Told>,
+    masters: Vec<Noted>,
 }
 
 impl Notices {
@@ -130,7 +130,7 @@ impl Notices {
             count: 0,
             taken: AtomicU64::new(0),
             is_tilted: false,
-            masters: vec![in alloc; Told::new(); masters as usize]?,
+            masters: vec![in alloc; Noted::new(); masters as usize]?,
         })
     }
 
@@ -165,7 +165,7 @@ impl Notices {
     }
 
     /// What was noted of a master.
-    fn told(&mut self, of: MasterThen) -> Option<&mut Told> {
+    fn told(&mut self, of: MasterThen) -> Option<&mut Noted> {
         self.masters.get_mut(of.master as usize)
     }
 

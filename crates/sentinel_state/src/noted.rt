@@ -16,7 +16,7 @@ const NO_EPOCH_MS: u64 = 60_000;
 /// since its own start, `put_off` after which of these a start that is put off was noted since the master is
 /// objectively down, and `spent` when it was noted that no epoch is left.
 #[derive(Clone, Copy)]
-pub(crate) struct Told {
+pub(crate) struct Noted {
     down: bool,
     agreed: bool,
     all_down: bool,
@@ -33,10 +33,10 @@ fn are_others_down(down: &[bool], count: usize) -> bool {
     down_count + 1 >= count
 }
 
-impl Told {
+impl Noted {
     /// Nothing was noted yet: no node is down, and no failover was begun.
-    pub(crate) fn new() -> Told {
-        Told {
+    pub(crate) fn new() -> Noted {
+        Noted {
             down: false,
             agreed: false,
             all_down: false,
