@@ -1,9 +1,11 @@
 //! A Sentinel at work: `State` is its plan, what it keeps (`Core`), and what the input in hand has put out so far.
 //!
 //! `Core` has the calls that read what is kept and those that set a part of it. Nothing here takes memory but the
-//! opening. Each call's contract is an equation with the definitions of `sentinel_rules`. What its rules do that somebody
-//! may want to hear of, it keeps as a `Notice` until that is taken; contracts don't see these. What an input does stands in
+//! opening. Each call's contract is an equation with the definitions of `sentinel_rules`. What an input does stands in
 //! `sentinel_core`: each part of it is a call on the `State` with one clause, `state.new ≡ with_part state.old ..`.
+//!
+//! A rule that does something which somebody may want to hear of leaves a `Notice` where it acts. `Core` keeps the notices
+//! until they are taken, outside what contracts see, so nothing is promised of them but that they are safe.
 #![tactic(auto)]
 
 mod cards;

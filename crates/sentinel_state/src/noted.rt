@@ -27,7 +27,7 @@ pub(crate) struct Noted {
     sentinels: [bool; SENTINELS_MAX],
 }
 
-/// Whether all of so many are down but one, the master itself or this Sentinel, which isn't among them.
+/// Whether all of the first `count` are down but one: the master itself, or this Sentinel.
 fn are_others_down(down: &[bool], count: usize) -> bool {
     let down_count = down.iter().take(count).filter(|is_down| **is_down).count();
     down_count + 1 >= count
@@ -92,8 +92,8 @@ impl Noted {
         is_new
     }
 
-    /// Of so many data nodes of the master, and of so many Sentinels, all are down but this Sentinel itself: whether
-    /// that is to be noted. It may be this Sentinel's own machine that fails.
+    /// Whether it is to be noted that all of the master's `nodes` data nodes are down, and of `sentinels` Sentinels all
+    /// but this one: it may be this Sentinel's own machine that fails.
     pub(crate) fn see_all_down(&mut self, nodes: usize, sentinels: usize) -> bool {
         let all_down = self.down
             && sentinels > 1
@@ -126,7 +126,8 @@ impl Noted {
         if is_spent { self.see_spent(now) } else { None }
     }
 
-    /// The start is put off after the one at `start`, for so long: noted once while the master is objectively down.
+    /// The next start is `left` milliseconds away, after the one at `start`: noted once while the master is objectively
+    /// down.
     fn see_put_off(&mut self, start: u64, left: u64, timeout: u64) -> Option<MasterNotice> {
         if self.put_off == Some(start) {
             return None;

@@ -49,8 +49,8 @@ pub enum MasterNotice {
     Stays,
     /// All its nodes and all other Sentinels are down.
     AllDown,
-    /// The next failover is put off for so many milliseconds at least: twice this `failover-timeout` after the last one
-    /// or the last vote.
+    /// The next failover begins in `left` milliseconds at the earliest: twice the `failover-timeout` after the last one or
+    /// the last vote.
     PutOff { left: u64, timeout: u64 },
     /// No failover can begin, since the current epoch is the greatest one.
     NoEpochLeft,
@@ -123,7 +123,7 @@ pub(crate) struct Notices {
 }
 
 impl Notices {
-    /// No notices, with their room, of a Sentinel that watches so many masters.
+    /// No notices, with room for them; `masters` is how many the Sentinel watches.
     pub(crate) fn with_room(alloc: Global, masters: u16) -> Result<Notices, AllocError> {
         Ok(Notices {
             ring: vec![in alloc; Notice::Tilted(false); NOTICES_MAX]?,
@@ -243,7 +243,7 @@ impl Notices {
         }
     }
 
-    /// Of so many data nodes of a master these are down.
+    /// Which of a master's data nodes are down; it has `count`.
     pub(crate) fn see_replicas(&mut self, of: MasterThen, down: &[bool; NODES_MAX], count: usize) {
         for place in 0..count.min(NODES_MAX) {
             let Some(told) = self.told(of) else {
@@ -260,7 +260,7 @@ impl Notices {
         }
     }
 
-    /// Of so many Sentinels these are down, and others than this one.
+    /// Which of the other Sentinels are down; with this one there are `count`.
     pub(crate) fn see_sentinels(
         &mut self,
         of: MasterThen,
@@ -278,7 +278,7 @@ impl Notices {
         }
     }
 
-    /// So many data nodes a master has, and so many Sentinels watch it: of these are all down, or not.
+    /// Looks whether all are down from here; a master has `nodes` data nodes, and `sentinels` Sentinels watch it.
     pub(crate) fn see_all_down(&mut self, of: MasterThen, nodes: usize, sentinels: usize) {
         if let Some(told) = self.told(of)
             && told.see_all_down(nodes, sentinels)
