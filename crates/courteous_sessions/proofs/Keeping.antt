@@ -73,15 +73,16 @@ common_differs FlushConfig h e = absurd h
 pub common_turn : (asker : ClientInfo) (l : Listening) (value : Frame) (command : Command) → IsCommon command → is_stranger asker ≡ false → is_listening l ≡ false
     → command_of value ≡ Ok command → channel_turn asker l value ≡ other
 common_turn asker l value command common known quiet is =
-    at_home asker l value known ∙ own_is_other value command l quiet (common_differs command common) is
+    at_home asker l value known ∙ own_is_other value command l quiet (common_differs command common) (known_too value command is)
 
 pub common_answers : (start : World) (now : ℕ) (asker : ClientInfo) (value : Frame) (command : Command) (p : Party) (bytes : List ℕ) (q : Party) → IsCommon command
     → is_stranger asker ≡ false → command_of value ≡ Ok command → Responds start now p (heard_as asker.current (Ok command)) bytes q
     → Answers start now asker (courtesy asker value) p value bytes q
 common_answers start now asker value command p bytes q common known is h =
-    let becomes = own_is_left asker value command known is in
+    let too = known_too value command is in
+    let becomes = own_is_left asker value command known too in
     subst (λ (a : Answer). Answers start now asker a p value bytes q) (sym becomes)
-    (subst (λ (k : Result Command CommandFault). Responds start now p (heard_as asker.current k) bytes q) (sym (known_too value command is)) h)
+    (subst (λ (k : Result Command CommandFault). Responds start now p (heard_as asker.current k) bytes q) (sym too) h)
 
 -- what a value is answered that is none of Pub/Sub's
 by_others : (start : World) (now : ℕ) (g h : Guest) (value : Frame) (bytes : List ℕ) → channel_turn g.asker g.listening value ≡ other → Serves start now g value bytes h
@@ -96,7 +97,7 @@ own_as_before start now g h value command bytes known quiet differs is serves =
     let at = sym (ap (λ (x : Guest). x.party) by.2) in
     let becomes = own_is_left g.asker value command known is in
     let kept = subst (λ (a : Answer). Answers start now g.asker a g.party value bytes q) becomes by.1 in
-    let heard = subst (λ (k : Result Command CommandFault). Responds start now g.party (heard_as g.asker.current k) bytes q) (known_too value command is) kept in
+    let heard = subst (λ (k : Result Command CommandFault). Responds start now g.party (heard_as g.asker.current k) bytes q) is kept in
     let after : h ≡ guest q g.listening g.told g.asker = by.2 ∙ ap (λ (a : ClientInfo). guest q g.listening g.told a) (own_is_same g.asker value command is) in (
       subst (λ (x : Party). Responds start now g.party (heard_as g.asker.current (Ok command)) bytes x) at heard,
       subst (λ (x : Party). h ≡ guest x g.listening g.told g.asker) at after,

@@ -5,7 +5,7 @@ use Rattle.ballot_law.specs.declared.commands.Command.{Command}
 use Rattle.ballot_law.specs.declared.commands.Command.TheVariants.{Ping as PingCommand, IsMasterDownByAddr, Subscribe}
 use Rattle.ballot_law.specs.declared.events.Event.{Event}
 use Rattle.ballot_law.specs.declared.messages.Body.{Body}
-use Rattle.ballot_law.specs.declared.messages.Body.TheVariants.{Ask, Answer, Ping, PingText, InfoAsk, InfoText, Publish, HelloText, ReplicaOf, AddressAsk, AddressAnswer, PortReply, RoleAsk, RoleText, Done}
+use Rattle.ballot_law.specs.declared.messages.Body.TheVariants.{Ask, Answer, Ping, PingText, InfoAsk, InfoText, Publish, HelloText, ReplicaOf, HandOver, AddressAsk, AddressAnswer, PortReply, RoleAsk, RoleText, Done}
 use Rattle.ballot_law.specs.declared.messages.NodeName.{NodeName}
 use Rattle.ballot_law.specs.declared.messages.NodeName.TheVariants.{SentinelAt}
 use Rattle.ballot_law.specs.declared.messages.Output.TheVariants.{Send}
@@ -100,6 +100,7 @@ responds_alike start now g (InfoText info) bytes h askable known quiet near serv
 responds_alike start now g (Publish hello) bytes h askable known quiet near serves = absurd askable
 responds_alike start now g (HelloText hello) bytes h askable known quiet near serves = absurd askable
 responds_alike start now g (ReplicaOf to) bytes h askable known quiet near serves = absurd askable
+responds_alike start now g (HandOver heir) bytes h askable known quiet near serves = absurd askable
 responds_alike start now g (AddressAsk name) bytes h askable known quiet near serves = absurd askable
 responds_alike start now g (AddressAnswer shown) bytes h askable known quiet near serves = absurd askable
 responds_alike start now g (PortReply shown text) bytes h askable known quiet near serves = absurd askable

@@ -9,10 +9,12 @@ ghost use Rattle.sentinel_core.specs.Formers.{former_of, put_back};
 ghost use Rattle.sentinel_core.specs.Sentinels.{is_command};
 ghost use Rattle.sentinel_rules.specs.Answers.{commanded};
 ghost use Rattle.node_texts.specs.declared.faults.TextFault.{TextFault};
+ghost use Rattle.node_texts.specs.Hellos.{hello_of};
 ghost use Rattle.sentinel_rules.specs.Changes.{IsAhead, asked_about, concerned, listed_by, told_of};
 ghost use Rattle.sentinel_rules.specs.Facts.{IsSoundPlan, IsSound};
 ghost use Rattle.ballot_law.specs.Limits.{IsWithinEvent};
 ghost use Rattle.sentinel_rules.specs.Named.{IsNamed};
+ghost use Rattle.sentinel_rules.specs.News.{hello_read};
 ghost use Rattle.sentinel_rules.specs.Parts.{output_of, send, hello_of_master};
 ghost use Rattle.sentinel_rules.specs.Plans.{master_count, node_named};
 ghost use Rattle.sentinel_rules.specs.Takes.{next, next_at, part_of, answer_to};
@@ -161,6 +163,16 @@ fn told_of(plan: &Plan, hello: &Result<Hello, TextFault>) -> Option<u16>
     }
 }
 
+/// Has the state take a hello, and takes down what it may overwrite of what is kept.
+fn hear_hello(state: &mut State, now: u64, text: &[u8], former: &mut Undo)
+    ensures former { former.new ≡ former_of state.old.core.kept (told_of state.old.plan (hello_of text.now)) }
+    ensures state { state.new ≡ with_part state.old (hello_read state.old.plan (clock now) (hello_of text.now) state.old.core) }
+{
+    let hello = read_hello(text);
+    former.begin(state.core.kept(), told_of(&state.plan, &hello));
+    take_hello(state, now, hello);
+}
+
 /// Has the state take an event that is no command (`act_on` answers these itself), and takes down what it may overwrite
 /// of what is kept.
 fn hear(state: &mut State, now: u64, event: &Event, former: &mut Undo)
@@ -177,11 +189,7 @@ fn hear(state: &mut State, now: u64, event: &Event, former: &mut Undo)
             former.begin(kept, listed_by(&state.plan, *node));
             take_info(state, *node, now, text.as_slice());
         }
-        Event::HelloRead { text } => {
-            let hello = read_hello(text.as_slice());
-            former.begin(kept, told_of(&state.plan, &hello));
-            take_hello(state, now, hello);
-        }
+        Event::HelloRead { text } => hear_hello(state, now, text.as_slice(), former),
         Event::Answered {
             voter,
             master,
@@ -208,8 +216,7 @@ fn hear(state: &mut State, now: u64, event: &Event, former: &mut Undo)
         Event::Command { command, .. } => {
             former.begin(kept, asked_about(command, &state.core));
         }
-        Event::Become { .. } => former.begin(kept, None),
-        Event::Handed(_) => former.begin(kept, None),
+        Event::Become { .. } | Event::Handed(_) => former.begin(kept, None),
     }
 }
 

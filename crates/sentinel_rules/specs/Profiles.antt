@@ -165,7 +165,7 @@ passing (Some k) passes = if passes k then Some k else None
 abbrev pub is_taking_over : Plan → Core → (m now k : ℕ) → Bool
 is_taking_over plan core m now k =
     not (k == card_place plan core m)
-    && (is_down_for (node_of core m (card_place plan core m)).watch.replica_since (SWITCHED_MS + pause_of plan core) now
+    && (is_down_for (node_of core m (card_place plan core m)).watch.replica_since SWITCHED_MS now
     && (says_master (node_of core m k).info
     && not (is_node_down plan core m now k || (node_of core m k).lost)))
 
@@ -177,6 +177,12 @@ abbrev pub switched_to : Plan → Core → (m now : ℕ) → Option ℕ
 switched_to plan core m now =
     by_profile plan.profile None
     (passing (place_followed plan m (unwrap_or (node_of core m (card_place plan core m)).info ASSUMED_INFO).master) (is_taking_over plan core m now))
+
+-- and that was so for this Sentinel's pause too. The pause is for the start alone: it goes by the epoch, which the campaign changes
+abbrev pub is_switch_due : Plan → Core → (m now : ℕ) → Bool
+is_switch_due plan core m now =
+    is_down_for (node_of core m (card_place plan core m)).watch.replica_since (SWITCHED_MS + pause_of plan core) now
+    && is_some (switched_to plan core m now)
 
 -- the node of the configuration is up, and says that it is a replica: nobody but the node that took over may be promoted then
 abbrev pub is_given_away : Plan → Core → (m now : ℕ) → Bool

@@ -27,7 +27,7 @@ use Rattle.sentinel_rules.specs.Contacts.{contact_asked, since_after}
 use Rattle.sentinel_rules.specs.Plans.{Plan, roster_of, me, master_count, settings_at, nodes_of, addr_at, node_name}
 use Rattle.sentinel_rules.specs.States.{Core, NodeState, PeerState, master_of, node_of, failover_of, with_master, with_failover, with_current, card_place, is_failing_over, is_tilted, is_wished, is_planned, is_handed, is_node_down, is_master_down, is_odown_at}
 use Rattle.sentinel_rules.specs.Parts.{Part, quiet, puts, then_part, part_if, frame_if, changed_from, frames_from}
-use Rattle.sentinel_rules.specs.Profiles.{may_begin, patience, with_pause, switched_to, is_given_away, first_of, is_asking, master_down_ms}
+use Rattle.sentinel_rules.specs.Profiles.{may_begin, patience, with_pause, switched_to, is_switch_due, is_given_away, first_of, is_asking, master_down_ms}
 use Rattle.sentinel_rules.specs.Votes.{book_of, with_book, mark_for}
 
 -- What is due
@@ -259,7 +259,7 @@ after_start m turn core =
 -- which nothing holds back
 abbrev pub is_start_due : Plan → Core → (m now : ℕ) → Bool
 is_start_due plan core m now =
-    is_wished core m now || (((master_of core m).odown || is_some (switched_to plan core m now)) && may_begin plan core m now)
+    is_wished core m now || (((master_of core m).odown || is_switch_due plan core m now) && may_begin plan core m now)
 
 -- a campaign that began is that of the switch that was asked for, if one was
 abbrev pub planned_if : (wished : Bool) → (epoch : Option ℕ) → Option ℕ

@@ -5,8 +5,8 @@ ghost use Rattle.ballot_law.specs.Clocks.{clock};
 ghost use Rattle.failover_states.specs.Calls.{epoch_of};
 ghost use Rattle.sentinel_rules.specs.Answers.{wished};
 ghost use Rattle.sentinel_rules.specs.Plans.{nodes_of};
-ghost use Rattle.sentinel_rules.specs.Profiles.{place_followed, is_taking_over, switched_to, is_given_away, is_electing, is_asking};
-ghost use Rattle.sentinel_rules.specs.States.{is_recent, is_wished, is_same_epoch, is_planned, is_awaiting, is_handed, is_master_role, says_master, says_replica, is_master_down, card_place, master_of, with_master};
+ghost use Rattle.sentinel_rules.specs.Profiles.{place_followed, is_taking_over, switched_to, is_switch_due, is_given_away, is_electing, is_asking};
+ghost use Rattle.sentinel_rules.specs.States.{is_recent, is_wished, is_same_epoch, is_planned, is_awaiting, is_handed, is_master_role, says_master, says_replica, is_master_down, card_place, master_of, node_of, with_master};
 ghost use Rattle.sentinel_rules.specs.Ticks.{heir_of, planned_if, with_plan};
 
 use crate::cores::Core;
@@ -204,16 +204,29 @@ impl Core {
         }
     }
 
+    /// Since when a data node has said that it is a replica.
+    fn replica_since(&self, m: u16, k: usize) -> Option<u64>
+        ensures value { result ≡ (node_of self.now m k).watch.replica_since }
+        ensures here { IfSome result (λ _. m < length self.now.masters) }
+    {
+        match self.masters.get(m as usize) {
+            Some(master) => match master.nodes.get(k) {
+                Some(node) => node.watch.replica_since(),
+                None => None,
+            },
+            None => None,
+        }
+    }
+
     /// Whether the node at a place says that it is a master, and can be reached, and the one of the configuration, at
     /// `card_at`, has said for a while that it is a replica.
     fn is_taking_over(&self, plan: &Plan, m: u16, now: u64, card_at: usize, k: usize) -> bool
         requires { card_at ≡ card_place plan.now self.now m }
         ensures { result ≡ is_taking_over plan.now self.now m (clock now) k }
     {
-        let since = self.node(m, card_at).watch.replica_since();
-        let pause = SWITCHED_MS + self.pause(plan);
+        let since = self.replica_since(m, card_at);
         k != card_at
-            && is_down_for(since, pause, clock_of(now))
+            && is_down_for(since, SWITCHED_MS, clock_of(now))
             && says_master(self.info(m, k))
             && !(self.is_node_down(plan, m, now, card_at, k) || self.is_lost(m, k))
     }
@@ -235,6 +248,22 @@ impl Core {
                     None
                 }
             }
+        }
+    }
+
+    /// Whether a master was handed over at the nodes themselves, and so long ago that a campaign for the node which took
+    /// over may begin.
+    pub fn is_switch_due(&self, plan: &Plan, m: u16, now: u64) -> bool
+        ensures value { result ≡ is_switch_due plan.now self.now m (clock now) }
+        ensures here { IsTrue result → m < length self.now.masters }
+    {
+        let pause = SWITCHED_MS + self.pause(plan);
+        match self.replica_since(m, self.card_place(plan, m)) {
+            Some(since) => {
+                is_down_for(Some(since), pause, clock_of(now))
+                    && self.switched_to(plan, m, now).is_some()
+            }
+            None => false,
         }
     }
 

@@ -20,6 +20,7 @@ within target (events.Pinged node reply) h = tt
 within target (events.InfoRead node text) h = tt
 within target (events.HelloRead text) h = tt
 within target (events.Disconnected node) h = absurd h
+within target (events.Refused node) h = tt
 within target (events.Become priority offset link_down) h = absurd h
 within target (events.Handed message) h = absurd h
 

@@ -1,18 +1,10 @@
 -- What the rows of the failover table ask for, and what they look at.
-use Rattle.std.specs.Prelude.{ℕ, not, Bool, true, false, Option, Some, None, [], if◌then◌else◌}
+use Rattle.std.specs.Prelude.{Bool, true, false, Option, Some, None, [], if◌then◌else◌}
 use Rattle.failover_states.specs.declared.states.Row.{Row}
 use Rattle.failover_states.specs.declared.states.Row.TheVariants.{Promote, PromotionTimeout}
 use Rattle.failover_states.specs.declared.states.FailoverState.{FailoverState}
 use Rattle.failover_states.specs.declared.states.FailoverState.TheVariants.{Idle, WaitStart, SelectReplica, SendPromotion, WaitPromotion, ReconfReplicas, UpdateConfig}
 use Rattle.failover_states.specs.Known.{Known}
-use Rattle.sentinel_rules.specs.Plans.{Plan}
-use Rattle.sentinel_rules.specs.States.{Core, is_failing_over}
-use Rattle.sentinel_rules.specs.Parts.{Part, quiet, part_if}
-use Rattle.sentinel_rules.specs.Ticks.{start_turn, after_start}
-
--- a failover begins where none runs
-abbrev pub begun_part : Plan → (m now : ℕ) → Core → Part
-begun_part plan m now core = part_if (not (is_failing_over core m)) core (λ c. quiet (after_start m (start_turn plan c m now) c))
 
 -- the choice is to be told that it is the master
 abbrev pub is_promotion : Option Row → Bool

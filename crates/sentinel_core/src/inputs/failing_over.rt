@@ -13,7 +13,7 @@ ghost use Rattle.sentinel_rules.specs.States.{failover_of, with_failover};
 ghost use Rattle.sentinel_rules.specs.Ticks.{known_of, turn_of, with_win, hands_over, order_to, promote_frames, order_frames, row_part, is_start_due, start_part, starts_now};
 ghost use Rattle.sentinel_state.specs.Parts.{with_part};
 ghost use Rattle.sentinel_state.specs.Nodes.Room.{added};
-ghost use Rattle.sentinel_core.specs.Inputs.Rows.{begun_part, is_promotion, is_too_late, looked_at};
+ghost use Rattle.sentinel_core.specs.Inputs.Rows.{is_promotion, is_too_late, looked_at};
 
 use crate::inputs::facts::{best_for, card_place_for, count_for, down_for_rows, pick_for};
 use ballot_law::{Heir, Win};
@@ -44,16 +44,22 @@ fn is_start_due(state: &State, m: u16, now: u64) -> bool
     if state.core.is_wished(m, now) {
         return true;
     }
-    let has_gone = state.core.was_odown(m) || state.core.switched_to(&state.plan, m, now).is_some();
-    has_gone && state.core.may_begin(&state.plan, m, now)
+    if state.core.was_odown(m) {
+        return state.core.may_begin(&state.plan, m, now);
+    }
+    if state.core.is_switch_due(&state.plan, m, now) {
+        return state.core.may_begin(&state.plan, m, now);
+    }
+    false
 }
 
-/// Begins a failover where none runs and one is due, and tells whether it did. A failover that begins opens the epoch
-/// after the current one for its campaign, and keeps it.
-fn begin_failover(state: &mut State, m: u16, now: u64) -> bool
+/// Starts a failover where none runs and one is due, and tells whether it did. A failover that starts opens the epoch
+/// after the current one for its campaign, and keeps it; where it is that of a switch which a client asked for, its
+/// epoch is kept for that too.
+pub(crate) fn start_failover(state: &mut State, m: u16, now: u64) -> bool
     requires { m < master_count state.old.plan }
     ensures started { result ≡ starts_now state.old.plan state.old.core m (clock now) }
-    ensures state { state.new ≡ with_part state.old (begun_part state.old.plan m (clock now) state.old.core) }
+    ensures state { state.new ≡ with_part state.old (start_part state.old.plan m (clock now) state.old.core) }
 {
     if state.core.is_failing_over(m) {
         return false;
@@ -65,21 +71,8 @@ fn begin_failover(state: &mut State, m: u16, now: u64) -> bool
     }
     let epoch = state.core.campaign_epoch(m);
     state.core.set_current(epoch);
+    state.core.plan_switch(m, now);
     true
-}
-
-/// Starts a failover where none runs and one is due, and tells whether it did. Where it is that of a switch which a
-/// client asked for, its epoch is kept for that.
-pub(crate) fn start_failover(state: &mut State, m: u16, now: u64) -> bool
-    requires { m < master_count state.old.plan }
-    ensures started { result ≡ starts_now state.old.plan state.old.core m (clock now) }
-    ensures state { state.new ≡ with_part state.old (start_part state.old.plan m (clock now) state.old.core) }
-{
-    let started = begin_failover(state, m, now);
-    if started {
-        state.core.plan_switch(m, now);
-    }
-    started
 }
 
 /// The failover takes the first row that fits: it may give a vote, end an election, tell the choice that it is the
