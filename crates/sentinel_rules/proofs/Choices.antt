@@ -125,7 +125,7 @@ up now limits c h = known c.sdown refl
     known true e = let never : false ≡ true = rw e at h in absurd (cc)
 
 -- a place of the list that isn't the configuration's
-IsOther : Plan → Core → (m : ℕ) → Option ℕ → Type 0
+abbrev IsOther : Plan → Core → (m : ℕ) → Option ℕ → Type 0
 IsOther plan core m None = Unit {0}
 IsOther plan core m (Some k) = (k < length (nodes_of plan m)) × (k ≡ card_place plan core m → ⊥)
 

@@ -1,5 +1,5 @@
 -- The epochs of the votes and configurations that are shown.
-use Rattle.std.proofs.Common.{◌≤◌, ℕ, zero, suc, Bool, Option, Some, None, List, [], ◌∷◌, map, slice_index_or, arith}
+use Rattle.std.proofs.Common.{◌≤◌, ℕ, zero, suc, Bool, true, false, Option, Some, None, List, [], ◌∷◌, map, slice_index_or, arith}
 use Rattle.std.specs.Prelude.{All, not, ◌&&◌, ◌||◌, if◌then◌else◌}
 use Rattle.std.specs.List.{AllZip, AllByRecursion}
 use Rattle.std.proofs.lemmas.List.Elements.{All-nil, All-cons}

@@ -397,10 +397,10 @@ start_steps plan event m now core s inside idle = subst (λ (x : Failover). Step
 -- what is kept of a switch that was asked for is nothing to the model
 planned_steps : (plan : Plan) (event : Event) (m now : ℕ) (begins : Bool) (core : Core) → m < length core.masters →
     StepsTo plan event 0 core (if begins then with_plan m now core else core)
-planned_steps plan event m now true core lt =
-    twin_steps plan event 0 m core (with_plan m now core) lt
-    (twin_master core m (record (master_of core m) { wish = None; planned = planned_if (is_wished core m now) (epoch_of (failover_of core m).state); refused = false }) lt refl)
-planned_steps plan event m now false core lt = stay_steps plan event 0 core
+planned_steps plan event m now true core within =
+    twin_steps plan event 0 m core (with_plan m now core) within
+    (twin_master core m (record (master_of core m) { wish = None; planned = planned_if (is_wished core m now) (epoch_of (failover_of core m).state); refused = false }) within refl)
+planned_steps plan event m now false core within = stay_steps plan event 0 core
 
 starts_steps : (plan : Plan) (event : Event) (m now : ℕ) (core : Core) → IsSound plan core → m < master_count plan → StepsTo plan event 1 core (start_part plan m now core).core
 starts_steps plan event m now core s inside =
