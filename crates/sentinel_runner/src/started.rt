@@ -279,7 +279,6 @@ fn none_for_want<S>(state: &RunState, stop: &AtomicU64) -> Option<Left<S>> {
 #[derive(Drop)]
 struct TimerPart<J: Which> {
     seat: ThreadSeat<J>,
-    alloc: Global,
     back: Sender<Back<J>>,
 }
 
@@ -325,12 +324,8 @@ impl<J: Which, S: ConfStore> UsesLinks<RunningSentinel<J, S>> for LinkedPart<J> 
     ) {
         match self {
             LinkedPart::Timer(part) => {
-                let TimerPart {
-                    mut seat,
-                    alloc,
-                    back,
-                } = part;
-                run_timer(rt, alloc, state, links, member, &mut seat, ending);
+                let TimerPart { mut seat, back } = part;
+                run_timer(rt, state, links, member, &mut seat, ending);
                 drop(back.send(rt, Back::Seat(seat)));
             }
             LinkedPart::Link(part) => {
@@ -374,7 +369,6 @@ impl<J: Which> Seated<J> {
         };
         let timer = TimerPart {
             seat: timer,
-            alloc,
             back: back.clone()?,
         };
         let link = LinkPart {

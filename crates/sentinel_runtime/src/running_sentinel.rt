@@ -17,7 +17,7 @@ use crate::news::{News, NewsLists};
 use crate::notes::{Announcing, tell_all};
 use crate::outlet::{Outlet, send_all};
 use crate::run_state::RunState;
-use crate::sight::{Look, Sight};
+use crate::sight::Sight;
 use crate::switches::Switch;
 use crate::ticking::TICK_MS;
 use ballot_law::{Event, Input, NoMemory, Output, Roster};
@@ -87,7 +87,7 @@ fn with_outbox<J: Which>(alloc: Global, seat: Seat) -> ThreadSeat<J>
     ThreadSeat {
         seat,
         outbox: Outbox::new(alloc),
-        sight: Sight::none(),
+        sight: Sight::new(alloc),
         of: PhantomData,
     }
 }
@@ -104,25 +104,6 @@ impl<J: Which> ThreadSeat<J> {
             of: _,
         } = self;
         seat
-    }
-
-    /// What the last input gave.
-    pub(crate) fn outputs(&self) -> &[Output] {
-        self.outbox.outputs()
-    }
-
-    /// Has the next turn, at this reading of the clock in milliseconds, take down what the Sentinel shows of a master.
-    pub(crate) fn want(&mut self, master: u16, now: u64)
-        ensures { (self.new.seat ≡ self.old.seat) × (self.new.outbox ≡ self.old.outbox) }
-    {
-        self.sight.want(master, now);
-    }
-
-    /// What the last turn took down.
-    pub(crate) fn take_look(&mut self) -> Option<Look>
-        ensures { (self.new.seat ≡ self.old.seat) × (self.new.outbox ≡ self.old.outbox) }
-    {
-        self.sight.take()
     }
 
     /// Has the next turn see whether a campaign for this master is near, at this reading of the clock in milliseconds,
@@ -287,12 +268,13 @@ impl<J: Which, S: ConfStore> RunningSentinel<J, S> {
         let input = Input { now, event };
         let entry = self.turn(rt, seat, &input)?;
         self.settle(&mut seat.sight, now);
+        self.note_tilt(seat.sight.is_tilted(), now);
         let outputs = seat.outbox.outputs();
         send_all(outlet, outputs);
         tell_all(
             &self.announcing(rt),
             self.roster(),
-            &input.event,
+            seat.sight.notices(),
             outputs,
             entry,
         );
@@ -311,8 +293,8 @@ impl<J: Which, S: ConfStore> RunningSentinel<J, S> {
         self.halt_noted.swap(1, Ordering::SeqCst) == 0
     }
 
-    /// At this reading of the clock in milliseconds it is in TILT or isn't, as its ticks saw it.
-    pub(crate) fn note_tilt(&self, is_tilted: bool, now: u64) {
+    /// At this reading of the clock in milliseconds it is in TILT or isn't, as the last turn saw it.
+    fn note_tilt(&self, is_tilted: bool, now: u64) {
         if !is_tilted {
             self.tilted.store(NOT_TILTED, Ordering::SeqCst);
         } else if self.tilted.load(Ordering::SeqCst) == NOT_TILTED {
@@ -320,8 +302,8 @@ impl<J: Which, S: ConfStore> RunningSentinel<J, S> {
         }
     }
 
-    /// For how many milliseconds it is in TILT at this reading of the clock, as far as its ticks saw it; none where it
-    /// isn't. Nothing is seen where neither notes nor events are told.
+    /// For how many milliseconds it is in TILT at this reading of the clock, as far as calls of `carry_out` saw it; none
+    /// where it isn't.
     pub fn tilted_for(&self, now: u64) -> Option<u64> {
         match self.tilted.load(Ordering::SeqCst) {
             NOT_TILTED => None,

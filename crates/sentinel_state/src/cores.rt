@@ -11,6 +11,7 @@ ghost use Rattle.sentinel_rules.specs.Plans.{roster_of, group_size, master_count
 
 use crate::masters::Master;
 use crate::nodes::{Node, Peer, Plan};
+use crate::notices::Notices;
 use ballot_law::{Addr, Card, Info, Kept, KeptMaster, KeptMasters, NoMemory, RunId, Win};
 use down_detector::{Tilt, is_odown};
 use failover_states::FailoverState;
@@ -37,6 +38,8 @@ pub struct Core {
     pub(crate) clock: Tilt,
     pub(crate) random: u64,
     pub(crate) won: Option<Win>,
+    /// What its rules did, for whoever tells of it; contracts don't see it.
+    pub(crate) notices: Notices,
 }
 
 impl Model for Core {
@@ -135,6 +138,7 @@ impl Core {
             clock: Tilt::new(now),
             random: 0,
             won: None,
+            notices: Notices::with_room(alloc, plan.master_count())?,
         })
     }
 
@@ -270,6 +274,7 @@ impl Core {
     pub fn set_current(&mut self, epoch: u64)
         ensures { self.new ≡ with_current self.old epoch }
     {
+        self.notices.see_epoch(self.kept.current, epoch);
         self.kept.current = epoch;
     }
 
@@ -370,6 +375,7 @@ impl Core {
     {
         self.clock.turn(now);
         self.random = random;
+        self.notices.see_tilt(self.clock.holds());
     }
 
     /// The random number of the last tick.

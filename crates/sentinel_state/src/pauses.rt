@@ -205,6 +205,7 @@ impl Core {
     pub fn rest_after(&mut self, plan: &Plan, m: u16, now: u64, row: Option<Row>)
         ensures { self.new ≡ with_pause plan.now m (clock now) row self.old }
     {
+        self.note_row(m, row);
         if let Some(rest) = rest_of(plan.profile(), row, election_ms(plan, m)) {
             let at = self.rested_at(plan, m, now, rest);
             if let Some(master) = self.masters.get_mut(m as usize) {

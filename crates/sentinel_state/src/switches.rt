@@ -150,6 +150,8 @@ impl Core {
     pub fn plan_switch(&mut self, m: u16, now: u64)
         ensures { self.new ≡ with_plan m (clock now) self.old }
     {
+        let of = self.then(m);
+        self.notices.see_begin(of, now);
         if let Some(master) = self.masters.get_mut(m as usize) {
             master.plan_switch(now);
         }

@@ -63,6 +63,7 @@ impl Core {
         if candidate.is_same(&plan.me()) {
             return;
         }
+        self.notices.see_start(m, now);
         let at = self.mark_at(plan, m, now);
         if let Some(master) = self.masters.get_mut(m as usize) {
             master.failover.mark(at);
@@ -80,8 +81,10 @@ impl Core {
     fn keep_book(&mut self, m: u16, book: &VoteBook)
         ensures { self.new ≡ with_book self.old m book.now }
     {
+        let before = self.voted(m);
         self.set_vote(m, book.voted(), book.leader());
         self.set_current(book.current());
+        self.notices.see_vote(before, book.voted(), book.leader());
     }
 
     /// The candidate of the last vote for a master.

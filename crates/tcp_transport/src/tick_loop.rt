@@ -128,7 +128,7 @@ impl TickLoop {
     ) -> TickLoop {
         TickLoop {
             far,
-            ticker: Ticker::new(alloc, member),
+            ticker: Ticker::new(member),
             pace: TickSchedule::new(now),
             stood_still: false,
             hellos: HelloNotes::new(now),

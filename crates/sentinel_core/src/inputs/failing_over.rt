@@ -19,7 +19,7 @@ use crate::inputs::facts::{best_for, card_place_for, count_for, down_for_rows, p
 use ballot_law::{Heir, Win};
 use failover_states::{Act, Facts, FailoverState, Row};
 use sentinel_rules::Frame;
-use sentinel_state::{Core, FrameList, Plan, State};
+use sentinel_state::{Core, FrameList, MasterNotice, Plan, State};
 
 /// Whether the row tells the choice that it is the master.
 fn is_promotion(row: Option<Row>) -> bool
@@ -193,6 +193,9 @@ fn promote_choice(state: &mut State, m: u16, planned: bool, hands_over: bool, ro
         heir: None,
     };
     state.frames.push_if(planned && is_too_late(row), stay);
+    state
+        .core
+        .note_master_if(planned && is_too_late(row), m, MasterNotice::Stays);
 }
 
 /// Tells replicas to follow the new master, by address.

@@ -44,6 +44,7 @@ fn hear_hello(state: &mut State, m: u16, now: u64, hello: &Hello)
 {
     raise(&mut state.core, m, hello.current);
     if is_newer(state, m, hello.card) {
+        state.core.note_source(m, hello);
         adopt(state, m, now, hello.card);
     }
 }

@@ -15,7 +15,7 @@ use ballot_law::{Addr, Card, DataRole, Info, NodeName, NodePlace, clock_of};
 use failover_states::FailoverState;
 use node_texts::{is_announced, read_info};
 use sentinel_rules::{Frame, WRONG_ROLE_MS};
-use sentinel_state::{Core, State};
+use sentinel_state::{Core, ReplicaNotice, State};
 
 /// Whether this is the role of a master.
 fn is_master(role: DataRole) -> bool
@@ -115,6 +115,9 @@ fn close_clients(state: &mut State, m: u16, heir: usize, old: usize, planned: bo
           = added state.old.frames (closing_frames state.old.plan m heir old planned);
     } }
 {
+    state
+        .core
+        .note_replica_if(planned, m, old as u16, ReplicaNotice::Converted);
     let heir = state.plan.node_name(m, heir);
     state.frames.push_if(planned, Frame::PromoteTo(heir));
     let target = state.plan.node_name(m, old);
@@ -137,6 +140,7 @@ fn hear_promotion(state: &mut State, m: u16, k: u16, now: u64, info: &Info)
         let addr = choice.addr;
         let planned = state.core.is_planned(m);
         let old = state.core.card_place(&state.plan, m);
+        state.core.note_replica(m, k, ReplicaNotice::Promoted);
         state.core.set_promoted(m, now);
         take_card(state, m, now, Card { epoch, addr });
         close_clients(state, m, k as usize, old, planned);
@@ -181,6 +185,9 @@ fn correct(state: &mut State, m: u16, k: u16, now: u64, info: &Info)
     node.wrong_role = anew(role_told, at, role);
     node.wrong_address = anew(address_told, at, address);
     state.core.set_node(m, k as usize, node);
+    let core = &mut state.core;
+    core.note_replica_if(role_told, m, k, ReplicaNotice::Converted);
+    core.note_replica_if(address_told, m, k, ReplicaNotice::Corrected);
     let target = state.plan.node_name(m, k as usize);
     state.frames.push_if(
         role_told || address_told,

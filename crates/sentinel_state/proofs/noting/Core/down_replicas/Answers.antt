@@ -1,13 +1,13 @@
 use Rattle.std.proofs.Common.{◌<◌, length, arith}
 use Rattle.std.proofs.Math.ListN.{length-set}
 use Rattle.ballot_law.specs.Clocks.{clock}
-use Rattle.sentinel_runtime.specs.Sights.{is_replica_down}
-use Rattle.sentinel_core.proofs.InputsLemmas.AtPlaces.{filled_more}
-use Rattle.sentinel_runtime.proofs.sight.down_replicas.Goals as goal
+use Rattle.sentinel_state.specs.Sights.{is_replica_down}
+use Rattle.sentinel_state.proofs.AtPlaces.{filled_more}
+use Rattle.sentinel_state.proofs.noting.Core.down_replicas.Goals as goal
 
 pub loop-k-preserved : goal.loop-k-preserved
 loop-k-preserved c =
-    let down = is_replica_down c.args.plan.now c.args.core.now c.args.m (clock c.args.now) in
+    let down = is_replica_down c.args.plan.now c.args.self.now c.args.m (clock c.args.now) in
     let lt : c.loop-k.k < length c.loop-k.down = omega arith in
     record {
       long = simp length-set c.loop-k.invariant.long;

@@ -1,4 +1,4 @@
--- What a Sentinel shows of a master to its own timer.
+-- Which nodes beside the master a Sentinel finds down at the end of a tick.
 use Rattle.std.specs.Prelude.{ℕ, Bool, not, ◌&&◌, ◌==◌}
 use Rattle.sentinel_rules.specs.Plans.{Plan}
 use Rattle.sentinel_rules.specs.States.{Core, card_place, is_node_down, is_peer_down}
