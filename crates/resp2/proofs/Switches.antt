@@ -56,9 +56,6 @@ pub switch_or_not : (name : List ℕ) (rest : List (List ℕ)) → IsSwitch name
 switch_or_not name [] = inr refl
 switch_or_not name (word ∷ args) = at (is_called (codes "sentinel") name) (is_called (codes "failover") word) refl refl
   where
-    asked : Bool → Asked
-    asked t = or_switch (if t then Some args else None) (command_of_words (name ∷ word ∷ args))
-
     at : (a b : Bool) → is_called (codes "sentinel") name ≡ a → is_called (codes "failover") word ≡ b →
         IsSwitch name (word ∷ args) ⊎ (redis_command_of_words (name ∷ word ∷ args) ≡ command_of_words (name ∷ word ∷ args))
     at true true first second =
@@ -68,10 +65,10 @@ switch_or_not name (word ∷ args) = at (is_called (codes "sentinel") name) (is_
           rest_is = refl;
           named = (bytes_eq-Decides (lower name) (codes "sentinel")).0 first;
           wanted = (bytes_eq-Decides (lower word) (codes "failover")).0 second;
-          judged = ap asked (ap (λ (t : Bool). t && is_called (codes "failover") word) first ∙ second);
+          judged = ap (λ (t : Bool). or_switch (if t then Some args else None) (command_of_words (name ∷ word ∷ args))) (ap (λ (t : Bool). t && is_called (codes "failover") word) first ∙ second);
         })
-    at true false first second = inr (ap asked (ap (λ (t : Bool). t && is_called (codes "failover") word) first ∙ second))
-    at false b first second = inr (ap asked (ap (λ (t : Bool). t && is_called (codes "failover") word) first))
+    at true false first second = inr (ap (λ (t : Bool). or_switch (if t then Some args else None) (command_of_words (name ∷ word ∷ args))) (ap (λ (t : Bool). t && is_called (codes "failover") word) first ∙ second))
+    at false b first second = inr (ap (λ (t : Bool). or_switch (if t then Some args else None) (command_of_words (name ∷ word ∷ args))) (ap (λ (t : Bool). t && is_called (codes "failover") word) first))
 
 words_same : (ws : List (List ℕ)) → (redis_command_of_words ws ≡ command_of_words ws) ⊎ (command_of_words ws ≡ Err UnknownCommand)
 words_same [] = inl refl

@@ -117,4 +117,4 @@ a_planned_switch = record { begun = refl; done = refl; stays = refl; idle = refl
 
 pub a_switch_at_the_nodes : ASwitchAtTheNodes
 unfolding on_literals
-a_switch_at_the_nodes = record { redis = refl; strict = refl }
+a_switch_at_the_nodes = record { redis = refl; strict = refl; chosen = refl }

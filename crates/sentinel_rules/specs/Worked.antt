@@ -610,7 +610,8 @@ pub record APlannedSwitch : Type 0 where
   pub lapsed : is_wished (core_of switch_plan until_asked) 0 4201 ≡ false
 
 -- a master that handed over without being told: it says that it is a replica of a node which says that it is a master. After two seconds and the pause, which is 0
--- here, a campaign begins; strict Sentinels go on
+-- here, a campaign begins; strict Sentinels go on. Once elected the Sentinel has the node that took over promoted, though in the campaign's epoch its pause would
+-- be a longer one
 abbrev pub handed_over_alone : List (ℕ × Event)
 handed_over_alone =
     tick_at 1000
@@ -628,6 +629,11 @@ handed_over_alone =
 pub record ASwitchAtTheNodes : Type 0 where
   pub redis : rare_from switch_plan (opened switch_plan 0) handed_over_alone ≡ (3100, asks 1 (Some id_a)) ∷ []
   pub strict : rare_from (group_plan (kept_at_epoch 0)) (opened (group_plan (kept_at_epoch 0)) 0) handed_over_alone ≡ []
+  pub chosen :
+      rare_from switch_plan (core_of switch_plan handed_over_alone)
+      ((3150, Answered (SentinelAt 1) 0 (local 6379) false (Some id_a) 1) ∷ tick_at 3200 ∷ tick_at 3300 ∷ tick_at 3400 ∷ [])
+      ≡ (3400, sent (StoreAt 2) (ReplicaOf None) ∷ [])
+      ∷ []
 
 -- Replicas
 

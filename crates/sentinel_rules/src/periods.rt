@@ -47,19 +47,23 @@ pub const HANDED_MS: u64 = 2_500;
 /// How often INFO is sent to that choice.
 pub const HEIR_INFO_MS: u64 = 100;
 
-/// These periods as numbers. Definitions and code cite them by name.
+/// The periods of sending, and what is borne, as numbers. Definitions and code cite them by name.
 pub fn law_periods()
     ensures ping { PING_MS ≡ 1000 }
     ensures info { INFO_MS ≡ 10000 }
     ensures busy_info { BUSY_INFO_MS ≡ 1000 }
+    ensures heir { HEIR_INFO_MS ≡ 100 }
     ensures hello { HELLO_MS ≡ 2000 }
     ensures ask { ASK_MS ≡ 1000 }
     ensures wrong_role { WRONG_ROLE_MS ≡ 8000 }
+    ensures link { LINK_MAX_S ≡ 4294967295 }
+{}
+
+/// The waits of the profile of Redis as numbers.
+pub fn law_waits()
     ensures hold { HOLD_MS ≡ ELECTION_MS + SPREAD_MS }
+    ensures quiet { QUIET_MS ≡ 1000 }
     ensures switched { SWITCHED_MS ≡ 2000 }
     ensures wish { WISH_MS ≡ 3000 }
     ensures handed { HANDED_MS ≡ HAND_OVER_MS + 500 }
-    ensures heir { HEIR_INFO_MS ≡ 100 }
-    ensures quiet { QUIET_MS ≡ 1000 }
-    ensures link { LINK_MAX_S ≡ 4294967295 }
 {}

@@ -107,6 +107,7 @@ fn keep_info(core: &mut Core, m: u16, k: u16, now: u64, info: &Info)
 
 /// After a switch that a client asked for has the clients of both nodes sent away, so that they ask for the master
 /// anew.
+#[tactic(auto, using(sentinel_state::proofs::NodesLemmas::RoomLemmas::added_both))]
 fn close_clients(state: &mut State, m: u16, heir: usize, old: usize, planned: bool)
     requires { (heir ≤ NODES_MAX) × (old ≤ NODES_MAX) }
     ensures { state.new ≡ record state.old {
@@ -127,6 +128,7 @@ fn close_clients(state: &mut State, m: u16, heir: usize, old: usize, planned: bo
 
 /// Takes the INFO of a node while a failover runs that may await a promotion: where the chosen replica says that it is
 /// a master, the campaign's epoch and the replica's address are the master's configuration.
+#[tactic(auto, using(sentinel_state::proofs::NodesLemmas::RoomLemmas::added_both))]
 fn hear_promotion(state: &mut State, m: u16, k: u16, now: u64, info: &Info)
     requires { k ≤ NODES_MAX }
     ensures { state.new ≡ with_part state.old (promotion state.old.plan m k (clock now) info.now (failover_of state.old.core m).state state.old.core) }

@@ -15,7 +15,7 @@ use sentinel_runner::{GroupFault, PortSettings, Watch, WatchSettings};
 use std::alloc::{AllocError, Global};
 use std::io::{self, Read, Write};
 use std::net::{Ipv4Addr, Net, SocketAddr, TcpStream};
-use std::rt::Clock;
+use std::rt::{Clock, Files};
 use std::sync::Wait;
 use std::sync::atomic::AtomicU64;
 use std::test::Fail;
@@ -206,7 +206,7 @@ pub(crate) trait Looks {
 }
 
 /// Runs a Sentinel until it ends, while the nodes around it are played.
-fn run_beside<'a, R: Threads + Wait + Net + Clock + Log + Sync>(
+fn run_beside<'a, R: Threads + Wait + Net + Clock + Files + Log + Sync>(
     rt: &'a R,
     watch: Watch<EndingFile<'a>>,
     nodes: &mut PlayedNodes<'a>,
@@ -225,7 +225,11 @@ fn run_beside<'a, R: Threads + Wait + Net + Clock + Log + Sync>(
 }
 
 /// Runs a Sentinel beside the nodes that are played and who looks at it: what was seen, and how it ended.
-pub(crate) fn look_beside<'a, R: Threads + Wait + Net + Clock + Log + Sync, L: Looks + Send>(
+pub(crate) fn look_beside<
+    'a,
+    R: Threads + Wait + Net + Clock + Files + Log + Sync,
+    L: Looks + Send,
+>(
     rt: &'a R,
     watch: Watch<EndingFile<'a>>,
     nodes: &mut PlayedNodes<'a>,

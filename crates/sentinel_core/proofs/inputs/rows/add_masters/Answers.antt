@@ -16,7 +16,7 @@ loop-m-preserved c =
     let m = c.loop-m.m in
     record {
       written =
-          row_written (master_frame_by c.args.plan.now.profile) row_of (header c.master_count-count.result) m c.master_row.result c.loop-m.text c.add_master.new.self
+          row_written (master_frame_by c.args.plan.now.profile) row_of (header c.master_count-count.result) m c.master_row.result c.loop-m.text c.add_master.new.text
           c.master_row.ensures.value c.loop-m.invariant.written (c.add_master.ensures ∙ ap (λ (p : Profile). bounded (c.loop-m.text ++ spelling (master_frame_by p c.master_row.result))) c.profile.ensures);
       fits = below_more (λ k. IsMasterRow (row_of k)) m c.loop-m.invariant.fits (subst IsMasterRow c.master_row.ensures.value c.master_row.ensures.fits);
     }
