@@ -24,6 +24,8 @@ import time
 TOP = os.path.dirname(os.path.dirname(os.path.realpath(__file__)))
 OUT = f"{TOP}/out"
 PROGRAM = "sentinel_group"
+# A crate of more lines than that gets four jobs.
+LONG = 2_500
 # How many programs of each kind stay, the newest, so that whoever goes back to earlier sources finds theirs.
 STAY = 4
 
@@ -161,6 +163,94 @@ def side_by_side(rt, crates, make):
         below = [(it.name, "proof") for it in crate.below()]
         tasks[crate.name, "proof"] = (below, crate.count(rb"\n"), rt.need(crate), functools.partial(task, crate))
     return all(rt.in_lanes(tasks).values())
+
+
+def in_places(crates, make, places):
+    """Makes each crate once those below it are made, the one with the longest chain of others above first, with two jobs each, or four where a crate is
+    long, and at most `places` jobs at once. Memory isn't looked at. Returns whether all stand, and says what came of each."""
+    names, left, jobs, stands = {it.name for it in crates}, list(crates), {}, {}
+    lines = {it.name: it.count(rb"\n") for it in crates}
+    chains, turn = {}, threading.Condition()
+    for it in sorted(crates, key=lambda it: -len(it.below())):
+        above = [chains[up.name] for up in crates if it.name in {low.name for low in up.below()}]
+        chains[it.name] = lines[it.name] + max(above, default=0)
+
+    def task(crate, given):
+        began = time.time()
+        try:
+            came = make(crate, given)
+        except SystemExit:
+            came = None
+        with turn:
+            del jobs[crate.name]
+            stands[crate.name] = came is not None
+            why = came or f"NOT PROVED, see {os.path.relpath(log_of(crate), TOP)}"
+            print(f"{crate.name}: {why}, {time.time() - began:.0f} s; {len(crates) - len(stands)} of {len(crates)} left", flush=True)
+            turn.notify()
+
+    def next_one():
+        ready = [it for it in left if all(stands.get(low.name) or low.name not in names for low in it.below())]
+        for it in sorted(ready, key=lambda it: -chains[it.name]):
+            wanted = 4 if lines[it.name] > LONG else 2
+            if not jobs or sum(jobs.values()) + wanted <= places:
+                return it, wanted
+        return None, 0
+
+    with turn:
+        while len(stands) < len(crates):
+            for it in [it for it in left if any(stands.get(low.name) is False for low in it.below())]:
+                left.remove(it)
+                stands[it.name] = False
+                print(f"{it.name}: not tried, since a crate below it is not proved", flush=True)
+            crate, wanted = next_one()
+            if crate:
+                left.remove(crate)
+                jobs[crate.name] = wanted
+                threading.Thread(target=task, args=(crate, wanted), daemon=True).start()
+            elif jobs:
+                turn.wait()
+    return all(stands.values())
+
+
+def sum_of_crate(folder):
+    """The sum of a crate's sources, definitions and proofs."""
+    total = hashlib.sha256()
+    for at, folders, names in os.walk(folder):
+        folders[:] = sorted(it for it in folders if it not in ("out", "must-fail", "wrong-bodies"))
+        for name in sorted(it for it in names if it.endswith((".rt", ".antt"))):
+            with open(f"{at}/{name}", "rb") as data:
+                total.update(os.path.relpath(f"{at}/{name}", folder).encode() + b" " + data.read())
+    return total.digest()
+
+
+def over_built(words, crate, trees):
+    """The words of a check that takes libraries as source, with each that stands in one of these trees, of the same files as here, as it was built there."""
+    sums = {it.name: sum_of_crate(it.folder) for it in crate.below()}
+
+    def rlib(tree, it):
+        return f"{tree}/crates/{it.name}/out/rlib/{it.name}.rlib"
+
+    def stands(tree, it):
+        return os.path.exists(rlib(tree, it)) and sum_of_crate(f"{tree}/crates/{it.name}") == sums[it.name]
+
+    found = {}
+    for tree in trees:
+        good = {it.name for it in crate.below() if stands(tree, it)}
+        for it in crate.below():
+            if it.name not in found and good.issuperset([it.name, *[low.name for low in it.below()]]):
+                found[it.name] = rlib(tree, it)
+    new, rest = [], iter(words)
+    for word in rest:
+        if word != "--lib":
+            new.append(word)
+            continue
+        source = next(rest)
+        name = source.split(":")[0]
+        if name in found:
+            new += ["--extern", f"{name}={found[name]}", "-L", f"dependency={os.path.dirname(found[name])}"]
+        else:
+            new += [word, source]
+    return new
 
 
 class Libraries:

@@ -49,6 +49,6 @@ abbrev pub client_lines : (id : ℕ) → (name last : List ℕ) → PortFacts �
 client_lines id name last port wanted [] = []
 client_lines id name last port wanted (entry ∷ entries) =
     elim (is_chosen id port.killed wanted entry) [
-      | true ↦ client_line id name last port.figures.now entry ++ client_lines id name last port wanted entries
+      | true ↦ client_line id name last port.figures.clock entry ++ client_lines id name last port wanted entries
       | false ↦ client_lines id name last port wanted entries
     ]

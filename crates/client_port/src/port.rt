@@ -73,7 +73,8 @@ impl Port {
         requires asked { is_redis room.profile ≡ false → admission.now.password ≡ [] }
         ensures threads { IfOk result (λ parts. length parts.1.items + 1 ≡ room.threads) }
         ensures first { IfOk result (λ parts. parts.0.clients.terms.password ≡ admission.now.password) }
-        ensures others { IfOk result (λ parts. All (λ port. port.clients.terms.password ≡ admission.now.password) parts.1.items) }
+        ensures others { IfOk result (λ parts. All (λ port. port.clients.terms.password ≡ admission.now.password)
+            parts.1.items) }
     {
         let seats = Arc::new(alloc, Seats::open(alloc, admission)?)?;
         let mut desks = Vec::new(alloc);

@@ -1,47 +1,82 @@
 //! The steps to a changed group: what an operator does with the new files, in which order, and for how long nobody
 //! guards meanwhile.
 
-use ballot_law::{Addr, Member};
-use conf_check::{Change, Difference};
+use crate::change_orders::Order;
+use ballot_law::{Addr, Member, Name};
+use conf_check::{Change, MasterSetting, NewSetting};
 use sentinel_conf::Conf;
 use std::alloc::{AllocError, Global};
 use tokens::ip_text;
+
+/// Why all are stopped where the files name other Sentinels, masters or quorums.
+const WHY_ALL: &str =
+    "All Sentinels are stopped meanwhile: no law is proved of files that name different \
+Sentinels, masters or quorums, since two majorities may share nobody.";
+
+/// Why all are stopped where the files that were read hold different epochs or configurations.
+const WHY_MENDED: &str =
+    "All Sentinels are stopped meanwhile: the files that were read hold different epochs or \
+configurations, and each new one the newest. With files of a group whose Sentinels all report one address and epoch, \
+one Sentinel at a time is enough.";
+
+/// Why one after another may be stopped.
+const WHY_EACH: &str =
+    "The Sentinels are changed one after another: what is promised holds while their files \
+differ in data nodes or in such settings alone.";
 
 /// The step in which all files are compared with what was read.
 const SAME_FILES: &str =
     "Compare each Sentinel's file with the one that was read here (`cmp`). If one differs, \
 a vote or a configuration came in between: start all again on their old files, and begin anew with these.";
 
-/// The step in which one file is.
-const SAME_FILE: &str =
-    "Stop one Sentinel, and compare its file with the one that was read here (`cmp`). If it \
-differs, start it again on its old file, and begin anew with copies of the files as they are.";
-
-/// The step in which a Sentinel gets its file while the others guard.
+/// The step in which one file gets the change.
 const PUT_ONE: &str =
-    "Put its new file in the place of the old one, with its owner and mode, start it, and wait \
-until `SENTINEL CKQUORUM` counts all.";
+    "If it is the same, put the new file in its place, with its owner and mode. If it differs, a vote \
+or a configuration came in between: keep it, make this change in it by hand, and `check` it:";
 
-/// How the Sentinels get their new files.
-#[derive(Clone, Copy, PartialEq, Eq)]
-pub(crate) enum Order {
-    /// All are stopped before the first one gets its file, and started after the last one has.
-    AllAtOnce,
-    /// One after another, while the others guard.
-    OneByOne,
+/// The step in which the changed Sentinel guards again.
+const START_ONE: &str = "Start it, and wait until `SENTINEL CKQUORUM` counts all.";
+
+/// A data node that one of two files names.
+#[derive(Clone, Copy)]
+struct Node {
+    addr: Addr,
+    /// The name of its master.
+    name: Name,
+    /// The address of its master.
+    master: Addr,
 }
 
-/// The order for files that differ so from those of before. Two majorities share a voter where all have one roster, so
-/// no two Sentinels may run on files that name other Sentinels or another quorum. Of files that differ in data nodes
-/// alone it isn't proved that they may run side by side, so they don't. Settings are each Sentinel's own.
-pub(crate) fn order_of(difference: Option<Difference>) -> Order {
-    match difference {
-        Some(Difference::Sentinels | Difference::Masters | Difference::Quorum(_)) => {
-            Order::AllAtOnce
+/// The data nodes of the first file that the second one doesn't name.
+fn nodes_beside(alloc: Global, of: &Conf, other: &Conf) -> Result<Vec<Node>, AllocError> {
+    let mut nodes = Vec::new(alloc);
+    let masters = of.kept().masters.as_slice();
+    for (watched, kept) in of.roster().masters().iter().zip(masters.iter()) {
+        for addr in watched.nodes() {
+            if other.roster().master_at(*addr).is_none() {
+                nodes.push(Node {
+                    addr: *addr,
+                    name: watched.name,
+                    master: kept.card.addr,
+                })?;
+            }
         }
-        Some(Difference::Nodes(_)) => Order::AllAtOnce,
-        Some(Difference::Start(_)) => Order::AllAtOnce,
-        None => Order::OneByOne,
+    }
+    Ok(nodes)
+}
+
+/// A name as text.
+fn name_text(name: &Name) -> &str {
+    str::from_utf8(name.as_slice()).unwrap_or("")
+}
+
+/// The directive of a setting.
+fn directive_of(setting: MasterSetting) -> &'static str {
+    match setting {
+        MasterSetting::Quorum => "quorum",
+        MasterSetting::DownAfter => "down-after-milliseconds",
+        MasterSetting::FailoverTimeout => "failover-timeout",
+        MasterSetting::ParallelSyncs => "parallel-syncs",
     }
 }
 
@@ -99,28 +134,81 @@ impl Steps {
     }
 
     /// Adds how each of these data nodes is started.
-    fn start_nodes(&mut self, nodes: &[(Addr, Addr)]) -> Result<(), AllocError> {
-        for (addr, master) in nodes {
-            let at = address_text(self.alloc, *master)?;
+    fn start_nodes(&mut self, nodes: &[Node]) -> Result<(), AllocError> {
+        for node in nodes {
+            let at = address_text(self.alloc, node.master)?;
             let at = at.as_str();
             let back = format!(in self.alloc;
-                " as a replica of {at}, with `replica-priority 0`, so that nobody promotes it yet."
+                " as a replica of {at}, with `replica-priority 0`, so that nobody promotes it yet, and wait until it \
+follows."
             )?;
-            self.step_at("Start the Redis server ", *addr, back.as_str())?;
+            self.step_at("Start the Redis server ", node.addr, back.as_str())?;
+        }
+        Ok(())
+    }
+
+    /// Adds that nobody may promote these data nodes, which some files soon don't name.
+    fn demote_nodes(&mut self, nodes: &[Node]) -> Result<(), AllocError> {
+        for node in nodes {
+            self.step_at(
+                "At ",
+                node.addr,
+                ", if it still runs: `CONFIG SET replica-priority 0`. Wait 10 s, in which each Sentinel reads it.",
+            )?;
         }
         Ok(())
     }
 
     /// Adds that these data nodes may be promoted.
-    fn promote_nodes(&mut self, nodes: &[(Addr, Addr)]) -> Result<(), AllocError> {
-        for (addr, _) in nodes {
+    fn promote_nodes(&mut self, nodes: &[Node]) -> Result<(), AllocError> {
+        for node in nodes {
             self.step_at(
                 "At ",
-                *addr,
-                ": `CONFIG SET replica-priority 100`, and so in its file.",
+                node.addr,
+                ": `CONFIG SET replica-priority 100`, and so in its file. Not before all files name it.",
             )?;
         }
         Ok(())
+    }
+
+    /// Adds that these data nodes end.
+    fn end_nodes(&mut self, nodes: &[Node]) -> Result<(), AllocError> {
+        for node in nodes {
+            self.step_at("End the Redis server ", node.addr, ", if it still runs.")?;
+        }
+        Ok(())
+    }
+
+    /// Adds a line of a file that is added or deleted.
+    fn edit_line(&mut self, verb: &str, node: &Node) -> Result<(), AllocError> {
+        let name = name_text(&node.name);
+        let ip = ip_text(node.addr.ip);
+        let ip = str::from_utf8(ip.as_slice()).unwrap_or("");
+        let port = node.addr.port;
+        let line = format!(in self.alloc; "   {verb} `sentinel known-replica {name} {ip} {port}`")?;
+        self.line(line.as_str())
+    }
+
+    /// Adds a line of a file that is set.
+    fn set_line(&mut self, new: &NewSetting) -> Result<(), AllocError> {
+        let name = name_text(&new.master);
+        let (directive, value) = (directive_of(new.setting), new.value);
+        let line = format!(in self.alloc; "   set `sentinel {directive} {name} {value}`")?;
+        self.line(line.as_str())
+    }
+
+    /// Adds what the change is in a file that is edited by hand.
+    fn edits(&mut self, change: &Change, come: &[Node], gone: &[Node]) -> Result<(), AllocError> {
+        for node in come {
+            self.edit_line("add", node)?;
+        }
+        for node in gone {
+            self.edit_line("delete", node)?;
+        }
+        match change {
+            Change::Set(new) => self.set_line(new),
+            _ => Ok(()),
+        }
     }
 
     /// Adds the steps in which all Sentinels get their files.
@@ -139,17 +227,23 @@ impl Steps {
     }
 
     /// Adds the steps in which one Sentinel after another gets its file.
-    fn give_each(&mut self) -> Result<(), AllocError> {
-        self.step(SAME_FILE)?;
+    fn give_each(
+        &mut self,
+        change: &Change,
+        come: &[Node],
+        gone: &[Node],
+    ) -> Result<(), AllocError> {
+        self.step(
+            "Stop one Sentinel, and compare its file with the one that was read here (`cmp`).",
+        )?;
         self.step(PUT_ONE)?;
+        self.edits(change, come, gone)?;
+        self.step(START_ONE)?;
         self.step("Go on with the next one. The others guard meanwhile: 0 s without a guard.")
     }
 
-    /// Adds what is done with a host or Sentinel that goes.
-    fn end_old(&mut self, change: &Change, gone: Option<Member>) -> Result<(), AllocError> {
-        if let Change::RemoveReplica(replica) = change {
-            self.step_at("End the Redis server ", replica.addr, ".")?;
-        }
+    /// Adds what is done with the file of a Sentinel that goes.
+    fn end_sentinel(&mut self, gone: Option<Member>) -> Result<(), AllocError> {
         match gone {
             Some(member) => self.step_at(
                 "Destroy the file of the Sentinel ",
@@ -164,32 +258,29 @@ impl Steps {
     pub(crate) fn add(
         &mut self,
         change: &Change,
+        order: Order,
         old: &Conf,
         new: &Conf,
     ) -> Result<(), AllocError> {
-        let nodes = new_nodes(self.alloc, old, new)?;
-        self.start_nodes(&nodes)?;
-        match order_of(conf_check::difference_of(old, new)) {
-            Order::AllAtOnce => self.give_all(longest_down_after(new))?,
-            Order::OneByOne => self.give_each()?,
-        }
-        self.promote_nodes(&nodes)?;
-        self.end_old(change, gone_of(old, new))
-    }
-}
-
-/// Each data node that the new file names and the old one doesn't, with the address of its master.
-fn new_nodes(alloc: Global, old: &Conf, new: &Conf) -> Result<Vec<(Addr, Addr)>, AllocError> {
-    let mut nodes = Vec::new(alloc);
-    let masters = new.kept().masters.as_slice();
-    for (watched, kept) in new.roster().masters().iter().zip(masters.iter()) {
-        for addr in watched.nodes() {
-            if old.roster().master_at(*addr).is_none() {
-                nodes.push((*addr, kept.card.addr))?;
+        let come = nodes_beside(self.alloc, new, old)?;
+        let gone = nodes_beside(self.alloc, old, new)?;
+        self.line(match order {
+            Order::AllAtOnce => WHY_ALL,
+            Order::AllMended => WHY_MENDED,
+            Order::OneByOne => WHY_EACH,
+        })?;
+        self.start_nodes(&come)?;
+        match order {
+            Order::OneByOne => {
+                self.demote_nodes(&gone)?;
+                self.give_each(change, &come, &gone)?;
             }
+            _ => self.give_all(longest_down_after(new))?,
         }
+        self.promote_nodes(&come)?;
+        self.end_nodes(&gone)?;
+        self.end_sentinel(gone_of(old, new))
     }
-    Ok(nodes)
 }
 
 /// The Sentinel that the old file names and the new one doesn't.

@@ -1,5 +1,6 @@
 //! `change`: the files of a group with one change.
 
+use crate::change_orders::{Order, order_of};
 use crate::change_steps::{Steps, address_text};
 use crate::change_words::change_of;
 use crate::checking::confs_of;
@@ -85,13 +86,27 @@ fn own_member(conf: &Conf) -> Member {
 }
 
 /// The file of before of this Sentinel.
-fn file_before<'a>(files: &'a [NamedConf], member: &Member) -> Option<&'a str> {
+fn file_before<'a>(files: &'a [NamedConf], member: &Member) -> Option<&'a NamedConf> {
     for file in files {
         if own_member(&file.conf).id.is_same(&member.id) {
-            return Some(file.name.as_str());
+            return Some(file);
         }
     }
     None
+}
+
+/// In which order the Sentinels get their files: one after another where each file lets it.
+fn order_of_all(files: &[NamedConf], confs: &[Conf]) -> Order {
+    for new in confs {
+        let order = match file_before(files, &own_member(new)) {
+            Some(old) => order_of(&old.conf, new),
+            None => Order::AllAtOnce,
+        };
+        if order != Order::OneByOne {
+            return order;
+        }
+    }
+    Order::OneByOne
 }
 
 /// The new files, by name, each to get the mode of the one of before.
@@ -105,7 +120,10 @@ fn new_files<'a>(
     for (text, conf) in texts.iter().zip(confs.iter()) {
         let member = own_member(conf);
         let name = file_name(rt, member.addr)?;
-        let model = file_before(files, &member);
+        let model = match file_before(files, &member) {
+            Some(file) => Some(file.name.as_str()),
+            None => None,
+        };
         if news.push(NewFile { name, text, model }).is_err() {
             return Err(want_memory(rt));
         }
@@ -163,7 +181,8 @@ fn steps_of(
     let mut steps = Steps::new(rt.alloc());
     add_files(rt, &mut steps, news, confs)?;
     if let (Some(old), Some(new)) = (files.first(), confs.first()) {
-        if steps.add(change, &old.conf, new).is_err() {
+        let order = order_of_all(files, confs);
+        if steps.add(change, order, &old.conf, new).is_err() {
             return Err(want_memory(rt));
         }
     }

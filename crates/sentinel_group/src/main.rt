@@ -4,6 +4,7 @@
 //! `change` those of a changed one.
 #![tactic(auto)]
 
+mod change_orders;
 mod change_steps;
 mod change_words;
 mod changing;

@@ -162,7 +162,7 @@ fn refuse_shared(rt: HostRuntime, nodes: &[Addr], sentinels: &[Addr]) -> Result<
     let ip = str::from_utf8(ip.as_slice()).unwrap_or("");
     let port = addr.port;
     let _ = eprintln!(rt;
-        "sentinel_group: SharedAddress: {ip}:{port} is named twice: each node and each Sentinel has an address of its own"
+        "sentinel_group: SharedAddress: {ip}:{port} is named twice: each node and Sentinel has an address of its own"
     );
     Err(ExitCode::from(REFUSED_WORDS))
 }

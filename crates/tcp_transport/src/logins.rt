@@ -5,7 +5,7 @@ ghost use Rattle.sentinel_conf.specs.Watch.WatchConfs.{sent_pass, sent_user};
 ghost use Rattle.links.specs.Speaking.{login_bytes};
 ghost use Rattle.tcp_transport.specs.Logins.{login_in, sent_as, sent_for};
 
-use ballot_law::Roster;
+use ballot_law::{Roster, Watched};
 use links::Login;
 use sentinel_conf::WatchConf;
 use std::alloc::{AllocError, Global};
@@ -82,12 +82,26 @@ impl Logins {
         let mut logins = Logins::new(alloc);
         let mut rest = roster.masters();
         while let [master, more @ ..] = rest {
-            let name = &master.name;
-            logins.add(alloc, watch.node_user(name), watch.node_pass(name))?;
+            logins.add_said(alloc, watch, master)?;
             rest = more;
         }
         logins.set_sentinels(alloc, watch.sent_user(), watch.sent_pass())?;
         Ok(logins)
+    }
+
+    /// Adds the login of the next master, as the lines of a file say it.
+    fn add_said(
+        &mut self,
+        alloc: Global,
+        watch: &WatchConf,
+        master: &Watched,
+    ) -> Result<(), AllocError>
+        ensures masters { OnOk result (self.new.of_masters.items
+            ≡ self.old.of_masters.items ++ login_in watch.now master.now ∷ []) }
+        ensures sentinels { self.new.of_sentinels ≡ self.old.of_sentinels }
+    {
+        let name = &master.name;
+        self.add(alloc, watch.node_user(name), watch.node_pass(name))
     }
 
     /// Adds the login of the next master: an empty password is none, an empty user the default one.

@@ -162,7 +162,8 @@ fn id_heard(id: RunId, value: &Value) -> Result<Option<Event>, LinkFault>
     match value {
         Value::Bulk(text) => named(id, run_id_of(text.as_slice())),
         Value::Fault(_) => Ok(None),
-        _ => Err(LinkFault::Strange),
+        Value::Simple(_) | Value::Int(_) | Value::Items(_) => Err(LinkFault::Strange),
+        Value::NullBulk | Value::NullItems => Err(LinkFault::Strange),
     }
 }
 
