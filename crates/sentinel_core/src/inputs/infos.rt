@@ -185,9 +185,12 @@ fn correct(state: &mut State, m: u16, k: u16, now: u64, info: &Info)
     node.wrong_role = anew(role_told, at, role);
     node.wrong_address = anew(address_told, at, address);
     state.core.set_node(m, k as usize, node);
-    let core = &mut state.core;
-    core.note_replica_if(role_told, m, k, ReplicaNotice::Converted);
-    core.note_replica_if(address_told, m, k, ReplicaNotice::Corrected);
+    state
+        .core
+        .note_replica_if(role_told, m, k, ReplicaNotice::Converted);
+    state
+        .core
+        .note_replica_if(address_told, m, k, ReplicaNotice::Corrected);
     let target = state.plan.node_name(m, k as usize);
     state.frames.push_if(
         role_told || address_told,

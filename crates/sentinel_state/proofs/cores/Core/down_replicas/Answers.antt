@@ -3,7 +3,7 @@ use Rattle.std.proofs.Math.ListN.{length-set}
 use Rattle.ballot_law.specs.Clocks.{clock}
 use Rattle.sentinel_state.specs.Sights.{is_replica_down}
 use Rattle.sentinel_state.proofs.AtPlaces.{filled_more}
-use Rattle.sentinel_state.proofs.noting.Core.down_replicas.Goals as goal
+use Rattle.sentinel_state.proofs.cores.Core.down_replicas.Goals as goal
 
 pub loop-k-preserved : goal.loop-k-preserved
 loop-k-preserved c =

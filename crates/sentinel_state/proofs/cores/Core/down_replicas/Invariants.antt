@@ -2,7 +2,7 @@ use Rattle.std.proofs.Common.{◌≡◌, length, take}
 use Rattle.ballot_law.specs.Clocks.{clock}
 use Rattle.sentinel_state.specs.Sights.{is_replica_down}
 use Rattle.sentinel_rules.specs.Ticks.{at_places}
-use Rattle.sentinel_state.proofs.noting.Core.down_replicas.Given as goal
+use Rattle.sentinel_state.proofs.cores.Core.down_replicas.Given as goal
 
 abbrev pub invariant-loop-k : goal.invariant-loop-k
 invariant-loop-k l =

@@ -3,7 +3,7 @@ use Rattle.std.proofs.Math.ListN.{length-set}
 use Rattle.ballot_law.specs.Clocks.{clock}
 use Rattle.sentinel_state.specs.Sights.{is_other_down}
 use Rattle.sentinel_state.proofs.AtPlaces.{filled_more}
-use Rattle.sentinel_state.proofs.noting.Core.down_sentinels.Goals as goal
+use Rattle.sentinel_state.proofs.cores.Core.down_sentinels.Goals as goal
 
 pub loop-place-preserved : goal.loop-place-preserved
 loop-place-preserved c =
