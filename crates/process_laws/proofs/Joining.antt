@@ -19,7 +19,7 @@ use Rattle.process_laws.specs.Connections.{IsAskable, Served, AreDelivered, Answ
 use Rattle.process_laws.proofs.Turns.{replied_to, question_spelled}
 
 -- a spelling isn't empty
-spelled_some : (f : Frame) (rest : List ℕ) → [] ≡ spelling f ++ rest → ⊥
+pub spelled_some : (f : Frame) (rest : List ℕ) → [] ≡ spelling f ++ rest → ⊥
 spelled_some (simple text) rest e = let no : ⊥ = cc in no
 spelled_some (fault text) rest e = let no : ⊥ = cc in no
 spelled_some (int n) rest e = let no : ⊥ = cc in no
@@ -33,14 +33,14 @@ by_pair : (one other : Question) (ones others : List Question) → next_asked fa
     → ◌≡◌ {A = Question × List Question} (one, ones) (other, others)
 by_pair one other ones others e = cc
 
-first_asked : (one other : Question) (ones others : List Question) → next_asked false (one ∷ ones) ≡ Some (other, others) → one ≡ other
+pub first_asked : (one other : Question) (ones others : List Question) → next_asked false (one ∷ ones) ≡ Some (other, others) → one ≡ other
 first_asked one other ones others e = ap (λ (x : Question × List Question). x.0) (by_pair one other ones others e)
 
-others_asked : (one other : Question) (ones others : List Question) → next_asked false (one ∷ ones) ≡ Some (other, others) → others ≡ ones
+pub others_asked : (one other : Question) (ones others : List Question) → next_asked false (one ∷ ones) ≡ Some (other, others) → others ≡ ones
 others_asked one other ones others e = sym (ap (λ (x : Question × List Question). x.1) (by_pair one other ones others e))
 
 -- a stream by its first value
-by_first : (f : Frame) (fs : List Frame) (held more : List ℕ) → (flat_map spelling (f ∷ fs) ++ held) ++ more ≡ spelling f ++ ((flat_map spelling fs ++ held) ++ more)
+pub by_first : (f : Frame) (fs : List Frame) (held more : List ℕ) → (flat_map spelling (f ∷ fs) ++ held) ++ more ≡ spelling f ++ ((flat_map spelling fs ++ held) ++ more)
 by_first f fs held more =
     ap (λ (t : List ℕ). t ++ more) (append_assoc (spelling f) (flat_map spelling fs) held) ∙ append_assoc (spelling f) (flat_map spelling fs ++ held) more
 

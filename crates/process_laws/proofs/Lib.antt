@@ -6,6 +6,7 @@ pub mod Merging
 pub mod Numbers
 pub mod ListsOfAProcess
 pub mod Safety
+pub mod TwoFiles
 pub mod TwoLists
 pub mod TwoProcesses
 pub mod Reading
@@ -13,3 +14,7 @@ pub mod Turns
 pub mod Joining
 pub mod About
 pub mod SharedConnections
+pub mod HeardAnswers
+pub mod Pieces
+pub mod Openings
+pub mod OwnActions

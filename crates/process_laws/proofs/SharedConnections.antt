@@ -14,23 +14,24 @@ use Rattle.courteous_sessions.specs.Epochs.{heard, heard_as}
 use Rattle.courteous_sessions.specs.Visits.{Guest, guest, Serves}
 use Rattle.courteous_sessions.proofs.Keeping.{own_as_before}
 use Rattle.links.specs.declared.sessions.questions.Question.{Question}
-use Rattle.links.specs.Sessions.Links.{question_of, next_asked, listed, heard_of, Tells, IsHeard}
+use Rattle.links.specs.Sessions.Links.{question_of, next_asked, listed, heard_of, Tells}
 use Rattle.links.specs.Sessions.LongValues.{told_value, IsLinkValue}
 use Rattle.links.proofs.SessionsLemmas.Values.{value_plain}
 use Rattle.node_texts.specs.Messages.Deliveries.{heard as delivery}
 use Rattle.node_texts.specs.Messages.MessageTexts.{message_bytes, body_frame}
-use Rattle.port_sessions.specs.Talks.{Party, Responds}
+use Rattle.port_sessions.specs.Talks.{Responds}
 use Rattle.pubsub.specs.Listening.{is_listening}
 use Rattle.resp2.specs.declared.command.CommandFault.{CommandFault}
 use Rattle.resp2.specs.Commands.{command_of}
-use Rattle.resp2.specs.Framing.Frame.{Frame, simple, fault, int, bulk, null_bulk, items, null_items, spelling, IsFrame}
+use Rattle.resp2.specs.Framing.Frame.{Frame, spelling, IsFrame}
 use Rattle.resp2.proofs.Asks.{ask_again}
 use Rattle.resp2.proofs.FramingLemmas.Streams.{one_spelling}
 use Rattle.sentinel_cell.specs.declared.entry.Entry.{Entry}
 use Rattle.sentinel_cell.specs.declared.view.View.{View}
 use Rattle.sentinel_cell.specs.Histories.{World, replay}
 use Rattle.process_laws.specs.Connections.{IsAskable, Fits, answer_body, port_answer, IsDelivered, AreDelivered}
-use Rattle.process_laws.specs.SharedConnections.{IsLater, IsNear, ServedBeside, IsConnectedBeside, SharedAnswersAreDelivered, LaterQuestionsWait}
+use Rattle.process_laws.specs.SharedConnections.{IsNear, ServedBeside, SharedAnswersAreDelivered, LaterQuestionsWait}
+use Rattle.process_laws.proofs.Joining.{spelled_some, first_asked, others_asked, by_first}
 use Rattle.process_laws.proofs.Turns.{replied_to, question_spelled}
 
 -- ---- what the seat did meanwhile
@@ -110,33 +111,7 @@ responds_alike start now g Done bytes h askable known quiet near serves = absurd
 
 -- ---- the whole connection
 
--- a spelling isn't empty
-spelled_some : (f : Frame) (rest : List ℕ) → [] ≡ spelling f ++ rest → ⊥
-spelled_some (simple text) rest e = let no : ⊥ = cc in no
-spelled_some (fault text) rest e = let no : ⊥ = cc in no
-spelled_some (int n) rest e = let no : ⊥ = cc in no
-spelled_some (bulk bytes) rest e = let no : ⊥ = cc in no
-spelled_some null_bulk rest e = let no : ⊥ = cc in no
-spelled_some (items fs) rest e = let no : ⊥ = cc in no
-spelled_some null_items rest e = let no : ⊥ = cc in no
-
--- which question comes first, and which others come after it
-by_pair : (one other : Question) (ones others : List Question) → next_asked false (one ∷ ones) ≡ Some (other, others)
-    → ◌≡◌ {A = Question × List Question} (one, ones) (other, others)
-by_pair one other ones others e = cc
-
-first_asked : (one other : Question) (ones others : List Question) → next_asked false (one ∷ ones) ≡ Some (other, others) → one ≡ other
-first_asked one other ones others e = ap (λ (x : Question × List Question). x.0) (by_pair one other ones others e)
-
-others_asked : (one other : Question) (ones others : List Question) → next_asked false (one ∷ ones) ≡ Some (other, others) → others ≡ ones
-others_asked one other ones others e = sym (ap (λ (x : Question × List Question). x.1) (by_pair one other ones others e))
-
--- a stream by its first value
-by_first : (f : Frame) (fs : List Frame) (held more : List ℕ) → (flat_map spelling (f ∷ fs) ++ held) ++ more ≡ spelling f ++ ((flat_map spelling fs ++ held) ++ more)
-by_first f fs held more =
-    ap (λ (t : List ℕ). t ++ more) (append_assoc (spelling f) (flat_map spelling fs) held) ∙ append_assoc (spelling f) (flat_map spelling fs ++ held) more
-
-delivered : (start : World) (asker : NodeName) (questions : List Body) (g : Guest) (values : List Frame) (unread not_yet_got bytes : List ℕ) (h : Guest)
+pub delivered : (start : World) (asker : NodeName) (questions : List Body) (g : Guest) (values : List Frame) (unread not_yet_got bytes : List ℕ) (h : Guest)
     (replies : List Frame) (held not_yet_come : List ℕ) (events : List Event) (left : List Question)
     → AllByRecursion IsAskable questions → is_stranger g.asker ≡ false → is_listening g.listening ≡ false → g.party.listens ≡ None
     → flat_map message_bytes questions ≡ (flat_map spelling values ++ unread) ++ not_yet_got → AllByRecursion IsFrame values

@@ -106,7 +106,7 @@ answer_at : (plan : Plan) (m now : ℕ) (addr : Addr) (epoch : ℕ) (down : Bool
 answer_at plan m now addr epoch down None core = record { master = m; down = down; leader = None; epoch = 0; is_it = refl }
 answer_at plan m now addr epoch down (Some c) core = record { master = m; down = down; leader = _; epoch = _; is_it = refl }
 
-answer_of : (plan : Plan) (now : ℕ) (addr : Addr) (epoch : ℕ) (candidate : Option RunId) (found : Option ℕ) (core : Core)
+pub answer_of : (plan : Plan) (now : ℕ) (addr : Addr) (epoch : ℕ) (candidate : Option RunId) (found : Option ℕ) (core : Core)
     → IsAnswer addr (asked_of plan now addr epoch candidate found core).body
 answer_of plan now addr epoch candidate None core = record { master = _; down = false; leader = None; epoch = 0; is_it = refl }
 answer_of plan now addr epoch candidate (Some m) core = answer_at plan m now addr epoch (is_master_down plan core m now && not (is_tilted core)) candidate core
@@ -185,7 +185,7 @@ ping_reply start asker now v bytes w t =
 -- ---- any question
 
 -- at a session that doesn't listen, by the command that the value is
-answers : (start : World) (now : ℕ) (p : Party) (read : Result Command CommandFault) (command : Command) (bytes : List ℕ) (q : Party) → p.listens ≡ None → read ≡ Ok command
+pub answers : (start : World) (now : ℕ) (p : Party) (read : Result Command CommandFault) (command : Command) (bytes : List ℕ) (q : Party) → p.listens ≡ None → read ≡ Ok command
     → Responds start now p read bytes q → Replies start now p.view (Ok command) bytes q.view × (q.listens ≡ listens_after (Ok command) q.view)
 answers start now p read command bytes q silent is r =
     subst (λ (c : Result Command CommandFault). RespondsAt start now None p.view c bytes q) is (subst (λ (l : Option ℕ). RespondsAt start now l p.view read bytes q) silent r)
@@ -221,12 +221,13 @@ replied_to start asker now p Done bytes q askable silent r = absurd askable
 -- the spelling of a question
 pub record Spelled (question : Body) : Type 0 where
   pub bytes : message_bytes question ≡ spelling (body_frame question)
+  pub whole : IsFrame (body_frame question)
   pub plain : IsPlain (body_frame question)
 
 pub question_spelled : (question : Body) → IsAskable question → Spelled question
 question_spelled Ping askable =
-    let whole : IsFrame (words_frame (codes "PING" ∷ [])) = short_array (codes "PING" ∷ []) (omega arith, tt) (omega arith) in record { bytes = refl; plain = whole.plain }
-question_spelled (Ask m addr epoch candidate) askable = record { bytes = refl; plain = (ask_is_frame addr epoch candidate askable.0 askable.1 askable.2).plain }
+    let whole : IsFrame (words_frame (codes "PING" ∷ [])) = short_array (codes "PING" ∷ []) (omega arith, tt) (omega arith) in record { bytes = refl; whole = whole; plain = whole.plain }
+question_spelled (Ask m addr epoch candidate) askable = let whole = ask_is_frame addr epoch candidate askable.0 askable.1 askable.2 in record { bytes = refl; whole = whole; plain = whole.plain }
 question_spelled (Answer n addr down leader voted) askable = absurd askable
 question_spelled (PingText is_error text) askable = absurd askable
 question_spelled InfoAsk askable = absurd askable

@@ -7,3 +7,6 @@ pub mod TwoLists
 pub mod TwoProcesses
 pub mod Connections
 pub mod SharedConnections
+pub mod HeardAnswers
+pub mod Openings
+pub mod OwnActions

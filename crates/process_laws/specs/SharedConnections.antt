@@ -1,5 +1,5 @@
 -- The two ends of one connection to a port that has courtesies, and whose thread answers other connections by the same seat.
-use Rattle.std.specs.Prelude.{◌≡◌, ℕ, Bool, false, ◌++◌, ◌∷◌, List, [], map, Option, None}
+use Rattle.std.specs.Prelude.{◌≡◌, ℕ, false, ◌++◌, ◌∷◌, List, [], map, None}
 use Rattle.std.specs.List.{flat_map, AllByRecursion}
 use Rattle.ballot_law.specs.declared.events.Event.{Event}
 use Rattle.ballot_law.specs.declared.messages.Body.{Body}
@@ -7,7 +7,7 @@ use Rattle.ballot_law.specs.declared.messages.NodeName.{NodeName}
 use Rattle.ballot_law.specs.declared.messages.NodeName.TheVariants.{SentinelAt}
 use Rattle.client_commands.specs.Courtesies.{is_stranger}
 use Rattle.courteous_sessions.specs.Epochs.{heard_as}
-use Rattle.courteous_sessions.specs.Visits.{Guest, Serves}
+use Rattle.courteous_sessions.specs.Visits.{Guest, Serves, IsAnswered}
 use Rattle.links.specs.declared.sessions.questions.Question.{Question}
 use Rattle.links.specs.Sessions.Links.{question_of, Tells, IsHeard}
 use Rattle.links.specs.Sessions.LongValues.{LinkParts}
@@ -75,3 +75,36 @@ abbrev pub LaterQuestionsWait : Type 0
 LaterQuestionsWait =
     (node : NodeName) (asked more left : List Question) (stream held : List ℕ) (events : List Event)
     → IsHeard node false asked stream events left held → IsHeard node false (asked ++ more) stream events (left ++ more) held
+
+-- What a port puts out for pieces, one after the other, each of which its session takes at a reading of the clock of its own and answers whole. `held` is what it
+-- holds before them. Between two pieces the seat sees more, and each value is heard as it is
+abbrev pub AnsweredInPieces : World → Guest → (held : List ℕ) → (pieces : List (List ℕ)) → (bytes : List ℕ) → Type 0
+AnsweredInPieces start g held [] bytes = bytes ≡ []
+AnsweredInPieces start g held (piece ∷ pieces) bytes =
+    (now : ℕ) × (next : Guest) × (middle : Guest) × (kept : List ℕ) × (first : List ℕ) × (rest : List ℕ) × (bytes ≡ first ++ rest) × IsLater g next
+    × (answered : IsAnswered start now (held ++ piece) next kept first middle) × AllByRecursion (IsNear next) answered.values
+    × AnsweredInPieces start middle kept pieces rest
+
+-- The same connection by what its two ends promise of each piece: the port's session got a first part of the bytes of the questions, in pieces; the link got a first part
+-- of the bytes that were put out for them, and heard these events
+pub record IsConnectedInPieces (start : World) (g : Guest) (questions : List Body) (events : List Event) : Type 0 where
+  pub askable : AllByRecursion IsAskable questions
+  pub known : is_stranger g.asker ≡ false
+  pub quiet : is_listening g.listening ≡ false
+  pub silent : g.party.listens ≡ None
+  pub pieces : List (List ℕ)
+  pub not_yet_got : List ℕ
+  pub sent : flat_map message_bytes questions ≡ flat_map (λ (piece : List ℕ). piece) pieces ++ not_yet_got
+  pub bytes : List ℕ
+  pub answered : AnsweredInPieces start g [] pieces bytes
+  pub came : List ℕ
+  pub not_yet_come : List ℕ
+  pub put_out : bytes ≡ came ++ not_yet_come
+  pub left : List Question
+  pub held : List ℕ
+  pub heard : IsHeard (SentinelAt start.plan.place) false (map question_of questions) came events left held
+
+-- such a connection is one of which the law above speaks
+abbrev pub PiecesAreAConnection : Type 0
+PiecesAreAConnection =
+    (start : World) (g : Guest) (questions : List Body) (events : List Event) → IsConnectedInPieces start g questions events → IsConnectedBeside start g questions events

@@ -3,6 +3,7 @@
 ghost use Rattle.process_laws.specs.Actions.{ProcessesAreARun, ProcessesAreSafe};
 ghost use Rattle.process_laws.specs.GroupStarts.{OneGroupIsAStart};
 ghost use Rattle.process_laws.specs.LateAnswers.{LateAnswersHappen};
+ghost use Rattle.process_laws.specs.OwnActions.{OwnActionsAreActions};
 ghost use Rattle.process_laws.specs.TwoProcesses.{ActionsHappen};
 
 /// What the processes of a group did, in an order in which each answer and each hello is heard after the release that
@@ -42,4 +43,11 @@ pub fn law_actions_happen()
 /// opens a Sentinel there, and each Sentinel is opened by one of them.
 pub fn law_one_group_is_a_start()
     ensures { OneGroupIsAStart }
+{}
+
+/// What these laws ask of all actions together follows from what each Sentinel's processes did by themselves: each
+/// process began by what its file held, and took the entries of a legal history; in whatever order with the others, as
+/// long as what is heard was sent before.
+pub fn law_own_actions_are_actions()
+    ensures { OwnActionsAreActions }
 {}

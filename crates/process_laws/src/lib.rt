@@ -9,14 +9,18 @@ mod list_laws;
 mod shared_laws;
 
 pub use laws::{
-    law_actions_happen, law_late_answers_happen, law_one_group_is_a_start, law_processes_are_a_run,
-    law_processes_are_safe,
+    law_actions_happen, law_late_answers_happen, law_one_group_is_a_start,
+    law_own_actions_are_actions, law_processes_are_a_run, law_processes_are_safe,
 };
 pub use link_laws::{
-    law_answers_are_about_it, law_answers_are_delivered, law_senders_are_free, law_targets_are_free,
+    law_answers_are_about_it, law_answers_are_delivered, law_delivered_answers_are_heard,
+    law_senders_are_free, law_targets_are_free,
 };
 pub use list_laws::{
     law_lists_are_kept, law_lists_have_a_union, law_lists_may_differ, law_numbers_fit,
     law_own_lists_are_a_run, law_own_lists_are_a_start,
 };
-pub use shared_laws::{law_later_questions_wait, law_shared_answers_are_delivered};
+pub use shared_laws::{
+    law_later_questions_wait, law_new_connections_deliver, law_pieces_are_a_connection,
+    law_shared_answers_are_delivered,
+};

@@ -1,6 +1,7 @@
 //! The two ends of a connection together.
 
 ghost use Rattle.process_laws.specs.Connections.{AnswersAreDelivered, AnswersAreAboutIt, SendersAreFree, TargetsAreFree};
+ghost use Rattle.process_laws.specs.HeardAnswers.{AnswersAreHeard};
 
 /// Over a connection that loses nothing inside it, what a link hears for its k-th question is the delivery of the
 /// answer that the other Sentinel released for it: of the outputs of one stored entry of a legal history of that
@@ -25,4 +26,11 @@ pub fn law_targets_are_free()
 /// Sentinel keeps.
 pub fn law_answers_are_about_it()
     ensures { AnswersAreAboutIt }
+{}
+
+/// What a link hears so is what `law_processes_are_a_run` asks of an event that is heard: where the entry that released
+/// the answer is an action of its Sentinel's process, with the Sentinel that asked, some message that was sent before
+/// brings it. So the premise about answers that are heard follows from what the two ends of a connection promise.
+pub fn law_delivered_answers_are_heard()
+    ensures { AnswersAreHeard }
 {}

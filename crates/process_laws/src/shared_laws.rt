@@ -1,6 +1,8 @@
 //! The two ends of a connection to a port with courtesies, whose thread has other connections too.
 
-ghost use Rattle.process_laws.specs.SharedConnections.{SharedAnswersAreDelivered, LaterQuestionsWait};
+ghost use Rattle.process_laws.specs.Openings.{NewConnectionsDeliver, PiecesAreANewConnection};
+ghost use Rattle.process_laws.specs.SharedConnections.{LaterQuestionsWait, PiecesAreAConnection};
+ghost use Rattle.process_laws.specs.SharedConnections.{SharedAnswersAreDelivered};
 
 /// What `law_answers_are_delivered` says of a port without courtesies and with one connection holds also of a port with
 /// courtesies, as that of Redis's profile, once no password is owed on the connection: whatever other connections of
@@ -15,4 +17,20 @@ pub fn law_shared_answers_are_delivered()
 /// the pieces as one.
 pub fn law_later_questions_wait()
     ensures { LaterQuestionsWait }
+{}
+
+/// A connection whose bytes came in pieces is one of which `law_shared_answers_are_delivered` speaks: each piece taken
+/// by the port's session at a reading of the clock of its own, with calls of other connections of its thread between
+/// two, and all that came back heard by the link. So what that law asks follows from what `ClientSession::received`
+/// and `LinkSession::received` promise. The same holds of a connection as `law_new_connections_deliver` has it.
+pub fn law_pieces_are_a_connection()
+    ensures later { PiecesAreAConnection }
+    ensures anew { PiecesAreANewConnection }
+{}
+
+/// So is a connection from its opening, on which a link logs in and asks for the Sentinel's run id before all messages,
+/// once the login was answered by one value and no password is owed: what is heard on it is the delivery of the answers
+/// to its messages. Where anything is heard, the Sentinel at the other end has the run id that the link was to meet.
+pub fn law_new_connections_deliver()
+    ensures { NewConnectionsDeliver }
 {}

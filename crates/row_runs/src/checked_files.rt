@@ -129,37 +129,36 @@ fn setting(word: &[u8]) -> Result<MasterSetting, Unplayed> {
     }
 }
 
-/// The change that the words begin with, and the words behind it.
-fn change(words: &[Vec<u8>]) -> Result<(Change, &[Vec<u8>]), Unplayed> {
-    let [kind, one, two, three, files @ ..] = words else {
-        return Err(Unplayed::WrongWords);
-    };
-    let change = match kind.as_slice() {
-        b"AddReplica" => Change::AddReplica(replica(one, two)?),
-        b"RemoveReplica" => Change::RemoveReplica(replica(one, two)?),
-        b"AddSentinel" => Change::AddSentinel(Member {
+/// The change of this kind with these words.
+fn change(kind: &[u8], one: &[u8], two: &[u8], three: &[u8]) -> Result<Change, Unplayed> {
+    match kind {
+        b"AddReplica" => Ok(Change::AddReplica(replica(one, two)?)),
+        b"RemoveReplica" => Ok(Change::RemoveReplica(replica(one, two)?)),
+        b"AddSentinel" => Ok(Change::AddSentinel(Member {
             id: id(one)?,
             addr: addr(two)?,
-        }),
-        b"RemoveSentinel" => Change::RemoveSentinel(id(one)?),
-        b"ReplaceHost" => Change::ReplaceHost(Replacement {
+        })),
+        b"RemoveSentinel" => Ok(Change::RemoveSentinel(id(one)?)),
+        b"ReplaceHost" => Ok(Change::ReplaceHost(Replacement {
             old: ip(one)?,
             new: ip(two)?,
             id: id(three)?,
-        }),
-        b"Set" => Change::Set(NewSetting {
+        })),
+        b"Set" => Ok(Change::Set(NewSetting {
             master: name(one)?,
             setting: setting(two)?,
             value: number_32(three)?,
-        }),
-        _ => return Err(Unplayed::WrongWords),
-    };
-    Ok((change, files))
+        })),
+        _ => Err(Unplayed::WrongWords),
+    }
 }
 
 /// Tells the texts of files once their group is changed, or why it isn't.
 fn tell_changed(alloc: Global, words: &[Vec<u8>], told: &mut Told) -> Result<(), Unplayed> {
-    let (change, files) = change(words)?;
+    let [kind, one, two, three, files @ ..] = words else {
+        return Err(Unplayed::WrongWords);
+    };
+    let change = change(kind, one, two, three)?;
     let files = files_of(alloc, files)?;
     match changed_texts(alloc, files.as_slice(), &change) {
         Ok(texts) => {

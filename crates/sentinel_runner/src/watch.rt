@@ -89,8 +89,18 @@ fn wires_of<R: Net>(
     }
 }
 
+/// Whether clients of a port that is served so are to give a password, and none asks them for it.
+fn asks_in_vain(port: PortSettings, admission: &Admission) -> bool
+    ensures { IsFalse result → is_redis port.profile ≡ false → admission.now.password ≡ [] }
+{
+    match admission.password.as_slice() {
+        [] => false,
+        _ => !port.profile.is_redis(),
+    }
+}
+
 /// How many connections each thread of its port keeps, which is served so and wants so many, beside those that the
-/// Sentinel of this conf opens itself.
+/// Sentinel of this conf opens itself; `PortRefused` also where clients would have to give a password that nobody asks.
 fn room_of<R: Net>(
     rt: &R,
     alloc: Global,
@@ -100,8 +110,12 @@ fn room_of<R: Net>(
 ) -> Result<PortRoom, GroupFault>
     ensures threads { IfOk result (λ room. 0 < port.threads → port.threads ≤ PORT_THREADS_MAX → room.threads ≡ port.threads) }
     ensures profile { IfOk result (λ room. room.profile ≡ port.profile) }
+    ensures asked { IfOk result (λ _. is_redis port.profile ≡ false → admission.now.password ≡ []) }
     ensures roster { IfErr result (λ fault. fault ≢ NotOneRoster) }
 {
+    if asks_in_vain(port, admission) {
+        return Err(GroupFault::PortRefused);
+    }
     let own = connection_count(conf.roster()) as u64;
     let threads = port.threads_of_each();
     let room = match seats_beside(rt, alloc, threads, own, admission.wanted(threads)) {
@@ -125,16 +139,6 @@ fn note_room<R: Log>(rt: &R, number: u16, wanted: Option<u16>, admission: &Admis
     info!(noting; "room for {most} connections of clients (maxclients), and {kept} seats kept for the other Sentinels");
     if most < wanted {
         warn!(noting; "maxclients is {wanted}, and the system gives descriptors for {most}: raise the limit of open files (LimitNOFILE, ulimit -n)");
-    }
-}
-
-/// Whether clients of a port that is served so are to give a password, and none asks them for it.
-fn asks_in_vain(port: PortSettings, admission: &Admission) -> bool
-    ensures { IsFalse result → is_redis port.profile ≡ false → admission.now.password ≡ [] }
-{
-    match admission.password.as_slice() {
-        [] => false,
-        _ => !port.profile.is_redis(),
     }
 }
 
@@ -176,6 +180,23 @@ fn port_of<R: Net + Log>(
     }
 }
 
+/// The Sentinel of this conf with its port, once the store has taken what the conf keeps.
+fn opened_of<S: ConfStore + Drop>(
+    alloc: Global,
+    conf: Conf,
+    mut store: S,
+    ports: (Port, Vec<Port>),
+    room: PortRoom,
+) -> Result<Opened<S>, GroupFault>
+    requires room { S.failure_count store < 2 ^ 64 - 1 }
+    requires threads { length ports.1.items + 1 ≡ room.threads }
+    ensures roster { IfErr result (λ fault. fault ≢ NotOneRoster) }
+    ensures seats { IfOk result (λ opened. opened.beside ≡ BESIDE) }
+{
+    prove_store(alloc, &conf, &mut store)?;
+    Opened::with_port(alloc, conf, store, ports, room, BESIDE, 0)
+}
+
 impl<S: ConfStore + Drop> Watch<S> {
     /// Opens the Sentinel of this conf at clock 0, and its port; no connection is opened yet. What the conf keeps is
     /// stored once its port is had, which is served after that: where the port can't be had the store is as it was.
@@ -186,7 +207,7 @@ impl<S: ConfStore + Drop> Watch<S> {
         rt: &R,
         alloc: Global,
         conf: Conf,
-        mut store: S,
+        store: S,
         settings: WatchSettings,
     ) -> Result<Watch<S>, GroupFault>
         requires { S.failure_count store < 2 ^ 64 - 1 }
@@ -198,18 +219,15 @@ impl<S: ConfStore + Drop> Watch<S> {
             admission,
             logins,
         } = settings;
-        if asks_in_vain(port, &admission) {
-            return Err(GroupFault::PortRefused);
-        }
         let (wires, far) = wires_of(rt, alloc, &conf, logins)?;
         let room = room_of(rt, alloc, &conf, port, &admission)?;
         let wanted = admission.limit;
         let admission = admission.within(room);
         let sockets = sockets_of(rt, alloc, addresses.as_slice())?;
         let ports = port_of(rt, alloc, sockets, room, &admission)?;
-        prove_store(alloc, &conf, &mut store)?;
-        note_room(rt, conf.port(), wanted, &admission);
-        let opened = Opened::with_port(alloc, conf, store, ports, room, BESIDE, 0)?;
+        let number = conf.port();
+        let opened = opened_of(alloc, conf, store, ports, room)?;
+        note_room(rt, number, wanted, &admission);
         let state = WatchState {
             run: RunState::new(GroupClock::start(rt)),
             turned: AtomicU64::new(0),

@@ -1,0 +1,273 @@
+-- What comes before all messages on a connection is answered by one value each, and tells nothing.
+use Rattle.std.proofs.Common.{◌≡◌, ℕ, Bool, true, false, List, [], ◌∷◌, ◌++◌, length, map, refl, ap, sym, ◌∙◌, subst, inl, inr, arith, append_assoc, Option, Some, None, Result, Ok, Err, nat_lt}
+use Rattle.std.specs.Prelude.{codes, take, if◌then◌else◌}
+use Rattle.std.specs.List.{flat_map, AllByRecursion}
+use Rattle.std.proofs.lemmas.List.{append-nil}
+use Rattle.ballot_law.specs.declared.addresses.RunId.{RunId}
+use Rattle.ballot_law.specs.declared.commands.Command.TheVariants.{MyId, Subscribe}
+use Rattle.ballot_law.specs.declared.events.Event.{Event}
+use Rattle.ballot_law.specs.declared.messages.Body.{Body}
+use Rattle.ballot_law.specs.declared.messages.NodeName.{NodeName}
+use Rattle.ballot_law.specs.declared.messages.NodeName.TheVariants.{SentinelAt}
+use Rattle.ballot_law.specs.Hellos.{IsRunId}
+use Rattle.ballot_law.specs.Orders.{same_id}
+use Rattle.ballot_law.specs.Words.{id_text, run_id}
+use Rattle.ballot_law.proofs.CountedVotes.{same_id-equal}
+use Rattle.ballot_law.proofs.WordLemmas.{run_id-id_text, length-id_text}
+use Rattle.client_commands.specs.Courtesies.{is_stranger}
+use Rattle.courteous_sessions.specs.Visits.{Guest, guest, Serves}
+use Rattle.courteous_sessions.proofs.Keeping.{own_as_before}
+use Rattle.links.specs.declared.sessions.fault.LinkFault.{LinkFault}
+use Rattle.links.specs.declared.sessions.fault.LinkFault.TheVariants.{Strange}
+use Rattle.links.specs.declared.sessions.questions.Question.{Question}
+use Rattle.links.specs.declared.sessions.questions.Question.TheVariants.{Order, Identity}
+use Rattle.links.specs.declared.speaking.Login.{Login}
+use Rattle.links.specs.declared.speaking.Login.TheVariants.{Without, Pass, User}
+use Rattle.links.specs.Speaking.{login_questions}
+use Rattle.links.specs.Sessions.Links.{question_of, listed, heard_of, named, Tells}
+use Rattle.links.specs.Sessions.LongValues.{told_value, told_of, IsLinkValue, whole_lines}
+use Rattle.links.proofs.SessionsLemmas.Values.{value_plain}
+use Rattle.node_texts.specs.Messages.MessageTexts.{message_bytes, body_frame, words_frame}
+use Rattle.port_answers.specs.Answers.{id_frame}
+use Rattle.pubsub.specs.Listening.{is_listening}
+use Rattle.resp2.specs.Commands.{command_of}
+use Rattle.resp2.specs.Framing.Frame.{Frame, simple, fault, int, bulk, null_bulk, items, null_items, spelling, IsPlain, IsFrame}
+use Rattle.resp2.proofs.AskFrames.{short_array}
+use Rattle.resp2.proofs.FramingLemmas.Streams.{one_spelling}
+use Rattle.sentinel_cell.specs.declared.entry.Entry.{Entry}
+use Rattle.sentinel_cell.specs.declared.view.View.{View}
+use Rattle.sentinel_cell.specs.Histories.{World, replay}
+use Rattle.sentinel_cell.proofs.Cards.{same_plan}
+use Rattle.sentinel_rules.specs.Plans.{Plan, me}
+use Rattle.process_laws.specs.Connections.{IsAskable, AreDelivered}
+use Rattle.process_laws.specs.SharedConnections.{ServedBeside}
+use Rattle.process_laws.specs.Openings.{IsConnectedAnew, IsHeardOf, NewConnectionsDeliver, PiecesAreANewConnection}
+use Rattle.process_laws.proofs.Joining.{spelled_some, first_asked, others_asked, by_first}
+use Rattle.process_laws.proofs.Pieces.{questions_spelled, served_as_sent}
+use Rattle.process_laws.proofs.SharedConnections.{later_delivered, delivered}
+use Rattle.process_laws.proofs.Turns.{answers, turned}
+
+-- ---- a question whose answer tells nothing
+
+abbrev TellsNothing : NodeName → Question → Type 0
+TellsNothing node k = (f : Frame) (got : Option Event) → heard_of node k f ≡ Ok got → got ≡ None
+
+order_tells : (node : NodeName) → TellsNothing node Order
+order_tells node f got e = cc
+
+named_tells : (id : RunId) (found : Option RunId) (got : Option Event) → named id found ≡ Ok got → (got ≡ None) × ((other : RunId) → found ≡ Some other → same_id id other ≡ true)
+named_tells id (Some other) got e = by_test (same_id id other) refl e
+  where
+    by_test : (test : Bool) → same_id id other ≡ test → ◌≡◌ {A = Result (Option Event) LinkFault} (if test then Ok None else Err Strange) (Ok got)
+        → (got ≡ None) × ((one : RunId) → ◌≡◌ {A = Option RunId} (Some other) (Some one) → same_id id one ≡ true)
+    by_test true is e = (let none : got ≡ None = cc in none, λ one same. let it : same_id id one ≡ true = cc in it)
+    by_test false is e = absurd (let no : ⊥ = cc in no)
+named_tells id None got e = absurd (let no : ⊥ = cc in no)
+
+identity_tells : (node : NodeName) (id : RunId) → TellsNothing node (Identity id)
+identity_tells node id (bulk text) got e = (named_tells id (run_id text) got e).0
+identity_tells node id (fault text) got e = cc
+identity_tells node id (simple text) got e = absurd (let no : ⊥ = cc in no)
+identity_tells node id (int n) got e = absurd (let no : ⊥ = cc in no)
+identity_tells node id null_bulk got e = absurd (let no : ⊥ = cc in no)
+identity_tells node id (items fs) got e = absurd (let no : ⊥ = cc in no)
+identity_tells node id null_items got e = absurd (let no : ⊥ = cc in no)
+
+-- the other values tell all that is told
+pub record TellsRest (node : NodeName) (k : Question) (asked : List Question) (r : Frame) (rs : List Frame) (events : List Event) (left : List Question) : Type 0 where
+  pub got : Option Event
+  pub heard : heard_of node k (told_value r) ≡ Ok got
+  pub tells : Tells node false asked rs events left
+
+passed_over : (node : NodeName) (k : Question) (asked : List Question) (r : Frame) (rs : List Frame) (events : List Event) (left : List Question) → TellsNothing node k
+    → Tells node false (k ∷ asked) (r ∷ rs) events left → TellsRest node k asked r rs events left
+passed_over node k asked r rs events left nothing tells =
+    let same_question : k ≡ tells.0 = first_asked k tells.0 asked tells.1 tells.4 in
+    let same_others : tells.1 ≡ asked = others_asked k tells.0 asked tells.1 tells.4 in
+    let heard : heard_of node k (told_value r) ≡ Ok tells.2 = ap (λ (q : Question). heard_of node q (told_value r)) same_question ∙ tells.5 in
+    let none : tells.2 ≡ None = nothing (told_value r) tells.2 heard in
+    let all : events ≡ tells.3 = tells.6 ∙ ap (λ (o : Option Event). listed o ++ tells.3) none in
+    let rest : Tells node false asked rs tells.3 left = subst (λ (l : List Question). Tells node false l rs tells.3 left) same_others tells.7 in
+    record { got = tells.2; heard = heard; tells = subst (λ (l : List Event). Tells node false asked rs l left) (sym all) rest }
+
+-- ---- the question for the run id
+
+abbrev id_value : Frame
+id_value = words_frame (codes "SENTINEL" ∷ codes "MYID" ∷ [])
+
+id_value_whole : IsFrame id_value
+id_value_whole = short_array (codes "SENTINEL" ∷ codes "MYID" ∷ []) (omega arith, (omega arith, tt)) (omega arith)
+
+id_read : command_of id_value ≡ Ok MyId
+id_read = refl
+
+pub record IdReply (start : World) (v : View) (bytes : List ℕ) (w : View) : Type 0 where
+  pub more : List Entry
+  pub front : w.front ≡ v.front ++ more
+  pub is_id : IsRunId (me start.plan)
+  pub spelled : bytes ≡ spelling (id_frame (me start.plan))
+
+id_replied : (start : World) (now : ℕ) (g : Guest) (bytes : List ℕ) (h : Guest) → is_stranger g.asker ≡ false → is_listening g.listening ≡ false → g.party.listens ≡ None
+    → Serves start now g id_value bytes h
+    → IdReply start g.party.view bytes h.party.view × (h.party.listens ≡ None) × (h ≡ guest h.party g.listening g.told g.asker)
+id_replied start now g bytes h known quiet silent serves =
+    let own = own_as_before start now g h id_value MyId bytes known quiet (λ (e : MyId ≡ Subscribe). let no : ⊥ = cc in no) id_read serves in
+    let a = answers start now g.party (Ok MyId) MyId own.0 h.party silent refl own.1 in
+    let t = turned start now g.party.view MyId own.0 h.party.view a.0 in
+    let world = replay start (g.party.view.front ++ t.between) in
+    let plan_is : world.plan ≡ start.plan = same_plan start (g.party.view.front ++ t.between) in
+    let sound = t.legal.0.plan in (
+      record {
+        more = t.between ++ t.entry ∷ [];
+        front = t.front ∙ append_assoc g.party.view.front t.between (t.entry ∷ []);
+        is_id = (sound.conf.members start.plan.place sound.place).1;
+        spelled = own.2 ∙ (t.bytes_are ∙ ap (λ (p : Plan). spelling (id_frame (me p))) plan_is);
+      },
+      a.1,
+      own.3,
+    )
+
+-- ---- the run id that was heard
+
+told_whole : (text : List ℕ) → length text ≡ 40 → told_of text ≡ text
+told_whole text short = ap (λ (n : ℕ). if nat_lt 65536 n then whole_lines (take 65536 text) else text) short
+
+same_run_id : (node : NodeName) (id own : RunId) (got : Option Event) → IsRunId own → heard_of node (Identity id) (told_value (id_frame own)) ≡ Ok got → own ≡ id
+same_run_id node id own got is e =
+    let text = id_text own in
+    let whole : told_of text ≡ text = told_whole text (length-id_text own) in
+    let heard : named id (run_id text) ≡ Ok got = ap (λ (t : List ℕ). named id (run_id t)) (sym whole) ∙ e in
+    sym (same_id-equal id own ((named_tells id (run_id text) got heard).1 own (run_id-id_text own is.hi is.lo)))
+
+-- ---- what is delivered later
+
+later_all : (start : World) (asker : NodeName) (v u : View) (more : List Entry) (questions : List Body) (events : List Event) → u.front ≡ v.front ++ more
+    → AreDelivered start asker u questions events → AreDelivered start asker v questions events
+later_all start asker v u more questions [] later d = tt
+later_all start asker v u more [] (event ∷ events) later d = absurd d
+later_all start asker v u more (a ∷ questions) (event ∷ events) later d = (d.0, later_delivered start asker v u more a event d.0 later d.1, d.2)
+
+abbrev Goes : World → NodeName → Guest → RunId → List Body → List Event → Type 0
+Goes start asker g id questions events = AreDelivered start asker g.party.view questions events × IsHeardOf id start events
+
+nothing_heard : (start : World) (asker : NodeName) (g : Guest) (id : RunId) (questions : List Body) (events : List Event) → events ≡ [] → Goes start asker g id questions events
+nothing_heard start asker g id questions events none =
+    (subst (λ (l : List Event). AreDelivered start asker g.party.view questions l) (sym none) tt, inl none)
+
+-- ---- after the login
+
+identified : (start : World) (asker : NodeName) (id : RunId) (questions : List Body) (g : Guest) (values : List Frame) (unread not_yet_got bytes : List ℕ) (h : Guest)
+    (replies : List Frame) (held not_yet_come : List ℕ) (events : List Event) (left : List Question)
+    → AllByRecursion IsAskable questions → is_stranger g.asker ≡ false → is_listening g.listening ≡ false → g.party.listens ≡ None
+    → spelling id_value ++ flat_map message_bytes questions ≡ (flat_map spelling values ++ unread) ++ not_yet_got → AllByRecursion IsFrame values
+    → ServedBeside start g values bytes h
+    → bytes ≡ (flat_map spelling replies ++ held) ++ not_yet_come → AllByRecursion IsLinkValue replies
+    → Tells (SentinelAt start.plan.place) false (Identity id ∷ map question_of questions) replies events left
+    → Goes start asker g id questions events
+identified start asker id questions g values unread not_yet_got bytes h [] held not_yet_come events left askable known quiet silent sent whole served put_out read tells =
+    nothing_heard start asker g id questions events tells.0
+identified start asker id questions g [] unread not_yet_got bytes h (r ∷ rs) held not_yet_come events left askable known quiet silent sent whole served put_out read tells =
+    absurd (spelled_some r ((flat_map spelling rs ++ held) ++ not_yet_come) (sym served.0 ∙ put_out ∙ by_first r rs held not_yet_come))
+identified start asker id questions g (x ∷ xs) unread not_yet_got bytes h (r ∷ rs) held not_yet_come events left askable known quiet silent sent whole served put_out read
+    tells =
+    let voter = SentinelAt start.plan.place in
+    let others_sent = flat_map message_bytes questions in
+    let value_is = one_spelling id_value x others_sent ((flat_map spelling xs ++ unread) ++ not_yet_got) id_value_whole.plain whole.0.plain
+    (sent ∙ by_first x xs unread not_yet_got) in
+    let next = served.1 in
+    let middle = served.2 in
+    let first = served.3 in
+    let others = served.4 in
+    let later = served.6 in
+    let serves : Serves start served.0 next id_value first middle = subst (λ (f : Frame). Serves start served.0 next f first middle) (sym value_is.0) served.8 in
+    let reply = id_replied start served.0 next first middle (later.known ∙ known) (ap is_listening later.quiet ∙ quiet) (later.silent ∙ silent) serves in
+    let own = me start.plan in
+    let len = length-id_text own in
+    let plain : IsPlain (id_frame own) = omega (arith, len) in
+    let reply_bytes : spelling (id_frame own) ++ others ≡ spelling r ++ ((flat_map spelling rs ++ held) ++ not_yet_come) =
+    ap (λ (t : List ℕ). t ++ others) (sym reply.0.spelled) ∙ sym served.5 ∙ put_out ∙ by_first r rs held not_yet_come in
+    let reply_is = one_spelling (id_frame own) r others ((flat_map spelling rs ++ held) ++ not_yet_come) plain (value_plain r read.0) reply_bytes in
+    let rest = passed_over voter (Identity id) (map question_of questions) r rs events left (identity_tells voter id) tells in
+    let heard_id : heard_of voter (Identity id) (told_value (id_frame own)) ≡ Ok rest.got = ap (λ (f : Frame). heard_of voter (Identity id) (told_value f)) reply_is.0 ∙ rest.heard in
+    let known_then : is_stranger middle.asker ≡ false = ap (λ (g : Guest). is_stranger g.asker) reply.2 ∙ (later.known ∙ known) in
+    let quiet_then : is_listening middle.listening ≡ false = ap (λ (g : Guest). is_listening g.listening) reply.2 ∙ (ap is_listening later.quiet ∙ quiet) in
+    let all = delivered start asker questions middle xs unread not_yet_got others h rs held not_yet_come events left askable known_then quiet_then reply.1 value_is.1 whole.1
+    served.9 reply_is.1 read.1 rest.tells in
+    let front : middle.party.view.front ≡ g.party.view.front ++ (later.more ++ reply.0.more) =
+    reply.0.front ∙ (ap (λ (l : List Entry). l ++ reply.0.more) later.front ∙ append_assoc g.party.view.front later.more reply.0.more) in (
+      later_all start asker g.party.view middle.party.view (later.more ++ reply.0.more) questions events front all,
+      inr (same_run_id voter id own rest.got reply.0.is_id heard_id),
+    )
+
+-- ---- from the beginning
+
+-- no login
+abbrev Asks : Login → World → RunId → List Body → List Frame → List Event → List Question → Type 0
+Asks login start id questions replies events left =
+    Tells (SentinelAt start.plan.place) false (login_questions login ++ (Identity id ∷ map question_of questions)) replies events left
+
+without_login : (start : World) (asker : NodeName) (g : Guest) (login : Login) (id : RunId) (questions : List Body) (events : List Event)
+    (c : IsConnectedAnew start g login id questions events) → c.greeting ≡ [] → Asks Without start id questions c.replies events c.left → Goes start asker g id questions events
+without_login start asker g login id questions events c none asks =
+    identified start asker id questions g c.values c.unread c.not_yet_got c.bytes c.h c.replies c.held c.not_yet_come events c.left c.askable c.known c.quiet c.silent
+    (c.sent ∙ ap (λ (t : List ℕ). t ++ c.not_yet_got) c.parts.0) c.parts.1 c.served
+    (ap (λ (l : List Frame). flat_map spelling l ++ c.bytes) (sym none) ∙ (c.put_out ∙ ap (λ (t : List ℕ). t ++ c.not_yet_come) c.read.0)) c.read.1 asks
+
+-- a login, answered by one value
+with_login : (start : World) (asker : NodeName) (g : Guest) (login : Login) (id : RunId) (questions : List Body) (events : List Event)
+    (c : IsConnectedAnew start g login id questions events) (answer : Frame) → c.greeting ≡ answer ∷ [] → IsPlain answer → (replies : List Frame) → c.replies ≡ replies
+    → Tells (SentinelAt start.plan.place) false (Order ∷ (Identity id ∷ map question_of questions)) replies events c.left → Goes start asker g id questions events
+with_login start asker g login id questions events c answer one plain [] same asks = nothing_heard start asker g id questions events asks.0
+with_login start asker g login id questions events c answer one plain (r ∷ rs) same asks =
+    let voter = SentinelAt start.plan.place in
+    let read : AllByRecursion IsLinkValue (r ∷ rs) = subst (AllByRecursion IsLinkValue) same c.read.1 in
+    let came : c.came ≡ flat_map spelling (r ∷ rs) ++ c.held = c.read.0 ∙ ap (λ (l : List Frame). flat_map spelling l ++ c.held) same in
+    let greeted : spelling answer ++ c.bytes ≡ flat_map spelling c.greeting ++ c.bytes =
+    ap (λ (t : List ℕ). t ++ c.bytes) (sym (append-nil (spelling answer))) ∙ ap (λ (l : List Frame). flat_map spelling l ++ c.bytes) (sym one) in
+    let whole : spelling answer ++ c.bytes ≡ spelling r ++ ((flat_map spelling rs ++ c.held) ++ c.not_yet_come) =
+    greeted ∙ (c.put_out ∙ (ap (λ (t : List ℕ). t ++ c.not_yet_come) came ∙ by_first r rs c.held c.not_yet_come)) in
+    let greeting_is = one_spelling answer r c.bytes ((flat_map spelling rs ++ c.held) ++ c.not_yet_come) plain (value_plain r read.0) whole in
+    let rest = passed_over voter Order (Identity id ∷ map question_of questions) r rs events c.left (order_tells voter) asks in
+    identified start asker id questions g c.values c.unread c.not_yet_got c.bytes c.h rs c.held c.not_yet_come events c.left c.askable c.known c.quiet c.silent
+    (c.sent ∙ ap (λ (t : List ℕ). t ++ c.not_yet_got) c.parts.0) c.parts.1 c.served greeting_is.1 read.1 rest.tells
+
+pub new_connections_deliver : NewConnectionsDeliver
+new_connections_deliver start asker g Without id questions events c = without_login start asker g Without id questions events c c.greets c.tells
+new_connections_deliver start asker g (Pass pass) id questions events c =
+    with_login start asker g (Pass pass) id questions events c c.greets.0 c.greets.1 c.greets.2 c.replies refl c.tells
+new_connections_deliver start asker g (User user pass) id questions events c =
+    with_login start asker g (User user pass) id questions events c c.greets.0 c.greets.1 c.greets.2 c.replies refl c.tells
+
+-- ---- in pieces
+
+pub pieces_are_a_new_connection : PiecesAreANewConnection
+pieces_are_a_new_connection start g login id questions events c =
+    let questions_are = questions_spelled questions c.askable in
+    let all = spelling id_value ++ flat_map message_bytes questions in
+    let spelled : all ≡ flat_map spelling (id_value ∷ map body_frame questions) = ap (λ (t : List ℕ). spelling id_value ++ t) questions_are.0 in
+    let s = served_as_sent start g (id_value ∷ map body_frame questions) all c.pieces c.not_yet_got c.bytes (id_value_whole, questions_are.1) spelled c.sent c.answered in
+    record {
+      askable = c.askable;
+      known = c.known;
+      quiet = c.quiet;
+      silent = c.silent;
+      greeting = c.greeting;
+      greets = c.greets;
+      got = flat_map spelling s.values ++ s.rest;
+      not_yet_got = c.not_yet_got;
+      sent = s.sent;
+      values = s.values;
+      unread = s.rest;
+      parts = (refl, s.whole);
+      bytes = c.bytes;
+      h = s.h;
+      served = s.served;
+      came = c.came;
+      not_yet_come = c.not_yet_come;
+      put_out = c.put_out;
+      replies = c.heard.values;
+      held = c.heard.rest;
+      read = c.heard.parts;
+      left = c.left;
+      tells = c.heard.tells;
+    }
