@@ -251,8 +251,8 @@ impl Core {
         }
     }
 
-    /// Whether a master was handed over at the nodes themselves, and so long ago that a campaign for the node which took
-    /// over may begin.
+    /// Whether a master was handed over at the nodes themselves, and so long ago that a campaign for the node which
+    /// took over may begin.
     pub fn is_switch_due(&self, plan: &Plan, m: u16, now: u64) -> bool
         ensures value { result ≡ is_switch_due plan.now self.now m (clock now) }
         ensures here { IsTrue result → m < length self.now.masters }
