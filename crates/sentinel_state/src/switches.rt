@@ -1,6 +1,6 @@
 //! Switches: those that a client asked for, and those that were made at the nodes.
 
-ghost use Rattle.std.specs.Prelude.{◌≡◌, ◌<◌, None, IfSome, IsTrue, length};
+ghost use Rattle.std.specs.Prelude.{◌≡◌, ◌<◌, None, IfSome, IsTrue, false, length};
 ghost use Rattle.ballot_law.specs.Clocks.{clock};
 ghost use Rattle.failover_states.specs.Calls.{epoch_of};
 ghost use Rattle.sentinel_rules.specs.Answers.{wished};
