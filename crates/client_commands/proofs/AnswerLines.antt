@@ -139,8 +139,8 @@ both : (test : Bool) (one two : Looked) → AreLines one → AreLines two → Ar
 both true one two h k = h
 both false one two h k = k
 
-taken_lines : (verb : Verb) (fits : Bool) (words : List (List ℕ)) → AreLines (taken verb fits words)
-taken_lines verb fits words = both fits _ _ tt (arguments_line (verb_name verb) (verb_line verb))
+taken_lines : (verb : Verb) (enough : Bool) (words : List (List ℕ)) → AreLines (taken verb enough words)
+taken_lines verb enough words = both enough _ _ tt (arguments_line (verb_name verb) (verb_line verb))
 
 clients_lines : (word : List ℕ) (words : List (List ℕ)) → AreLines (table.clients_named word words)
 clients_lines word words =
