@@ -1,6 +1,6 @@
 //! Switches: those that a client asked for, and those that were made at the nodes.
 
-ghost use Rattle.std.specs.Prelude.{◌≡◌, ◌<◌, None, IfSome, IsTrue, false, length};
+ghost use Rattle.std.specs.Prelude.{◌≡◌, ◌<◌, None, IfSome, IsTrue, false, true, length};
 ghost use Rattle.ballot_law.specs.Clocks.{clock};
 ghost use Rattle.failover_states.specs.Calls.{epoch_of};
 ghost use Rattle.sentinel_rules.specs.Answers.{wished};
@@ -102,8 +102,10 @@ fn place_followed(plan: &Plan, m: u16, addr: Option<Addr>) -> Option<usize>
     ensures value { result ≡ place_followed plan.now m addr }
     ensures within { IfSome result (λ k. k < length (nodes_of plan.now m)) }
 {
-    let addr = addr?;
-    plan.nodes(m).iter().position(|node| addr.is_same(node))
+    match addr {
+        Some(addr) => plan.nodes(m).iter().position(|node| addr.is_same(node)),
+        None => None,
+    }
 }
 
 impl Master {
