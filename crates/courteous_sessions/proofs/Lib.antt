@@ -1,5 +1,6 @@
 pub mod Joining
 pub mod Keeping
+pub mod Retold
 pub mod Serving
 pub mod Stepping
 pub mod Values

@@ -9,7 +9,7 @@ ghost use Rattle.courteous_sessions.specs.Visits.{unsubscribed, Receives};
 use crate::epochs::FarRequest;
 use crate::exchange::Exchange;
 use ballot_law::{NoMemory, Note, Roster, Text};
-use client_commands::PortFacts;
+use client_commands::{PortFacts, Protocol};
 use pubsub::Event;
 use sentinel_cell::{Seat, SharedSentinel};
 use sentinel_conf::ConfStore;
@@ -109,6 +109,13 @@ impl CourteousSession {
         ensures { result.now ≡ self.now.asker.name }
     {
         self.exchange.attendant.name()
+    }
+
+    /// Which protocol its client speaks.
+    pub fn protocol(&self) -> Protocol
+        ensures { result ≡ self.now.asker.protocol }
+    {
+        self.exchange.attendant.protocol()
     }
 
     /// To how many channels it listens, and for how many patterns.
