@@ -125,6 +125,9 @@ fn tell(
     if asker.password.is_some() && asker.admitted {
         told.word("admitted")?;
     }
+    if !asker.protocol.is_two() {
+        told.word("speaks-3")?;
+    }
     for place in asker.port.killed.as_slice() {
         told.word("killed")?;
         told.number(*place as u64)?;
