@@ -1,5 +1,5 @@
 -- How protocol 3 spells values, and as what it tells the answers that protocol 2 has: rows as maps, texts of clients verbatim, what Pub/Sub says as pushes.
-use Rattle.std.specs.Prelude.{◌≡◌, ◌++◌, ◌∷◌, ◌+◌, ◌/◌, ◌||◌, ℕ, Bool, true, false, List, [], Result, Ok, Err, bytes_eq, codes, decimal, length}
+use Rattle.std.specs.Prelude.{◌≡◌, ◌<◌, ◌++◌, ◌∷◌, ◌+◌, ◌/◌, ◌%◌, ◌^◌, ◌||◌, ℕ, Bool, true, false, List, [], Result, Ok, Err, bytes_eq, codes, decimal, length}
 use Rattle.ballot_law.specs.declared.commands.Command.{Command}
 use Rattle.ballot_law.specs.declared.commands.Command.TheVariants.{Masters, Master, Replicas, Sentinels}
 use Rattle.client_commands.specs.declared.protocols.Protocol.{Protocol}
@@ -7,7 +7,7 @@ use Rattle.client_commands.specs.declared.protocols.Protocol.TheVariants.{Two, T
 use Rattle.pubsub.specs.Answering.{is_called}
 use Rattle.resp2.specs.declared.command.CommandFault.{CommandFault}
 use Rattle.resp2.specs.Commands.{redis_command_of}
-use Rattle.resp2.specs.Framing.Frame.{Frame, FrameList, simple, fault, int, bulk, null_bulk, items, null_items, no_frames, frame, count, line_end, spelling, spellings}
+use Rattle.resp2.specs.Framing.Frame.{Frame, FrameList, simple, fault, int, bulk, null_bulk, items, null_items, no_frames, frame, count, line_end, spelling, spellings, IsPlain}
 use Rattle.courteous_sessions.specs.declared.shapes.Shape.{Shape}
 use Rattle.courteous_sessions.specs.declared.shapes.Shape.TheVariants.{Plain, Whole, Pairs, Tables, Verbatim, Pushes}
 
@@ -67,6 +67,55 @@ told_as Pushes f = push_spelling f
 abbrev pub all_told_as : Shape → FrameList → List ℕ
 all_told_as shape no_frames = []
 all_told_as shape (frame f fs) = told_as shape f ++ all_told_as shape fs
+
+-- ---- that both protocols say the same
+
+-- a value in which both nulls of protocol 2 are one
+abbrev mutual
+  pub with_one_null : Frame → Frame
+  with_one_null (simple text) = simple text
+  with_one_null (fault text) = fault text
+  with_one_null (int n) = int n
+  with_one_null (bulk bytes) = bulk bytes
+  with_one_null null_bulk = null_bulk
+  with_one_null (items fs) = items (each_with_one_null fs)
+  with_one_null null_items = null_bulk
+
+  pub each_with_one_null : FrameList → FrameList
+  each_with_one_null no_frames = no_frames
+  each_with_one_null (frame f fs) = frame (with_one_null f) (each_with_one_null fs)
+
+-- each name has a value
+abbrev pub IsPaired : Frame → Type 0
+IsPaired (items fs) = count fs % 2 ≡ 0
+IsPaired f = Unit {0}
+
+abbrev pub ArePaired : FrameList → Type 0
+ArePaired no_frames = Unit {0}
+ArePaired (frame f fs) = IsPaired f × ArePaired fs
+
+abbrev pub HasPairedRows : Frame → Type 0
+HasPairedRows (items fs) = ArePaired fs
+HasPairedRows f = Unit {0}
+
+-- the length of a text and that of its mark are a number of 64 bits
+abbrev pub HasShortText : Frame → Type 0
+HasShortText (bulk bytes) = length bytes + 4 < 2 ^ 64
+HasShortText f = Unit {0}
+
+abbrev pub CanBe : Shape → Frame → Type 0
+CanBe Plain f = Unit {0}
+CanBe Whole f = Unit {0}
+CanBe Pairs f = IsPaired f
+CanBe Tables f = HasPairedRows f
+CanBe Verbatim f = HasShortText f
+CanBe Pushes f = Unit {0}
+
+-- Two values that protocol 3 tells alike, whatever follows them, are the same in protocol 2, up to which null is told
+abbrev pub SaysTheSame : Type 0
+SaysTheSame =
+    (shape : Shape) (f g : Frame) (x y : List ℕ) → IsPlain f → IsPlain g → CanBe shape f → CanBe shape g → told_as shape f ++ x ≡ told_as shape g ++ y
+    → (with_one_null f ≡ with_one_null g) × (x ≡ y)
 
 -- ---- how an answer of protocol 2 is told
 

@@ -27,8 +27,9 @@ fn push_value(out: &mut OutText, value: &Value) -> Result<(), NoMemory>
         Value::Fault(text) => push_kind(out, b'-', text.as_slice()),
         Value::Int(number) => push_int(out, *number),
         Value::Bulk(bytes) => push_bulk(out, bytes.as_slice()),
-        Value::NullBulk | Value::NullItems => out.add(NULL),
+        Value::NullBulk => out.add(NULL),
         Value::Items(items) => push_items(out, b'*', items),
+        Value::NullItems => out.add(NULL),
     }
 }
 
@@ -70,12 +71,14 @@ fn push_row(out: &mut OutText, value: &Value) -> Result<(), NoMemory>
     }
 }
 
-/// Adds an array of rows.
-fn push_rows(out: &mut OutText, rows: &Vec<Value>) -> Result<(), NoMemory>
-    ensures { OnOk result (out.new ≡ out.old ++ map_spellings (frames_view rows.now.items)) }
+/// Adds rows.
+fn push_rows(out: &mut OutText, rows: &[Value]) -> Result<(), NoMemory>
+    ensures { OnOk result (out.new ≡ out.old ++ map_spellings (frames_view rows.now)) }
 {
-    for row in rows {
+    let mut rest = rows;
+    while let [row, more @ ..] = rest {
         push_row(out, row)?;
+        rest = more;
     }
     Ok(())
 }
@@ -87,7 +90,7 @@ fn push_table(out: &mut OutText, value: &Value) -> Result<(), NoMemory>
     match value {
         Value::Items(rows) => {
             push_size(out, b'*', rows.as_slice().len())?;
-            push_rows(out, rows)
+            push_rows(out, rows.as_slice())
         }
         _ => push_value(out, value),
     }
@@ -131,11 +134,13 @@ fn push_told(out: &mut OutText, shape: Shape, value: &Value) -> Result<(), NoMem
 }
 
 /// Adds values as they are told.
-fn push_all_told(out: &mut OutText, shape: Shape, values: &Vec<Value>) -> Result<(), NoMemory>
-    ensures { OnOk result (out.new ≡ out.old ++ all_told_as shape (frames_view values.now.items)) }
+fn push_all_told(out: &mut OutText, shape: Shape, values: &[Value]) -> Result<(), NoMemory>
+    ensures { OnOk result (out.new ≡ out.old ++ all_told_as shape (frames_view values.now)) }
 {
-    for value in values {
+    let mut rest = values;
+    while let [value, more @ ..] = rest {
         push_told(out, shape, value)?;
+        rest = more;
     }
     Ok(())
 }
@@ -234,7 +239,7 @@ fn retell_values(
     ensures { OnOk result (AreTold shape answer.now out.new) }
 {
     let values = values_of(alloc, shape, answer)?;
-    push_all_told(out, shape, &values)
+    push_all_told(out, shape, values.as_slice())
 }
 
 /// The answer, or the null of protocol 3 where it is a null.
