@@ -8,7 +8,7 @@ use Rattle.resp2.specs.Framing.Frame.{Frame, simple, fault, bulk, frames_of, IsL
 use Rattle.client_commands.specs.declared.verbs.Verb.{Verb}
 use Rattle.client_commands.specs.declared.verbs.Verb.TheVariants.{Ping, Hello, Auth, SetName, SetInfo, GetName, Id, OfClients, Own, Kill, NoEvict, Reply, HelpOfClient, Commands, Docs, Count, HelpOfCommand, Role, Publish, Info, Sentinel}
 use Rattle.client_commands.specs.declared.subcommands.Sub.{Sub}
-use Rattle.client_commands.specs.declared.subcommands.Sub.TheVariants.{Help, PendingScripts, InfoCache, Config, SetOption, Monitor, Remove, Reset, Failover, Simulate, Debug}
+use Rattle.client_commands.specs.declared.subcommands.Sub.TheVariants.{Help, PendingScripts, InfoCache, Config, SetOption, Monitor, Remove, Reset, Simulate, Debug}
 use Rattle.client_commands.specs.declared.hellos.Expects.{Expects}
 use Rattle.client_commands.specs.declared.hellos.Expects.TheVariants.{Start, User, Password, NewName}
 use Rattle.client_commands.specs.Refusals.{is_called, printed_byte, printed, wrong_arguments, unknown_subcommand, shown_words, unknown_command, no_option, wrong_password, no_password, no_auth, no_auth_yet, no_name, not_while_listening}
@@ -99,7 +99,6 @@ sub_line SetOption = checked (codes "sentinel|set") refl
 sub_line Monitor = checked (codes "sentinel|monitor") refl
 sub_line Remove = checked (codes "sentinel|remove") refl
 sub_line Reset = checked (codes "sentinel|reset") refl
-sub_line Failover = checked (codes "sentinel|failover") refl
 sub_line Simulate = checked (codes "sentinel|simulate-failure") refl
 sub_line Debug = checked (codes "sentinel|debug") refl
 
@@ -429,7 +428,6 @@ told_lines_of asker SetOption words = runtime_line (codes "SET") refl
 told_lines_of asker Monitor words = runtime_line (codes "MONITOR") refl
 told_lines_of asker Remove words = runtime_line (codes "REMOVE") refl
 told_lines_of asker Reset words = runtime_line (codes "RESET") refl
-told_lines_of asker Failover words = checked (codes "ERR SENTINEL FAILOVER isn't supported: docs/OPERATING.md says how a master is changed on purpose") refl
 told_lines_of asker Simulate words = trial_line (codes "SIMULATE-FAILURE") refl
 told_lines_of asker Debug words = trial_line (codes "DEBUG") refl
 

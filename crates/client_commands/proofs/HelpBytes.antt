@@ -13,14 +13,14 @@ three = decimal_digit 3 (omega arith)
 fifteen : decimal 15 ≡ 49 ∷ 53 ∷ []
 fifteen = decimal_step 15 (omega arith) (omega arith) ∙ (rw (one) refl)
 
-thirty_one : decimal 31 ≡ 51 ∷ 49 ∷ []
-thirty_one = decimal_step 31 (omega arith) (omega arith) ∙ (rw (three) refl)
+thirty_two : decimal 32 ≡ 51 ∷ 50 ∷ []
+thirty_two = decimal_step 32 (omega arith) (omega arith) ∙ (rw (three) refl)
 
 thirty_three : decimal 33 ≡ 51 ∷ 51 ∷ []
 thirty_three = decimal_step 33 (omega arith) (omega arith) ∙ (rw (three) refl)
 
 pub sentinel_help_bytes : spelling (told_lines sentinel_help) ≡
-    codes "*31" ++ (line_end ++ (
+    codes "*32" ++ (line_end ++ (
     codes "+SENTINEL <subcommand> [<arg> [value] [opt] ...]. Subcommands are:" ++ (line_end ++ (
     codes "+CKQUORUM <master-name>" ++ (line_end ++ (
     codes "+    Check if the current Sentinel configuration is able to reach the quorum" ++ (line_end ++ (
@@ -30,6 +30,7 @@ pub sentinel_help_bytes : spelling (told_lines sentinel_help) ≡
     codes "+    Get global Sentinel configuration parameter." ++ (line_end ++ (
     codes "+GET-MASTER-ADDR-BY-NAME <master-name>" ++ (line_end ++ (
     codes "+    Return the ip and port number of the master with that name." ++ (line_end ++ (
+    codes "+FAILOVER <master-name>" ++ (line_end ++ (
     codes "+FLUSHCONFIG" ++ (line_end ++ (
     codes "+    Force Sentinel to rewrite its configuration on disk, including the current" ++ (line_end ++ (
     codes "+    Sentinel state." ++ (line_end ++ (
@@ -52,8 +53,8 @@ pub sentinel_help_bytes : spelling (told_lines sentinel_help) ≡
     codes "+    Show a list of Sentinel instances for this master and their state." ++ (line_end ++ (
     codes "+HELP" ++ (line_end ++ (
     codes "+    Prints this help." ++ (line_end ++ (
-    []))))))))))))))))))))))))))))))))))))))))))))))))))))))))))))))))
-sentinel_help_bytes = rw (thirty_one) refl
+    []))))))))))))))))))))))))))))))))))))))))))))))))))))))))))))))))))
+sentinel_help_bytes = rw (thirty_two) refl
 
 pub client_help_bytes : spelling (told_lines client_help) ≡
     codes "*33" ++ (line_end ++ (

@@ -1,11 +1,9 @@
 -- A value that the Sentinel's rules answer is left to them.
 use Rattle.std.proofs.Common.{◌≡◌, ◌∙◌, ◌⊎◌, inl, inr, Option, None, Some, Bool, true, false, Result, Ok, Err, refl, sym, ap}
 use Rattle.ballot_law.specs.declared.commands.Command.{Command}
-use Rattle.ballot_law.specs.declared.commands.Command.TheVariants.{Failover}
 use Rattle.resp2.specs.declared.command.CommandFault.{CommandFault}
 use Rattle.resp2.specs.declared.command.CommandFault.TheVariants.{NotACommand, UnknownCommand, WrongArguments, BadAddress, BadEpoch, BadRunId, UnknownChannel}
-use Rattle.resp2.specs.Commands.{command_of, redis_command_of}
-use Rattle.resp2.proofs.Switches.{known_too, same_or_unknown}
+use Rattle.resp2.specs.Commands.{redis_command_of}
 use Rattle.resp2.specs.Framing.Frame.{Frame}
 use Rattle.client_commands.specs.Refusals.{no_auth}
 use Rattle.client_commands.proofs.Silence.{command_asks, asked_is}
@@ -27,13 +25,13 @@ answer_at asker asked value =
 admitted_is : (asker : ClientInfo) (answer : Answer) → is_stranger asker ≡ false → unless_stranger asker answer ≡ answer
 admitted_is asker answer known = ap (λ (test : Bool). elim test as (λ _. Answer) [ true ↦ said no_auth | false ↦ answer ]) known
 
-pub own_is_left : (asker : ClientInfo) (value : Frame) (command : Command) → is_stranger asker ≡ false → command_of value ≡ Ok command
+pub own_is_left : (asker : ClientInfo) (value : Frame) (command : Command) → is_stranger asker ≡ false → redis_command_of value ≡ Ok command
     → courtesy asker value ≡ left
 own_is_left asker value command known is =
     asked_is asker value (command_asks value command is)
-    ∙ ap (λ (asked : Result Command CommandFault). answer_at asker asked value) (known_too value command is) ∙ admitted_is asker left known
+    ∙ ap (λ (asked : Result Command CommandFault). answer_at asker asked value) is ∙ admitted_is asker left known
 
-pub own_is_same : (asker : ClientInfo) (value : Frame) (command : Command) → command_of value ≡ Ok command → asker_after asker value ≡ asker
+pub own_is_same : (asker : ClientInfo) (value : Frame) (command : Command) → redis_command_of value ≡ Ok command → asker_after asker value ≡ asker
 own_is_same asker value command is =
     ap (λ (asked : Result Command CommandFault).
     let a : ClientInfo = record asker {
@@ -41,7 +39,7 @@ own_is_same asker value command is =
       protocol = or_protocol asker (over asker asked value);
       admitted = or_admitted asker (over asker asked value);
       port = record asker.port { killed = or_killed asker (over asker asked value) };
-    } in a) (known_too value command is)
+    } in a) is
 
 judged : (asker : ClientInfo) (value : Frame) (asked : Result Command CommandFault) → is_stranger asker ≡ false
     → (answer_at asker asked value ≡ left) ⊎ ((asked ≡ Err UnknownCommand) ⊎ (asked ≡ Err WrongArguments))
@@ -56,31 +54,11 @@ judged asker value (Err UnknownChannel) known = inl (admitted_is asker left know
 
 refused_by : (asker : ClientInfo) (value : Frame) (test : Bool) → asks_nothing value ≡ test → is_stranger asker ≡ false
     → (asks_nothing value ≡ true)
-    ⊎ ((courtesy asker value ≡ left) ⊎ ((command_of value ≡ Err UnknownCommand) ⊎ (command_of value ≡ Err WrongArguments)))
+    ⊎ ((courtesy asker value ≡ left) ⊎ ((redis_command_of value ≡ Err UnknownCommand) ⊎ (redis_command_of value ≡ Err WrongArguments)))
 refused_by asker value true h known = inl h
-refused_by asker value false h known = inr (rw (asked_is asker value h) (as_before (same_or_unknown value) (judged asker value (redis_command_of value) known)))
-  where
-    Left : Type 0
-    Left = reply_to asker value ≡ left
-
-    unknown_before : (redis_command_of value ≡ command_of value) ⊎ (command_of value ≡ Err UnknownCommand) → redis_command_of value ≡ Err UnknownCommand →
-        (command_of value ≡ Err UnknownCommand) ⊎ (command_of value ≡ Err WrongArguments)
-    unknown_before (inl same) e = inl (sym same ∙ e)
-    unknown_before (inr unknown) e = inl unknown
-
-    wrong_before : (redis_command_of value ≡ command_of value) ⊎ (command_of value ≡ Err UnknownCommand) → redis_command_of value ≡ Err WrongArguments →
-        (command_of value ≡ Err UnknownCommand) ⊎ (command_of value ≡ Err WrongArguments)
-    wrong_before (inl same) e = inr (sym same ∙ e)
-    wrong_before (inr unknown) e = inl unknown
-
-    as_before : (redis_command_of value ≡ command_of value) ⊎ (command_of value ≡ Err UnknownCommand)
-        → Left ⊎ ((redis_command_of value ≡ Err UnknownCommand) ⊎ (redis_command_of value ≡ Err WrongArguments))
-        → Left ⊎ ((command_of value ≡ Err UnknownCommand) ⊎ (command_of value ≡ Err WrongArguments))
-    as_before from (inl answered) = inl answered
-    as_before from (inr (inl unknown)) = inr (unknown_before from unknown)
-    as_before from (inr (inr wrong)) = inr (wrong_before from wrong)
+refused_by asker value false h known = inr (rw (asked_is asker value h) (judged asker value (redis_command_of value) known))
 
 pub refused_or_left : (asker : ClientInfo) (value : Frame) → is_stranger asker ≡ false
     → (asks_nothing value ≡ true)
-    ⊎ ((courtesy asker value ≡ left) ⊎ ((command_of value ≡ Err UnknownCommand) ⊎ (command_of value ≡ Err WrongArguments)))
+    ⊎ ((courtesy asker value ≡ left) ⊎ ((redis_command_of value ≡ Err UnknownCommand) ⊎ (redis_command_of value ≡ Err WrongArguments)))
 refused_or_left asker value known = refused_by asker value (asks_nothing value) refl known

@@ -12,7 +12,7 @@ use Rattle.resp2.specs.Framing.Frame.{Frame, FrameList, simple, fault, int, bulk
 use Rattle.client_commands.specs.declared.verbs.Verb.{Verb}
 use Rattle.client_commands.specs.declared.verbs.Verb.TheVariants.{Ping, Hello, Auth, SetName, SetInfo, GetName, Id, OfClients, Own, Kill, NoEvict, Reply, HelpOfClient, Commands, Docs, Count, HelpOfCommand, Role, Publish, Info, Sentinel}
 use Rattle.client_commands.specs.declared.subcommands.Sub.{Sub}
-use Rattle.client_commands.specs.declared.subcommands.Sub.TheVariants.{Help, PendingScripts, InfoCache, Config, SetOption, Monitor, Remove, Reset, Failover, Simulate, Debug}
+use Rattle.client_commands.specs.declared.subcommands.Sub.TheVariants.{Help, PendingScripts, InfoCache, Config, SetOption, Monitor, Remove, Reset, Simulate, Debug}
 use Rattle.client_commands.specs.declared.hellos.Expects.{Expects}
 use Rattle.client_commands.specs.declared.hellos.Expects.TheVariants.{Start, User, Password, NewName}
 use Rattle.client_commands.specs.declared.courtesies.Courtesy.{Courtesy}
@@ -23,7 +23,7 @@ use Rattle.client_commands.specs.declared.protocols.Protocol.{Protocol}
 use Rattle.client_commands.specs.Protocols.{version, protocol_asked}
 use Rattle.client_commands.specs.Choosing.{Wanted, Chosen, fits, unfit, anyone, kind_named, no_kind, chosen_by, places_of}
 use Rattle.client_commands.specs.ClientLines.{client_lines}
-use Rattle.client_commands.specs.Subcommands.{sub_name, all_subs, sub_among, takes_count, not_at_runtime, no_failover, no_trials, only_get}
+use Rattle.client_commands.specs.Subcommands.{sub_name, all_subs, sub_among, takes_count, not_at_runtime, no_trials, only_get}
 use Rattle.client_commands.specs.Helps.{told_lines, sentinel_help, client_help, command_help}
 use Rattle.client_commands.specs.Refusals.{is_called, printed_byte, wrong_arguments, unknown_subcommand, unknown_command, syntax_error, wrong_password, no_password, no_auth, no_auth_yet, no_name, no_such_protocol, no_protocol, no_option, no_hello, not_while_listening}
 
@@ -496,7 +496,6 @@ sentinel_told asker SetOption words = not_at_runtime (codes "SET")
 sentinel_told asker Monitor words = not_at_runtime (codes "MONITOR")
 sentinel_told asker Remove words = not_at_runtime (codes "REMOVE")
 sentinel_told asker Reset words = not_at_runtime (codes "RESET")
-sentinel_told asker Failover words = no_failover
 sentinel_told asker Simulate words = no_trials (codes "SIMULATE-FAILURE")
 sentinel_told asker Debug words = no_trials (codes "DEBUG")
 

@@ -1,4 +1,5 @@
--- What HELP says of SENTINEL, CLIENT and COMMAND: redis-sentinel's lines about the subcommands that are here.
+-- What HELP says of SENTINEL, CLIENT and COMMAND: redis-sentinel's lines about the subcommands that are here. What it says of FAILOVER isn't so here, since the other Sentinels
+-- are asked.
 use Rattle.std.specs.Prelude.{ℕ, List, [], ◌∷◌, map, codes}
 use Rattle.resp2.specs.Framing.Frame.{Frame, simple, items, frames_of}
 
@@ -17,6 +18,7 @@ sentinel_help =
     codes "    Get global Sentinel configuration parameter." ∷
     codes "GET-MASTER-ADDR-BY-NAME <master-name>" ∷
     codes "    Return the ip and port number of the master with that name." ∷
+    codes "FAILOVER <master-name>" ∷
     codes "FLUSHCONFIG" ∷
     codes "    Force Sentinel to rewrite its configuration on disk, including the current" ∷
     codes "    Sentinel state." ∷

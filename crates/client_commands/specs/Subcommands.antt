@@ -2,7 +2,7 @@
 use Rattle.std.specs.Prelude.{ℕ, Bool, true, false, ◌==◌, nat_lt, nat_le, List, [], ◌∷◌, ◌++◌, map, codes, Option, None, Some}
 use Rattle.resp2.specs.Framing.Frame.{Frame, fault}
 use Rattle.client_commands.specs.declared.subcommands.Sub.{Sub}
-use Rattle.client_commands.specs.declared.subcommands.Sub.TheVariants.{Help, PendingScripts, InfoCache, Config, SetOption, Monitor, Remove, Reset, Failover, Simulate, Debug}
+use Rattle.client_commands.specs.declared.subcommands.Sub.TheVariants.{Help, PendingScripts, InfoCache, Config, SetOption, Monitor, Remove, Reset, Simulate, Debug}
 use Rattle.client_commands.specs.Refusals.{is_called}
 
 abbrev pub sub_word : Sub → List ℕ
@@ -14,7 +14,6 @@ sub_word SetOption = codes "set"
 sub_word Monitor = codes "monitor"
 sub_word Remove = codes "remove"
 sub_word Reset = codes "reset"
-sub_word Failover = codes "failover"
 sub_word Simulate = codes "simulate-failure"
 sub_word Debug = codes "debug"
 
@@ -23,7 +22,7 @@ abbrev pub sub_name : Sub → List ℕ
 sub_name sub = codes "sentinel|" ++ sub_word sub
 
 abbrev pub all_subs : List Sub
-all_subs = Help ∷ PendingScripts ∷ InfoCache ∷ Config ∷ SetOption ∷ Monitor ∷ Remove ∷ Reset ∷ Failover ∷ Simulate ∷ Debug ∷ []
+all_subs = Help ∷ PendingScripts ∷ InfoCache ∷ Config ∷ SetOption ∷ Monitor ∷ Remove ∷ Reset ∷ Simulate ∷ Debug ∷ []
 
 -- the first of them that is called so
 abbrev pub sub_among : List Sub → (word : List ℕ) → Option Sub
@@ -40,7 +39,6 @@ takes_count SetOption count = nat_le 3 count
 takes_count Monitor count = count == 4
 takes_count Remove count = count == 1
 takes_count Reset count = count == 1
-takes_count Failover count = count == 1
 takes_count Simulate count = nat_lt 0 count
 takes_count Debug count = true
 
@@ -51,9 +49,6 @@ abbrev pub not_at_runtime : (command : List ℕ) → Frame
 not_at_runtime command =
     fault (codes "ERR SENTINEL " ++ (command
     ++ (codes " isn't supported: masters, nodes and settings are those of the files, and " ++ codes "docs/OPERATING.md says how these are changed")))
-
-abbrev pub no_failover : Frame
-no_failover = fault (codes "ERR SENTINEL FAILOVER isn't supported: docs/OPERATING.md says how a master is changed on purpose")
 
 abbrev pub no_trials : (command : List ℕ) → Frame
 no_trials command = fault (codes "ERR SENTINEL " ++ (command ++ codes " isn't supported: docs/TRYING_IT.md says how failures are tried"))

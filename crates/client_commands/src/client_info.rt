@@ -81,7 +81,17 @@ impl Model for ClientInfo {
 
     ghost Value = { AskerModel };
 
-    ghost view = { λ asker. record { id = asker.id; name = asker.name; protocol = asker.protocol; listens = asker.listens; masters = asker.masters.items; password = asker.password; admitted = asker.admitted; current = asker.current; port = asker.port } };
+    ghost view = { λ asker. record {
+      id = asker.id;
+      name = asker.name;
+      protocol = asker.protocol;
+      listens = asker.listens;
+      masters = asker.masters.items;
+      password = asker.password;
+      admitted = asker.admitted;
+      current = asker.current;
+      port = asker.port;
+    } };
 }
 
 impl ClientInfo {

@@ -117,7 +117,11 @@ fn greet(
     out: &mut OutText,
 ) -> Result<(), NoMemory>
     ensures text { OnOk result (out.new ≡ text_of (executed asker.old Verb.Hello words.now)) }
-    ensures asker { OnOk result (asker.new ≡ record asker.old { name = name_after asker.old Verb.Hello words.now; protocol = protocol_after asker.old Verb.Hello words.now; admitted = admitted_after asker.old Verb.Hello words.now }) }
+    ensures asker { OnOk result (asker.new ≡ record asker.old {
+      name = name_after asker.old Verb.Hello words.now;
+      protocol = protocol_after asker.old Verb.Hello words.now;
+      admitted = admitted_after asker.old Verb.Hello words.now;
+    }) }
 {
     let left = hello(asker, words, out)?;
     let admitted = left.admitted;

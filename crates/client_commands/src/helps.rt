@@ -8,7 +8,7 @@ use crate::refusals::say;
 use ballot_law::NoMemory;
 use resp2::OutText;
 
-const SENTINEL_HELP: &[u8] = b"*31\r\n\
+const SENTINEL_HELP: &[u8] = b"*32\r\n\
 +SENTINEL <subcommand> [<arg> [value] [opt] ...]. Subcommands are:\r\n\
 +CKQUORUM <master-name>\r\n\
 +    Check if the current Sentinel configuration is able to reach the quorum\r\n\
@@ -18,6 +18,7 @@ const SENTINEL_HELP: &[u8] = b"*31\r\n\
 +    Get global Sentinel configuration parameter.\r\n\
 +GET-MASTER-ADDR-BY-NAME <master-name>\r\n\
 +    Return the ip and port number of the master with that name.\r\n\
++FAILOVER <master-name>\r\n\
 +FLUSHCONFIG\r\n\
 +    Force Sentinel to rewrite its configuration on disk, including the current\r\n\
 +    Sentinel state.\r\n\

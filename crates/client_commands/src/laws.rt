@@ -4,7 +4,7 @@ ghost use Rattle.std.specs.Prelude.{◌≡◌, ◌↔◌, ◌⊎◌, ◌≤◌, 
 ghost use Rattle.std.specs.List.{list_any};
 ghost use Rattle.ballot_law.specs.declared.commands.Command.{Command};
 ghost use Rattle.resp2.specs.declared.command.CommandFault.TheVariants.{UnknownCommand, WrongArguments};
-ghost use Rattle.resp2.specs.Commands.{command_of};
+ghost use Rattle.resp2.specs.Commands.{redis_command_of};
 ghost use Rattle.resp2.specs.declared.framing.fault.Unread.TheVariants.{NeedsMore};
 ghost use Rattle.resp2.specs.Framing.Frame.{Frame, spelling, HasLines, IsFrame};
 ghost use Rattle.resp2.specs.Framing.Reading.{Stays};
@@ -16,12 +16,13 @@ ghost use Rattle.client_commands.specs.Courtesies.{ClientInfo, left, said, silen
 /// value that they refuse for another reason than that they don't know the command or its number of words, but for an
 /// array without items. A command changes nothing of the connection.
 pub fn law_own_values_are_left()
-    ensures own { (asker : ClientInfo) (value : Frame) (command : Command) → is_stranger asker ≡ false → command_of value ≡ Ok command
-        → courtesy asker value ≡ left }
-    ensures same { (asker : ClientInfo) (value : Frame) (command : Command) → command_of value ≡ Ok command → asker_after asker value ≡ asker }
+    ensures own { (asker : ClientInfo) (value : Frame) (command : Command) → is_stranger asker ≡ false
+        → redis_command_of value ≡ Ok command → courtesy asker value ≡ left }
+    ensures same { (asker : ClientInfo) (value : Frame) (command : Command) → redis_command_of value ≡ Ok command
+        → asker_after asker value ≡ asker }
     ensures refused { (asker : ClientInfo) (value : Frame) → is_stranger asker ≡ false
-        → (asks_nothing value ≡ true)
-        ⊎ ((courtesy asker value ≡ left) ⊎ ((command_of value ≡ Err UnknownCommand) ⊎ (command_of value ≡ Err WrongArguments))) }
+        → (asks_nothing value ≡ true) ⊎ ((courtesy asker value ≡ left)
+        ⊎ ((redis_command_of value ≡ Err UnknownCommand) ⊎ (redis_command_of value ≡ Err WrongArguments))) }
 {}
 
 /// Where a password is wanted that the client didn't give, each value is answered by a courtesy, so none reaches the

@@ -91,7 +91,19 @@ impl Model for ClientEntry {
 
     ghost Value = { EntryModel };
 
-    ghost view = { λ entry. record { id = entry.id; address = entry.address; local = entry.local; name = entry.name; protocol = entry.protocol; came = entry.came; heard = entry.heard; channels = entry.channels; patterns = entry.patterns; place = entry.place; gone = entry.gone } };
+    ghost view = { λ entry. record {
+      id = entry.id;
+      address = entry.address;
+      local = entry.local;
+      name = entry.name;
+      protocol = entry.protocol;
+      came = entry.came;
+      heard = entry.heard;
+      channels = entry.channels;
+      patterns = entry.patterns;
+      place = entry.place;
+      gone = entry.gone;
+    } };
 }
 
 /// What a port knows: its figures, its clients, and the places of those that were named to be closed.

@@ -16,7 +16,6 @@ pub(crate) enum Sub {
     Monitor,
     Remove,
     Reset,
-    Failover,
     Simulate,
     Debug,
 }
@@ -30,7 +29,6 @@ const ALL: &[Sub] = &[
     Sub::Monitor,
     Sub::Remove,
     Sub::Reset,
-    Sub::Failover,
     Sub::Simulate,
     Sub::Debug,
 ];
@@ -56,7 +54,6 @@ impl Sub {
             Sub::Monitor => b"monitor",
             Sub::Remove => b"remove",
             Sub::Reset => b"reset",
-            Sub::Failover => b"failover",
             Sub::Simulate => b"simulate-failure",
             Sub::Debug => b"debug",
         }
@@ -75,7 +72,6 @@ impl Sub {
             Sub::Monitor => b"sentinel|monitor",
             Sub::Remove => b"sentinel|remove",
             Sub::Reset => b"sentinel|reset",
-            Sub::Failover => b"sentinel|failover",
             Sub::Simulate => b"sentinel|simulate-failure",
             Sub::Debug => b"sentinel|debug",
         }
@@ -90,7 +86,7 @@ impl Sub {
             Sub::InfoCache | Sub::Config | Sub::Simulate => 0 < count,
             Sub::SetOption => 3 <= count,
             Sub::Monitor => count == 4,
-            Sub::Remove | Sub::Reset | Sub::Failover => count == 1,
+            Sub::Remove | Sub::Reset => count == 1,
             Sub::Debug => true,
         }
     }

@@ -21,9 +21,6 @@ use resp2::{OutText, push_bulk};
 use std::alloc::Global;
 use tokens::ip_text;
 
-const NO_FAILOVER: &[u8] =
-    b"-ERR SENTINEL FAILOVER isn't supported: docs/OPERATING.md says how a master is changed on purpose\r\n";
-
 const ONLY_GET: &[u8] =
     b"-ERR Only SENTINEL CONFIG GET <option> / SET <option> <value> are supported.\r\n";
 
@@ -285,7 +282,6 @@ pub(crate) fn sentinel_told(
         Sub::Monitor => refuse_at_runtime(b"MONITOR", out),
         Sub::Remove => refuse_at_runtime(b"REMOVE", out),
         Sub::Reset => refuse_at_runtime(b"RESET", out),
-        Sub::Failover => say(out, NO_FAILOVER),
         Sub::Simulate => refuse_trial(b"SIMULATE-FAILURE", out),
         Sub::Debug => refuse_trial(b"DEBUG", out),
     }

@@ -88,15 +88,16 @@ common_differs FlushConfig h e = absurd h
 pub common_turn : (asker : ClientInfo) (l : Listening) (value : Frame) (command : Command) → IsCommon command → asker.protocol ≡ Two
     → is_stranger asker ≡ false → is_listening l ≡ false → command_of value ≡ Ok command → channel_turn asker l value ≡ other
 common_turn asker l value command common speaks known quiet is =
-    at_home_in_two asker l value speaks known ∙ own_is_other value command l quiet (common_differs command common) is
+    at_home_in_two asker l value speaks known ∙ own_is_other value command l quiet (common_differs command common) (known_too value command is)
 
 pub common_answers : (start : World) (now : ℕ) (asker : ClientInfo) (value : Frame) (command : Command) (p : Party) (bytes : List ℕ) (q : Party) → IsCommon command
     → is_stranger asker ≡ false → command_of value ≡ Ok command → Responds start now p (heard_as asker.current (Ok command)) bytes q
     → Answers start now asker (courtesy asker value) p value bytes q
 common_answers start now asker value command p bytes q common known is h =
-    let becomes = own_is_left asker value command known is in
+    let too = known_too value command is in
+    let becomes = own_is_left asker value command known too in
     subst (λ (a : Answer). Answers start now asker a p value bytes q) (sym becomes)
-    (subst (λ (k : Result Command CommandFault). Responds start now p (heard_as asker.current k) bytes q) (sym (known_too value command is)) h)
+    (subst (λ (k : Result Command CommandFault). Responds start now p (heard_as asker.current k) bytes q) (sym too) h)
 
 -- what a value is answered that is none of Pub/Sub's
 by_others : (start : World) (now : ℕ) (g h : Guest) (value : Frame) (bytes : List ℕ) → channel_turn g.asker g.listening value ≡ other → Serves start now g value bytes h
@@ -119,7 +120,7 @@ own_as_before start now g h value command bytes speaks known quiet differs is te
     let at = sym (ap (λ (x : Guest). x.party) by.2) in
     let becomes = own_is_left g.asker value command known is in
     let kept = subst (λ (a : Answer). Answers start now g.asker a g.party value tells.0 q) becomes by.1 in
-    let heard = subst (λ (k : Result Command CommandFault). Responds start now g.party (heard_as g.asker.current k) tells.0 q) (known_too value command is) kept in
+    let heard = subst (λ (k : Result Command CommandFault). Responds start now g.party (heard_as g.asker.current k) tells.0 q) is kept in
     let after : h ≡ guest q g.listening g.told g.asker = by.2 ∙ ap (λ (a : ClientInfo). guest q g.listening g.told a) (own_is_same g.asker value command is) in
     let speaks_on : h.asker.protocol ≡ Two = ap (λ (x : Guest). x.asker.protocol) after ∙ speaks in
     let answer : bytes ≡ tells.0 = subst (λ (p : Protocol). IsTold p (shape_of value) tells.0 bytes) speaks_on tells.2 in (
@@ -143,7 +144,7 @@ own_in_three start now g h value command bytes speaks known differs is tells =
     let p = party g.party.view None in
     let becomes = own_is_left g.asker value command known is in
     let kept = subst (λ (a : Answer). Answers start now g.asker a p value tells.0 q) becomes by.1 in
-    let heard = subst (λ (k : Result Command CommandFault). Responds start now p (heard_as g.asker.current k) tells.0 q) (known_too value command is) kept in
+    let heard = subst (λ (k : Result Command CommandFault). Responds start now p (heard_as g.asker.current k) tells.0 q) is kept in
     let after : h ≡ guest (party q.view g.party.listens) g.listening g.told g.asker =
     by.2 ∙ ap (λ (a : ClientInfo). guest (party q.view g.party.listens) g.listening g.told a) (own_is_same g.asker value command is)
     in

@@ -22,7 +22,7 @@ use Rattle.sentinel_core.specs.declared.serving.fault.ServeFault.TheVariants.{Ha
 use Rattle.sentinel_core.specs.Serving.Serving.{last_line}
 use Rattle.port_sessions.specs.Talks.{Talk, Party, party, Responds, RespondsAt}
 use Rattle.resp2.specs.declared.command.CommandFault.{CommandFault}
-use Rattle.resp2.specs.Commands.{command_of}
+use Rattle.resp2.specs.Commands.{redis_command_of}
 use Rattle.resp2.specs.declared.framing.fault.FrameFault.{FrameFault}
 use Rattle.resp2.specs.declared.framing.fault.FrameFault.TheVariants.{BadKind, BadLength, BadNumber, MissingEnd, TooLong, TooDeep, TooMany, NoMemory}
 use Rattle.resp2.specs.declared.framing.fault.Unread.TheVariants.{Faulty}
@@ -43,7 +43,7 @@ was_read view (ended fault) value after is h = absurd (let no : ⊥ = cc in no)
 
 module _ (start : World) (now : ℕ) where
   pub left_answered : (asker : ClientInfo) (answer : Answer) (p : Party) (value : Frame) (bytes : List ℕ) (q : Party) → Left ≡ kind_of answer
-      → Responds start now p (heard_as asker.current (command_of value)) bytes q
+      → Responds start now p (heard_as asker.current (redis_command_of value)) bytes q
       → Answers start now asker answer p value bytes q
   left_answered asker left p value bytes q is h = h
   left_answered asker (said answer) p value bytes q is h = absurd (let no : ⊥ = cc in no)
@@ -105,10 +105,10 @@ module _ (start : World) (now : ℕ) where
   heard_otherwise current (Ok (CkQuorum name)) differs e = let no : ⊥ = cc in no
   heard_otherwise current (Ok FlushConfig) differs e = let no : ⊥ = cc in no
 
-  pub answers_alike : (asker : ClientInfo) (answer : Answer) (p : Party) (value : Frame) (bytes : List ℕ) (q : Party) → command_of value ≢ Ok Subscribe → Answers start now asker answer p value bytes q
+  pub answers_alike : (asker : ClientInfo) (answer : Answer) (p : Party) (value : Frame) (bytes : List ℕ) (q : Party) → redis_command_of value ≢ Ok Subscribe → Answers start now asker answer p value bytes q
       → q.listens ≡ p.listens
   answers_alike asker left p value bytes q not h =
-      responds_alike p (heard_as asker.current (command_of value)) bytes q (heard_otherwise asker.current (command_of value) not) h
+      responds_alike p (heard_as asker.current (redis_command_of value)) bytes q (heard_otherwise asker.current (redis_command_of value) not) h
   answers_alike asker (said answer) p value bytes q not h = ap (λ (x : Party). x.listens) h.1
   answers_alike asker silent p value bytes q not h = ap (λ (x : Party). x.listens) h.1
   answers_alike asker asks_masters p value bytes q not h = responds_alike p (Ok Masters) h.answer q (λ e. let no : ⊥ = cc in no) h.turned
@@ -122,7 +122,7 @@ stranger_or_not false given h = inr h
 in_two : (asker : ClientInfo) (l : Listening) (value : Frame) → asker.protocol ≡ Two → turn_in asker.protocol l value ≡ other → channel_answer value l ≡ other
 in_two asker l value speaks is = ap (λ (p : Protocol). turn_in p l value) (sym speaks) ∙ is
 
-not_subscribe : (value : Frame) (l : Listening) → channel_answer value l ≡ other → command_of value ≢ Ok Subscribe
+not_subscribe : (value : Frame) (l : Listening) → channel_answer value l ≡ other → redis_command_of value ≢ Ok Subscribe
 not_subscribe value l is asks =
     let given = subscribe_is_said value l asks in
     let clash : other ≡ confirmed given.0 given.1 = sym is ∙ given.2 in

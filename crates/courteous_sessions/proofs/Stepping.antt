@@ -9,7 +9,7 @@ use Rattle.client_commands.specs.Courtesies.{ClientInfo, MonitoredMaster, is_str
 use Rattle.client_commands.proofs.OwnValues.{own_is_same}
 use Rattle.client_commands.specs.Infos.{info}
 use Rattle.resp2.specs.Asked.{IsCommon}
-use Rattle.resp2.specs.Commands.{command_of}
+use Rattle.resp2.proofs.Switches.{known_too}
 use Rattle.sentinel_core.specs.declared.serving.fault.ServeFault.{ServeFault}
 use Rattle.sentinel_core.specs.declared.serving.fault.ServeFault.TheVariants.{Halted, NoMemory as OutOfMemory}
 use Rattle.port_sessions.specs.Notes.{none_told}
@@ -149,7 +149,7 @@ module _ (start : World) (now : ℕ) where
       let speaks = speaks_two before.asker.protocol two in
       let none = common_turn before.asker l value command common speaks plain.0 plain.1 taken.asked in
       let answers = common_answers start now before.asker value command (party v talk.listens) got.0 (party w later.listens) common plain.0 taken.asked got.3 in
-      let known = ap (confined l) (asker ∙ sym (own_is_same before.asker value command taken.asked)) in
+      let known = ap (confined l) (asker ∙ sym (own_is_same before.asker value command (known_too value command taken.asked))) in
       let serves = served_by_others start now before after l talk later v w value got.0 ready none known told answers in
       let tells = told_in_two start now (guest_of before l talk v) (guest_of after l later w) value got.0 speaks (ap (λ (x : ClientInfo). x.protocol) asker ∙ speaks) serves in
       let there = subst (λ (x : Listening). Tells start now (guest_of before l talk v) value got.0 (guest_of after x later w)) (sym same) tells in

@@ -13,7 +13,7 @@ use Rattle.pubsub.specs.Telling.{channel_name, hears}
 use Rattle.client_commands.specs.Courtesies.{said, silent, is_stranger, courtesy}
 use Rattle.client_commands.specs.declared.protocols.Protocol.TheVariants.{Two, Three}
 use Rattle.port_sessions.specs.Talks.{Party, party, Responds}
-use Rattle.resp2.specs.Commands.{command_of}
+use Rattle.resp2.specs.Commands.{redis_command_of}
 use Rattle.resp2.specs.Framing.Frame.{Frame, FrameList, no_frames, spelling, spellings}
 use Rattle.sentinel_cell.specs.Histories.{World}
 use Rattle.courteous_sessions.specs.Epochs.{is_far, heard}
@@ -26,7 +26,7 @@ use Rattle.courteous_sessions.specs.Visits.{Guest, guest, hears_switches, channe
 abbrev pub AnswersOwnAsBefore : Type 0
 AnswersOwnAsBefore =
     (start : World) (now : ℕ) (g h : Guest) (value : Frame) (command : Command) (bytes : List ℕ)
-    → g.asker.protocol ≡ Two → is_stranger g.asker ≡ false → is_listening g.listening ≡ false → command ≢ Subscribe → command_of value ≡ Ok command
+    → g.asker.protocol ≡ Two → is_stranger g.asker ≡ false → is_listening g.listening ≡ false → command ≢ Subscribe → redis_command_of value ≡ Ok command
     → Tells start now g value bytes h
     → Responds start now g.party (Ok (heard g.asker.current command)) bytes h.party × (h ≡ guest h.party g.listening g.told g.asker)
 
@@ -35,7 +35,7 @@ AnswersOwnAsBefore =
 abbrev pub AnswersOwnInThree : Type 0
 AnswersOwnInThree =
     (start : World) (now : ℕ) (g h : Guest) (value : Frame) (command : Command) (bytes : List ℕ)
-    → g.asker.protocol ≡ Three → is_stranger g.asker ≡ false → is_subscribing (first_word value) ≡ false → command_of value ≡ Ok command
+    → g.asker.protocol ≡ Three → is_stranger g.asker ≡ false → is_subscribing (first_word value) ≡ false → redis_command_of value ≡ Ok command
     → Tells start now g value bytes h
     → (answer : List ℕ) × (q : Party) × Responds start now (party g.party.view None) (Ok (heard g.asker.current command)) answer q
     × IsTold Three (shape_of value) answer bytes × (h ≡ guest (party q.view g.party.listens) g.listening g.told g.asker)
@@ -64,7 +64,7 @@ HearsFar = (current epoch : ℕ) (addr : Addr) (candidate : Option RunId) → is
 abbrev pub AnswersListeners : Type 0
 AnswersListeners =
     (start : World) (now : ℕ) (g h : Guest) (value : Frame) (command : Command) (bytes : List ℕ)
-    → g.asker.protocol ≡ Two → is_stranger g.asker ≡ false → is_listening g.listening ≡ true → command_of value ≡ Ok command → Tells start now g value bytes h
+    → g.asker.protocol ≡ Two → is_stranger g.asker ≡ false → is_listening g.listening ≡ true → redis_command_of value ≡ Ok command → Tells start now g value bytes h
     → (answers : FrameList) × (after : Listening) × (channel_answer value g.listening ≡ confirmed answers after) × (bytes ≡ spellings answers) × (h.listening ≡ after)
 
 -- a value that Pub/Sub doesn't answer and whose answer a courtesy tells is answered by that alone, and its seat sees nothing

@@ -33,32 +33,54 @@ second_by name args =
     else (if bytes_eq name (codes "ckquorum") then about_master CkQuorum args
     else (if bytes_eq name (codes "flushconfig") then alone FlushConfig args else Err UnknownCommand)))))))))
 
-both_true : (a b : Bool) → (a && b) ≡ true → (a ≡ true) × (b ≡ true)
-both_true true true h = (refl, refl)
-both_true true false h = absurd (cc)
-both_true false b h = absurd (cc)
-
 -- SENTINEL FAILOVER is unknown to the one
-switch_unknown : (name word : List ℕ) (args : List (List ℕ)) → is_called (codes "sentinel") name ≡ true → is_called (codes "failover") word ≡ true →
+switch_unknown : (name word : List ℕ) (args : List (List ℕ)) → lower name ≡ codes "sentinel" → lower word ≡ codes "failover" →
     command_of_words (name ∷ word ∷ args) ≡ Err UnknownCommand
-switch_unknown name word args first second =
-    let top : lower name ≡ codes "sentinel" = (bytes_eq-Decides (lower name) (codes "sentinel")).0 first in
-    let below : lower word ≡ codes "failover" = (bytes_eq-Decides (lower word) (codes "failover")).0 second in
+switch_unknown name word args top below =
     ap (λ (l : List ℕ). first_by l (word ∷ args)) top ∙ ap (λ (l : List ℕ). second_by l args) below
 
 abbrev or_switch : Option (List (List ℕ)) → Asked → Asked
 or_switch found asked = elim found as (λ _. Asked) [ None ↦ asked | Some args ↦ about_master Failover args ]
 
+-- the words are SENTINEL FAILOVER, and others behind it
+pub record IsSwitch (name : List ℕ) (rest : List (List ℕ)) : Type 0 where
+  pub word : List ℕ
+  pub args : List (List ℕ)
+  pub rest_is : rest ≡ word ∷ args
+  pub named : lower name ≡ codes "sentinel"
+  pub wanted : lower word ≡ codes "failover"
+  pub judged : redis_command_of_words (name ∷ rest) ≡ about_master Failover args
+
+-- all others are judged alike by both
+pub switch_or_not : (name : List ℕ) (rest : List (List ℕ)) → IsSwitch name rest ⊎ (redis_command_of_words (name ∷ rest) ≡ command_of_words (name ∷ rest))
+switch_or_not name [] = inr refl
+switch_or_not name (word ∷ args) = at (is_called (codes "sentinel") name) (is_called (codes "failover") word) refl refl
+  where
+    asked : Bool → Asked
+    asked t = or_switch (if t then Some args else None) (command_of_words (name ∷ word ∷ args))
+
+    at : (a b : Bool) → is_called (codes "sentinel") name ≡ a → is_called (codes "failover") word ≡ b →
+        IsSwitch name (word ∷ args) ⊎ (redis_command_of_words (name ∷ word ∷ args) ≡ command_of_words (name ∷ word ∷ args))
+    at true true first second =
+        inl (record {
+          word = word;
+          args = args;
+          rest_is = refl;
+          named = (bytes_eq-Decides (lower name) (codes "sentinel")).0 first;
+          wanted = (bytes_eq-Decides (lower word) (codes "failover")).0 second;
+          judged = ap asked (ap (λ (t : Bool). t && is_called (codes "failover") word) first ∙ second);
+        })
+    at true false first second = inr (ap asked (ap (λ (t : Bool). t && is_called (codes "failover") word) first ∙ second))
+    at false b first second = inr (ap asked (ap (λ (t : Bool). t && is_called (codes "failover") word) first))
+
 words_same : (ws : List (List ℕ)) → (redis_command_of_words ws ≡ command_of_words ws) ⊎ (command_of_words ws ≡ Err UnknownCommand)
 words_same [] = inl refl
-words_same (name ∷ []) = inl refl
-words_same (name ∷ word ∷ args) = at (is_called (codes "sentinel") name && is_called (codes "failover") word) refl
+words_same (name ∷ rest) = at (switch_or_not name rest)
   where
-    at : (b : Bool) → (is_called (codes "sentinel") name && is_called (codes "failover") word) ≡ b →
-        (or_switch (if b then Some args else None) (command_of_words (name ∷ word ∷ args)) ≡ command_of_words (name ∷ word ∷ args))
-        ⊎ (command_of_words (name ∷ word ∷ args) ≡ Err UnknownCommand)
-    at true e = let h = both_true (is_called (codes "sentinel") name) (is_called (codes "failover") word) e in inr (switch_unknown name word args h.0 h.1)
-    at false e = inl refl
+    at : IsSwitch name rest ⊎ (redis_command_of_words (name ∷ rest) ≡ command_of_words (name ∷ rest)) →
+        (redis_command_of_words (name ∷ rest) ≡ command_of_words (name ∷ rest)) ⊎ (command_of_words (name ∷ rest) ≡ Err UnknownCommand)
+    at (inl it) = inr (ap (λ (ws : List (List ℕ)). command_of_words (name ∷ ws)) it.rest_is ∙ switch_unknown name it.word it.args it.named it.wanted)
+    at (inr same) = inl same
 
 pub same_or_unknown : (value : Frame) → (redis_command_of value ≡ command_of value) ⊎ (command_of value ≡ Err UnknownCommand)
 same_or_unknown (items fs) = at (are_bulk fs)
