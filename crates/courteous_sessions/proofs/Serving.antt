@@ -128,6 +128,17 @@ not_subscribe value l is asks =
     let clash : other ≡ confirmed given.0 given.1 = sym is ∙ given.2 in
     let no : ⊥ = cc in no
 
+-- it was noted whether the connection has other commands
+pub noted : (mid after : Attendance) (l m : Listening) (asker : ClientInfo) → after ≡ record mid { asker = record mid.asker { listens = is_confined mid.asker.protocol m } }
+    → m ≡ l → mid.asker ≡ asker
+    → (confined l after.asker ≡ confined l asker) × (after.asker.listens ≡ is_confined after.asker.protocol l) × (after.held ≡ mid.held)
+noted mid after l m asker is same known =
+    let now : after.asker ≡ (let a : ClientInfo = record mid.asker { listens = is_confined mid.asker.protocol m } in a) = ap (λ (a : Attendance). a.asker) is in (
+      ap (confined l) now ∙ ap (confined l) known,
+      ap (λ (a : ClientInfo). a.listens) now ∙ ap (is_confined mid.asker.protocol) same ∙ sym (ap (λ (a : ClientInfo). is_confined a.protocol l) now),
+      ap (λ (a : Attendance). a.held) is,
+    )
+
 module _ (start : World) (now : ℕ) where
   -- what a courtesy says takes no turn
   said_alike : (asker : ClientInfo) (answer : Answer) (p : Party) (value : Frame) (bytes : List ℕ) (q : Party) → kind_of answer ≡ Said → Answers start now asker answer p value bytes q → q.listens ≡ p.listens
