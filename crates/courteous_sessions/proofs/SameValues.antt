@@ -18,7 +18,7 @@ header_split kind n m some other x y low below e =
     sym (append_assoc (decimal n ++ line_end) some x) ∙ tails ∙ append_assoc (decimal m ++ line_end) other y
     in
     let same = one_spelling (simple (decimal n)) (simple (decimal m)) (some ++ x) (other ++ y) (decimal_line n low) (decimal_line m below)
-        (ap (λ (t : List ℕ). 43 ∷ t) parts)
+    (ap (λ (t : List ℕ). 43 ∷ t) parts)
     in
     let text : decimal n ≡ decimal m = let it = same.0 in cc in
     (decimal_injective n m low below text, same.1)
@@ -159,7 +159,7 @@ same_maps no_frames (frame g gs) x y p q a b c e = absurd (let no : ⊥ = cc in 
 same_maps (frame f fs) no_frames x y p q a b c e = absurd (let no : ⊥ = cc in no)
 same_maps (frame f fs) (frame g gs) x y p q a b c e =
     let first = same_map f g (map_spellings fs ++ x) (map_spellings gs ++ y) p.0 q.0 a.0 b.0
-        (sym (append_assoc (map_spelling f) (map_spellings fs) x) ∙ e ∙ append_assoc (map_spelling g) (map_spellings gs) y)
+    (sym (append_assoc (map_spelling f) (map_spellings fs) x) ∙ e ∙ append_assoc (map_spelling g) (map_spellings gs) y)
     in
     let rest = same_maps fs gs x y p.1 q.1 a.1 b.1 (one_more (count fs) (count gs) c) first.1 in
     (ap (λ (h : Frame). frame h (each_with_one_null fs)) first.0 ∙ ap (λ (hs : FrameList). frame (with_one_null g) hs) rest.0, rest.1)

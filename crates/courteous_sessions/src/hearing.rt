@@ -200,7 +200,13 @@ impl Exchange {
         ensures fault { IfErr result (λ fault. fault ≡ ServeFault.NoMemory) }
     {
         let protocol = self.attendant.protocol();
-        put_told(self.alloc, &mut self.unsent, protocol, Shape::Pushes, messages)
+        put_told(
+            self.alloc,
+            &mut self.unsent,
+            protocol,
+            Shape::Pushes,
+            messages,
+        )
     }
 
     /// Has what the connection is told of this text, on the channel of new addresses, join what isn't sent yet.

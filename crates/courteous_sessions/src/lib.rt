@@ -24,5 +24,6 @@ pub use epochs::{EPOCHS_AHEAD, FarRequest, is_far};
 pub use laws::{
     law_channels_tell_nothing_else, law_courtesies_take_no_turn,
     law_listeners_are_answered_by_channels, law_own_commands_are_answered_as_before,
-    law_pieces_join, law_protocols_say_the_same, law_protocols_tell_the_same_answers, law_strangers_take_no_turn,
+    law_pieces_join, law_protocols_say_the_same, law_protocols_tell_the_same_answers,
+    law_strangers_take_no_turn,
 };

@@ -30,7 +30,13 @@ impl Exchange {
         match self.unsent.split_off(start) {
             Ok(answer) => {
                 let unsent = &mut self.unsent;
-                put_told(self.alloc, unsent, Protocol::Three, shape, answer.as_slice())
+                put_told(
+                    self.alloc,
+                    unsent,
+                    Protocol::Three,
+                    shape,
+                    answer.as_slice(),
+                )
             }
             Err(_) => {
                 self.unsent.truncate(start);

@@ -14,7 +14,7 @@ returns-in-Ok-clause-served g c =
     let l = before.subscriptions in
     let same = c.note_listening.ensures.session in
     let known = noted mid.attendant after.attendant l mid.subscriptions (asker_after before.attendant.asker value) c.note_listening.ensures.attendant c.answer.ensures.kept.1
-        (c.answer.ensures.same.asker ∙ c.in-Ok.ensures.asker)
+    (c.answer.ensures.same.asker ∙ c.in-Ok.ensures.asker)
     in
     rw (c.note_listening.ensures.session, c.note_listening.ensures.unsent, c.note_listening.ensures.kept.1)
     (answered_by_others c.args.cell.now.start c.args.now before.attendant after.attendant l mid.subscriptions before.session mid.session
