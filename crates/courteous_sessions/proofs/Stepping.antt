@@ -138,15 +138,15 @@ module _ (start : World) (now : ℕ) where
   -- a command that comes nearly always was answered by the session below
   pub step_common : (command : Command) (stream first bytes : List ℕ) (g : Guest) (before after : Attendance) (l later_l : Listening) (unsent left : List ℕ) (talk later : Talk)
       (v w : View) → unsent ≡ first ++ bytes → IsOnTheWay start now stream g before.held bytes (guest_of before l talk v) → IsReady before l talk
-      → TakesCommon before.held after.held command → IsCommon command → (is_stranger before.asker ≡ false) × (is_listening l ≡ false) → is_two before.asker.protocol ≡ true
+      → TakesCommon before.held after.held command → IsCommon command → (is_stranger before.asker ≡ false) × (is_listening l ≡ false) × (is_two before.asker.protocol ≡ true)
       → after.asker ≡ before.asker → later_l ≡ l
       → later.told ≡ talk.told
       → (more : List ℕ) × (left ≡ unsent ++ more) × IsIdle later
       × Responds start now (party v talk.listens) (heard_as before.asker.current (Ok command)) more (party w later.listens)
       → (more : List ℕ) × (left ≡ first ++ more) × IsOnTheWay start now stream g after.held more (guest_of after later_l later w)
-  step_common command stream first bytes g before after l later_l unsent left talk later v w is a ready taken common plain two asker same told got =
+  step_common command stream first bytes g before after l later_l unsent left talk later v w is a ready taken common plain asker same told got =
       let value = taken.value in
-      let speaks = speaks_two before.asker.protocol two in
+      let speaks = speaks_two before.asker.protocol plain.2 in
       let none = common_turn before.asker l value command common speaks plain.0 plain.1 taken.asked in
       let answers = common_answers start now before.asker value command (party v talk.listens) got.0 (party w later.listens) common plain.0 taken.asked got.3 in
       let known = ap (confined l) (asker ∙ sym (own_is_same before.asker value command (known_too value command taken.asked))) in

@@ -508,8 +508,8 @@ impl Exchange {
         requires own { seat.old.cell ≡ cell.now.id }
         requires ready { IsReady self.old.attendant self.old.subscriptions self.old.session }
         requires frame { IsFrame (view value.now) × HasLines (view value.now) }
-        requires other { channel_turn self.old.attendant.asker self.old.subscriptions (view value.now) ≡ other }
-        requires speaks { self.old.attendant.asker.protocol ≡ Protocol.Two }
+        requires other { (channel_turn self.old.attendant.asker self.old.subscriptions (view value.now) ≡ other)
+            × (self.old.attendant.asker.protocol ≡ Protocol.Two) }
         ensures own { seat.new.cell ≡ seat.old.cell }
         ensures served { OnOk result ((more : List ℕ) × (self.new.unsent.items ≡ self.old.unsent.items ++ more)
             × IsReady self.new.attendant self.new.subscriptions self.new.session
@@ -598,8 +598,8 @@ impl Exchange {
     fn next_common(&mut self) -> Option<Command>
         ensures taken { IfSome result (TakesCommon self.old.attendant.held self.new.attendant.held) }
         ensures common { IfSome result (λ command. IsCommon command × IsWithin command) }
-        ensures plain { IfSome result (λ command. (is_stranger self.old.attendant.asker ≡ false) × (is_listening self.old.subscriptions ≡ false)) }
-        ensures speaks { IfSome result (λ command. is_two self.old.attendant.asker.protocol ≡ true) }
+        ensures plain { IfSome result (λ command. (is_stranger self.old.attendant.asker ≡ false) × (is_listening self.old.subscriptions ≡ false)
+            × (is_two self.old.attendant.asker.protocol ≡ true)) }
         ensures fewer { IfSome result (λ command. held_size self.new.attendant.held < held_size self.old.attendant.held) }
         ensures left { result ≡ None → self.new.attendant ≡ self.old.attendant }
         ensures asker { self.new.attendant.asker ≡ self.old.attendant.asker }

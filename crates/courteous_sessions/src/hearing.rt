@@ -192,7 +192,8 @@ impl Exchange {
 
     /// Has messages join what isn't sent yet, as the connection's protocol tells them.
     fn push_out(&mut self, messages: &[u8]) -> Result<(), ServeFault>
-        ensures ok { OnOk result (JoinsTold self.old.attendant.asker.protocol Shape.Pushes messages.now self.old.unsent.items self.new.unsent.items) }
+        ensures ok { OnOk result (JoinsTold self.old.attendant.asker.protocol Shape.Pushes messages.now self.old.unsent.items
+            self.new.unsent.items) }
         ensures err { OnErr result (self.new.unsent.items ≡ self.old.unsent.items) }
         ensures session { self.new.session ≡ self.old.session }
         ensures attendant { self.new.attendant ≡ self.old.attendant }

@@ -18,7 +18,7 @@ returns-in-Ok-clause-served g c =
     in
     rw (c.note_listening.ensures.session, c.note_listening.ensures.unsent, c.note_listening.ensures.kept.1)
     (answered_by_others c.args.cell.now.start c.args.now before.attendant after.attendant l mid.subscriptions before.session mid.session
-    c.args.seat.now.view c.answer.new.seat.view value before.unsent.items mid.unsent.items c.requires.ready c.requires.speaks c.requires.other known.0 known.1
+    c.args.seat.now.view c.answer.new.seat.view value before.unsent.items mid.unsent.items c.requires.ready c.requires.other.1 c.requires.other.0 known.0 known.1
     (known.2 ∙ c.answer.ensures.same.held ∙ c.attend_to.ensures.held) c.answer.ensures.told c.answer.ensures.kept.1
     (asked_before c.args.cell.now.start c.args.now before.attendant.asker c.attend_to.new.self.asker value (courtesy before.attendant.asker value) before.unsent.items
     mid.unsent.items c.args.seat.now.view before.session mid.session c.answer.new.seat.view c.in-Ok.ensures.asker
