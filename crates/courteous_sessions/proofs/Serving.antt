@@ -355,16 +355,18 @@ turn_same before same l m value is a b =
     ap (λ (x : Attendance). channel_turn x.asker m value) a ∙ ap (λ (x : Listening). channel_turn before.asker x value) b ∙ is
 
 module _ (start : World) (now : ℕ) where
-  pub served_same : {X : Type 0} (protocol : Protocol) (before same : Attendance) (l m : Listening) (talk kept : Talk) (v : View) (value : Frame) (unsent held_back given : List ℕ) (h : Guest)
-      → same ≡ before → m ≡ l → kept ≡ talk → held_back ≡ unsent → (more : List ℕ) × (given ≡ held_back ++ more) × X × ServesIn start now protocol (guest_of same m kept v) value more h
-      → (more : List ℕ) × (given ≡ unsent ++ more) × X × ServesIn start now protocol (guest_of before l talk v) value more h
-  served_same protocol before same l m talk kept v value unsent held_back given h a b c d got = (
+  pub served_same : {X : Type 0} (protocol spoken : Protocol) (before same : Attendance) (l m : Listening) (talk kept : Talk) (v : View) (value : Frame)
+      (unsent held_back given : List ℕ) (h : Guest) → spoken ≡ protocol → same ≡ before → m ≡ l → kept ≡ talk → held_back ≡ unsent
+      → (more : List ℕ) × (given ≡ held_back ++ more) × X × ServesIn start now protocol (guest_of same m kept v) value more h
+      → (more : List ℕ) × (given ≡ unsent ++ more) × X × ServesIn start now spoken (guest_of before l talk v) value more h
+  served_same protocol spoken before same l m talk kept v value unsent held_back given h speaks a b c d got = (
     got.0,
     got.1 ∙ ap (λ (t : List ℕ). t ++ got.0) d,
     got.2,
-    subst (λ (x : Attendance). ServesIn start now protocol (guest_of x l talk v) value got.0 h) a
+    subst (λ (p : Protocol). ServesIn start now p (guest_of before l talk v) value got.0 h) (sym speaks)
+        (subst (λ (x : Attendance). ServesIn start now protocol (guest_of x l talk v) value got.0 h) a
         (subst (λ (x : Listening). ServesIn start now protocol (guest_of same x talk v) value got.0 h) b
-        (subst (λ (x : Talk). ServesIn start now protocol (guest_of same m x v) value got.0 h) c got.3)),
+        (subst (λ (x : Talk). ServesIn start now protocol (guest_of same m x v) value got.0 h) c got.3))),
   )
 
 -- ---- values of a stream
