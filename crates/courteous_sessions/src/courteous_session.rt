@@ -133,7 +133,8 @@ impl CourteousSession {
     /// that of `Session::received`, or the courtesy of the value where it has one. INFO takes the turn of SENTINEL
     /// MASTERS, and no other courtesy takes one. Where the connection begins to hear of new addresses, by a channel or
     /// a pattern, that takes the turn of SUBSCRIBE, since whose entry notes are due to it; nothing else of Pub/Sub
-    /// takes one.
+    /// takes one. Each answer is told in the protocol that the client speaks then: RESP2 until HELLO asks for RESP3,
+    /// where one who listens has all commands.
     ///
     /// The first call learns the names of the Sentinel's masters, by which ROLE is answered from then on.
     ///

@@ -4,7 +4,8 @@
 //!
 //! It stands over a `Session` of `port_sessions` by its public calls alone, so a session without courtesies is that
 //! session itself: `ClientSession` is one or the other. What a client is answered stands in `specs/Visits`; what it is
-//! told besides in `specs/Events`, and what each call of a `ClientSession` does in `specs/Clients`.
+//! told besides in `specs/Events`, and what each call of a `ClientSession` does in `specs/Clients`. All of that is in
+//! RESP2; how it is told to a client that asked for RESP3 stands in `specs/Retelling`.
 #![tactic(auto)]
 
 mod client_session;
