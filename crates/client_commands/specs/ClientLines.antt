@@ -56,6 +56,6 @@ abbrev pub client_lines : (id : ℕ) → (name : List ℕ) → (speaks : Protoco
 client_lines id name speaks last port wanted [] = []
 client_lines id name speaks last port wanted (entry ∷ entries) =
     elim (is_chosen id port.killed wanted entry) [
-      | true ↦ client_line id name speaks last port.figures.now entry ++ client_lines id name speaks last port wanted entries
+      | true ↦ client_line id name speaks last port.figures.clock entry ++ client_lines id name speaks last port wanted entries
       | false ↦ client_lines id name speaks last port wanted entries
     ]

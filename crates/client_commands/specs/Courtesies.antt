@@ -97,7 +97,7 @@ text_after before (refused refusal) = spelling refusal
 
 -- the command, where it has as many words as it takes
 abbrev pub taken : Verb → Bool → List (List ℕ) → Looked
-taken verb fits words = elim fits [ true ↦ known verb words | false ↦ refused (wrong_arguments (verb_name verb)) ]
+taken verb enough words = elim enough [ true ↦ known verb words | false ↦ refused (wrong_arguments (verb_name verb)) ]
 
 -- those about the clients of a port
 abbrev pub clients_named : List ℕ → List (List ℕ) → Looked

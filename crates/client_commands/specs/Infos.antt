@@ -95,7 +95,7 @@ server_section figures =
     ++ (count_line (codes "process_id:") figures.process
     ++ (line (codes "run_id:") (id_text figures.run_id)
     ++ (count_line (codes "tcp_port:") figures.address.port
-    ++ (count_line (codes "uptime_in_seconds:") (figures.now / 1000) ++ count_line (codes "uptime_in_days:") (figures.now / 86400000)))))
+    ++ (count_line (codes "uptime_in_seconds:") (figures.clock / 1000) ++ count_line (codes "uptime_in_days:") (figures.clock / 86400000)))))
 
 unfoldable pub clients_front : List ℕ
 clients_front = codes "# Clients" ++ line_end

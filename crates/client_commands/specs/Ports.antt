@@ -45,7 +45,7 @@ no_figures =
       process = 0;
       run_id = record { hi = 0; lo = 0 };
       address = record { ip = 0; port = 0 };
-      now = 0;
+      clock = 0;
       connected = 0;
       most = 0;
       received = 0;

@@ -209,8 +209,8 @@ fn add_server(out: &mut OutText, figures: &Figures) -> Result<(), NoMemory>
     add_count_line(out, b"process_id:", figures.process)?;
     add_line(out, b"run_id:", run_id_text(figures.run_id).as_slice())?;
     add_count_line(out, b"tcp_port:", u64::from(figures.address.port))?;
-    add_count_line(out, b"uptime_in_seconds:", figures.now / 1_000)?;
-    add_count_line(out, b"uptime_in_days:", figures.now / 86_400_000)
+    add_count_line(out, b"uptime_in_seconds:", figures.clock / 1_000)?;
+    add_count_line(out, b"uptime_in_days:", figures.clock / 86_400_000)
 }
 
 /// Adds how the section of clients begins.

@@ -118,11 +118,11 @@ fn add_line(
     last: &[u8],
     entry: &ClientEntry,
 ) -> Result<(), NoMemory>
-    ensures { OnOk result (out.new ≡ out.old ++ client_line asker.now.id asker.now.name asker.now.protocol last.now asker.now.port.figures.now entry.now) }
+    ensures { OnOk result (out.new ≡ out.old ++ client_line asker.now.id asker.now.name asker.now.protocol last.now asker.now.port.figures.clock entry.now) }
 {
     let own = asker.id() == entry.id();
     add_who(out, own_or(own, asker.name(), entry.name()), entry)?;
-    add_since_when(out, asker.port().figures().now, entry)?;
+    add_since_when(out, asker.port().figures().clock, entry)?;
     add_to_what(out, entry)?;
     let speaks = own_protocol(own, asker.protocol(), entry.protocol());
     add_uncounted(out, own_or(own, last, b"NULL"), speaks)

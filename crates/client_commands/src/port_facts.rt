@@ -18,7 +18,7 @@ pub struct Figures {
     /// Where the Sentinel is announced.
     pub address: Addr,
     /// For how long it runs, in milliseconds: the reading of its clock.
-    pub now: u64,
+    pub clock: u64,
     /// How many clients are connected.
     pub connected: u64,
     /// How many clients may be connected.
@@ -46,7 +46,7 @@ impl Figures {
             process: 0,
             run_id: RunId { hi: 0, lo: 0 },
             address: Addr { ip: 0, port: 0 },
-            now: 0,
+            clock: 0,
             connected: 0,
             most: 0,
             received: 0,

@@ -124,7 +124,7 @@ impl Roll {
             process: self.times.process,
             run_id: self.run_id,
             address: self.address,
-            now,
+            clock: now,
             connected: seats.connected(),
             most: self.most,
             received: seats.received(),

@@ -1,5 +1,5 @@
 -- A command of a port that doesn't know SENTINEL FAILOVER is one of a port that does.
-use Rattle.std.proofs.Common.{◌≡◌, ℕ, List, [], ◌∷◌, Bool, true, false, Option, None, Some, Result, Ok, Err, refl, sym, ap, ◌∙◌, ◌⊎◌, inl, inr}
+use Rattle.std.proofs.Common.{◌≡◌, ℕ, ◌≤◌, arith, length, List, [], ◌∷◌, Bool, true, false, Option, None, Some, Result, Ok, Err, refl, sym, ap, ◌∙◌, ◌⊎◌, inl, inr}
 use Rattle.std.specs.Prelude.{◌&&◌, bytes_eq, codes, if◌then◌else◌}
 use Rattle.std.proofs.lemmas.Slice.Eq.{bytes_eq-Decides}
 use Rattle.ballot_law.specs.declared.commands.Command.{Command}
@@ -8,7 +8,8 @@ use Rattle.ballot_law.specs.Words.{lower}
 use Rattle.resp2.specs.declared.command.CommandFault.{CommandFault}
 use Rattle.resp2.specs.declared.command.CommandFault.TheVariants.{UnknownCommand, NotACommand}
 use Rattle.resp2.specs.Commands.{are_bulk, words, is_called, is_master_down_by_addr, about_master, alone, subscribe, sentinel_command, command_of_words, command_of, switch_words, redis_command_of_words, redis_command_of}
-use Rattle.resp2.specs.Framing.Frame.{Frame, FrameList, simple, fault, int, bulk, null_bulk, items, null_items}
+use Rattle.resp2.specs.declared.framing.value.Value.{Value}
+use Rattle.resp2.specs.Framing.Frame.{Frame, FrameList, frames_view, simple, fault, int, bulk, null_bulk, items, null_items}
 
 abbrev Asked : Type 0
 Asked = Result Command CommandFault
@@ -39,6 +40,12 @@ switch_unknown : (name word : List ℕ) (args : List (List ℕ)) → lower name 
 switch_unknown name word args top below =
     ap (λ (l : List ℕ). first_by l (word ∷ args)) top ∙ ap (λ (l : List ℕ). second_by l args) below
 
+-- one word or none isn't it
+pub few_words : (values : List Value) → length values ≤ 1 → None ≡ switch_words (words (frames_view values))
+few_words [] h = refl
+few_words (value ∷ []) h = refl
+few_words (one ∷ two ∷ values) h = absurd (omega (arith, h))
+
 abbrev or_switch : Option (List (List ℕ)) → Asked → Asked
 or_switch found asked = elim found as (λ _. Asked) [ None ↦ asked | Some args ↦ about_master Failover args ]
 
@@ -56,9 +63,6 @@ pub switch_or_not : (name : List ℕ) (rest : List (List ℕ)) → IsSwitch name
 switch_or_not name [] = inr refl
 switch_or_not name (word ∷ args) = at (is_called (codes "sentinel") name) (is_called (codes "failover") word) refl refl
   where
-    asked : Bool → Asked
-    asked t = or_switch (if t then Some args else None) (command_of_words (name ∷ word ∷ args))
-
     at : (a b : Bool) → is_called (codes "sentinel") name ≡ a → is_called (codes "failover") word ≡ b →
         IsSwitch name (word ∷ args) ⊎ (redis_command_of_words (name ∷ word ∷ args) ≡ command_of_words (name ∷ word ∷ args))
     at true true first second =
@@ -68,10 +72,10 @@ switch_or_not name (word ∷ args) = at (is_called (codes "sentinel") name) (is_
           rest_is = refl;
           named = (bytes_eq-Decides (lower name) (codes "sentinel")).0 first;
           wanted = (bytes_eq-Decides (lower word) (codes "failover")).0 second;
-          judged = ap asked (ap (λ (t : Bool). t && is_called (codes "failover") word) first ∙ second);
+          judged = ap (λ (t : Bool). or_switch (if t then Some args else None) (command_of_words (name ∷ word ∷ args))) (ap (λ (t : Bool). t && is_called (codes "failover") word) first ∙ second);
         })
-    at true false first second = inr (ap asked (ap (λ (t : Bool). t && is_called (codes "failover") word) first ∙ second))
-    at false b first second = inr (ap asked (ap (λ (t : Bool). t && is_called (codes "failover") word) first))
+    at true false first second = inr (ap (λ (t : Bool). or_switch (if t then Some args else None) (command_of_words (name ∷ word ∷ args))) (ap (λ (t : Bool). t && is_called (codes "failover") word) first ∙ second))
+    at false b first second = inr (ap (λ (t : Bool). or_switch (if t then Some args else None) (command_of_words (name ∷ word ∷ args))) (ap (λ (t : Bool). t && is_called (codes "failover") word) first))
 
 words_same : (ws : List (List ℕ)) → (redis_command_of_words ws ≡ command_of_words ws) ⊎ (command_of_words ws ≡ Err UnknownCommand)
 words_same [] = inl refl

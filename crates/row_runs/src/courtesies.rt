@@ -56,7 +56,7 @@ fn port(alloc: Global) -> Result<PortFacts, Unplayed> {
             ip: 2_130_706_433,
             port: 26_379,
         },
-        now: 100_000_999,
+        clock: 100_000_999,
         connected: 3,
         most: 10_000,
         received: 21,

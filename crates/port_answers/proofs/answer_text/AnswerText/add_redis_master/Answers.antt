@@ -29,7 +29,7 @@ returns c =
     let heads =
     c.add_head.ensures
     ∙ ap (λ (name : List ℕ). bounded (start ++ fields_text (head_fields name row.addr c.as_slice-2.result.now c.master_flags.result.now 1))) c.as_slice.ensures
-    ∙ ap (λ (id : List ℕ). bounded (start ++ fields_text (head_fields row.name row.addr id c.master_flags.result.now 1))) (c.as_slice-2.ensures.value ∙ c.id_words.ensures)
+    ∙ ap (λ (id : List ℕ). bounded (start ++ fields_text (head_fields row.name row.addr id c.master_flags.result.now 1))) (c.as_slice-2.ensures.value ∙ c.id_words-id.ensures)
     ∙ ap (λ (f : List ℕ). bounded (start ++ fields_text (head_fields row.name row.addr (id_words row.said.id) f 1))) c.master_flags.ensures
     in
     let stages =
