@@ -1,3 +1,4 @@
 pub mod Running
+pub mod Saying
 pub mod Sights
 pub mod Ticking
