@@ -3,7 +3,6 @@
 mod clients;
 mod confs;
 mod groups;
-mod node_ports;
 mod note_queues;
 mod orders;
 mod outlets;
