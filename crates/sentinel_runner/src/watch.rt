@@ -1,8 +1,7 @@
 //! One Sentinel of its own, which watches Redis servers and speaks to the other Sentinels over TCP.
 
-ghost use Rattle.std.specs.Prelude.{◌≡◌, ◌≢◌, ◌<◌, ◌≤◌, ◌+◌, ◌-◌, ◌^◌, [], false, IfErr, IfOk, IfSome, IsFalse, OnOk, length};
+ghost use Rattle.std.specs.Prelude.{◌≡◌, ◌≢◌, ◌<◌, ◌≤◌, ◌+◌, ◌-◌, ◌^◌, IfErr, IfOk, IfSome, OnOk, length};
 ghost use Rattle.sentinel_conf.specs.Rewritten.{rewritten};
-ghost use Rattle.sentinel_rules.specs.Profiles.{is_redis};
 ghost use Rattle.sentinel_runner.specs.Opening.{IsOpenedAnew};
 ghost use Rattle.sentinel_runner.specs.declared.group_fault.GroupFault.TheVariants.{NotOneRoster};
 ghost use Rattle.sentinel_runner.specs.declared.opened.TheConstants.{PORT_THREADS_MAX};
@@ -92,18 +91,8 @@ fn wires_of<R: Net>(
     }
 }
 
-/// Whether clients of a port that is served so are to give a password, and none asks them for it.
-fn asks_in_vain(port: PortSettings, admission: &Admission) -> bool
-    ensures { IsFalse result → is_redis port.profile ≡ false → admission.now.password ≡ [] }
-{
-    match admission.password.as_slice() {
-        [] => false,
-        _ => !port.profile.is_redis(),
-    }
-}
-
 /// How many connections each thread of its port keeps, which is served so and wants so many, beside those that the
-/// Sentinel of this conf opens itself; `PortRefused` also where clients would have to give a password that nobody asks.
+/// Sentinel of this conf opens itself.
 fn room_of<R: Net>(
     rt: &R,
     alloc: Global,
@@ -113,12 +102,8 @@ fn room_of<R: Net>(
 ) -> Result<PortRoom, GroupFault>
     ensures threads { IfOk result (λ room. 0 < port.threads → port.threads ≤ PORT_THREADS_MAX → room.threads ≡ port.threads) }
     ensures profile { IfOk result (λ room. room.profile ≡ port.profile) }
-    ensures asked { IfOk result (λ _. is_redis port.profile ≡ false → admission.now.password ≡ []) }
     ensures roster { IfErr result (λ fault. fault ≢ NotOneRoster) }
 {
-    if asks_in_vain(port, admission) {
-        return Err(GroupFault::PortRefused);
-    }
     let own = connection_count(conf.roster()) as u64;
     let threads = port.threads_of_each();
     let room = match seats_beside(rt, alloc, threads, own, admission.wanted(threads)) {
@@ -168,7 +153,6 @@ fn port_of<R: Net + Log>(
     room: PortRoom,
     admission: &Admission,
 ) -> Result<(Port, Vec<Port>), GroupFault>
-    requires asked { is_redis room.profile ≡ false → admission.now.password ≡ [] }
     ensures threads { IfOk result (λ parts. length parts.1.items + 1 ≡ room.threads) }
     ensures roster { IfErr result (λ fault. fault ≢ NotOneRoster) }
 {
