@@ -98,8 +98,8 @@ fn stage(word: &[u8]) -> Result<FailoverStage, Unplayed> {
     }
 }
 
-/// Adds the master that the first eleven words are, in redis-sentinel's words: then come whether enough Sentinels find it
-/// down and since when, the stage of its failover, four words of its connection and four of its INFO.
+/// Adds the master that the first eleven words are, in redis-sentinel's words: then come whether enough Sentinels find
+/// it down and since when, the stage of its failover, four words of its connection and four of its INFO.
 fn add_redis_master(answers: &mut AnswerText, words: &[Vec<u8>]) -> Result<(), Unplayed> {
     if words.len() != 22 {
         return Err(Unplayed::WrongWords);
@@ -115,8 +115,8 @@ fn add_redis_master(answers: &mut AnswerText, words: &[Vec<u8>]) -> Result<(), U
     Ok(())
 }
 
-/// Adds a replica in redis-sentinel's words: its address, whether it is down, its priority and offset, after how long it
-/// is down, four words of its connection, four of its INFO and five of its master.
+/// Adds a replica in redis-sentinel's words: its address, whether it is down, its priority and offset, after how long
+/// it is down, four words of its connection, four of its INFO and five of its master.
 fn add_redis_replica(answers: &mut AnswerText, words: &[Vec<u8>]) -> Result<(), Unplayed> {
     if words.len() != 19 {
         return Err(Unplayed::WrongWords);
