@@ -412,8 +412,8 @@ fn run_threads<'a, M: Sync, L, P, R>(
 )
 where
     L: UsesLinks<M> + Drop + Send,
-    P: ServesPort<M> + Drop + Send,
-    R: Threads + Wait + Clock + Files + Log + Sync,
+    P: ServesPort<M, R> + Drop + Send,
+    R: Threads + Wait + Clock + Log + Sync,
 {
     let Parts {
         timer,

@@ -382,14 +382,14 @@ struct WatchParts<T, P> {
 }
 
 /// Starts the thread of the ticks, and serves the port.
-fn run_beside<'a, M: Sync, T: Ticks<M> + Drop + Send, P: ServesPort<M> + Drop + Send, R>(
+fn run_beside<'a, M: Sync, T: Ticks<M> + Drop + Send, P: ServesPort<M, R> + Drop + Send, R>(
     rt: &'a R,
     state: &'a WatchState,
     member: &'a M,
     parts: WatchParts<T, P>,
 )
 where
-    R: Threads + Wait + Clock + Files + Log + Sync,
+    R: Threads + Wait + Clock + Log + Sync,
 {
     let WatchParts {
         ticks,
@@ -439,8 +439,8 @@ fn run_parts<'a, M: Sync, T, P, W: RunsWires, R>(
 )
 where
     T: Ticks<M> + Drop + Send,
-    P: ServesPort<M> + Drop + Send,
-    R: Threads + Wait + Clock + Files + Log + Sync,
+    P: ServesPort<M, R> + Drop + Send,
+    R: Threads + Wait + Clock + Log + Sync,
 {
     thread::scope(thread::scope_env(), rt, |scope| {
         let begun = scope.spawn(move || run_beside(rt, state, member, parts));
