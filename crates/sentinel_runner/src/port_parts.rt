@@ -5,14 +5,14 @@ ghost use Rattle.std.specs.Prelude.{◌≡◌, IfOk, length};
 use crate::group_fault::GroupFault;
 use crate::opened::fault_of;
 use channel_transport::Delivery;
-use client_port::Port;
+use client_port::{Port, ReadsTimes};
 use crossbeam_channel::{Receiver, Sender};
 use log::Log;
 use sentinel_conf::ConfStore;
 use sentinel_runtime::{RunFault, RunState, RunningSentinel, ThreadSeat, Which};
 use std::alloc::{AllocError, Global};
 use std::io;
-use std::rt::{Clock, Files};
+use std::rt::Clock;
 use std::sync::Wait;
 use std::sync::atomic::{AtomicU64, Ordering};
 use std::thread::{self, Threads};
@@ -35,15 +35,16 @@ pub(crate) struct PortPart<J: Which> {
 }
 
 /// What a thread of a port of such a Sentinel does with this runtime. By this trait `serve_parts` knows of a part no more
-/// than that it may be sent. The runtime is a parameter of the trait and not of its method, which a thread that is
-/// started couldn't call then: `Files` has types of its own.
+/// than that it may be sent. The runtime is a parameter of the trait and not of its method.
 pub(crate) trait ServesPort<M, R> {
     /// Serves the port until `ending` isn't 0. Then it is closed.
     fn serve(self, rt: &R, state: &RunState, member: &M, ending: &AtomicU64);
 }
 
-impl<J: Which, S: ConfStore, R: Wait + Clock + Files + Log> ServesPort<RunningSentinel<J, S>, R>
-    for PortPart<J> {
+impl<J: Which, S: ConfStore, R: Wait + Clock + ReadsTimes + Log> ServesPort<
+    RunningSentinel<J, S>,
+    R,
+> for PortPart<J> {
     fn serve(self, rt: &R, state: &RunState, member: &RunningSentinel<J, S>, ending: &AtomicU64) {
         let PortPart {
             mut port,
