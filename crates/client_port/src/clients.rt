@@ -11,6 +11,7 @@ use crate::admission::{Admission, refuse_further};
 use crate::ages::Ages;
 use crate::connection::{Connection, Origin};
 use crate::port_room::PortRoom;
+use crate::process_times::ReadsTimes;
 use crate::roll::{Arrival, Roll};
 use crate::seats::{Newcomer, Seats};
 use crate::standing::Look;
@@ -26,7 +27,7 @@ use slab::Slab;
 use std::alloc::{AllocError, Global};
 use std::io::{self, ErrorKind};
 use std::net::Net;
-use std::rt::{Clock, Files};
+use std::rt::Clock;
 use std::sync::atomic::{AtomicU64, Ordering};
 use std::sync::{Arc, Wait};
 use std::time::Duration;
@@ -425,7 +426,7 @@ impl Clients {
     }
 
     /// Looks at the times of the process from time to time.
-    pub(crate) fn look_at_times<R: Files>(&mut self, rt: &R) {
+    pub(crate) fn look_at_times<R: ReadsTimes>(&mut self, rt: &R) {
         self.roll.look_at_times(rt, self.reading);
     }
 

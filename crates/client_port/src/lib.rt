@@ -27,3 +27,4 @@ pub use budget::{connections_beside, connections_of_each, seats_beside};
 pub use listener::{PortAddress, Sockets};
 pub use port::Port;
 pub use port_room::{CONNECTIONS_MAX, PortRoom, SEATS_MAX};
+pub use process_times::{ProcessTimes, ReadsTimes};

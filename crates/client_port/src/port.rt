@@ -9,6 +9,7 @@ use crate::clients::Clients;
 use crate::handoff::Handoff;
 use crate::listener::{Acceptor, LISTENER, Listener, Sockets};
 use crate::port_room::PortRoom;
+use crate::process_times::ReadsTimes;
 use crate::seats::Seats;
 use log::Log;
 use mio::Events;
@@ -18,7 +19,7 @@ use sentinel_runtime::{RunState, RunningSentinel, ThreadSeat, Which};
 use std::alloc::Global;
 use std::io::{self, ErrorKind};
 use std::net::{Ipv4Addr, Net, SocketAddr};
-use std::rt::{Clock, Files};
+use std::rt::Clock;
 use std::sync::atomic::{AtomicU64, Ordering};
 use std::sync::{Arc, Wait};
 
@@ -133,7 +134,7 @@ impl Port {
     /// Serves until `ending` isn't 0 or the Sentinel closes its port, and looks at the first of these before each
     /// connection. The error is the system's, where it tells of no connection any more. No memory is taken for that: a
     /// connection that has none is closed.
-    pub fn serve<J: Which, S: ConfStore, R: Wait + Clock + Files + Log>(
+    pub fn serve<J: Which, S: ConfStore, R: Wait + Clock + ReadsTimes + Log>(
         &mut self,
         rt: &R,
         state: &RunState,

@@ -14,7 +14,7 @@ const BEFORE_TIMES: usize = 12;
 /// The number of the process, and for how long it and the system for it worked, in hundredths of a second, which Linux
 /// counts.
 #[derive(Clone, Copy)]
-pub(crate) struct ProcessTimes {
+pub struct ProcessTimes {
     pub(crate) process: u64,
     pub(crate) user: u64,
     pub(crate) system: u64,
@@ -45,8 +45,16 @@ fn times_in(text: &[u8]) -> Option<ProcessTimes> {
     })
 }
 
-/// What the system tells of this process; none where it tells nothing.
-pub(crate) fn read_times<R: Files>(rt: &R, alloc: Global) -> Option<ProcessTimes> {
-    let text = fs::read(&(rt, alloc), STAT).ok()?;
-    times_in(text.as_slice())
+/// Who tells of the process: a runtime with files. A port asks by this trait and not by `Files`, which has types of its
+/// own, so that a thread that is started can't ask by it.
+pub trait ReadsTimes {
+    /// What the system tells of this process; none where it tells nothing, or memory is refused.
+    fn read_times(&self, alloc: Global) -> Option<ProcessTimes>;
+}
+
+impl<R: Files> ReadsTimes for R {
+    fn read_times(&self, alloc: Global) -> Option<ProcessTimes> {
+        let text = fs::read(&(self, alloc), STAT).ok()?;
+        times_in(text.as_slice())
+    }
 }

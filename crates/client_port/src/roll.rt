@@ -1,7 +1,7 @@
 //! What a port's thread knows of its clients, and what the port counts.
 
 use crate::connection::Connection;
-use crate::process_times::{ProcessTimes, read_times};
+use crate::process_times::{ProcessTimes, ReadsTimes};
 use crate::seats::Seats;
 use ballot_law::{Addr, RunId, Text};
 use client_commands::{ClientEntry, Figures, PortFacts};
@@ -11,7 +11,6 @@ use std::alloc::{AllocError, Global};
 use std::io::{Read, Write};
 use std::mem;
 use std::net::SocketAddr;
-use std::rt::Files;
 
 /// How long the times of the process count, in milliseconds.
 const TIMES_MS: u64 = 1_000;
@@ -69,10 +68,10 @@ impl Roll {
     }
 
     /// Looks at the times of the process, where they were looked at long before this reading of the clock.
-    pub(crate) fn look_at_times<R: Files>(&mut self, rt: &R, now: u64) {
+    pub(crate) fn look_at_times<R: ReadsTimes>(&mut self, rt: &R, now: u64) {
         if self.is_kept && now >= self.times_due {
             self.times_due = now.saturating_add(TIMES_MS);
-            if let Some(times) = read_times(rt, self.alloc) {
+            if let Some(times) = rt.read_times(self.alloc) {
                 self.times = times;
             }
         }

@@ -11,7 +11,7 @@ use crate::group::outcome;
 use crate::group_fault::GroupFault;
 use crate::opened::{Opened, PortSettings, fault_of};
 use crate::port_parts::{PortPart, ServesPort, end_for_want, note_lost, parts_of, serve_parts};
-use client_port::{Admission, Port, PortAddress, PortRoom, Sockets, seats_beside};
+use client_port::{Admission, Port, PortAddress, PortRoom, ReadsTimes, Sockets, seats_beside};
 use links::connection_count;
 use log::{Log, info, warn};
 use sentinel_conf::{Conf, ConfStore, ConfText, rewrite_into};
@@ -20,7 +20,7 @@ use std::alloc::{AllocError, Global};
 use std::io::ErrorKind;
 use std::marker::Brand;
 use std::net::Net;
-use std::rt::{Clock, Files};
+use std::rt::Clock;
 use std::sync::Wait;
 use std::sync::atomic::{AtomicU64, Ordering};
 use std::thread::{self, Threads};
@@ -237,7 +237,7 @@ impl<S: ConfStore + Drop> Watch<S> {
     ///
     /// `Halted` where the store refused a text, whichever thread met that; `PortRefused` where the system no longer
     /// tells of the connections, and `NoMemory` where a thread couldn't be made: `NotOneRoster` never comes.
-    pub fn run<R: Threads + Wait + Net + Clock + Files + Log + Sync>(
+    pub fn run<R: Threads + Wait + Net + Clock + ReadsTimes + Log + Sync>(
         self,
         rt: &R,
     ) -> Result<(), GroupFault>
@@ -265,7 +265,7 @@ fn run_named<J: Which + Send + Sync, S: ConfStore + Drop + Send, R, N: Net>(
     wires: Connections,
 )
 where
-    R: Threads + Wait + Clock + Files + Log + Sync,
+    R: Threads + Wait + Clock + ReadsTimes + Log + Sync,
     requires named { watching.opened.cell.id ≡ J.cell }
 {
     let Watching { opened, far, alloc } = watching;
@@ -382,14 +382,14 @@ struct WatchParts<T, P> {
 }
 
 /// Starts the thread of the ticks, and serves the port.
-fn run_beside<'a, M: Sync, T: Ticks<M> + Drop + Send, P: ServesPort<M> + Drop + Send, R>(
+fn run_beside<'a, M: Sync, T: Ticks<M> + Drop + Send, P: ServesPort<M, R> + Drop + Send, R>(
     rt: &'a R,
     state: &'a WatchState,
     member: &'a M,
     parts: WatchParts<T, P>,
 )
 where
-    R: Threads + Wait + Clock + Files + Log + Sync,
+    R: Threads + Wait + Clock + Log + Sync,
 {
     let WatchParts {
         ticks,
@@ -439,8 +439,8 @@ fn run_parts<'a, M: Sync, T, P, W: RunsWires, R>(
 )
 where
     T: Ticks<M> + Drop + Send,
-    P: ServesPort<M> + Drop + Send,
-    R: Threads + Wait + Clock + Files + Log + Sync,
+    P: ServesPort<M, R> + Drop + Send,
+    R: Threads + Wait + Clock + Log + Sync,
 {
     thread::scope(thread::scope_env(), rt, |scope| {
         let begun = scope.spawn(move || run_beside(rt, state, member, parts));

@@ -3,12 +3,13 @@
 ghost use Rattle.std.specs.Prelude.{◌≡◌, All, IfSome};
 
 use crate::tests::confs::{Paired, both_of, free_port, text_of_one};
+use client_port::ReadsTimes;
 use log::Log;
 use sentinel_conf::{Conf, MemoryStore, read};
 use sentinel_runner::{GroupFault, run_group};
 use std::alloc::Global;
 use std::net::Net;
-use std::rt::{Clock, Files};
+use std::rt::Clock;
 use std::sync::Wait;
 use std::sync::atomic::AtomicU64;
 use std::test::Fail;
@@ -48,7 +49,7 @@ fn pair<R: Net>(rt: &R, alloc: Global, quorums: (u32, u32)) -> Option<Vec<Conf>>
 }
 
 /// Runs a group that is to end at once.
-fn run_to_end<R: Threads + Wait + Net + Clock + Files + Log + Sync>(
+fn run_to_end<R: Threads + Wait + Net + Clock + ReadsTimes + Log + Sync>(
     rt: &R,
     alloc: Global,
     confs: Vec<Conf>,
