@@ -34,8 +34,8 @@ pub(crate) struct PortPart<J: Which> {
     pub(crate) back: Option<Sender<Back<J>>>,
 }
 
-/// What a thread of a port of such a Sentinel does with this runtime. By this trait `serve_parts` knows of a part no more
-/// than that it may be sent. The runtime is a parameter of the trait and not of its method.
+/// What a thread of a port of such a Sentinel does with this runtime. By this trait `serve_parts` knows of a part no
+/// more than that it may be sent. The runtime is a parameter of the trait and not of its method.
 pub(crate) trait ServesPort<M, R> {
     /// Serves the port until `ending` isn't 0. Then it is closed.
     fn serve(self, rt: &R, state: &RunState, member: &M, ending: &AtomicU64);
