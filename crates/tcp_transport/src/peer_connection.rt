@@ -9,7 +9,9 @@ use crate::exchange::TransportEnd;
 use crate::roster_rows::{RowHeard, RowLook};
 use crate::traffic::{Unheard, hear, send};
 use ballot_law::{Addr, Body, Event, Message, NodeName, Roster};
-use links::{FLOW_MS, LinkFault, Login, NodeLink, RateLimit, Stage, Target, is_refusal};
+use links::{
+    FLOW_MS, LinkFault, Login, NodeLink, RateLimit, Stage, Target, is_refusal, wants_login,
+};
 use log::{Log, warn};
 use mio::net::TcpStream;
 use mio::{Interest, Registry, Token};
@@ -332,7 +334,7 @@ impl PeerConnection {
 
     /// Reads one piece, and hands on what it tells: how long it is; the error says why none was taken, or that more
     /// comes than a node has to say: then the connection is shut for a second, so that what other nodes say isn't lost
-    /// beside it.
+    /// beside it; or that the node wants a password first, so that the connection is of no use, as in Redis.
     #[tactic(auto, using(crate::proofs::Hearing::all_within_told))]
     fn read_once<R: Wait + Log>(
         &mut self,
@@ -359,6 +361,9 @@ impl PeerConnection {
                     self.note_stay(rt, &room[..count]);
                 }
                 self.note_piece(rt, &room[..count]);
+                if wants_login(&room[..count]) {
+                    return Err(ErrorKind::PermissionDenied);
+                }
                 Ok(count)
             }
             Err(Unheard::Stream(kind)) => Err(kind),
