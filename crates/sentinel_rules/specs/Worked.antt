@@ -94,6 +94,7 @@ plan_of digit others ports settings kept =
           };
       place = 0;
       profile = Strict;
+      reboots = [];
     }
 
 -- four Sentinels and a master without replicas, as without a file
