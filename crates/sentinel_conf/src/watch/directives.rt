@@ -126,7 +126,10 @@ fn reboot_line(args: &[Text]) -> WatchLine
         return WatchLine::Faulty(WatchKind::BadName);
     };
     match number_of(ms.as_slice(), 0, COUNT_MAX) {
-        Some(ms) => WatchLine::Says(Setting::Reboot { name, ms: ms as u32 }),
+        Some(ms) => WatchLine::Says(Setting::Reboot {
+            name,
+            ms: ms as u32,
+        }),
         None => WatchLine::Faulty(WatchKind::BadNumber),
     }
 }

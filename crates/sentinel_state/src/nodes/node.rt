@@ -133,7 +133,12 @@ fn is_another(before: Option<RunId>, after: Option<RunId>) -> bool
 }
 
 /// Since when a node has been loading after an INFO with this run id.
-fn rebooted_after(now: u64, id: Option<RunId>, before: Option<Info>, since: Option<u64>) -> Option<u64>
+fn rebooted_after(
+    now: u64,
+    id: Option<RunId>,
+    before: Option<Info>,
+    since: Option<u64>,
+) -> Option<u64>
     ensures { result ≡ rebooted_after (clock now) id before since }
 {
     match before {
@@ -233,7 +238,13 @@ impl Node {
 
     /// Since when it has been subjectively down, where it is to be the master or not, and may load its data for so long
     /// after a restart.
-    pub fn down_since(&self, now: u64, after_ms: u64, as_master: bool, reboot_ms: u64) -> Option<u64>
+    pub fn down_since(
+        &self,
+        now: u64,
+        after_ms: u64,
+        as_master: bool,
+        reboot_ms: u64,
+    ) -> Option<u64>
         ensures { result ≡ earlier_of (down_since_of self.now.watch (clock now) after_ms as_master)
             (if as_master then loading_since self.now.rebooted reboot_ms (clock now) else None) }
     {
