@@ -10,7 +10,7 @@ use crate::read_buffer::{PIECE, ReadBuffer};
 use crate::seats::Place;
 use crate::standing::Standing;
 use crate::waiting::Line;
-use client_commands::PortFacts;
+use client_commands::{PortFacts, Protocol};
 use courteous_sessions::ClientSession;
 use sentinel_conf::ConfStore;
 use sentinel_core::ServeFault;
@@ -128,6 +128,11 @@ impl<T: Read + Write + Drop> Connection<T> {
     /// The name that its client gave it.
     pub(crate) fn name(&self) -> &[u8] {
         self.session.name()
+    }
+
+    /// Which protocol its client speaks.
+    pub(crate) fn protocol(&self) -> Protocol {
+        self.session.protocol()
     }
 
     /// To how many channels its client listens, and for how many patterns.

@@ -1,5 +1,7 @@
 pub mod Joining
 pub mod Keeping
+pub mod Retold
+pub mod SameValues
 pub mod Serving
 pub mod Stepping
 pub mod Values

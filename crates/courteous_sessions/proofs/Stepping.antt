@@ -25,7 +25,11 @@ use Rattle.client_commands.proofs.LineStreams.{value_is_frame}
 use Rattle.sentinel_cell.specs.declared.view.View.{View}
 use Rattle.sentinel_cell.specs.Histories.{World}
 use Rattle.courteous_sessions.specs.Epochs.{heard_as}
-use Rattle.courteous_sessions.specs.Visits.{Guest, guest, masters_of, introduced, TellsInfo, BeginsNotes, Serves, Breaks, Receives}
+use Rattle.courteous_sessions.specs.Visits.{Guest, guest, is_confined, confined, masters_of, introduced, TellsInfo, BeginsNotes, Serves, ServesIn, Tells, Breaks, Receives}
+use Rattle.courteous_sessions.specs.Retelling.{shape_of, IsTold}
+use Rattle.client_commands.specs.declared.protocols.Protocol.{Protocol}
+use Rattle.client_commands.specs.declared.protocols.Protocol.TheVariants.{Two, Three}
+use Rattle.client_commands.specs.Protocols.{is_two}
 use Rattle.courteous_sessions.specs.OnTheWay.{IsIdle, IsReady, IsTuned, BeginsWith, IsOnTheWay, IsDone, Drains, Refuses, guest_of}
 use Rattle.courteous_sessions.proofs.Keeping.{common_turn, common_answers}
 use Rattle.courteous_sessions.proofs.Serving.{was_read, served_by_others, value_served, all_served, refused, cut_by, begun, was_received}
@@ -64,7 +68,7 @@ still_ready view before after l talk ready given asker =
     record {
       reads = still_reads before.held after.held ready.reads (reads_none view before.held after.held ready.reads given);
       idle = ready.idle;
-      listens = ap (λ (a : ClientInfo). a.listens) asker ∙ ready.listens;
+      listens = ap (λ (a : ClientInfo). a.listens) asker ∙ (ready.listens ∙ ap (λ (a : ClientInfo). is_confined a.protocol l) (sym asker));
       hears = ready.hears;
     }
 
@@ -76,7 +80,7 @@ ready_to_answer view value before after l talk ready given asker =
     record {
       reads = now_reads at.0 after.held at.2;
       idle = ready.idle;
-      listens = ap (λ (a : ClientInfo). a.listens) asker ∙ ready.listens;
+      listens = ap (λ (a : ClientInfo). a.listens) asker ∙ (ready.listens ∙ ap (λ (a : ClientInfo). is_confined a.protocol l) (sym asker));
       hears = ready.hears;
     }
 
@@ -95,18 +99,36 @@ idle_again asked left is none goes_on =
       goes_on = ap (λ (t : Talk). t.ended) is ∙ goes_on;
     }
 
+speaks_two : (protocol : Protocol) → is_two protocol ≡ true → protocol ≡ Two
+speaks_two Two h = refl
+speaks_two Three h = absurd (true≢false (sym h))
+
 module _ (start : World) (now : ℕ) where
+  -- protocol 2 tells an answer as it is
+  pub told_in_two : (g h : Guest) (value : Frame) (bytes : List ℕ) → g.asker.protocol ≡ Two → h.asker.protocol ≡ Two → Serves start now g value bytes h
+      → Tells start now g value bytes h
+  told_in_two g h value bytes before after s = (
+    bytes,
+    subst (λ (p : Protocol). ServesIn start now p g value bytes h) (sym before) s,
+    subst (λ (p : Protocol). IsTold p (shape_of value) bytes bytes) (sym after) refl,
+  )
+
+  -- what protocol 3 tells
+  pub told_in_three : (g h : Guest) (value : Frame) (answer bytes : List ℕ) → h.asker.protocol ≡ Three → ServesIn start now g.asker.protocol g value answer h
+      → IsTold Three (shape_of value) answer bytes → Tells start now g value bytes h
+  told_in_three g h value answer bytes after s told = (answer, s, subst (λ (p : Protocol). IsTold p (shape_of value) answer bytes) (sym after) told)
+
   -- a value was answered
   pub step_answered : {V : Type 0} (view : V → Frame) (value : V) (stream first bytes : List ℕ) (g : Guest) (before between after : Attendance) (l later_l : Listening)
       (unsent left : List ℕ) (talk later : Talk) (v w : View) → unsent ≡ first ++ bytes → IsOnTheWay start now stream g before.held bytes (guest_of before l talk v)
       → IsReady before l talk → Reads view before.held (Ok (Some value)) between.held → between.asker ≡ before.asker → after.held ≡ between.held
       → (more : List ℕ) × (left ≡ unsent ++ more) × IsReady after later_l later
-      × Serves start now (guest_of between l talk v) (view value) more (guest_of after later_l later w)
+      × Tells start now (guest_of between l talk v) (view value) more (guest_of after later_l later w)
       → (more : List ℕ) × (left ≡ first ++ more) × IsOnTheWay start now stream g after.held more (guest_of after later_l later w)
   step_answered view value stream first bytes g before between after l later_l unsent left talk later v w is a ready given asker held got =
       let at = was_read view before.held value between.held ready.reads given in
       let same : guest_of between l talk v ≡ guest_of before l talk v = ap (λ (x : ClientInfo). guest (party v talk.listens) l talk.told x) asker in
-      let serves = subst (λ (x : Guest). Serves start now x (view value) got.0 (guest_of after later_l later w)) same got.3 in (
+      let serves = subst (λ (x : Guest). Tells start now x (view value) got.0 (guest_of after later_l later w)) same got.3 in (
         bytes ++ got.0,
         got.1 ∙ ap (λ (t : List ℕ). t ++ got.0) is ∙ append_assoc first bytes got.0,
         value_served start now stream g before.held bytes (guest_of before l talk v) (view value) at.0 after.held got.0 (guest_of after later_l later w) a at.1 (held ∙ at.2)
@@ -116,18 +138,21 @@ module _ (start : World) (now : ℕ) where
   -- a command that comes nearly always was answered by the session below
   pub step_common : (command : Command) (stream first bytes : List ℕ) (g : Guest) (before after : Attendance) (l later_l : Listening) (unsent left : List ℕ) (talk later : Talk)
       (v w : View) → unsent ≡ first ++ bytes → IsOnTheWay start now stream g before.held bytes (guest_of before l talk v) → IsReady before l talk
-      → TakesCommon before.held after.held command → IsCommon command → (is_stranger before.asker ≡ false) × (is_listening l ≡ false) → after.asker ≡ before.asker → later_l ≡ l
+      → TakesCommon before.held after.held command → IsCommon command → (is_stranger before.asker ≡ false) × (is_listening l ≡ false) × (is_two before.asker.protocol ≡ true)
+      → after.asker ≡ before.asker → later_l ≡ l
       → later.told ≡ talk.told
       → (more : List ℕ) × (left ≡ unsent ++ more) × IsIdle later
       × Responds start now (party v talk.listens) (heard_as before.asker.current (Ok command)) more (party w later.listens)
       → (more : List ℕ) × (left ≡ first ++ more) × IsOnTheWay start now stream g after.held more (guest_of after later_l later w)
   step_common command stream first bytes g before after l later_l unsent left talk later v w is a ready taken common plain asker same told got =
       let value = taken.value in
-      let none = common_turn before.asker l value command common plain.0 plain.1 taken.asked in
+      let speaks = speaks_two before.asker.protocol plain.2 in
+      let none = common_turn before.asker l value command common speaks plain.0 plain.1 taken.asked in
       let answers = common_answers start now before.asker value command (party v talk.listens) got.0 (party w later.listens) common plain.0 taken.asked got.3 in
-      let known = asker ∙ sym (own_is_same before.asker value command (known_too value command taken.asked)) in
+      let known = ap (confined l) (asker ∙ sym (own_is_same before.asker value command (known_too value command taken.asked))) in
       let serves = served_by_others start now before after l talk later v w value got.0 ready none known told answers in
-      let there = subst (λ (x : Listening). Serves start now (guest_of before l talk v) value got.0 (guest_of after x later w)) (sym same) serves in
+      let tells = told_in_two start now (guest_of before l talk v) (guest_of after l later w) value got.0 speaks (ap (λ (x : ClientInfo). x.protocol) asker ∙ speaks) serves in
+      let there = subst (λ (x : Listening). Tells start now (guest_of before l talk v) value got.0 (guest_of after x later w)) (sym same) tells in
       let found = ap value_at (ap bytes_in taken.held_is) ∙ taken.found in (
         bytes ++ got.0,
         got.1 ∙ ap (λ (t : List ℕ). t ++ got.0) is ∙ append_assoc first bytes got.0,

@@ -1,10 +1,11 @@
 //! What a session with courtesies keeps of the one without.
 
-ghost use Rattle.courteous_sessions.specs.Laws.{AnswersListeners, AnswersOwnAsBefore, HearsAll, HearsFar, HearsNear, IsPassedOver, NoOtherNoteIsTold, NothingElseIsTold, PiecesJoin, StrangersTakeNoTurn, TakesNoTurn};
+ghost use Rattle.courteous_sessions.specs.Retelling.{SaysTheSame};
+ghost use Rattle.courteous_sessions.specs.Laws.{AnswersListeners, AnswersOwnAsBefore, AnswersOwnInThree, TellsAsItIs, HearsAll, HearsFar, HearsNear, IsPassedOver, NoOtherNoteIsTold, NothingElseIsTold, PiecesJoin, StrangersTakeNoTurn, TakesNoTurn};
 
-/// Where no password is wanted that the client didn't give, and the connection doesn't listen, a command of the
-/// Sentinel's rules but SUBSCRIBE is answered as by a session without courtesies, and changes nothing that is known of
-/// the connection. One exception is there, of a connection that was told the Sentinel's current epoch: a request for a
+/// Where no password is wanted that the client didn't give, and the connection speaks protocol 2 and doesn't listen, a
+/// command of the Sentinel's rules but SUBSCRIBE is answered as by a session without courtesies, and changes nothing
+/// that is known of the connection. One exception is there, of a connection that was told the Sentinel's current epoch: a request for a
 /// vote in an epoch that is more than `EPOCHS_AHEAD` above it is answered as one of epoch 0.
 pub fn law_own_commands_are_answered_as_before()
     ensures answered { AnswersOwnAsBefore }
@@ -13,7 +14,20 @@ pub fn law_own_commands_are_answered_as_before()
     ensures far { HearsFar }
 {}
 
-/// While a connection listens, Pub/Sub alone answers the commands of the Sentinel's rules.
+/// Values that protocol 3 tells alike are the same in protocol 2, up to which of its two nulls is told; so a client of
+/// protocol 3 hears no less than one of protocol 2.
+pub fn law_protocols_say_the_same()
+    ensures { SaysTheSame }
+{}
+
+/// At protocol 2 each answer is told as it is. At protocol 3 a command of the Sentinel's rules but SUBSCRIBE is answered
+/// as to one who listens to nothing, whether the connection listens or not, and then told in protocol 3's way.
+pub fn law_protocols_tell_the_same_answers()
+    ensures two { TellsAsItIs }
+    ensures three { AnswersOwnInThree }
+{}
+
+/// While a connection listens at protocol 2, Pub/Sub alone answers the commands of the Sentinel's rules.
 pub fn law_listeners_are_answered_by_channels()
     ensures { AnswersListeners }
 {}

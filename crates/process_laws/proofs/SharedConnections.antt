@@ -11,7 +11,8 @@ use Rattle.ballot_law.specs.declared.messages.NodeName.TheVariants.{SentinelAt}
 use Rattle.ballot_law.specs.declared.messages.Output.TheVariants.{Send}
 use Rattle.client_commands.specs.Courtesies.{is_stranger}
 use Rattle.courteous_sessions.specs.Epochs.{heard, heard_as}
-use Rattle.courteous_sessions.specs.Visits.{Guest, guest, Serves}
+use Rattle.courteous_sessions.specs.Visits.{Guest, guest, Tells as TellsClient}
+use Rattle.client_commands.specs.declared.protocols.Protocol.TheVariants.{Two}
 use Rattle.courteous_sessions.proofs.Keeping.{own_as_before}
 use Rattle.links.specs.declared.sessions.questions.Question.{Question}
 use Rattle.links.specs.Sessions.Links.{question_of, next_asked, listed, heard_of, Tells}
@@ -83,49 +84,49 @@ by_ok : (one other : Command) → ◌≡◌ {A = Result Command CommandFault} (O
 by_ok one other e = cc
 
 pub responds_alike : (start : World) (now : ℕ) (g : Guest) (question : Body) (bytes : List ℕ) (h : Guest) → IsAskable question → is_stranger g.asker ≡ false
-    → is_listening g.listening ≡ false → IsNear g (body_frame question) → Serves start now g (body_frame question) bytes h → RespondsAlike start now g question bytes h
-responds_alike start now g Ping bytes h askable known quiet near serves =
-    let own = own_as_before start now g h (body_frame Ping) PingCommand bytes known quiet no_subscribe_ping ping_read serves in
+    → g.asker.protocol ≡ Two → is_listening g.listening ≡ false → IsNear g (body_frame question) → TellsClient start now g (body_frame question) bytes h → RespondsAlike start now g question bytes h
+responds_alike start now g Ping bytes h askable known speaks quiet near serves =
+    let own = own_as_before start now g h (body_frame Ping) PingCommand bytes speaks known quiet no_subscribe_ping ping_read serves in
     record { responds = alike start now g (command_of (body_frame Ping)) PingCommand PingCommand bytes own.0 h ping_read refl own.2 own.1; same = own.3 }
-responds_alike start now g (Ask m addr epoch candidate) bytes h askable known quiet near serves =
+responds_alike start now g (Ask m addr epoch candidate) bytes h askable known speaks quiet near serves =
     let command = IsMasterDownByAddr addr epoch candidate in
     let value = body_frame (Ask m addr epoch candidate) in
     let read : command_of value ≡ Ok command = ask_again addr epoch candidate askable.0 askable.1 askable.2 in
-    let own = own_as_before start now g h value command bytes known quiet (λ e. let no : ⊥ = cc in no) read serves in
+    let own = own_as_before start now g h value command bytes speaks known quiet (λ e. let no : ⊥ = cc in no) read serves in
     let same_command = by_ok (heard g.asker.current command) command (ap (heard_as g.asker.current) (sym read) ∙ (near ∙ read)) in
     record { responds = alike start now g (command_of value) command (heard g.asker.current command) bytes own.0 h read same_command own.2 own.1; same = own.3 }
-responds_alike start now g (Answer n addr down leader voted) bytes h askable known quiet near serves = absurd askable
-responds_alike start now g (PingText is_error text) bytes h askable known quiet near serves = absurd askable
-responds_alike start now g InfoAsk bytes h askable known quiet near serves = absurd askable
-responds_alike start now g (InfoText info) bytes h askable known quiet near serves = absurd askable
-responds_alike start now g (Publish hello) bytes h askable known quiet near serves = absurd askable
-responds_alike start now g (HelloText hello) bytes h askable known quiet near serves = absurd askable
-responds_alike start now g (ReplicaOf to) bytes h askable known quiet near serves = absurd askable
-responds_alike start now g (HandOver heir) bytes h askable known quiet near serves = absurd askable
-responds_alike start now g (AddressAsk name) bytes h askable known quiet near serves = absurd askable
-responds_alike start now g (AddressAnswer shown) bytes h askable known quiet near serves = absurd askable
-responds_alike start now g (PortReply shown text) bytes h askable known quiet near serves = absurd askable
-responds_alike start now g RoleAsk bytes h askable known quiet near serves = absurd askable
-responds_alike start now g (RoleText role) bytes h askable known quiet near serves = absurd askable
-responds_alike start now g Done bytes h askable known quiet near serves = absurd askable
+responds_alike start now g (Answer n addr down leader voted) bytes h askable known speaks quiet near serves = absurd askable
+responds_alike start now g (PingText is_error text) bytes h askable known speaks quiet near serves = absurd askable
+responds_alike start now g InfoAsk bytes h askable known speaks quiet near serves = absurd askable
+responds_alike start now g (InfoText info) bytes h askable known speaks quiet near serves = absurd askable
+responds_alike start now g (Publish hello) bytes h askable known speaks quiet near serves = absurd askable
+responds_alike start now g (HelloText hello) bytes h askable known speaks quiet near serves = absurd askable
+responds_alike start now g (ReplicaOf to) bytes h askable known speaks quiet near serves = absurd askable
+responds_alike start now g (HandOver heir) bytes h askable known speaks quiet near serves = absurd askable
+responds_alike start now g (AddressAsk name) bytes h askable known speaks quiet near serves = absurd askable
+responds_alike start now g (AddressAnswer shown) bytes h askable known speaks quiet near serves = absurd askable
+responds_alike start now g (PortReply shown text) bytes h askable known speaks quiet near serves = absurd askable
+responds_alike start now g RoleAsk bytes h askable known speaks quiet near serves = absurd askable
+responds_alike start now g (RoleText role) bytes h askable known speaks quiet near serves = absurd askable
+responds_alike start now g Done bytes h askable known speaks quiet near serves = absurd askable
 
 -- ---- the whole connection
 
 pub delivered : (start : World) (asker : NodeName) (questions : List Body) (g : Guest) (values : List Frame) (unread not_yet_got bytes : List ℕ) (h : Guest)
     (replies : List Frame) (held not_yet_come : List ℕ) (events : List Event) (left : List Question)
-    → AllByRecursion IsAskable questions → is_stranger g.asker ≡ false → is_listening g.listening ≡ false → g.party.listens ≡ None
+    → AllByRecursion IsAskable questions → is_stranger g.asker ≡ false → g.asker.protocol ≡ Two → is_listening g.listening ≡ false → g.party.listens ≡ None
     → flat_map message_bytes questions ≡ (flat_map spelling values ++ unread) ++ not_yet_got → AllByRecursion IsFrame values
     → ServedBeside start g values bytes h
     → bytes ≡ (flat_map spelling replies ++ held) ++ not_yet_come → AllByRecursion IsLinkValue replies
     → Tells (SentinelAt start.plan.place) false (map question_of questions) replies events left
     → AreDelivered start asker g.party.view questions events
-delivered start asker questions g values unread not_yet_got bytes h [] held not_yet_come events left askable known quiet silent sent whole served put_out read tells =
+delivered start asker questions g values unread not_yet_got bytes h [] held not_yet_come events left askable known speaks quiet silent sent whole served put_out read tells =
     subst (λ (all : List Event). AreDelivered start asker g.party.view questions all) (sym tells.0) tt
-delivered start asker [] g values unread not_yet_got bytes h (r ∷ rs) held not_yet_come events left askable known quiet silent sent whole served put_out read tells =
+delivered start asker [] g values unread not_yet_got bytes h (r ∷ rs) held not_yet_come events left askable known speaks quiet silent sent whole served put_out read tells =
     absurd (let e = tells.4 in let no : ⊥ = cc in no)
-delivered start asker (a ∷ questions) g [] unread not_yet_got bytes h (r ∷ rs) held not_yet_come events left askable known quiet silent sent whole served put_out read tells =
+delivered start asker (a ∷ questions) g [] unread not_yet_got bytes h (r ∷ rs) held not_yet_come events left askable known speaks quiet silent sent whole served put_out read tells =
     absurd (spelled_some r ((flat_map spelling rs ++ held) ++ not_yet_come) (sym served.0 ∙ put_out ∙ by_first r rs held not_yet_come))
-delivered start asker (a ∷ questions) g (x ∷ xs) unread not_yet_got bytes h (r ∷ rs) held not_yet_come events left askable known quiet silent sent whole served put_out read
+delivered start asker (a ∷ questions) g (x ∷ xs) unread not_yet_got bytes h (r ∷ rs) held not_yet_come events left askable known speaks quiet silent sent whole served put_out read
     tells =
     let voter = SentinelAt start.plan.place in
     let s = question_spelled a askable.0 in
@@ -139,8 +140,8 @@ delivered start asker (a ∷ questions) g (x ∷ xs) unread not_yet_got bytes h 
     let others = served.4 in
     let later = served.6 in
     let near : IsNear next (body_frame a) = subst (IsNear next) (sym question_is.0) served.7 in
-    let serves : Serves start now next (body_frame a) first middle = subst (λ (f : Frame). Serves start now next f first middle) (sym question_is.0) served.8 in
-    let alike = responds_alike start now next a first middle askable.0 (later.known ∙ known) (ap is_listening later.quiet ∙ quiet) near serves in
+    let serves : TellsClient start now next (body_frame a) first middle = subst (λ (f : Frame). TellsClient start now next f first middle) (sym question_is.0) served.8 in
+    let alike = responds_alike start now next a first middle askable.0 (later.known ∙ known) (later.speaks ∙ speaks) (ap is_listening later.quiet ∙ quiet) near serves in
     let reply = replied_to start asker now next.party a first middle.party askable.0 (later.silent ∙ silent) alike.responds in
     let reply_bytes : spelling reply.0.value ++ others ≡ spelling r ++ ((flat_map spelling rs ++ held) ++ not_yet_come) =
     ap (λ (t : List ℕ). t ++ others) (sym reply.0.spelled) ∙ sym served.5 ∙ put_out ∙ by_first r rs held not_yet_come in
@@ -153,8 +154,9 @@ delivered start asker (a ∷ questions) g (x ∷ xs) unread not_yet_got bytes h 
     let event = reply.0.hears tells.2 heard_it in
     let all : events ≡ event.0 ∷ tells.3 = tells.6 ∙ ap (λ (e : Option Event). listed e ++ tells.3) event.1 in
     let known_then : is_stranger middle.asker ≡ false = ap (λ (x : Guest). is_stranger x.asker) alike.same ∙ (later.known ∙ known) in
+    let speaks_then : middle.asker.protocol ≡ Two = ap (λ (x : Guest). x.asker.protocol) alike.same ∙ (later.speaks ∙ speaks) in
     let quiet_then : is_listening middle.listening ≡ false = ap (λ (x : Guest). is_listening x.listening) alike.same ∙ (ap is_listening later.quiet ∙ quiet) in
-    let after = delivered start asker questions middle xs unread not_yet_got others h rs held not_yet_come tells.3 left askable.1 known_then quiet_then reply.1 question_is.1
+    let after = delivered start asker questions middle xs unread not_yet_got others h rs held not_yet_come tells.3 left askable.1 known_then speaks_then quiet_then reply.1 question_is.1
     whole.1 served.9 reply_is.1 read.1
     (subst (λ (k : List Question). Tells voter false k rs tells.3 left) same_others tells.7) in
     let here = later_delivered start asker g.party.view next.party.view later.more a event.0 middle.party.view later.front event.2 in
@@ -162,7 +164,7 @@ delivered start asker (a ∷ questions) g (x ∷ xs) unread not_yet_got bytes h 
 
 pub shared_answers_are_delivered : SharedAnswersAreDelivered
 shared_answers_are_delivered start asker g questions events c =
-    delivered start asker questions g c.values c.unread c.not_yet_got c.bytes c.h c.replies c.held c.not_yet_come events c.left c.askable c.known c.quiet c.silent
+    delivered start asker questions g c.values c.unread c.not_yet_got c.bytes c.h c.replies c.held c.not_yet_come events c.left c.askable c.known c.speaks c.quiet c.silent
     (c.sent ∙ ap (λ (t : List ℕ). t ++ c.not_yet_got) c.parts.0) c.parts.1 c.served (c.put_out ∙ ap (λ (t : List ℕ). t ++ c.not_yet_come) c.read.0) c.read.1 c.tells
 
 -- ---- questions that are asked later

@@ -6,8 +6,9 @@ use Rattle.ballot_law.specs.declared.messages.Body.{Body}
 use Rattle.ballot_law.specs.declared.messages.NodeName.{NodeName}
 use Rattle.ballot_law.specs.declared.messages.NodeName.TheVariants.{SentinelAt}
 use Rattle.client_commands.specs.Courtesies.{is_stranger}
+use Rattle.client_commands.specs.declared.protocols.Protocol.TheVariants.{Two}
 use Rattle.courteous_sessions.specs.Epochs.{heard_as}
-use Rattle.courteous_sessions.specs.Visits.{Guest, Serves, IsAnswered}
+use Rattle.courteous_sessions.specs.Visits.{Guest, IsAnswered, Tells as TellsClient}
 use Rattle.links.specs.declared.sessions.questions.Question.{Question}
 use Rattle.links.specs.Sessions.Links.{question_of, Tells, IsHeard}
 use Rattle.links.specs.Sessions.LongValues.{LinkParts}
@@ -21,13 +22,14 @@ use Rattle.sentinel_cell.specs.Histories.{World}
 use Rattle.process_laws.specs.Connections.{IsAskable, AreDelivered}
 
 -- Between two values of a connection its seat sees more, by calls of the other connections of its thread, and the connection may be told notes and a current epoch. It
--- doesn't begin to listen meanwhile, and whether it still owes a password stays
+-- doesn't begin to listen meanwhile, and whether it still owes a password and which protocol it speaks stays
 pub record IsLater (g next : Guest) : Type 0 where
   pub more : List Entry
   pub front : next.party.view.front ≡ g.party.view.front ++ more
   pub silent : next.party.listens ≡ g.party.listens
   pub quiet : next.listening ≡ g.listening
   pub known : is_stranger next.asker ≡ is_stranger g.asker
+  pub speaks : next.asker.protocol ≡ g.asker.protocol
 
 -- a value is heard as it is: it asks for no vote in an epoch that is too far above the one that the connection was told
 abbrev pub IsNear : Guest → Frame → Type 0
@@ -38,13 +40,14 @@ abbrev pub ServedBeside : World → Guest → List Frame → List ℕ → Guest 
 ServedBeside start g [] bytes h = (bytes ≡ []) × (h ≡ g)
 ServedBeside start g (value ∷ values) bytes h =
     (now : ℕ) × (next : Guest) × (middle : Guest) × (first : List ℕ) × (rest : List ℕ) × (bytes ≡ first ++ rest)
-    × IsLater g next × IsNear next value × Serves start now next value first middle × ServedBeside start middle values rest h
+    × IsLater g next × IsNear next value × TellsClient start now next value first middle × ServedBeside start middle values rest h
 
--- The link asked these questions of a port where no password is owed any more; the port got a first part of their bytes, and served the values in it; the link got a
+-- The link asked these questions of a port where no password is owed any more, by protocol 2, since a link never asks for another one; the port got a first part of their bytes, and served the values in it; the link got a
 -- first part of the bytes that were put out, and heard the values in it
 pub record IsConnectedBeside (start : World) (g : Guest) (questions : List Body) (events : List Event) : Type 0 where
   pub askable : AllByRecursion IsAskable questions
   pub known : is_stranger g.asker ≡ false
+  pub speaks : g.asker.protocol ≡ Two
   pub quiet : is_listening g.listening ≡ false
   pub silent : g.party.listens ≡ None
   pub got : List ℕ

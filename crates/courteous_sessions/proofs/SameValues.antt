@@ -1,0 +1,349 @@
+-- Both protocols say the same.
+use Rattle.std.proofs.Common.{◌≡◌, ◌∙◌, ◌+◌, ◌%◌, ◌/◌, ◌<◌, ◌^◌, ℕ, suc, List, [], ◌∷◌, ◌++◌, refl, sym, ap, append_assoc, length, decimal, arith}
+use Rattle.std.specs.Prelude.{codes}
+use Rattle.std.proofs.lemmas.Fmt.{decimal_injective}
+use Rattle.resp2.specs.Framing.Frame.{Frame, FrameList, simple, fault, int, bulk, null_bulk, items, null_items, no_frames, frame, count, line_end, IsPlain, ArePlain}
+use Rattle.resp2.proofs.FramingLemmas.Numbers.{decimal_line}
+use Rattle.resp2.proofs.FramingLemmas.Streams.{one_spelling}
+use Rattle.courteous_sessions.specs.declared.shapes.Shape.{Shape}
+use Rattle.courteous_sessions.specs.declared.shapes.Shape.TheVariants.{Plain, Whole, Pairs, Tables, Verbatim, Pushes}
+use Rattle.courteous_sessions.specs.Retelling.{spelling3, spellings3, map_spelling, map_spellings, table_spelling, text_spelling, push_spelling, with_one_null, each_with_one_null, IsPaired, ArePaired, HasPairedRows, HasShortText, SaysTheSame}
+
+-- two headers of one kind that begin the same bytes tell the same number, and the same bytes follow them
+header_split : (kind n m : ℕ) (some other x y : List ℕ) → n < 2 ^ 64 → m < 2 ^ 64
+    → (kind ∷ ((decimal n ++ line_end) ++ some)) ++ x ≡ (kind ∷ ((decimal m ++ line_end) ++ other)) ++ y → (n ≡ m) × (some ++ x ≡ other ++ y)
+header_split kind n m some other x y low below e =
+    let tails : ((decimal n ++ line_end) ++ some) ++ x ≡ ((decimal m ++ line_end) ++ other) ++ y = cc in
+    let parts : (decimal n ++ line_end) ++ (some ++ x) ≡ (decimal m ++ line_end) ++ (other ++ y) =
+    sym (append_assoc (decimal n ++ line_end) some x) ∙ tails ∙ append_assoc (decimal m ++ line_end) other y
+    in
+    let same = one_spelling (simple (decimal n)) (simple (decimal m)) (some ++ x) (other ++ y) (decimal_line n low) (decimal_line m below)
+    (ap (λ (t : List ℕ). 43 ∷ t) parts)
+    in
+    let text : decimal n ≡ decimal m = let it = same.0 in cc in
+    (decimal_injective n m low below text, same.1)
+
+one_more : (n m : ℕ) → suc n ≡ suc m → n ≡ m
+one_more n m e = cc
+
+mutual
+  same3 : (f g : Frame) (x y : List ℕ) → IsPlain f → IsPlain g → spelling3 f ++ x ≡ spelling3 g ++ y → (with_one_null f ≡ with_one_null g) × (x ≡ y)
+  same3 (simple s) (simple t) x y p q e = one_spelling (simple s) (simple t) x y p q e
+  same3 (simple s) (fault t) x y p q e = absurd (let no : ⊥ = cc in no)
+  same3 (simple s) (int t) x y p q e = absurd (let no : ⊥ = cc in no)
+  same3 (simple s) (bulk t) x y p q e = absurd (let no : ⊥ = cc in no)
+  same3 (simple s) null_bulk x y p q e = absurd (let no : ⊥ = cc in no)
+  same3 (simple s) (items gs) x y p q e = absurd (let no : ⊥ = cc in no)
+  same3 (simple s) null_items x y p q e = absurd (let no : ⊥ = cc in no)
+  same3 (fault s) (simple t) x y p q e = absurd (let no : ⊥ = cc in no)
+  same3 (fault s) (fault t) x y p q e = one_spelling (fault s) (fault t) x y p q e
+  same3 (fault s) (int t) x y p q e = absurd (let no : ⊥ = cc in no)
+  same3 (fault s) (bulk t) x y p q e = absurd (let no : ⊥ = cc in no)
+  same3 (fault s) null_bulk x y p q e = absurd (let no : ⊥ = cc in no)
+  same3 (fault s) (items gs) x y p q e = absurd (let no : ⊥ = cc in no)
+  same3 (fault s) null_items x y p q e = absurd (let no : ⊥ = cc in no)
+  same3 (int s) (simple t) x y p q e = absurd (let no : ⊥ = cc in no)
+  same3 (int s) (fault t) x y p q e = absurd (let no : ⊥ = cc in no)
+  same3 (int s) (int t) x y p q e = one_spelling (int s) (int t) x y p q e
+  same3 (int s) (bulk t) x y p q e = absurd (let no : ⊥ = cc in no)
+  same3 (int s) null_bulk x y p q e = absurd (let no : ⊥ = cc in no)
+  same3 (int s) (items gs) x y p q e = absurd (let no : ⊥ = cc in no)
+  same3 (int s) null_items x y p q e = absurd (let no : ⊥ = cc in no)
+  same3 (bulk s) (simple t) x y p q e = absurd (let no : ⊥ = cc in no)
+  same3 (bulk s) (fault t) x y p q e = absurd (let no : ⊥ = cc in no)
+  same3 (bulk s) (int t) x y p q e = absurd (let no : ⊥ = cc in no)
+  same3 (bulk s) (bulk t) x y p q e = one_spelling (bulk s) (bulk t) x y p q e
+  same3 (bulk s) null_bulk x y p q e = absurd (let no : ⊥ = cc in no)
+  same3 (bulk s) (items gs) x y p q e = absurd (let no : ⊥ = cc in no)
+  same3 (bulk s) null_items x y p q e = absurd (let no : ⊥ = cc in no)
+  same3 null_bulk (simple t) x y p q e = absurd (let no : ⊥ = cc in no)
+  same3 null_bulk (fault t) x y p q e = absurd (let no : ⊥ = cc in no)
+  same3 null_bulk (int t) x y p q e = absurd (let no : ⊥ = cc in no)
+  same3 null_bulk (bulk t) x y p q e = absurd (let no : ⊥ = cc in no)
+  same3 null_bulk null_bulk x y p q e = (refl, cc)
+  same3 null_bulk (items gs) x y p q e = absurd (let no : ⊥ = cc in no)
+  same3 null_bulk null_items x y p q e = (refl, cc)
+  same3 (items fs) (simple t) x y p q e = absurd (let no : ⊥ = cc in no)
+  same3 (items fs) (fault t) x y p q e = absurd (let no : ⊥ = cc in no)
+  same3 (items fs) (int t) x y p q e = absurd (let no : ⊥ = cc in no)
+  same3 (items fs) (bulk t) x y p q e = absurd (let no : ⊥ = cc in no)
+  same3 (items fs) null_bulk x y p q e = absurd (let no : ⊥ = cc in no)
+  same3 (items fs) (items gs) x y p q e =
+      let parts = header_split 42 (count fs) (count gs) (spellings3 fs) (spellings3 gs) x y p.0 q.0 e in
+      let rest = sames3 fs gs x y p.1 q.1 parts.0 parts.1 in
+      (ap items rest.0, rest.1)
+  same3 (items fs) null_items x y p q e = absurd (let no : ⊥ = cc in no)
+  same3 null_items (simple t) x y p q e = absurd (let no : ⊥ = cc in no)
+  same3 null_items (fault t) x y p q e = absurd (let no : ⊥ = cc in no)
+  same3 null_items (int t) x y p q e = absurd (let no : ⊥ = cc in no)
+  same3 null_items (bulk t) x y p q e = absurd (let no : ⊥ = cc in no)
+  same3 null_items null_bulk x y p q e = (refl, cc)
+  same3 null_items (items gs) x y p q e = absurd (let no : ⊥ = cc in no)
+  same3 null_items null_items x y p q e = (refl, cc)
+
+  sames3 : (fs gs : FrameList) (x y : List ℕ) → ArePlain fs → ArePlain gs → count fs ≡ count gs → spellings3 fs ++ x ≡ spellings3 gs ++ y
+      → (each_with_one_null fs ≡ each_with_one_null gs) × (x ≡ y)
+  sames3 no_frames no_frames x y p q c e = (refl, e)
+  sames3 no_frames (frame g gs) x y p q c e = absurd (let no : ⊥ = cc in no)
+  sames3 (frame f fs) no_frames x y p q c e = absurd (let no : ⊥ = cc in no)
+  sames3 (frame f fs) (frame g gs) x y p q c e =
+      let first = same3 f g (spellings3 fs ++ x) (spellings3 gs ++ y) p.0 q.0 (sym (append_assoc (spelling3 f) (spellings3 fs) x) ∙ e ∙ append_assoc (spelling3 g) (spellings3 gs) y) in
+      let rest = sames3 fs gs x y p.1 q.1 (one_more (count fs) (count gs) c) first.1 in
+      (ap (λ (h : Frame). frame h (each_with_one_null fs)) first.0 ∙ ap (λ (hs : FrameList). frame (with_one_null g) hs) rest.0, rest.1)
+
+-- as many names as values
+halves : (n m : ℕ) → n % 2 ≡ 0 → m % 2 ≡ 0 → n / 2 ≡ m / 2 → n ≡ m
+halves n m even too same = omega (arith, even, too, same)
+
+half_below : (n : ℕ) → n < 2 ^ 64 → n / 2 < 2 ^ 64
+half_below n low = omega (arith, low)
+
+same_map : (f g : Frame) (x y : List ℕ) → IsPlain f → IsPlain g → IsPaired f → IsPaired g → map_spelling f ++ x ≡ map_spelling g ++ y → (with_one_null f ≡ with_one_null g) × (x ≡ y)
+same_map (simple s) (simple t) x y p q a b e = same3 (simple s) (simple t) x y p q e
+same_map (simple s) (fault t) x y p q a b e = same3 (simple s) (fault t) x y p q e
+same_map (simple s) (int t) x y p q a b e = same3 (simple s) (int t) x y p q e
+same_map (simple s) (bulk t) x y p q a b e = same3 (simple s) (bulk t) x y p q e
+same_map (simple s) null_bulk x y p q a b e = same3 (simple s) null_bulk x y p q e
+same_map (simple s) (items gs) x y p q a b e = absurd (let no : ⊥ = cc in no)
+same_map (simple s) null_items x y p q a b e = same3 (simple s) null_items x y p q e
+same_map (fault s) (simple t) x y p q a b e = same3 (fault s) (simple t) x y p q e
+same_map (fault s) (fault t) x y p q a b e = same3 (fault s) (fault t) x y p q e
+same_map (fault s) (int t) x y p q a b e = same3 (fault s) (int t) x y p q e
+same_map (fault s) (bulk t) x y p q a b e = same3 (fault s) (bulk t) x y p q e
+same_map (fault s) null_bulk x y p q a b e = same3 (fault s) null_bulk x y p q e
+same_map (fault s) (items gs) x y p q a b e = absurd (let no : ⊥ = cc in no)
+same_map (fault s) null_items x y p q a b e = same3 (fault s) null_items x y p q e
+same_map (int s) (simple t) x y p q a b e = same3 (int s) (simple t) x y p q e
+same_map (int s) (fault t) x y p q a b e = same3 (int s) (fault t) x y p q e
+same_map (int s) (int t) x y p q a b e = same3 (int s) (int t) x y p q e
+same_map (int s) (bulk t) x y p q a b e = same3 (int s) (bulk t) x y p q e
+same_map (int s) null_bulk x y p q a b e = same3 (int s) null_bulk x y p q e
+same_map (int s) (items gs) x y p q a b e = absurd (let no : ⊥ = cc in no)
+same_map (int s) null_items x y p q a b e = same3 (int s) null_items x y p q e
+same_map (bulk s) (simple t) x y p q a b e = same3 (bulk s) (simple t) x y p q e
+same_map (bulk s) (fault t) x y p q a b e = same3 (bulk s) (fault t) x y p q e
+same_map (bulk s) (int t) x y p q a b e = same3 (bulk s) (int t) x y p q e
+same_map (bulk s) (bulk t) x y p q a b e = same3 (bulk s) (bulk t) x y p q e
+same_map (bulk s) null_bulk x y p q a b e = same3 (bulk s) null_bulk x y p q e
+same_map (bulk s) (items gs) x y p q a b e = absurd (let no : ⊥ = cc in no)
+same_map (bulk s) null_items x y p q a b e = same3 (bulk s) null_items x y p q e
+same_map null_bulk (simple t) x y p q a b e = same3 null_bulk (simple t) x y p q e
+same_map null_bulk (fault t) x y p q a b e = same3 null_bulk (fault t) x y p q e
+same_map null_bulk (int t) x y p q a b e = same3 null_bulk (int t) x y p q e
+same_map null_bulk (bulk t) x y p q a b e = same3 null_bulk (bulk t) x y p q e
+same_map null_bulk null_bulk x y p q a b e = same3 null_bulk null_bulk x y p q e
+same_map null_bulk (items gs) x y p q a b e = absurd (let no : ⊥ = cc in no)
+same_map null_bulk null_items x y p q a b e = same3 null_bulk null_items x y p q e
+same_map (items fs) (simple t) x y p q a b e = absurd (let no : ⊥ = cc in no)
+same_map (items fs) (fault t) x y p q a b e = absurd (let no : ⊥ = cc in no)
+same_map (items fs) (int t) x y p q a b e = absurd (let no : ⊥ = cc in no)
+same_map (items fs) (bulk t) x y p q a b e = absurd (let no : ⊥ = cc in no)
+same_map (items fs) null_bulk x y p q a b e = absurd (let no : ⊥ = cc in no)
+same_map (items fs) (items gs) x y p q a b e =
+    let parts = header_split 37 (count fs / 2) (count gs / 2) (spellings3 fs) (spellings3 gs) x y (half_below (count fs) p.0) (half_below (count gs) q.0) e in
+    let rest = sames3 fs gs x y p.1 q.1 (halves (count fs) (count gs) a b parts.0) parts.1 in
+    (ap items rest.0, rest.1)
+same_map (items fs) null_items x y p q a b e = absurd (let no : ⊥ = cc in no)
+same_map null_items (simple t) x y p q a b e = same3 null_items (simple t) x y p q e
+same_map null_items (fault t) x y p q a b e = same3 null_items (fault t) x y p q e
+same_map null_items (int t) x y p q a b e = same3 null_items (int t) x y p q e
+same_map null_items (bulk t) x y p q a b e = same3 null_items (bulk t) x y p q e
+same_map null_items null_bulk x y p q a b e = same3 null_items null_bulk x y p q e
+same_map null_items (items gs) x y p q a b e = absurd (let no : ⊥ = cc in no)
+same_map null_items null_items x y p q a b e = same3 null_items null_items x y p q e
+
+same_maps : (fs gs : FrameList) (x y : List ℕ) → ArePlain fs → ArePlain gs → ArePaired fs → ArePaired gs → count fs ≡ count gs
+    → map_spellings fs ++ x ≡ map_spellings gs ++ y → (each_with_one_null fs ≡ each_with_one_null gs) × (x ≡ y)
+same_maps no_frames no_frames x y p q a b c e = (refl, e)
+same_maps no_frames (frame g gs) x y p q a b c e = absurd (let no : ⊥ = cc in no)
+same_maps (frame f fs) no_frames x y p q a b c e = absurd (let no : ⊥ = cc in no)
+same_maps (frame f fs) (frame g gs) x y p q a b c e =
+    let first = same_map f g (map_spellings fs ++ x) (map_spellings gs ++ y) p.0 q.0 a.0 b.0
+    (sym (append_assoc (map_spelling f) (map_spellings fs) x) ∙ e ∙ append_assoc (map_spelling g) (map_spellings gs) y)
+    in
+    let rest = same_maps fs gs x y p.1 q.1 a.1 b.1 (one_more (count fs) (count gs) c) first.1 in
+    (ap (λ (h : Frame). frame h (each_with_one_null fs)) first.0 ∙ ap (λ (hs : FrameList). frame (with_one_null g) hs) rest.0, rest.1)
+
+same_table : (f g : Frame) (x y : List ℕ) → IsPlain f → IsPlain g → HasPairedRows f → HasPairedRows g → table_spelling f ++ x ≡ table_spelling g ++ y → (with_one_null f ≡ with_one_null g) × (x ≡ y)
+same_table (simple s) (simple t) x y p q a b e = same3 (simple s) (simple t) x y p q e
+same_table (simple s) (fault t) x y p q a b e = same3 (simple s) (fault t) x y p q e
+same_table (simple s) (int t) x y p q a b e = same3 (simple s) (int t) x y p q e
+same_table (simple s) (bulk t) x y p q a b e = same3 (simple s) (bulk t) x y p q e
+same_table (simple s) null_bulk x y p q a b e = same3 (simple s) null_bulk x y p q e
+same_table (simple s) (items gs) x y p q a b e = absurd (let no : ⊥ = cc in no)
+same_table (simple s) null_items x y p q a b e = same3 (simple s) null_items x y p q e
+same_table (fault s) (simple t) x y p q a b e = same3 (fault s) (simple t) x y p q e
+same_table (fault s) (fault t) x y p q a b e = same3 (fault s) (fault t) x y p q e
+same_table (fault s) (int t) x y p q a b e = same3 (fault s) (int t) x y p q e
+same_table (fault s) (bulk t) x y p q a b e = same3 (fault s) (bulk t) x y p q e
+same_table (fault s) null_bulk x y p q a b e = same3 (fault s) null_bulk x y p q e
+same_table (fault s) (items gs) x y p q a b e = absurd (let no : ⊥ = cc in no)
+same_table (fault s) null_items x y p q a b e = same3 (fault s) null_items x y p q e
+same_table (int s) (simple t) x y p q a b e = same3 (int s) (simple t) x y p q e
+same_table (int s) (fault t) x y p q a b e = same3 (int s) (fault t) x y p q e
+same_table (int s) (int t) x y p q a b e = same3 (int s) (int t) x y p q e
+same_table (int s) (bulk t) x y p q a b e = same3 (int s) (bulk t) x y p q e
+same_table (int s) null_bulk x y p q a b e = same3 (int s) null_bulk x y p q e
+same_table (int s) (items gs) x y p q a b e = absurd (let no : ⊥ = cc in no)
+same_table (int s) null_items x y p q a b e = same3 (int s) null_items x y p q e
+same_table (bulk s) (simple t) x y p q a b e = same3 (bulk s) (simple t) x y p q e
+same_table (bulk s) (fault t) x y p q a b e = same3 (bulk s) (fault t) x y p q e
+same_table (bulk s) (int t) x y p q a b e = same3 (bulk s) (int t) x y p q e
+same_table (bulk s) (bulk t) x y p q a b e = same3 (bulk s) (bulk t) x y p q e
+same_table (bulk s) null_bulk x y p q a b e = same3 (bulk s) null_bulk x y p q e
+same_table (bulk s) (items gs) x y p q a b e = absurd (let no : ⊥ = cc in no)
+same_table (bulk s) null_items x y p q a b e = same3 (bulk s) null_items x y p q e
+same_table null_bulk (simple t) x y p q a b e = same3 null_bulk (simple t) x y p q e
+same_table null_bulk (fault t) x y p q a b e = same3 null_bulk (fault t) x y p q e
+same_table null_bulk (int t) x y p q a b e = same3 null_bulk (int t) x y p q e
+same_table null_bulk (bulk t) x y p q a b e = same3 null_bulk (bulk t) x y p q e
+same_table null_bulk null_bulk x y p q a b e = same3 null_bulk null_bulk x y p q e
+same_table null_bulk (items gs) x y p q a b e = absurd (let no : ⊥ = cc in no)
+same_table null_bulk null_items x y p q a b e = same3 null_bulk null_items x y p q e
+same_table (items fs) (simple t) x y p q a b e = absurd (let no : ⊥ = cc in no)
+same_table (items fs) (fault t) x y p q a b e = absurd (let no : ⊥ = cc in no)
+same_table (items fs) (int t) x y p q a b e = absurd (let no : ⊥ = cc in no)
+same_table (items fs) (bulk t) x y p q a b e = absurd (let no : ⊥ = cc in no)
+same_table (items fs) null_bulk x y p q a b e = absurd (let no : ⊥ = cc in no)
+same_table (items fs) (items gs) x y p q a b e =
+    let parts = header_split 42 (count fs) (count gs) (map_spellings fs) (map_spellings gs) x y p.0 q.0 e in
+    let rest = same_maps fs gs x y p.1 q.1 a b parts.0 parts.1 in
+    (ap items rest.0, rest.1)
+same_table (items fs) null_items x y p q a b e = absurd (let no : ⊥ = cc in no)
+same_table null_items (simple t) x y p q a b e = same3 null_items (simple t) x y p q e
+same_table null_items (fault t) x y p q a b e = same3 null_items (fault t) x y p q e
+same_table null_items (int t) x y p q a b e = same3 null_items (int t) x y p q e
+same_table null_items (bulk t) x y p q a b e = same3 null_items (bulk t) x y p q e
+same_table null_items null_bulk x y p q a b e = same3 null_items null_bulk x y p q e
+same_table null_items (items gs) x y p q a b e = absurd (let no : ⊥ = cc in no)
+same_table null_items null_items x y p q a b e = same3 null_items null_items x y p q e
+
+same_push : (f g : Frame) (x y : List ℕ) → IsPlain f → IsPlain g → push_spelling f ++ x ≡ push_spelling g ++ y → (with_one_null f ≡ with_one_null g) × (x ≡ y)
+same_push (simple s) (simple t) x y p q e = same3 (simple s) (simple t) x y p q e
+same_push (simple s) (fault t) x y p q e = same3 (simple s) (fault t) x y p q e
+same_push (simple s) (int t) x y p q e = same3 (simple s) (int t) x y p q e
+same_push (simple s) (bulk t) x y p q e = same3 (simple s) (bulk t) x y p q e
+same_push (simple s) null_bulk x y p q e = same3 (simple s) null_bulk x y p q e
+same_push (simple s) (items gs) x y p q e = absurd (let no : ⊥ = cc in no)
+same_push (simple s) null_items x y p q e = same3 (simple s) null_items x y p q e
+same_push (fault s) (simple t) x y p q e = same3 (fault s) (simple t) x y p q e
+same_push (fault s) (fault t) x y p q e = same3 (fault s) (fault t) x y p q e
+same_push (fault s) (int t) x y p q e = same3 (fault s) (int t) x y p q e
+same_push (fault s) (bulk t) x y p q e = same3 (fault s) (bulk t) x y p q e
+same_push (fault s) null_bulk x y p q e = same3 (fault s) null_bulk x y p q e
+same_push (fault s) (items gs) x y p q e = absurd (let no : ⊥ = cc in no)
+same_push (fault s) null_items x y p q e = same3 (fault s) null_items x y p q e
+same_push (int s) (simple t) x y p q e = same3 (int s) (simple t) x y p q e
+same_push (int s) (fault t) x y p q e = same3 (int s) (fault t) x y p q e
+same_push (int s) (int t) x y p q e = same3 (int s) (int t) x y p q e
+same_push (int s) (bulk t) x y p q e = same3 (int s) (bulk t) x y p q e
+same_push (int s) null_bulk x y p q e = same3 (int s) null_bulk x y p q e
+same_push (int s) (items gs) x y p q e = absurd (let no : ⊥ = cc in no)
+same_push (int s) null_items x y p q e = same3 (int s) null_items x y p q e
+same_push (bulk s) (simple t) x y p q e = same3 (bulk s) (simple t) x y p q e
+same_push (bulk s) (fault t) x y p q e = same3 (bulk s) (fault t) x y p q e
+same_push (bulk s) (int t) x y p q e = same3 (bulk s) (int t) x y p q e
+same_push (bulk s) (bulk t) x y p q e = same3 (bulk s) (bulk t) x y p q e
+same_push (bulk s) null_bulk x y p q e = same3 (bulk s) null_bulk x y p q e
+same_push (bulk s) (items gs) x y p q e = absurd (let no : ⊥ = cc in no)
+same_push (bulk s) null_items x y p q e = same3 (bulk s) null_items x y p q e
+same_push null_bulk (simple t) x y p q e = same3 null_bulk (simple t) x y p q e
+same_push null_bulk (fault t) x y p q e = same3 null_bulk (fault t) x y p q e
+same_push null_bulk (int t) x y p q e = same3 null_bulk (int t) x y p q e
+same_push null_bulk (bulk t) x y p q e = same3 null_bulk (bulk t) x y p q e
+same_push null_bulk null_bulk x y p q e = same3 null_bulk null_bulk x y p q e
+same_push null_bulk (items gs) x y p q e = absurd (let no : ⊥ = cc in no)
+same_push null_bulk null_items x y p q e = same3 null_bulk null_items x y p q e
+same_push (items fs) (simple t) x y p q e = absurd (let no : ⊥ = cc in no)
+same_push (items fs) (fault t) x y p q e = absurd (let no : ⊥ = cc in no)
+same_push (items fs) (int t) x y p q e = absurd (let no : ⊥ = cc in no)
+same_push (items fs) (bulk t) x y p q e = absurd (let no : ⊥ = cc in no)
+same_push (items fs) null_bulk x y p q e = absurd (let no : ⊥ = cc in no)
+same_push (items fs) (items gs) x y p q e =
+    let parts = header_split 62 (count fs) (count gs) (spellings3 fs) (spellings3 gs) x y p.0 q.0 e in
+    let rest = sames3 fs gs x y p.1 q.1 parts.0 parts.1 in
+    (ap items rest.0, rest.1)
+same_push (items fs) null_items x y p q e = absurd (let no : ⊥ = cc in no)
+same_push null_items (simple t) x y p q e = same3 null_items (simple t) x y p q e
+same_push null_items (fault t) x y p q e = same3 null_items (fault t) x y p q e
+same_push null_items (int t) x y p q e = same3 null_items (int t) x y p q e
+same_push null_items (bulk t) x y p q e = same3 null_items (bulk t) x y p q e
+same_push null_items null_bulk x y p q e = same3 null_items null_bulk x y p q e
+same_push null_items (items gs) x y p q e = absurd (let no : ⊥ = cc in no)
+same_push null_items null_items x y p q e = same3 null_items null_items x y p q e
+
+-- after `txt:` the same text, as long as told, and what follows
+same_text_after : (s t x y : List ℕ) → length s ≡ length t → length s < 2 ^ 64 → length t < 2 ^ 64
+    → ((codes "txt:" ++ s) ++ line_end) ++ x ≡ ((codes "txt:" ++ t) ++ line_end) ++ y → (bulk s ≡ bulk t) × (x ≡ y)
+same_text_after s t x y same low below e =
+    let texts : (s ++ line_end) ++ x ≡ (t ++ line_end) ++ y = cc in
+    let front : (decimal (length s) ++ line_end) ++ ((s ++ line_end) ++ x) ≡ (decimal (length t) ++ line_end) ++ ((t ++ line_end) ++ y) =
+    ap (λ (n : ℕ). (decimal n ++ line_end) ++ ((s ++ line_end) ++ x)) same ∙ ap (λ (r : List ℕ). (decimal (length t) ++ line_end) ++ r) texts
+    in
+    one_spelling (bulk s) (bulk t) x y low below
+    (ap (λ (r : List ℕ). 36 ∷ r)
+    (append_assoc (decimal (length s) ++ line_end) (s ++ line_end) x ∙ front ∙ sym (append_assoc (decimal (length t) ++ line_end) (t ++ line_end) y)))
+
+four_less : (n m : ℕ) → n + 4 ≡ m + 4 → n ≡ m
+four_less n m e = omega (arith, e)
+
+same_text : (f g : Frame) (x y : List ℕ) → IsPlain f → IsPlain g → HasShortText f → HasShortText g → text_spelling f ++ x ≡ text_spelling g ++ y → (with_one_null f ≡ with_one_null g) × (x ≡ y)
+same_text (simple s) (simple t) x y p q a b e = same3 (simple s) (simple t) x y p q e
+same_text (simple s) (fault t) x y p q a b e = same3 (simple s) (fault t) x y p q e
+same_text (simple s) (int t) x y p q a b e = same3 (simple s) (int t) x y p q e
+same_text (simple s) (bulk t) x y p q a b e = absurd (let no : ⊥ = cc in no)
+same_text (simple s) null_bulk x y p q a b e = same3 (simple s) null_bulk x y p q e
+same_text (simple s) (items gs) x y p q a b e = same3 (simple s) (items gs) x y p q e
+same_text (simple s) null_items x y p q a b e = same3 (simple s) null_items x y p q e
+same_text (fault s) (simple t) x y p q a b e = same3 (fault s) (simple t) x y p q e
+same_text (fault s) (fault t) x y p q a b e = same3 (fault s) (fault t) x y p q e
+same_text (fault s) (int t) x y p q a b e = same3 (fault s) (int t) x y p q e
+same_text (fault s) (bulk t) x y p q a b e = absurd (let no : ⊥ = cc in no)
+same_text (fault s) null_bulk x y p q a b e = same3 (fault s) null_bulk x y p q e
+same_text (fault s) (items gs) x y p q a b e = same3 (fault s) (items gs) x y p q e
+same_text (fault s) null_items x y p q a b e = same3 (fault s) null_items x y p q e
+same_text (int s) (simple t) x y p q a b e = same3 (int s) (simple t) x y p q e
+same_text (int s) (fault t) x y p q a b e = same3 (int s) (fault t) x y p q e
+same_text (int s) (int t) x y p q a b e = same3 (int s) (int t) x y p q e
+same_text (int s) (bulk t) x y p q a b e = absurd (let no : ⊥ = cc in no)
+same_text (int s) null_bulk x y p q a b e = same3 (int s) null_bulk x y p q e
+same_text (int s) (items gs) x y p q a b e = same3 (int s) (items gs) x y p q e
+same_text (int s) null_items x y p q a b e = same3 (int s) null_items x y p q e
+same_text (bulk s) (simple t) x y p q a b e = absurd (let no : ⊥ = cc in no)
+same_text (bulk s) (fault t) x y p q a b e = absurd (let no : ⊥ = cc in no)
+same_text (bulk s) (int t) x y p q a b e = absurd (let no : ⊥ = cc in no)
+same_text (bulk s) (bulk t) x y p q a b e =
+    let parts = header_split 61 (length s + 4) (length t + 4) ((codes "txt:" ++ s) ++ line_end) ((codes "txt:" ++ t) ++ line_end) x y a b e in
+    same_text_after s t x y (four_less (length s) (length t) parts.0) p q parts.1
+same_text (bulk s) null_bulk x y p q a b e = absurd (let no : ⊥ = cc in no)
+same_text (bulk s) (items gs) x y p q a b e = absurd (let no : ⊥ = cc in no)
+same_text (bulk s) null_items x y p q a b e = absurd (let no : ⊥ = cc in no)
+same_text null_bulk (simple t) x y p q a b e = same3 null_bulk (simple t) x y p q e
+same_text null_bulk (fault t) x y p q a b e = same3 null_bulk (fault t) x y p q e
+same_text null_bulk (int t) x y p q a b e = same3 null_bulk (int t) x y p q e
+same_text null_bulk (bulk t) x y p q a b e = absurd (let no : ⊥ = cc in no)
+same_text null_bulk null_bulk x y p q a b e = same3 null_bulk null_bulk x y p q e
+same_text null_bulk (items gs) x y p q a b e = same3 null_bulk (items gs) x y p q e
+same_text null_bulk null_items x y p q a b e = same3 null_bulk null_items x y p q e
+same_text (items fs) (simple t) x y p q a b e = same3 (items fs) (simple t) x y p q e
+same_text (items fs) (fault t) x y p q a b e = same3 (items fs) (fault t) x y p q e
+same_text (items fs) (int t) x y p q a b e = same3 (items fs) (int t) x y p q e
+same_text (items fs) (bulk t) x y p q a b e = absurd (let no : ⊥ = cc in no)
+same_text (items fs) null_bulk x y p q a b e = same3 (items fs) null_bulk x y p q e
+same_text (items fs) (items gs) x y p q a b e = same3 (items fs) (items gs) x y p q e
+same_text (items fs) null_items x y p q a b e = same3 (items fs) null_items x y p q e
+same_text null_items (simple t) x y p q a b e = same3 null_items (simple t) x y p q e
+same_text null_items (fault t) x y p q a b e = same3 null_items (fault t) x y p q e
+same_text null_items (int t) x y p q a b e = same3 null_items (int t) x y p q e
+same_text null_items (bulk t) x y p q a b e = absurd (let no : ⊥ = cc in no)
+same_text null_items null_bulk x y p q a b e = same3 null_items null_bulk x y p q e
+same_text null_items (items gs) x y p q a b e = same3 null_items (items gs) x y p q e
+same_text null_items null_items x y p q a b e = same3 null_items null_items x y p q e
+
+pub says_the_same : SaysTheSame
+says_the_same Plain f g x y p q a b e = same3 f g x y p q e
+says_the_same Whole f g x y p q a b e = same3 f g x y p q e
+says_the_same Pairs f g x y p q a b e = same_map f g x y p q a b e
+says_the_same Tables f g x y p q a b e = same_table f g x y p q a b e
+says_the_same Verbatim f g x y p q a b e = same_text f g x y p q a b e
+says_the_same Pushes f g x y p q a b e = same_push f g x y p q e
