@@ -354,8 +354,8 @@ abbrev pub hello_admitted : ClientInfo → List (List ℕ) → Bool
 hello_admitted asker words = admitted_for asker words (protocol_asked asker.protocol words)
 
 -- which protocol the connection speaks then: the one for which HELLO asks, unless an option is refused or the client is still to give the password
-abbrev pub speaks_then : ClientInfo → (refused admitted : Bool) → Protocol → Protocol
-speaks_then asker refused admitted protocol = elim (refused || lacks_password asker.password admitted) [ true ↦ asker.protocol | false ↦ protocol ]
+abbrev pub speaks_then : ClientInfo → (barred admitted : Bool) → Protocol → Protocol
+speaks_then asker barred admitted protocol = elim (barred || lacks_password asker.password admitted) [ true ↦ asker.protocol | false ↦ protocol ]
 
 abbrev pub protocol_for : ClientInfo → List (List ℕ) → Option Protocol → Protocol
 protocol_for asker words None = asker.protocol
