@@ -1,13 +1,27 @@
 -- What protocol 3 tells of an answer.
-use Rattle.std.proofs.Common.{◌≡◌, ◌∙◌, ◌+◌, ◌<◌, ℕ, suc, List, [], ◌∷◌, ◌++◌, refl, sym, ap, append_assoc, length, map, take, get_or}
+use Rattle.std.proofs.Common.{◌≡◌, ◌∙◌, ◌+◌, ◌<◌, ℕ, suc, Bool, true, false, true≢false, List, [], ◌∷◌, ◌++◌, None, Result, Ok, Err, refl, sym, ap, append_assoc, decimal, length, map, take, get_or}
+use Rattle.std.specs.List.{flat_map}
+use Rattle.std.specs.Prelude.{bytes_eq, is_err, OnOk}
 use Rattle.std.proofs.lemmas.List.{append-nil, take_more, map-append}
+use Rattle.std.proofs.lemmas.Slice.Eq.{bytes_eq-Decides}
 use Rattle.client_commands.specs.declared.protocols.Protocol.{Protocol}
 use Rattle.client_commands.specs.declared.protocols.Protocol.TheVariants.{Two, Three}
+use Rattle.resp2.specs.declared.framing.fault.FrameFault.{FrameFault}
 use Rattle.resp2.specs.declared.framing.value.Value.{Value}
-use Rattle.resp2.specs.Framing.Frame.{Frame, FrameList, simple, fault, int, bulk, null_bulk, items, null_items, no_frames, frame, frames_of, frames_view, view, count, spelling, spellings}
+use Rattle.resp2.specs.Framing.Frame.{Frame, FrameList, simple, fault, int, bulk, null_bulk, items, null_items, no_frames, frame, frames_of, frames_view, view, count, line_end, spelling, spellings}
+use Rattle.resp2.specs.Framing.Stream.{Held, reading, bytes_in, Feeds, Answers, SoFar}
+use Rattle.resp2.proofs.FramingLemmas.Drains.{end_drains}
 use Rattle.courteous_sessions.specs.declared.shapes.Shape.{Shape}
 use Rattle.courteous_sessions.specs.declared.shapes.Shape.TheVariants.{Plain, Whole, Pairs, Tables, Verbatim, Pushes}
-use Rattle.courteous_sessions.specs.Retelling.{spelling3, spellings3, all_told_as, AreTold, IsTold, IsTold3}
+use Rattle.courteous_sessions.specs.Retelling.{spelling3, spellings3, all_told_as, AreTold, IsTold, IsTold3, first_of, second_of}
+
+-- ---- the words of a command
+
+pub first_as : (bytes : List ℕ) (fs gs : FrameList) → bytes ≡ first_of fs → fs ≡ gs → bytes ≡ first_of gs
+first_as bytes fs gs is same = is ∙ ap first_of same
+
+pub second_as : (bytes : List ℕ) (fs gs : FrameList) → bytes ≡ second_of fs → fs ≡ gs → bytes ≡ second_of gs
+second_as bytes fs gs is same = is ∙ ap second_of same
 
 -- ---- the spelling of one value more
 
@@ -34,21 +48,37 @@ count_told (v ∷ vs) = ap suc (count_told vs)
 
 -- ---- values that were read
 
-spellings-append : (fs gs : List Frame) → spellings (frames_of (fs ++ gs)) ≡ spellings (frames_of fs) ++ spellings (frames_of gs)
-spellings-append [] gs = refl
-spellings-append (f ∷ fs) gs =
-    ap (λ (t : List ℕ). spelling f ++ t) (spellings-append fs gs) ∙ sym (append_assoc (spelling f) (spellings (frames_of fs)) (spellings (frames_of gs)))
+-- the values of a stream, spelled one after the other
+spelled_flat : (fs : List Frame) → flat_map spelling fs ≡ spellings (frames_of fs)
+spelled_flat [] = refl
+spelled_flat (f ∷ fs) = ap (λ (t : List ℕ). spelling f ++ t) (spelled_flat fs)
 
--- one more of them
-pub read_more : (bytes : List ℕ) (vs : List Value) (v : Value) (rest : List ℕ) → bytes ≡ spellings (frames_view vs) ++ (spelling (view v) ++ rest)
-    → bytes ≡ spellings (frames_view (vs ++ v ∷ [])) ++ rest
-read_more bytes vs v rest is =
-    let front = spellings (frames_view vs) in
-    let more : spellings (frames_view (vs ++ v ∷ [])) ≡ front ++ spelling (view v) =
-    ap (λ (fs : List Frame). spellings (frames_of fs)) (map-append view vs (v ∷ [])) ∙ spellings-append (map view vs) (view v ∷ [])
-    ∙ ap (λ (t : List ℕ). front ++ t) (append-nil (spelling (view v)))
-    in
-    is ∙ sym (append_assoc front (spelling (view v)) rest) ∙ ap (λ (t : List ℕ). t ++ rest) (sym more)
+-- all bytes that were fed are values that were read
+pub all_read : {X Y : Type 0} (fed : Result X FrameFault) (took : Result Y FrameFault) (bytes : List ℕ) (held after : Held) (vs : List Value)
+    → is_err fed ≡ false → Feeds (reading []) bytes fed held → ((stream : List ℕ) → SoFar stream [] held → OnOk took (SoFar stream (map view vs) after))
+    → is_err took ≡ false → bytes_in after ≡ [] → bytes ≡ spellings (frames_view vs)
+all_read (Err f) took bytes held after vs ok given read on none = absurd (true≢false ok)
+all_read (Ok x) (Err f) bytes held after vs ok given read on none = absurd (true≢false on)
+all_read (Ok x) (Ok y) bytes held after vs ok given read on none =
+    let start : SoFar bytes [] held = (bytes, given, (refl, tt)) in
+    let so_far = read bytes start in
+    let rest : so_far.0 ≡ [] = sym (ap bytes_in so_far.1) ∙ none in
+    let fs = map view vs in
+    so_far.2.0 ∙ ap (λ (t : List ℕ). flat_map spelling fs ++ t) rest ∙ append-nil (flat_map spelling fs) ∙ spelled_flat fs
+
+-- no whole value is left
+pub end_so_far : (stream : List ℕ) (fs : List Frame) (held after : Held) → SoFar stream fs held → Answers {V = Value} view held (Ok None) after → SoFar stream fs after
+end_so_far stream fs held after so_far none = let ends = end_drains stream fs held after so_far none in (ends.0, ends.1, ends.2)
+
+-- an array is spelled by its size and its items
+pub array_read : (n : ℕ) (rest bytes again : List ℕ) (vs : List Value) → rest ≡ spellings (frames_view vs) → n ≡ length vs
+    → again ≡ (42 ∷ (decimal n ++ line_end)) ++ rest → bytes_eq again bytes ≡ true → bytes ≡ spelling (items (frames_view vs))
+array_read n rest bytes again vs is size all same =
+    sym ((bytes_eq-Decides again bytes).0 same) ∙ all ∙ ap (λ (t : List ℕ). 42 ∷ ((decimal n ++ line_end) ++ t)) is
+    ∙ ap (λ (m : ℕ). 42 ∷ ((decimal m ++ line_end) ++ spellings (frames_view vs))) (size ∙ sym (count_told vs))
+
+pub text_read : (text bytes again : List ℕ) → again ≡ spelling (bulk text) → bytes_eq again bytes ≡ true → bytes ≡ spelling (bulk text)
+text_read text bytes again is same = sym ((bytes_eq-Decides again bytes).0 same) ∙ is
 
 -- ---- where there is no answer
 

@@ -6,7 +6,7 @@ use Rattle.client_commands.specs.declared.protocols.Protocol.{Protocol}
 use Rattle.client_commands.specs.declared.protocols.Protocol.TheVariants.{Two, Three}
 use Rattle.pubsub.specs.Answering.{is_called}
 use Rattle.resp2.specs.declared.command.CommandFault.{CommandFault}
-use Rattle.resp2.specs.Commands.{redis_command_of}
+use Rattle.resp2.specs.Commands.{word, redis_command_of}
 use Rattle.resp2.specs.Framing.Frame.{Frame, FrameList, simple, fault, int, bulk, null_bulk, items, null_items, no_frames, frame, count, line_end, spelling, spellings, IsPlain}
 use Rattle.courteous_sessions.specs.declared.shapes.Shape.{Shape}
 use Rattle.courteous_sessions.specs.declared.shapes.Shape.TheVariants.{Plain, Whole, Pairs, Tables, Verbatim, Pushes}
@@ -177,13 +177,25 @@ shape_of_words name word =
       ]
     ]
 
+-- the items of an array
+abbrev pub items_of : Frame → FrameList
+items_of (items fs) = fs
+items_of value = no_frames
+
+-- the bytes of the first item, and of the second
+abbrev pub first_of : FrameList → List ℕ
+first_of no_frames = []
+first_of (frame f fs) = word f
+
+abbrev pub second_of : FrameList → List ℕ
+second_of no_frames = []
+second_of (frame f fs) = first_of fs
+
 abbrev pub first_word : Frame → List ℕ
-first_word (items (frame (bulk name) fs)) = name
-first_word value = []
+first_word value = first_of (items_of value)
 
 abbrev pub second_word : Frame → List ℕ
-second_word (items (frame f (frame (bulk word) fs))) = word
-second_word value = []
+second_word value = second_of (items_of value)
 
 abbrev pub shape_of_asked : Result Command CommandFault → (name word : List ℕ) → Shape
 shape_of_asked (Ok command) name word = shape_of_command command

@@ -1,8 +1,9 @@
 //! How protocol 3 tells an answer of protocol 2: its writer, beside that of `resp2`.
 
-ghost use Rattle.std.specs.Prelude.{◌≡◌, ◌++◌, ◌∷◌, [], OnOk, OnErr, IfErr, IfOk, length, decimal};
+ghost use Rattle.std.specs.Prelude.{◌≡◌, ◌++◌, ◌∷◌, ℕ, List, [], OnOk, OnErr, IfErr, IfOk, length, map, decimal};
 ghost use Rattle.resp2.specs.Framing.Frame as frames;
 ghost use Rattle.resp2.specs.Framing.Frame.{view, frames_view, line_end, spelling, spellings};
+ghost use Rattle.resp2.specs.Framing.Stream.{SoFar};
 ghost use Rattle.courteous_sessions.specs.Retelling.{spelling3, spellings3, map_spelling, map_spellings, table_spelling, text_spelling, push_spelling, told_as, all_told_as, without_null, AreTold, IsTold3, IsTold, JoinsTold};
 
 use crate::exchange::put_out;
@@ -10,7 +11,9 @@ use crate::shapes::Shape;
 use ballot_law::{NoMemory, Text};
 use bytes::BytesMut;
 use client_commands::Protocol;
-use resp2::{Frames, OutText, Value, push_bulk, push_int, push_kind, push_line, push_size};
+use resp2::{
+    FrameFault, Frames, OutText, Value, push_bulk, push_int, push_kind, push_line, push_size,
+};
 use sentinel_core::ServeFault;
 use std::alloc::Global;
 
@@ -67,7 +70,12 @@ fn push_row(out: &mut OutText, value: &Value) -> Result<(), NoMemory>
 {
     match value {
         Value::Items(items) => push_map(out, items),
-        _ => push_value(out, value),
+        Value::Simple(_) => push_value(out, value),
+        Value::Fault(_) => push_value(out, value),
+        Value::Int(_) => push_value(out, value),
+        Value::Bulk(_) => push_value(out, value),
+        Value::NullBulk => push_value(out, value),
+        Value::NullItems => push_value(out, value),
     }
 }
 
@@ -92,7 +100,12 @@ fn push_table(out: &mut OutText, value: &Value) -> Result<(), NoMemory>
             push_size(out, b'*', rows.as_slice().len())?;
             push_rows(out, rows.as_slice())
         }
-        _ => push_value(out, value),
+        Value::Simple(_) => push_value(out, value),
+        Value::Fault(_) => push_value(out, value),
+        Value::Int(_) => push_value(out, value),
+        Value::Bulk(_) => push_value(out, value),
+        Value::NullBulk => push_value(out, value),
+        Value::NullItems => push_value(out, value),
     }
 }
 
@@ -106,7 +119,12 @@ fn push_text(out: &mut OutText, value: &Value) -> Result<(), NoMemory>
             out.add(b"txt:")?;
             push_line(out, text.as_slice())
         }
-        _ => push_value(out, value),
+        Value::Simple(_) => push_value(out, value),
+        Value::Fault(_) => push_value(out, value),
+        Value::Int(_) => push_value(out, value),
+        Value::NullBulk => push_value(out, value),
+        Value::Items(_) => push_value(out, value),
+        Value::NullItems => push_value(out, value),
     }
 }
 
@@ -116,7 +134,12 @@ fn push_push(out: &mut OutText, value: &Value) -> Result<(), NoMemory>
 {
     match value {
         Value::Items(items) => push_items(out, b'>', items),
-        _ => push_value(out, value),
+        Value::Simple(_) => push_value(out, value),
+        Value::Fault(_) => push_value(out, value),
+        Value::Int(_) => push_value(out, value),
+        Value::Bulk(_) => push_value(out, value),
+        Value::NullBulk => push_value(out, value),
+        Value::NullItems => push_value(out, value),
     }
 }
 
@@ -125,7 +148,8 @@ fn push_told(out: &mut OutText, shape: Shape, value: &Value) -> Result<(), NoMem
     ensures { OnOk result (out.new ≡ out.old ++ told_as shape (view value.now)) }
 {
     match shape {
-        Shape::Plain | Shape::Whole => push_value(out, value),
+        Shape::Plain => push_value(out, value),
+        Shape::Whole => push_value(out, value),
         Shape::Pairs => push_row(out, value),
         Shape::Tables => push_table(out, value),
         Shape::Verbatim => push_text(out, value),
@@ -145,6 +169,17 @@ fn push_all_told(out: &mut OutText, shape: Shape, values: &[Value]) -> Result<()
     Ok(())
 }
 
+/// Adds each value that is whole.
+fn take_whole(frames: &mut Frames, values: &mut Vec<Value>) -> Result<(), FrameFault>
+    ensures { (stream : List ℕ) → SoFar stream (map view values.old.items) frames.old
+        → OnOk result (SoFar stream (map view values.new.items) frames.new) }
+{
+    while let Some(value) = frames.next()? {
+        values.push(value)?;
+    }
+    Ok(())
+}
+
 /// The values that these bytes spell, one after the other; `NoMemory` where they don't, or memory was refused.
 fn values_in(alloc: Global, bytes: &[u8]) -> Result<Vec<Value>, NoMemory>
     ensures { IfOk result (λ values. bytes.now ≡ spellings (frames_view values.items)) }
@@ -154,14 +189,13 @@ fn values_in(alloc: Global, bytes: &[u8]) -> Result<Vec<Value>, NoMemory>
         return Err(NoMemory);
     }
     let mut values = Vec::new(alloc);
-    while let Ok(Some(value)) = frames.next() {
-        values.push(value)?;
+    if take_whole(&mut frames, &mut values).is_err() {
+        return Err(NoMemory);
     }
-    if frames.held().is_empty() {
-        Ok(values)
-    } else {
-        Err(NoMemory)
+    if !frames.held().is_empty() {
+        return Err(NoMemory);
     }
+    Ok(values)
 }
 
 /// What comes after the first line of these bytes.

@@ -2,9 +2,9 @@
 
 ghost use Rattle.std.specs.Prelude.{◌≡◌};
 ghost use Rattle.pubsub.specs.Answering.{is_called};
-ghost use Rattle.resp2.specs.Framing.Frame.{view};
-ghost use Rattle.courteous_sessions.specs.Retelling.{shape_of_command, shape_of_sentinel, shape_of_client, shape_of_docs, shape_of_words, first_word, second_word, shape_of_asked, shape_of, is_subscribing};
-ghost use Rattle.resp2.specs.Commands.{redis_command_of};
+ghost use Rattle.resp2.specs.Framing.Frame.{view, frames_view};
+ghost use Rattle.courteous_sessions.specs.Retelling.{shape_of_command, shape_of_sentinel, shape_of_client, shape_of_docs, shape_of_words, items_of, first_of, second_of, first_word, second_word, shape_of_asked, shape_of, is_subscribing};
+ghost use Rattle.resp2.specs.Commands.{word, redis_command_of};
 
 use ballot_law::Command;
 use resp2::{Value, redis_command_of};
@@ -39,8 +39,17 @@ fn shape_of_command(command: &Command) -> Shape
 {
     match command {
         Command::Master(_) => Shape::Pairs,
-        Command::Masters | Command::Replicas(_) | Command::Sentinels(_) => Shape::Tables,
-        _ => Shape::Plain,
+        Command::Masters => Shape::Tables,
+        Command::Replicas(_) => Shape::Tables,
+        Command::Sentinels(_) => Shape::Tables,
+        Command::Ping => Shape::Plain,
+        Command::IsMasterDownByAddr { .. } => Shape::Plain,
+        Command::GetMasterAddrByName(_) => Shape::Plain,
+        Command::MyId => Shape::Plain,
+        Command::CkQuorum(_) => Shape::Plain,
+        Command::Failover(_) => Shape::Plain,
+        Command::FlushConfig => Shape::Plain,
+        Command::Subscribe => Shape::Plain,
     }
 }
 
@@ -96,30 +105,60 @@ fn shape_of_words(name: &[u8], word: &[u8]) -> Shape
     Shape::Plain
 }
 
-/// The name of a command; no bytes where there is none.
-fn first_word(value: &Value) -> &[u8]
-    ensures { result.now ≡ first_word (view value.now) }
+/// The items of an array, and none of any other value.
+fn items_of(value: &Value) -> &[Value]
+    ensures { frames_view result.now ≡ items_of (view value.now) }
 {
     match value {
-        Value::Items(items) => match items.as_slice() {
-            [Value::Bulk(name), ..] => name.as_slice(),
-            _ => &[],
-        },
+        Value::Items(items) => items.as_slice(),
         _ => &[],
     }
 }
 
+/// The bytes of a bulk string, and none of any other value.
+fn word_of(value: &Value) -> &[u8]
+    ensures { result.now ≡ word (view value.now) }
+{
+    match value {
+        Value::Bulk(bytes) => bytes.as_slice(),
+        _ => &[],
+    }
+}
+
+/// The bytes of the first item; none where there is no item.
+fn first_of(items: &[Value]) -> &[u8]
+    ensures { result.now ≡ first_of (frames_view items.now) }
+{
+    match items.split_first() {
+        Some((value, _)) => word_of(value),
+        None => &[],
+    }
+}
+
+/// The bytes of the second item; none where there is none.
+fn second_of(items: &[Value]) -> &[u8]
+    ensures { result.now ≡ second_of (frames_view items.now) }
+{
+    match items.split_first() {
+        Some((_, more)) => first_of(more),
+        None => &[],
+    }
+}
+
+/// The name of a command; no bytes where there is none.
+#[tactic(auto, using(crate::proofs::Retold::first_as))]
+fn first_word(value: &Value) -> &[u8]
+    ensures { result.now ≡ first_word (view value.now) }
+{
+    first_of(items_of(value))
+}
+
 /// The word after it; no bytes where there is none.
+#[tactic(auto, using(crate::proofs::Retold::second_as))]
 fn second_word(value: &Value) -> &[u8]
     ensures { result.now ≡ second_word (view value.now) }
 {
-    match value {
-        Value::Items(items) => match items.as_slice() {
-            [_, Value::Bulk(word), ..] => word.as_slice(),
-            _ => &[],
-        },
-        _ => &[],
-    }
+    second_of(items_of(value))
 }
 
 /// Whether the command with this name changes to what a connection listens.
