@@ -7,6 +7,7 @@ pub mod LineReader
 pub mod LineStreams
 pub mod Lookups
 pub mod OwnValues
+pub mod Parts
 pub mod Silence
 pub mod Strangers
 pub mod SubBytes

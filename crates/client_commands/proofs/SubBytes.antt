@@ -1,7 +1,8 @@
 -- The bytes of what is told to subcommands of SENTINEL, and what CLIENT KILL chose.
-use Rattle.std.proofs.Common.{◌≡◌, ℕ, zero, suc, List, [], ◌∷◌, ◌++◌, ◌*◌, length, map, arith, decimal, refl, sym, ap, Bool, true, false, true≢false, Option, None, Some}
+use Rattle.std.proofs.Common.{◌≡◌, ◌∙◌, ◌-◌, take, drop, get_or, ℕ, zero, suc, List, [], ◌∷◌, ◌++◌, ◌*◌, ◌≤◌, length, map, arith, decimal, refl, sym, ap, Bool, true, false, true≢false, Option, None, Some}
+use Rattle.std.proofs.lemmas.List.{take_all}
 use Rattle.resp2.specs.Framing.Frame.{Frame, bulk, items, count, frames_of, spelling, spellings, line_end}
-use Rattle.client_commands.specs.Choosing.{Wanted, Chosen, fits, unfit, with_option, with_options, is_fit, wanted_after, chosen_wanted, unfit_text}
+use Rattle.client_commands.specs.Choosing.{Wanted, Chosen, fits, unfit, anyone, chosen_by, with_option, with_options, is_fit, wanted_after, chosen_wanted, unfit_text}
 use Rattle.client_commands.specs.Courtesies.{ClientInfo, MonitoredMaster, uncached, cached, doomed, kill_answer}
 
 count_bulks : (words : List (List ℕ)) → count (frames_of (map bulk words)) ≡ length words
@@ -59,9 +60,30 @@ options_go wanted option value words h = at (with_option wanted option value) h 
   at (fits next) h = refl
   at (unfit refusal) h = absurd (true≢false (sym h))
 
+-- an option and its value that fit, before the others
+pub options_ahead : (wanted after : Wanted) (rest : List (List ℕ)) (option value x y : List ℕ) (is_so : Bool) → 2 ≤ length rest → x ≡ get_or rest 0 x
+    → y ≡ get_or rest 1 y → option ≡ x → value ≡ y → is_so ≡ is_fit (with_option wanted option value) → is_so ≡ true
+    → after ≡ wanted_after wanted (with_option wanted option value) → with_options wanted rest ≡ with_options after (take (length rest - 2) (drop 2 rest))
+options_ahead wanted after [] option value x y is_so l e g oe ve f t a = absurd (omega (arith, l))
+options_ahead wanted after (o ∷ []) option value x y is_so l e g oe ve f t a = absurd (omega (arith, l))
+options_ahead wanted after (o ∷ v ∷ words) option value x y is_so l e g oe ve f t a =
+    let left : take (length (o ∷ v ∷ words) - 2) words ≡ words =
+    take_all (length (o ∷ v ∷ words) - 2) words (let k : length (o ∷ v ∷ words) ≡ suc (suc (length words)) = refl in omega arith) in
+    ap (λ (z : List ℕ). with_options wanted (z ∷ v ∷ words)) (sym (oe ∙ e))
+    ∙ ap (λ (z : List ℕ). with_options wanted (option ∷ z ∷ words)) (sym (ve ∙ g))
+    ∙ options_go wanted option value words (sym f ∙ t)
+    ∙ ap (λ (w : Wanted). with_options w words) (sym a)
+    ∙ ap (with_options after) (sym left)
+
 pub unfit_none : (chosen : Chosen) → is_fit chosen ≡ false → chosen_wanted chosen ≡ None
 unfit_none (fits next) h = absurd (true≢false h)
 unfit_none (unfit refusal) h = refl
+
+-- two words or more are options
+pub chosen_many : (words : List (List ℕ)) → 2 ≤ length words → chosen_by words ≡ with_options (anyone true) words
+chosen_many [] h = absurd (omega (arith, h))
+chosen_many (word ∷ []) h = absurd (omega (arith, h))
+chosen_many (option ∷ value ∷ words) h = refl
 
 -- a text stays where the options fit
 pub fit_text : (before : List ℕ) (chosen : Chosen) → is_fit chosen ≡ true → unfit_text before chosen ≡ before

@@ -471,7 +471,7 @@ abbrev pub setting : (pattern name value : List ℕ) → List (List ℕ)
 setting pattern name value = elim (matches pattern name) [ true ↦ name ∷ value ∷ [] | false ↦ [] ]
 
 -- the settings of all Sentinels that redis-sentinel tells: no host is told by its name, and no password is shown
-abbrev pub settings : (pattern : List ℕ) → Figures → List (List ℕ)
+unfoldable pub settings : (pattern : List ℕ) → Figures → List (List ℕ)
 settings pattern figures =
     setting pattern (codes "resolve-hostnames") (codes "no")
     ++ (setting pattern (codes "announce-hostnames") (codes "no")

@@ -180,7 +180,7 @@ port_sections words figures =
     with_asked (with_asked (with_asked (with_asked [] Server words figures) Clients words figures) Stats words figures) Cpu words figures
 
 -- the sections that these words ask for
-abbrev pub info_text : List (List ℕ) → Figures → (masters : Frame) → List ℕ
+unfoldable pub info_text : List (List ℕ) → Figures → (masters : Frame) → List ℕ
 info_text words figures masters =
     with_section (port_sections words figures) (is_told (codes "sentinel") words) (sentinel_section figures (rows_of masters))
 

@@ -299,6 +299,7 @@ fn chosen_by_options(
 }
 
 /// The clients that CLIENT KILL with these words names; none where it is refused, and then the answer says so.
+#[tactic(auto, using(crate::proofs::SubBytes::chosen_many))]
 pub(crate) fn chosen_by(
     alloc: Global,
     words: &[Text],

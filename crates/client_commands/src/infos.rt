@@ -1,6 +1,7 @@
 //! INFO.
 
 ghost use Rattle.std.specs.Prelude.{◌≡◌, ◌++◌, [], OnOk, length, take, bytes_eq, codes, decimal};
+ghost use Rattle.resp2.specs.Framing.Frame as frames;
 ghost use Rattle.resp2.specs.Framing.Frame.{view, frames_view, spelling, count, line_end};
 ghost use Rattle.client_commands.specs.Courtesies.{words_of};
 ghost use Rattle.client_commands.specs.ClientLines.{labelled};
@@ -409,6 +410,7 @@ fn add_port_sections(out: &mut OutText, words: &[Text], figures: &Figures) -> Re
 }
 
 /// Adds the sections that the words ask for, where none is there yet.
+#[tactic(auto, unfolding(crate::specs::Infos::info_text))]
 fn add_sections(
     alloc: Global,
     out: &mut OutText,
@@ -427,6 +429,22 @@ fn add_sections(
     add_sentinel(alloc, out, figures, rows_of(masters))
 }
 
+/// The answer is the sections that the words ask for.
+fn say_sections(
+    alloc: Global,
+    words: &[Text],
+    figures: &Figures,
+    masters: &Value,
+    out: &mut OutText,
+) -> Result<(), NoMemory>
+    ensures { OnOk result (out.new ≡ spelling (frames.bulk (info_text words.now figures.now (view masters.now)))) }
+{
+    let mut text = OutText::new(alloc);
+    add_sections(alloc, &mut text, words, figures, masters)?;
+    out.clear();
+    push_bulk(out, text.as_slice())
+}
+
 /// Has `out` hold the answer to INFO, whose value this is, where its port has these figures and the Sentinel answers
 /// SENTINEL MASTERS with `masters`: docs/CLIENTS.md has its sections. Sections that a Sentinel here doesn't have are
 /// told as none.
@@ -442,9 +460,5 @@ pub fn info(
     ensures { OnOk result (out.new ≡ spelling (info figures.now (view value.now) (view masters.now))) }
 {
     let words = words_of(alloc, value)?;
-    let mut text = OutText::new(alloc);
-    let asked = after_first(words.as_slice());
-    add_sections(alloc, &mut text, asked, figures, masters)?;
-    out.clear();
-    push_bulk(out, text.as_slice())
+    say_sections(alloc, after_first(words.as_slice()), figures, masters, out)
 }

@@ -246,6 +246,37 @@ fn list_by_kind(
     }
 }
 
+/// The answer to CLIENT LIST with this option and the words after it.
+fn list_by(
+    alloc: Global,
+    asker: &ClientInfo,
+    option: &[u8],
+    values: &[Text],
+    out: &mut OutText,
+) -> Result<(), NoMemory>
+    ensures { OnOk result (out.new ≡ spelling (client_list asker.now (option.now ∷ values.now))) }
+{
+    match values {
+        [] => say(out, SYNTAX_ERROR),
+        [value, more @ ..] => {
+            if is_called(b"id", option) {
+                return list_by_numbers(alloc, asker, values, out);
+            }
+            if is_called(b"type", option) && more.is_empty() {
+                return list_by_kind(alloc, asker, value.as_slice(), out);
+            }
+            say(out, SYNTAX_ERROR)
+        }
+    }
+}
+
+/// The answer to CLIENT LIST without words.
+fn list_all(alloc: Global, asker: &ClientInfo, out: &mut OutText) -> Result<(), NoMemory>
+    ensures { OnOk result (out.new ≡ spelling (client_list asker.now [])) }
+{
+    say_lines(alloc, out, asker, LIST, &Wanted::anyone(false))
+}
+
 /// The answer to CLIENT LIST with these words.
 pub(crate) fn client_list(
     alloc: Global,
@@ -255,17 +286,8 @@ pub(crate) fn client_list(
 ) -> Result<(), NoMemory>
     ensures { OnOk result (out.new ≡ spelling (client_list asker.now words.now)) }
 {
-    let Some((option, values)) = words.split_first() else {
-        return say_lines(alloc, out, asker, LIST, &Wanted::anyone(false));
-    };
-    let Some((value, more)) = values.split_first() else {
-        return say(out, SYNTAX_ERROR);
-    };
-    if is_called(b"id", option.as_slice()) {
-        return list_by_numbers(alloc, asker, values, out);
+    match words {
+        [] => list_all(alloc, asker, out),
+        [option, values @ ..] => list_by(alloc, asker, option.as_slice(), values, out),
     }
-    if is_called(b"type", option.as_slice()) && more.is_empty() {
-        return list_by_kind(alloc, asker, value.as_slice(), out);
-    }
-    say(out, SYNTAX_ERROR)
 }

@@ -1,6 +1,6 @@
 //! Which command the words are.
 
-ghost use Rattle.std.specs.Prelude.{◌≡◌, ◌++◌, IfOk, OnOk, option_map, map, codes};
+ghost use Rattle.std.specs.Prelude.{◌≡◌, ◌++◌, ◌∷◌, IfOk, OnOk, option_map, map, codes};
 ghost use Rattle.ballot_law.specs.Words.{lower};
 ghost use Rattle.resp2.specs.Framing.Frame.{spelling};
 ghost use Rattle.client_commands.specs.Refusals.{printed_byte, wrong_arguments};
@@ -163,6 +163,23 @@ fn subcommand<'a>(
     }
 }
 
+/// SENTINEL with this word and those after it, as `sentinel`.
+fn sentinel_of<'a>(
+    miscounted: bool,
+    word: &[u8],
+    words: &'a [Text],
+    out: &mut OutText,
+) -> Result<Option<(Verb, &'a [Text])>, NoMemory>
+    ensures known { IfOk result (λ known. option_map (λ x. (x.0, x.1.now)) known ≡ found (sentinel miscounted (word.now ∷ words.now))) }
+    ensures text { OnOk result (out.new ≡ text_after out.old (sentinel miscounted (word.now ∷ words.now))) }
+{
+    if miscounted {
+        refuse_miscounted(out, word)?;
+        return Ok(None);
+    }
+    subcommand(word, words, out)
+}
+
 /// SENTINEL with these words, whose number the Sentinel's rules refused or of which they know no subcommand.
 fn sentinel<'a>(
     miscounted: bool,
@@ -172,15 +189,13 @@ fn sentinel<'a>(
     ensures known { IfOk result (λ known. option_map (λ x. (x.0, x.1.now)) known ≡ found (sentinel miscounted words.now)) }
     ensures text { OnOk result (out.new ≡ text_after out.old (sentinel miscounted words.now)) }
 {
-    let Some((word, more)) = words.split_first() else {
-        refuse_arguments(out, b"sentinel")?;
-        return Ok(None);
-    };
-    if miscounted {
-        refuse_miscounted(out, word.as_slice())?;
-        return Ok(None);
+    match words {
+        [] => {
+            refuse_arguments(out, b"sentinel")?;
+            Ok(None)
+        }
+        [word, more @ ..] => sentinel_of(miscounted, word.as_slice(), more, out),
     }
-    subcommand(word.as_slice(), more, out)
 }
 
 /// A command that is none of those of a connection.

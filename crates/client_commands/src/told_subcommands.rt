@@ -1,6 +1,6 @@
 //! What is answered to the subcommands of SENTINEL that a Sentinel's rules don't know.
 
-ghost use Rattle.std.specs.Prelude.{◌≡◌, ◌*◌, ◌++◌, ◌∷◌, OnOk, IfOk, bytes_eq, length, map, decimal};
+ghost use Rattle.std.specs.Prelude.{◌≡◌, ◌*◌, ◌++◌, ◌∷◌, [], OnOk, IfOk, bytes_eq, length, map, decimal};
 ghost use Rattle.std.specs.List.{list_any};
 ghost use Rattle.ballot_law.specs.Words.{lower};
 ghost use Rattle.resp2.specs.Framing.Frame as frames;
@@ -44,7 +44,7 @@ fn refuse_trial(command: &[u8], out: &mut OutText) -> Result<(), NoMemory>
 }
 
 /// Adds that nothing is kept of the INFO of so many data nodes.
-#[tactic(auto, using(crate::proofs::Bytes::uncached_none, crate::proofs::Bytes::uncached_more))]
+#[tactic(auto, using(crate::proofs::Bytes::uncached_none))]
 fn add_uncached(out: &mut OutText, nodes: usize) -> Result<(), NoMemory>
     ensures { OnOk result (out.new ≡ out.old ++ spellings (uncached nodes)) }
 {
@@ -223,6 +223,19 @@ fn say_words(out: &mut OutText, words: &[Text]) -> Result<(), NoMemory>
     say_word_bytes(out, words)
 }
 
+/// The answer is the settings whose names the pattern matches.
+fn say_settings(
+    alloc: Global,
+    pattern: &[u8],
+    figures: &Figures,
+    out: &mut OutText,
+) -> Result<(), NoMemory>
+    ensures { OnOk result (out.new ≡ spelling (frames.items (frames_of (map frames.bulk (settings pattern.now figures.now))))) }
+{
+    let told = settings(alloc, pattern, figures)?;
+    say_words(out, told.as_slice())
+}
+
 /// The answer to SENTINEL CONFIG GET with this pattern.
 fn get_config(
     alloc: Global,
@@ -233,8 +246,23 @@ fn get_config(
     ensures { OnOk result (out.new ≡ spelling (config_get asker.now pattern.now)) }
 {
     let pattern = lowered(alloc, pattern)?;
-    let told = settings(alloc, pattern.as_slice(), asker.port().figures())?;
-    say_words(out, told.as_slice())
+    say_settings(alloc, pattern.as_slice(), asker.port().figures(), out)
+}
+
+/// The answer to SENTINEL CONFIG with this mode and this pattern.
+fn config_of(
+    alloc: Global,
+    asker: &ClientInfo,
+    mode: &[u8],
+    pattern: &[u8],
+    out: &mut OutText,
+) -> Result<(), NoMemory>
+    ensures { OnOk result (out.new ≡ spelling (config asker.now (mode.now ∷ pattern.now ∷ []))) }
+{
+    if is_called(b"get", mode) {
+        return get_config(alloc, asker, pattern, out);
+    }
+    say(out, ONLY_GET)
 }
 
 /// The answer to SENTINEL CONFIG with these words.
@@ -247,12 +275,7 @@ fn config(
     ensures { OnOk result (out.new ≡ spelling (config asker.now words.now)) }
 {
     match words {
-        [mode, pattern] => {
-            if is_called(b"get", mode.as_slice()) {
-                return get_config(alloc, asker, pattern.as_slice(), out);
-            }
-            say(out, ONLY_GET)
-        }
+        [mode, pattern] => config_of(alloc, asker, mode.as_slice(), pattern.as_slice(), out),
         [mode, _, _] => {
             if is_called(b"set", mode.as_slice()) {
                 return refuse_at_runtime(b"CONFIG SET", out);

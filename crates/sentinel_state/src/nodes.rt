@@ -17,4 +17,5 @@ pub use frame_list::FrameList;
 pub use node::{Node, greet_soon, move_all};
 pub use peers::Peer;
 pub use plans::Plan;
+pub(crate) use plans::position_of;
 pub use sending::{Sending, ping_period, send_each_node, send_each_peer};

@@ -11,7 +11,7 @@ ghost use Rattle.sentinel_rules.specs.Ticks.{heir_of, planned_if, with_plan};
 
 use crate::cores::Core;
 use crate::masters::Master;
-use crate::nodes::Plan;
+use crate::nodes::{Plan, position_of};
 use crate::pauses::is_down_for;
 use ballot_law::{Addr, DataRole, Info, clock_of};
 use failover_states::FailoverState;
@@ -103,7 +103,7 @@ fn place_followed(plan: &Plan, m: u16, addr: Option<Addr>) -> Option<usize>
     ensures within { IfSome result (λ k. k < length (nodes_of plan.now m)) }
 {
     match addr {
-        Some(addr) => plan.nodes(m).iter().position(|node| addr.is_same(node)),
+        Some(addr) => position_of(plan.nodes(m), addr),
         None => None,
     }
 }

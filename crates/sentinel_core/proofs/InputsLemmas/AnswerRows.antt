@@ -158,7 +158,7 @@ told_last_test : (out : ℕ → Bool) (place count : ℕ) (b : Bool) → length 
     → length (if b then places_told out (place + 1) (suc count) else place ∷ places_told out (place + 1) (suc count))
     ≡ length (if b then places_told out (place + 1) count else place ∷ places_told out (place + 1) count) + (if out (place + 1 + count) then 0 else 1)
 told_last_test out place count true h = h
-told_last_test out place count false h = ap suc h
+told_last_test out place count false h = omega (arith, h)
 
 told_end : (out : ℕ → Bool) (place : ℕ) (b : Bool) → length (if b then [] else place ∷ []) ≡ 0 + (if b then 0 else 1)
 told_end out place true = refl

@@ -289,7 +289,6 @@ pub(crate) fn count_for(state: &State, m: u16, epoch: u64, stage: FailoverState)
 }
 
 /// The best replica, where the rows of this state look at it.
-#[tactic(auto, using(crate::proofs::InputsLemmas::FewBest::best_few))]
 pub(crate) fn best_for(state: &State, m: u16, now: u64, stage: FailoverState) -> Option<(u16, Addr)>
     ensures value { result ≡ (if looks_at_best stage then best_of state.now.plan state.now.core m (clock now) else None) }
     ensures few { IfSome result (λ best. best.0 ≤ NODES_MAX) }

@@ -1,4 +1,4 @@
-use Rattle.std.proofs.Common.{◌≡◌, ◌++◌, ℕ, length, subst, arith, below_more}
+use Rattle.std.proofs.Common.{◌≡◌, ◌++◌, ◌∙◌, ℕ, List, length, ap, sym, subst, arith, below_more}
 use Rattle.ballot_law.specs.Clocks.{clock}
 use Rattle.resp2.specs.Framing.Frame.{spelling}
 use Rattle.port_answers.specs.Room.{bounded}
@@ -15,10 +15,12 @@ loop-place-preserved c =
     let own = c.place-own.result in
     let n = c.group_size-count.result in
     let place = c.loop-place.place in
+    let told : ℕ → List ℕ = λ k. spelling (sentinel_frame_by c.args.plan.now.profile (row_of k)) in
     record {
       written =
-          one_written (header (length (places_but own 0 n))) (text_but own (λ k. spelling (sentinel_frame_by c.args.plan.now.profile (row_of k)))) place c.loop-place.text c.add_sentinel_but.new.text
-          c.loop-place.invariant.written c.add_sentinel_but.ensures.value;
+          one_written (header (length (places_but own 0 n))) (text_but own told) place c.loop-place.text c.add_sentinel_but.new.text
+          c.loop-place.invariant.written
+          (c.add_sentinel_but.ensures.value ∙ ap (λ one. bounded (c.loop-place.text ++ text_but one told place)) (sym c.place-own.ensures));
       fits = below_more (λ k. IsSentinelRow (row_of k)) place c.loop-place.invariant.fits c.add_sentinel_but.ensures.fits;
     }
 
