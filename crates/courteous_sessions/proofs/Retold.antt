@@ -1,5 +1,5 @@
 -- What protocol 3 tells of an answer.
-use Rattle.std.proofs.Common.{◌≡◌, ◌∙◌, ◌+◌, ◌<◌, ℕ, suc, Bool, true, false, true≢false, List, [], ◌∷◌, ◌++◌, None, Result, Ok, Err, refl, sym, ap, append_assoc, decimal, length, map, take, get_or}
+use Rattle.std.proofs.Common.{◌≡◌, ◌∙◌, ◌+◌, ◌/◌, ◌<◌, ℕ, suc, Bool, true, false, true≢false, List, [], ◌∷◌, ◌++◌, None, Result, Ok, Err, refl, sym, ap, append_assoc, decimal, length, map, take, get_or}
 use Rattle.std.specs.List.{flat_map}
 use Rattle.std.specs.Prelude.{bytes_eq, is_err, OnOk}
 use Rattle.std.proofs.lemmas.List.{append-nil, take_more, map-append}
@@ -9,6 +9,7 @@ use Rattle.client_commands.specs.declared.protocols.Protocol.TheVariants.{Two, T
 use Rattle.resp2.specs.declared.framing.fault.FrameFault.{FrameFault}
 use Rattle.resp2.specs.declared.framing.value.Value.{Value}
 use Rattle.resp2.specs.Framing.Frame.{Frame, FrameList, simple, fault, int, bulk, null_bulk, items, null_items, no_frames, frame, frames_of, frames_view, view, count, line_end, spelling, spellings}
+use Rattle.resp2.specs.Framing.Writing.{Adds}
 use Rattle.resp2.specs.Framing.Stream.{Held, reading, bytes_in, Feeds, Answers, SoFar}
 use Rattle.resp2.proofs.FramingLemmas.Drains.{end_drains}
 use Rattle.courteous_sessions.specs.declared.shapes.Shape.{Shape}
@@ -47,6 +48,17 @@ count_told [] = refl
 count_told (v ∷ vs) = ap suc (count_told vs)
 
 -- ---- values that were read
+
+-- a header tells how many values there are
+pub adds_sized : {X E full : Type 0} (answer : Result X E) (before after : List ℕ) (kind n : ℕ) (vs : List Value) → n ≡ length vs
+    → Adds answer before after (kind ∷ (decimal n ++ line_end)) full → OnOk answer (after ≡ before ++ (kind ∷ (decimal (count (frames_view vs)) ++ line_end)))
+adds_sized (Ok x) before after kind n vs size added = added ∙ ap (λ (m : ℕ). before ++ (kind ∷ (decimal m ++ line_end))) (size ∙ sym (count_told vs))
+adds_sized (Err e) before after kind n vs size added = tt
+
+pub adds_halved : {X E full : Type 0} (answer : Result X E) (before after : List ℕ) (n : ℕ) (vs : List Value) → n ≡ length vs
+    → Adds answer before after (37 ∷ (decimal (n / 2) ++ line_end)) full → OnOk answer (after ≡ before ++ (37 ∷ (decimal (count (frames_view vs) / 2) ++ line_end)))
+adds_halved (Ok x) before after n vs size added = added ∙ ap (λ (m : ℕ). before ++ (37 ∷ (decimal (m / 2) ++ line_end))) (size ∙ sym (count_told vs))
+adds_halved (Err e) before after n vs size added = tt
 
 -- the values of a stream, spelled one after the other
 spelled_flat : (fs : List Frame) → flat_map spelling fs ≡ spellings (frames_of fs)

@@ -1,6 +1,6 @@
 //! How protocol 3 tells an answer of protocol 2: its writer, beside that of `resp2`.
 
-ghost use Rattle.std.specs.Prelude.{◌≡◌, ◌++◌, ◌∷◌, ℕ, List, [], OnOk, OnErr, IfErr, IfOk, length, map, decimal};
+ghost use Rattle.std.specs.Prelude.{◌≡◌, ◌++◌, ◌∷◌, ◌/◌, ℕ, List, [], OnOk, OnErr, IfErr, IfOk, length, map, decimal};
 ghost use Rattle.resp2.specs.Framing.Frame as frames;
 ghost use Rattle.resp2.specs.Framing.Frame.{view, frames_view, line_end, spelling, spellings};
 ghost use Rattle.resp2.specs.Framing.Stream.{SoFar};
@@ -19,6 +19,20 @@ use std::alloc::Global;
 
 /// The null of protocol 3.
 const NULL: &[u8] = b"_\r\n";
+
+/// Adds the header of an array of these items, with the byte of its kind.
+fn push_header(out: &mut OutText, kind: u8, items: &[Value]) -> Result<(), NoMemory>
+    ensures { OnOk result (out.new ≡ out.old ++ (kind ∷ (decimal (frames.count (frames_view items.now)) ++ line_end))) }
+{
+    push_size(out, kind, items.len())
+}
+
+/// Adds the header of a map of these names and values.
+fn push_map_header(out: &mut OutText, items: &[Value]) -> Result<(), NoMemory>
+    ensures { OnOk result (out.new ≡ out.old ++ (37 ∷ (decimal (frames.count (frames_view items.now) / 2) ++ line_end))) }
+{
+    push_size(out, b'%', items.len() / 2)
+}
 
 /// Adds the spelling of a value in protocol 3.
 #[cycle(spelling)]
@@ -39,9 +53,9 @@ fn push_value(out: &mut OutText, value: &Value) -> Result<(), NoMemory>
 /// Adds the header of a kind and the spellings of its items.
 #[cycle(spelling)]
 fn push_items(out: &mut OutText, kind: u8, items: &Vec<Value>) -> Result<(), NoMemory>
-    ensures { OnOk result (out.new ≡ out.old ++ (kind ∷ ((decimal (length items.now.items) ++ line_end) ++ spellings3 (frames_view items.now.items)))) }
+    ensures { OnOk result (out.new ≡ out.old ++ (kind ∷ ((decimal (frames.count (frames_view items.now.items)) ++ line_end) ++ spellings3 (frames_view items.now.items)))) }
 {
-    push_size(out, kind, items.as_slice().len())?;
+    push_header(out, kind, items.as_slice())?;
     push_values(out, items)
 }
 
@@ -60,7 +74,7 @@ fn push_values(out: &mut OutText, items: &Vec<Value>) -> Result<(), NoMemory>
 fn push_map(out: &mut OutText, items: &Vec<Value>) -> Result<(), NoMemory>
     ensures { OnOk result (out.new ≡ out.old ++ map_spelling (frames.items (frames_view items.now.items))) }
 {
-    push_size(out, b'%', items.as_slice().len() / 2)?;
+    push_map_header(out, items.as_slice())?;
     push_values(out, items)
 }
 
@@ -97,7 +111,7 @@ fn push_table(out: &mut OutText, value: &Value) -> Result<(), NoMemory>
 {
     match value {
         Value::Items(rows) => {
-            push_size(out, b'*', rows.as_slice().len())?;
+            push_header(out, b'*', rows.as_slice())?;
             push_rows(out, rows.as_slice())
         }
         Value::Simple(_) => push_value(out, value),
