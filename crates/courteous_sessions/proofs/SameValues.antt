@@ -1,13 +1,14 @@
 -- Both protocols say the same.
-use Rattle.std.proofs.Common.{◌≡◌, ◌∙◌, ◌+◌, ◌%◌, ◌/◌, ◌<◌, ◌^◌, ℕ, suc, List, [], ◌∷◌, ◌++◌, refl, sym, ap, append_assoc, length, decimal, arith}
-use Rattle.std.specs.Prelude.{codes}
+use Rattle.std.proofs.Common.{◌≡◌, ◌⊎◌, ◌||◌, inl, inr, ◌∙◌, ◌+◌, ◌%◌, ◌/◌, ◌<◌, ◌^◌, ℕ, suc, Bool, true, false, List, [], ◌∷◌, ◌++◌, refl, sym, ap, subst, append_assoc, length, decimal, arith}
+use Rattle.std.specs.Prelude.{bytes_eq, codes}
+use Rattle.std.proofs.lemmas.Slice.Eq.{bytes_eq-Decides}
 use Rattle.std.proofs.lemmas.Fmt.{decimal_injective}
-use Rattle.resp2.specs.Framing.Frame.{Frame, FrameList, simple, fault, int, bulk, null_bulk, items, null_items, no_frames, frame, count, line_end, IsPlain, ArePlain}
+use Rattle.resp2.specs.Framing.Frame.{Frame, FrameList, simple, fault, int, bulk, null_bulk, items, null_items, no_frames, frame, count, line_end, spelling, spellings, IsPlain, ArePlain}
 use Rattle.resp2.proofs.FramingLemmas.Numbers.{decimal_line}
 use Rattle.resp2.proofs.FramingLemmas.Streams.{one_spelling}
 use Rattle.courteous_sessions.specs.declared.shapes.Shape.{Shape}
 use Rattle.courteous_sessions.specs.declared.shapes.Shape.TheVariants.{Plain, Whole, Pairs, Tables, Verbatim, Pushes}
-use Rattle.courteous_sessions.specs.Retelling.{spelling3, spellings3, map_spelling, map_spellings, table_spelling, text_spelling, push_spelling, with_one_null, each_with_one_null, IsPaired, ArePaired, HasPairedRows, HasShortText, SaysTheSame}
+use Rattle.courteous_sessions.specs.Retelling.{spelling3, spellings3, map_spelling, map_spellings, table_spelling, text_spelling, push_spelling, with_one_null, each_with_one_null, IsPaired, ArePaired, HasPairedRows, HasShortText, SaysTheSame, null_line, without_null, HoldsNoNull, HoldNoNull, PlainIsSpelled}
 
 -- two headers of one kind that begin the same bytes tell the same number, and the same bytes follow them
 header_split : (kind n m : ℕ) (some other x y : List ℕ) → n < 2 ^ 64 → m < 2 ^ 64
@@ -347,3 +348,47 @@ says_the_same Pairs f g x y p q a b e = same_map f g x y p q a b e
 says_the_same Tables f g x y p q a b e = same_table f g x y p q a b e
 says_the_same Verbatim f g x y p q a b e = same_text f g x y p q a b e
 says_the_same Pushes f g x y p q a b e = same_push f g x y p q e
+
+-- ---- what is told as it is
+
+mutual
+  spelled_alike : (f : Frame) → HoldsNoNull f → spelling3 f ≡ spelling f
+  spelled_alike (simple text) h = refl
+  spelled_alike (fault text) h = refl
+  spelled_alike (int n) h = refl
+  spelled_alike (bulk bytes) h = refl
+  spelled_alike null_bulk h = absurd h
+  spelled_alike (items fs) h = ap (λ (t : List ℕ). 42 ∷ ((decimal (count fs) ++ line_end) ++ t)) (all_spelled_alike fs h)
+  spelled_alike null_items h = absurd h
+
+  all_spelled_alike : (fs : FrameList) → HoldNoNull fs → spellings3 fs ≡ spellings fs
+  all_spelled_alike no_frames h = refl
+  all_spelled_alike (frame f fs) h =
+      ap (λ (t : List ℕ). t ++ spellings3 fs) (spelled_alike f h.0) ∙ ap (λ (t : List ℕ). spelling f ++ t) (all_spelled_alike fs h.1)
+
+-- values that differ have spellings that differ
+differs_from : (f g : Frame) → IsPlain f → IsPlain g → (f ≡ g → ⊥) → bytes_eq (spelling f) (spelling g) ≡ false
+differs_from f g p q differs = at (bytes_eq (spelling f) (spelling g)) refl where
+  at : (v : Bool) → bytes_eq (spelling f) (spelling g) ≡ v → v ≡ false
+  at true e =
+      let same : spelling f ≡ spelling g = (bytes_eq-Decides (spelling f) (spelling g)).0 e in
+      absurd (differs (one_spelling f g [] [] p q (ap (λ (t : List ℕ). t ++ []) same)).0)
+  at false e = refl
+
+no_null_bulk : (f : Frame) → HoldsNoNull f → f ≡ null_bulk → ⊥
+no_null_bulk f h is = subst HoldsNoNull is h
+
+no_null_items : (f : Frame) → HoldsNoNull f → f ≡ null_items → ⊥
+no_null_items f h is = subst HoldsNoNull is h
+
+kept_alike : (f : Frame) → IsPlain f → HoldsNoNull f → without_null (spelling f) ≡ spelling3 f
+kept_alike f p h =
+    ap (λ (b : Bool). elim (b || bytes_eq (spelling f) (spelling null_items)) as (λ _. List ℕ) [ true ↦ null_line | false ↦ spelling f ])
+    (differs_from f null_bulk p tt (no_null_bulk f h))
+    ∙ ap (λ (b : Bool). elim b as (λ _. List ℕ) [ true ↦ null_line | false ↦ spelling f ]) (differs_from f null_items p tt (no_null_items f h))
+    ∙ sym (spelled_alike f h)
+
+pub plain_is_spelled : PlainIsSpelled
+plain_is_spelled f p (inl is) = ap without_null (ap spelling is) ∙ sym (ap spelling3 is)
+plain_is_spelled f p (inr (inl is)) = ap without_null (ap spelling is) ∙ sym (ap spelling3 is)
+plain_is_spelled f p (inr (inr h)) = kept_alike f p h

@@ -1,5 +1,5 @@
 -- How protocol 3 spells values, and as what it tells the answers that protocol 2 has: rows as maps, texts of clients verbatim, what Pub/Sub says as pushes.
-use Rattle.std.specs.Prelude.{◌≡◌, ◌<◌, ◌++◌, ◌∷◌, ◌+◌, ◌/◌, ◌%◌, ◌^◌, ◌||◌, ℕ, Bool, true, false, List, [], Result, Ok, Err, bytes_eq, codes, decimal, length}
+use Rattle.std.specs.Prelude.{◌≡◌, ◌⊎◌, ◌<◌, ◌++◌, ◌∷◌, ◌+◌, ◌/◌, ◌%◌, ◌^◌, ◌||◌, ℕ, Bool, true, false, List, [], Result, Ok, Err, bytes_eq, codes, decimal, length}
 use Rattle.ballot_law.specs.declared.commands.Command.{Command}
 use Rattle.ballot_law.specs.declared.commands.Command.TheVariants.{Masters, Master, Replicas, Sentinels}
 use Rattle.client_commands.specs.declared.protocols.Protocol.{Protocol}
@@ -122,6 +122,25 @@ SaysTheSame =
 -- an answer that holds no null is spelled alike in both; one that is a null is protocol 3's
 abbrev pub without_null : List ℕ → List ℕ
 without_null answer = elim (bytes_eq answer (spelling null_bulk) || bytes_eq answer (spelling null_items)) [ true ↦ null_line | false ↦ answer ]
+
+-- a value holds no null
+abbrev mutual
+  pub HoldsNoNull : Frame → Type 0
+  HoldsNoNull (simple text) = Unit {0}
+  HoldsNoNull (fault text) = Unit {0}
+  HoldsNoNull (int n) = Unit {0}
+  HoldsNoNull (bulk bytes) = Unit {0}
+  HoldsNoNull null_bulk = ⊥
+  HoldsNoNull (items fs) = HoldNoNull fs
+  HoldsNoNull null_items = ⊥
+
+  pub HoldNoNull : FrameList → Type 0
+  HoldNoNull no_frames = Unit {0}
+  HoldNoNull (frame f fs) = HoldsNoNull f × HoldNoNull fs
+
+-- so a value that is a null, or holds none, is told as protocol 3 spells it
+abbrev pub PlainIsSpelled : Type 0
+PlainIsSpelled = (f : Frame) → IsPlain f → (f ≡ null_bulk) ⊎ ((f ≡ null_items) ⊎ HoldsNoNull f) → without_null (spelling f) ≡ spelling3 f
 
 -- the values that the answer spells, told as what they are
 abbrev pub AreTold : Shape → (answer bytes : List ℕ) → Type 0

@@ -1,6 +1,6 @@
 //! What a session with courtesies keeps of the one without.
 
-ghost use Rattle.courteous_sessions.specs.Retelling.{SaysTheSame};
+ghost use Rattle.courteous_sessions.specs.Retelling.{PlainIsSpelled, SaysTheSame};
 ghost use Rattle.courteous_sessions.specs.Laws.{AnswersListeners, AnswersOwnAsBefore, AnswersOwnInThree, TellsAsItIs, HearsAll, HearsFar, HearsNear, IsPassedOver, NoOtherNoteIsTold, NothingElseIsTold, PiecesJoin, StrangersTakeNoTurn, TakesNoTurn};
 
 /// Where no password is wanted that the client didn't give, and the connection speaks protocol 2 and doesn't listen, a
@@ -15,9 +15,11 @@ pub fn law_own_commands_are_answered_as_before()
 {}
 
 /// Values that protocol 3 tells alike are the same in protocol 2, up to which of its two nulls is told; so a client of
-/// protocol 3 hears no less than one of protocol 2.
+/// protocol 3 hears no less than one of protocol 2. An answer that is copied, as it is a null or holds none, is what
+/// protocol 3 spells.
 pub fn law_protocols_say_the_same()
-    ensures { SaysTheSame }
+    ensures values { SaysTheSame }
+    ensures copied { PlainIsSpelled }
 {}
 
 /// At protocol 2 each answer is told as it is. At protocol 3 a command of the Sentinel's rules but SUBSCRIBE is answered
