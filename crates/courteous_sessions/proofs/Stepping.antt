@@ -1,7 +1,9 @@
 -- One step of the answering of a piece: from what the calls of it promise to what is on the way after it.
-use Rattle.std.proofs.Common.{◌≡◌, ◌⊎◌, ℕ, Bool, true, false, List, [], ◌++◌, Option, Some, None, Result, Ok, Err, refl, sym, ap, ◌∙◌, subst, append_assoc, append-nil, true≢false}
+use Rattle.std.proofs.Common.{◌≡◌, ◌⊎◌, ◌≤◌, inr, ℕ, Bool, true, false, List, [], ◌++◌, take, drop, length, Option, Some, None, Result, Ok, Err, refl, sym, ap, ◌∙◌, subst, append_assoc, append-nil, true≢false, arith}
+use Rattle.std.proofs.Math.Seq.{take-append_seam, drop-append_seam}
+use Rattle.std.proofs.lemmas.List.{length-append}
 use Rattle.std.specs.Option.{is_some}
-use Rattle.std.specs.Prelude.{OnOk, is_err}
+use Rattle.std.specs.Prelude.{OnOk, OnErr, IfErr, is_err}
 use Rattle.pubsub.specs.Listening.{Listening, is_listening}
 use Rattle.client_commands.specs.Attendants.{Attendance, TakesCommon}
 use Rattle.client_commands.specs.declared.port_facts.Figures.{Figures}
@@ -26,13 +28,13 @@ use Rattle.sentinel_cell.specs.declared.view.View.{View}
 use Rattle.sentinel_cell.specs.Histories.{World}
 use Rattle.courteous_sessions.specs.Epochs.{heard_as}
 use Rattle.courteous_sessions.specs.Visits.{Guest, guest, is_confined, confined, masters_of, introduced, TellsInfo, BeginsNotes, Serves, ServesIn, Tells, Breaks, Receives}
-use Rattle.courteous_sessions.specs.Retelling.{shape_of, IsTold}
+use Rattle.courteous_sessions.specs.Retelling.{shape_of, IsTold, JoinsTold}
 use Rattle.client_commands.specs.declared.protocols.Protocol.{Protocol}
 use Rattle.client_commands.specs.declared.protocols.Protocol.TheVariants.{Two, Three}
 use Rattle.client_commands.specs.Protocols.{is_two}
 use Rattle.courteous_sessions.specs.OnTheWay.{IsIdle, IsReady, IsTuned, BeginsWith, IsOnTheWay, IsDone, Drains, Refuses, guest_of}
 use Rattle.courteous_sessions.proofs.Keeping.{common_turn, common_answers}
-use Rattle.courteous_sessions.proofs.Serving.{was_read, served_by_others, value_served, all_served, refused, cut_by, begun, was_received}
+use Rattle.courteous_sessions.proofs.Serving.{was_read, ready_same, served_by_others, value_served, all_served, refused, cut_by, begun, was_received}
 
 pub on_ok : {X E A B : Type 0} (answer : Result X E) → (A → B) → OnOk answer A → OnOk answer B
 on_ok (Ok x) f h = f h
@@ -99,6 +101,25 @@ idle_again asked left is none goes_on =
       goes_on = ap (λ (t : Talk). t.ended) is ∙ goes_on;
     }
 
+-- what was put out before an answer, and the answer itself
+pub front_again : (n : ℕ) (unsent answered more : List ℕ) → n ≡ length unsent → answered ≡ unsent ++ more → take n answered ≡ unsent
+front_again n unsent answered more size is =
+    ap (λ (m : ℕ). take m answered) size ∙ ap (λ (t : List ℕ). take (length unsent) t) is ∙ take-append_seam unsent more
+
+pub back_again : (n : ℕ) (unsent answered more : List ℕ) → n ≡ length unsent → answered ≡ unsent ++ more → drop n answered ≡ more
+back_again n unsent answered more size is =
+    ap (λ (m : ℕ). drop m answered) size ∙ ap (λ (t : List ℕ). drop (length unsent) t) is ∙ drop-append_seam unsent more
+
+pub is_behind : (n : ℕ) (unsent answered more : List ℕ) → n ≡ length unsent → answered ≡ unsent ++ more → n ≤ length answered
+is_behind n unsent answered more size is = omega (arith, size, ap length is, length-append unsent more)
+
+-- an answer that couldn't be told is gone
+pub none_told_of : {X : Type 0} (answer : Result X ServeFault) (n : ℕ) (unsent answered more given : List ℕ) → n ≡ length unsent → answered ≡ unsent ++ more
+    → OnErr answer (given ≡ take n answered) → IfErr answer (λ fault. fault ≡ OutOfMemory)
+    → IfErr answer (λ fault. ((fault ≡ Halted) ⊎ (fault ≡ OutOfMemory)) × (given ≡ unsent))
+none_told_of (Ok x) n unsent answered more given size is left fault = tt
+none_told_of (Err f) n unsent answered more given size is left fault = (inr fault, left ∙ front_again n unsent answered more size is)
+
 speaks_two : (protocol : Protocol) → is_two protocol ≡ true → protocol ≡ Two
 speaks_two Two h = refl
 speaks_two Three h = absurd (true≢false (sym h))
@@ -117,6 +138,32 @@ module _ (start : World) (now : ℕ) where
   pub told_in_three : (g h : Guest) (value : Frame) (answer bytes : List ℕ) → h.asker.protocol ≡ Three → ServesIn start now g.asker.protocol g value answer h
       → IsTold Three (shape_of value) answer bytes → Tells start now g value bytes h
   told_in_three g h value answer bytes after s told = (answer, s, subst (λ (p : Protocol). IsTold p (shape_of value) answer bytes) (sym after) told)
+
+  -- a value was answered, which protocol 2 tells as it is
+  pub tells_in_two : (g : Guest) (after : Attendance) (l : Listening) (talk : Talk) (w : View) (value : Frame) (unsent given : List ℕ) → after.asker.protocol ≡ Two
+      → (more : List ℕ) × (given ≡ unsent ++ more) × IsReady after l talk × ServesIn start now g.asker.protocol g value more (guest_of after l talk w)
+      → (more : List ℕ) × (given ≡ unsent ++ more) × IsReady after l talk × Tells start now g value more (guest_of after l talk w)
+  tells_in_two g after l talk w value unsent given speaks got =
+      (got.0, got.1, got.2, (got.0, got.3, subst (λ (p : Protocol). IsTold p (shape_of value) got.0 got.0) (sym speaks) refl))
+
+  -- or protocol 3 tells it in its own way
+  pub tells_in_three : (g : Guest) (mid after : Attendance) (mid_l l : Listening) (mid_talk talk : Talk) (w : View) (value : Frame) (unsent answered given : List ℕ) (n : ℕ)
+      → n ≡ length unsent → mid.asker.protocol ≡ Three → after ≡ mid → l ≡ mid_l → talk ≡ mid_talk
+      → (more : List ℕ) × (answered ≡ unsent ++ more) × IsReady mid mid_l mid_talk × ServesIn start now g.asker.protocol g value more (guest_of mid mid_l mid_talk w)
+      → JoinsTold Three (shape_of value) (drop n answered) (take n answered) given
+      → (more : List ℕ) × (given ≡ unsent ++ more) × IsReady after l talk × Tells start now g value more (guest_of after l talk w)
+  tells_in_three g mid after mid_l l mid_talk talk w value unsent answered given n size speaks a b c got told =
+      let front = front_again n unsent answered got.0 size got.1 in
+      let back = back_again n unsent answered got.0 size got.1 in
+      let is_told : IsTold Three (shape_of value) got.0 told.0 = subst (λ (t : List ℕ). IsTold Three (shape_of value) t told.0) back told.2 in
+      let tells : Tells start now g value told.0 (guest_of mid mid_l mid_talk w) = told_in_three g (guest_of mid mid_l mid_talk w) value got.0 told.0 speaks got.3 is_told in (
+        told.0,
+        told.1 ∙ ap (λ (t : List ℕ). t ++ told.0) front,
+        ready_same mid after mid_l l mid_talk talk got.2 a b c,
+        subst (λ (x : Attendance). Tells start now g value told.0 (guest_of x l talk w)) (sym a)
+            (subst (λ (x : Listening). Tells start now g value told.0 (guest_of mid x talk w)) (sym b)
+            (subst (λ (x : Talk). Tells start now g value told.0 (guest_of mid mid_l x w)) (sym c) tells)),
+      )
 
   -- a value was answered
   pub step_answered : {V : Type 0} (view : V → Frame) (value : V) (stream first bytes : List ℕ) (g : Guest) (before between after : Attendance) (l later_l : Listening)

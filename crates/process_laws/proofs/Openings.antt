@@ -15,7 +15,8 @@ use Rattle.ballot_law.specs.Words.{id_text, run_id}
 use Rattle.ballot_law.proofs.CountedVotes.{same_id-equal}
 use Rattle.ballot_law.proofs.WordLemmas.{run_id-id_text, length-id_text}
 use Rattle.client_commands.specs.Courtesies.{is_stranger}
-use Rattle.courteous_sessions.specs.Visits.{Guest, guest, Serves}
+use Rattle.courteous_sessions.specs.Visits.{Guest, guest, Tells as TellsClient}
+use Rattle.client_commands.specs.declared.protocols.Protocol.TheVariants.{Two}
 use Rattle.courteous_sessions.proofs.Keeping.{own_as_before}
 use Rattle.links.specs.declared.sessions.fault.LinkFault.{LinkFault}
 use Rattle.links.specs.declared.sessions.fault.LinkFault.TheVariants.{Strange}
@@ -107,13 +108,13 @@ pub record IdReply (start : World) (v : View) (bytes : List ℕ) (w : View) : Ty
   pub is_id : IsRunId (me start.plan)
   pub spelled : bytes ≡ spelling (id_frame (me start.plan))
 
-id_replied : (start : World) (now : ℕ) (g : Guest) (bytes : List ℕ) (h : Guest) → is_stranger g.asker ≡ false → is_listening g.listening ≡ false → g.party.listens ≡ None
-    → Serves start now g id_value bytes h
+id_replied : (start : World) (now : ℕ) (g : Guest) (bytes : List ℕ) (h : Guest) → is_stranger g.asker ≡ false → g.asker.protocol ≡ Two → is_listening g.listening ≡ false
+    → g.party.listens ≡ None → TellsClient start now g id_value bytes h
     → IdReply start g.party.view bytes h.party.view × (h.party.listens ≡ None) × (h ≡ guest h.party g.listening g.told g.asker)
-id_replied start now g bytes h known quiet silent serves =
-    let own = own_as_before start now g h id_value MyId bytes known quiet (λ (e : MyId ≡ Subscribe). let no : ⊥ = cc in no) id_read serves in
-    let a = answers start now g.party (Ok MyId) MyId own.0 h.party silent refl own.1 in
-    let t = turned start now g.party.view MyId own.0 h.party.view a.0 in
+id_replied start now g bytes h known speaks quiet silent serves =
+    let own = own_as_before start now g h id_value MyId bytes speaks known quiet (λ (e : MyId ≡ Subscribe). let no : ⊥ = cc in no) id_read serves in
+    let a = answers start now g.party (Ok MyId) MyId bytes h.party silent refl own.0 in
+    let t = turned start now g.party.view MyId bytes h.party.view a.0 in
     let world = replay start (g.party.view.front ++ t.between) in
     let plan_is : world.plan ≡ start.plan = same_plan start (g.party.view.front ++ t.between) in
     let sound = t.legal.0.plan in (
@@ -121,10 +122,10 @@ id_replied start now g bytes h known quiet silent serves =
         more = t.between ++ t.entry ∷ [];
         front = t.front ∙ append_assoc g.party.view.front t.between (t.entry ∷ []);
         is_id = (sound.conf.members start.plan.place sound.place).1;
-        spelled = own.2 ∙ (t.bytes_are ∙ ap (λ (p : Plan). spelling (id_frame (me p))) plan_is);
+        spelled = t.bytes_are ∙ ap (λ (p : Plan). spelling (id_frame (me p))) plan_is;
       },
       a.1,
-      own.3,
+      own.1,
     )
 
 -- ---- the run id that was heard
@@ -158,18 +159,18 @@ nothing_heard start asker g id questions events none =
 
 identified : (start : World) (asker : NodeName) (id : RunId) (questions : List Body) (g : Guest) (values : List Frame) (unread not_yet_got bytes : List ℕ) (h : Guest)
     (replies : List Frame) (held not_yet_come : List ℕ) (events : List Event) (left : List Question)
-    → AllByRecursion IsAskable questions → is_stranger g.asker ≡ false → is_listening g.listening ≡ false → g.party.listens ≡ None
+    → AllByRecursion IsAskable questions → is_stranger g.asker ≡ false → g.asker.protocol ≡ Two → is_listening g.listening ≡ false → g.party.listens ≡ None
     → spelling id_value ++ flat_map message_bytes questions ≡ (flat_map spelling values ++ unread) ++ not_yet_got → AllByRecursion IsFrame values
     → ServedBeside start g values bytes h
     → bytes ≡ (flat_map spelling replies ++ held) ++ not_yet_come → AllByRecursion IsLinkValue replies
     → Tells (SentinelAt start.plan.place) false (Identity id ∷ map question_of questions) replies events left
     → Goes start asker g id questions events
-identified start asker id questions g values unread not_yet_got bytes h [] held not_yet_come events left askable known quiet silent sent whole served put_out read tells =
+identified start asker id questions g values unread not_yet_got bytes h [] held not_yet_come events left askable known speaks quiet silent sent whole served put_out read tells =
     nothing_heard start asker g id questions events tells.0
-identified start asker id questions g [] unread not_yet_got bytes h (r ∷ rs) held not_yet_come events left askable known quiet silent sent whole served put_out read tells =
+identified start asker id questions g [] unread not_yet_got bytes h (r ∷ rs) held not_yet_come events left askable known speaks quiet silent sent whole served put_out read tells =
     absurd (spelled_some r ((flat_map spelling rs ++ held) ++ not_yet_come) (sym served.0 ∙ put_out ∙ by_first r rs held not_yet_come))
-identified start asker id questions g (x ∷ xs) unread not_yet_got bytes h (r ∷ rs) held not_yet_come events left askable known quiet silent sent whole served put_out read
-    tells =
+identified start asker id questions g (x ∷ xs) unread not_yet_got bytes h (r ∷ rs) held not_yet_come events left askable known speaks quiet silent sent whole served put_out
+    read tells =
     let voter = SentinelAt start.plan.place in
     let others_sent = flat_map message_bytes questions in
     let value_is = one_spelling id_value x others_sent ((flat_map spelling xs ++ unread) ++ not_yet_got) id_value_whole.plain whole.0.plain
@@ -179,8 +180,8 @@ identified start asker id questions g (x ∷ xs) unread not_yet_got bytes h (r �
     let first = served.3 in
     let others = served.4 in
     let later = served.6 in
-    let serves : Serves start served.0 next id_value first middle = subst (λ (f : Frame). Serves start served.0 next f first middle) (sym value_is.0) served.8 in
-    let reply = id_replied start served.0 next first middle (later.known ∙ known) (ap is_listening later.quiet ∙ quiet) (later.silent ∙ silent) serves in
+    let serves : TellsClient start served.0 next id_value first middle = subst (λ (f : Frame). TellsClient start served.0 next f first middle) (sym value_is.0) served.8 in
+    let reply = id_replied start served.0 next first middle (later.known ∙ known) (later.speaks ∙ speaks) (ap is_listening later.quiet ∙ quiet) (later.silent ∙ silent) serves in
     let own = me start.plan in
     let len = length-id_text own in
     let plain : IsPlain (id_frame own) = omega (arith, len) in
@@ -190,8 +191,9 @@ identified start asker id questions g (x ∷ xs) unread not_yet_got bytes h (r �
     let rest = passed_over voter (Identity id) (map question_of questions) r rs events left (identity_tells voter id) tells in
     let heard_id : heard_of voter (Identity id) (told_value (id_frame own)) ≡ Ok rest.got = ap (λ (f : Frame). heard_of voter (Identity id) (told_value f)) reply_is.0 ∙ rest.heard in
     let known_then : is_stranger middle.asker ≡ false = ap (λ (g : Guest). is_stranger g.asker) reply.2 ∙ (later.known ∙ known) in
+    let speaks_then : middle.asker.protocol ≡ Two = ap (λ (g : Guest). g.asker.protocol) reply.2 ∙ (later.speaks ∙ speaks) in
     let quiet_then : is_listening middle.listening ≡ false = ap (λ (g : Guest). is_listening g.listening) reply.2 ∙ (ap is_listening later.quiet ∙ quiet) in
-    let all = delivered start asker questions middle xs unread not_yet_got others h rs held not_yet_come events left askable known_then quiet_then reply.1 value_is.1 whole.1
+    let all = delivered start asker questions middle xs unread not_yet_got others h rs held not_yet_come events left askable known_then speaks_then quiet_then reply.1 value_is.1 whole.1
     served.9 reply_is.1 read.1 rest.tells in
     let front : middle.party.view.front ≡ g.party.view.front ++ (later.more ++ reply.0.more) =
     reply.0.front ∙ (ap (λ (l : List Entry). l ++ reply.0.more) later.front ∙ append_assoc g.party.view.front later.more reply.0.more) in (
@@ -209,7 +211,7 @@ Asks login start id questions replies events left =
 without_login : (start : World) (asker : NodeName) (g : Guest) (login : Login) (id : RunId) (questions : List Body) (events : List Event)
     (c : IsConnectedAnew start g login id questions events) → c.greeting ≡ [] → Asks Without start id questions c.replies events c.left → Goes start asker g id questions events
 without_login start asker g login id questions events c none asks =
-    identified start asker id questions g c.values c.unread c.not_yet_got c.bytes c.h c.replies c.held c.not_yet_come events c.left c.askable c.known c.quiet c.silent
+    identified start asker id questions g c.values c.unread c.not_yet_got c.bytes c.h c.replies c.held c.not_yet_come events c.left c.askable c.known c.speaks c.quiet c.silent
     (c.sent ∙ ap (λ (t : List ℕ). t ++ c.not_yet_got) c.parts.0) c.parts.1 c.served
     (ap (λ (l : List Frame). flat_map spelling l ++ c.bytes) (sym none) ∙ (c.put_out ∙ ap (λ (t : List ℕ). t ++ c.not_yet_come) c.read.0)) c.read.1 asks
 
@@ -228,7 +230,7 @@ with_login start asker g login id questions events c answer one plain (r ∷ rs)
     greeted ∙ (c.put_out ∙ (ap (λ (t : List ℕ). t ++ c.not_yet_come) came ∙ by_first r rs c.held c.not_yet_come)) in
     let greeting_is = one_spelling answer r c.bytes ((flat_map spelling rs ++ c.held) ++ c.not_yet_come) plain (value_plain r read.0) whole in
     let rest = passed_over voter Order (Identity id ∷ map question_of questions) r rs events c.left (order_tells voter) asks in
-    identified start asker id questions g c.values c.unread c.not_yet_got c.bytes c.h rs c.held c.not_yet_come events c.left c.askable c.known c.quiet c.silent
+    identified start asker id questions g c.values c.unread c.not_yet_got c.bytes c.h rs c.held c.not_yet_come events c.left c.askable c.known c.speaks c.quiet c.silent
     (c.sent ∙ ap (λ (t : List ℕ). t ++ c.not_yet_got) c.parts.0) c.parts.1 c.served greeting_is.1 read.1 rest.tells
 
 pub new_connections_deliver : NewConnectionsDeliver
@@ -249,6 +251,7 @@ pieces_are_a_new_connection start g login id questions events c =
     record {
       askable = c.askable;
       known = c.known;
+      speaks = c.speaks;
       quiet = c.quiet;
       silent = c.silent;
       greeting = c.greeting;

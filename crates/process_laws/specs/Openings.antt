@@ -7,6 +7,7 @@ use Rattle.ballot_law.specs.declared.messages.Body.{Body}
 use Rattle.ballot_law.specs.declared.messages.NodeName.{NodeName}
 use Rattle.ballot_law.specs.declared.messages.NodeName.TheVariants.{SentinelAt}
 use Rattle.client_commands.specs.Courtesies.{is_stranger}
+use Rattle.client_commands.specs.declared.protocols.Protocol.TheVariants.{Two}
 use Rattle.courteous_sessions.specs.Visits.{Guest}
 use Rattle.links.specs.declared.sessions.questions.Question.{Question}
 use Rattle.links.specs.declared.speaking.Login.{Login}
@@ -33,6 +34,7 @@ IsGreeting login greeting = (answer : Frame) × (greeting ≡ answer ∷ []) × 
 pub record IsConnectedAnew (start : World) (g : Guest) (login : Login) (id : RunId) (questions : List Body) (events : List Event) : Type 0 where
   pub askable : AllByRecursion IsAskable questions
   pub known : is_stranger g.asker ≡ false
+  pub speaks : g.asker.protocol ≡ Two
   pub quiet : is_listening g.listening ≡ false
   pub silent : g.party.listens ≡ None
   pub greeting : List Frame
@@ -70,6 +72,7 @@ NewConnectionsDeliver =
 pub record IsConnectedAnewInPieces (start : World) (g : Guest) (login : Login) (id : RunId) (questions : List Body) (events : List Event) : Type 0 where
   pub askable : AllByRecursion IsAskable questions
   pub known : is_stranger g.asker ≡ false
+  pub speaks : g.asker.protocol ≡ Two
   pub quiet : is_listening g.listening ≡ false
   pub silent : g.party.listens ≡ None
   pub greeting : List Frame

@@ -93,6 +93,7 @@ AnsweredInPieces start g held (piece ∷ pieces) bytes =
 pub record IsConnectedInPieces (start : World) (g : Guest) (questions : List Body) (events : List Event) : Type 0 where
   pub askable : AllByRecursion IsAskable questions
   pub known : is_stranger g.asker ≡ false
+  pub speaks : g.asker.protocol ≡ Two
   pub quiet : is_listening g.listening ≡ false
   pub silent : g.party.listens ≡ None
   pub pieces : List (List ℕ)
