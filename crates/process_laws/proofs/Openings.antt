@@ -35,6 +35,7 @@ use Rattle.resp2.specs.Commands.{command_of}
 use Rattle.resp2.specs.Framing.Frame.{Frame, simple, fault, int, bulk, null_bulk, items, null_items, spelling, IsPlain, IsFrame}
 use Rattle.resp2.proofs.AskFrames.{short_array}
 use Rattle.resp2.proofs.FramingLemmas.Streams.{one_spelling}
+use Rattle.resp2.proofs.Switches.{known_too}
 use Rattle.sentinel_cell.specs.declared.entry.Entry.{Entry}
 use Rattle.sentinel_cell.specs.declared.view.View.{View}
 use Rattle.sentinel_cell.specs.Histories.{World, replay}
@@ -112,7 +113,8 @@ id_replied : (start : World) (now : ℕ) (g : Guest) (bytes : List ℕ) (h : Gue
     → g.party.listens ≡ None → TellsClient start now g id_value bytes h
     → IdReply start g.party.view bytes h.party.view × (h.party.listens ≡ None) × (h ≡ guest h.party g.listening g.told g.asker)
 id_replied start now g bytes h known speaks quiet silent serves =
-    let own = own_as_before start now g h id_value MyId bytes speaks known quiet (λ (e : MyId ≡ Subscribe). let no : ⊥ = cc in no) id_read serves in
+    let own = own_as_before start now g h id_value MyId bytes speaks known quiet (λ (e : MyId ≡ Subscribe). let no : ⊥ = cc in no)
+    (known_too id_value MyId id_read) serves in
     let a = answers start now g.party (Ok MyId) MyId bytes h.party silent refl own.0 in
     let t = turned start now g.party.view MyId bytes h.party.view a.0 in
     let world = replay start (g.party.view.front ++ t.between) in

@@ -26,6 +26,7 @@ use Rattle.resp2.specs.declared.command.CommandFault.{CommandFault}
 use Rattle.resp2.specs.Commands.{command_of}
 use Rattle.resp2.specs.Framing.Frame.{Frame, spelling, IsFrame}
 use Rattle.resp2.proofs.Asks.{ask_again}
+use Rattle.resp2.proofs.Switches.{known_too}
 use Rattle.resp2.proofs.FramingLemmas.Streams.{one_spelling}
 use Rattle.sentinel_cell.specs.declared.entry.Entry.{Entry}
 use Rattle.sentinel_cell.specs.declared.view.View.{View}
@@ -67,8 +68,7 @@ pub record RespondsAlike (start : World) (now : ℕ) (g : Guest) (question : Bod
 
 -- by the command that a value is, which is heard as it is
 alike : (start : World) (now : ℕ) (g : Guest) (read : Result Command CommandFault) (command heard_command : Command) (bytes : List ℕ) (h : Guest)
-    → read ≡ Ok command → heard_command ≡ command → Responds start now g.party (Ok heard_command) bytes h.party
-    → Responds start now g.party read bytes h.party
+    → read ≡ Ok command → heard_command ≡ command → Responds start now g.party (Ok heard_command) bytes h.party → Responds start now g.party read bytes h.party
 alike start now g read command heard_command bytes h is near r =
     subst (λ (c : Result Command CommandFault). Responds start now g.party c bytes h.party) (sym is)
     (subst (λ (c : Command). Responds start now g.party (Ok c) bytes h.party) near r)
@@ -85,13 +85,14 @@ by_ok one other e = cc
 pub responds_alike : (start : World) (now : ℕ) (g : Guest) (question : Body) (bytes : List ℕ) (h : Guest) → IsAskable question → is_stranger g.asker ≡ false
     → g.asker.protocol ≡ Two → is_listening g.listening ≡ false → IsNear g (body_frame question) → TellsClient start now g (body_frame question) bytes h → RespondsAlike start now g question bytes h
 responds_alike start now g Ping bytes h askable known speaks quiet near serves =
-    let own = own_as_before start now g h (body_frame Ping) PingCommand bytes speaks known quiet no_subscribe_ping ping_read serves in
-    record { responds = alike start now g (command_of (body_frame Ping)) PingCommand PingCommand bytes h ping_read refl own.0; same = own.1 }
+    let value = body_frame Ping in
+    let own = own_as_before start now g h value PingCommand bytes speaks known quiet no_subscribe_ping (known_too value PingCommand ping_read) serves in
+    record { responds = alike start now g (command_of value) PingCommand PingCommand bytes h ping_read refl own.0; same = own.1 }
 responds_alike start now g (Ask m addr epoch candidate) bytes h askable known speaks quiet near serves =
     let command = IsMasterDownByAddr addr epoch candidate in
     let value = body_frame (Ask m addr epoch candidate) in
     let read : command_of value ≡ Ok command = ask_again addr epoch candidate askable.0 askable.1 askable.2 in
-    let own = own_as_before start now g h value command bytes speaks known quiet (λ e. let no : ⊥ = cc in no) read serves in
+    let own = own_as_before start now g h value command bytes speaks known quiet (λ e. let no : ⊥ = cc in no) (known_too value command read) serves in
     let same_command = by_ok (heard g.asker.current command) command (ap (heard_as g.asker.current) (sym read) ∙ (near ∙ read)) in
     record { responds = alike start now g (command_of value) command (heard g.asker.current command) bytes h read same_command own.0; same = own.1 }
 responds_alike start now g (Answer n addr down leader voted) bytes h askable known speaks quiet near serves = absurd askable

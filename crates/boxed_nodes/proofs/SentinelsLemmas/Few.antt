@@ -9,6 +9,7 @@ use Rattle.ballot_law.specs.declared.commands.Command.TheVariants.{Ping, IsMaste
 use Rattle.ballot_law.specs.declared.events.Event.{Event}
 use Rattle.ballot_law.specs.declared.events.Event.TheVariants.{Tick, Command as Commanded, Answered as AnswerCame, Pinged, InfoRead, HelloRead, Disconnected, Refused, Become, Handed}
 use Rattle.ballot_law.specs.declared.messages.Body.{Body}
+use Rattle.ballot_law.specs.declared.messages.Body.TheVariants.{PortReply}
 use Rattle.ballot_law.specs.declared.messages.Output.{Output}
 use Rattle.ballot_law.specs.Clocks.{clock}
 use Rattle.boxed_nodes.specs.Sendable.{IsFewIn, IsFewShown}
@@ -16,15 +17,13 @@ use Rattle.sentinel_outbox.specs.declared.faults.TakeFault.{TakeFault}
 use Rattle.sentinel_outbox.specs.declared.took.Took.{Took}
 use Rattle.sentinel_rules.specs.declared.frames.Frame.{Frame}
 use Rattle.sentinel_rules.specs.declared.frames.Frame.TheVariants.{PingTo, InfoTo, HelloTo, AskTo, PromoteTo, HandOverTo, FollowTo, NoteOf}
-use Rattle.sentinel_rules.specs.Answers.{commanded, asked_of, master_with_card, named, about, all_masters, Answered, unchanged, reply, has_heir, wished, asked_to_switch}
+use Rattle.sentinel_rules.specs.Answers.{commanded, asked_of, master_with_card, named, about, all_masters, Answered, unchanged, has_heir, wished, asked_to_switch}
 use Rattle.sentinel_rules.specs.Facts.{IsSoundPlan}
 use Rattle.sentinel_rules.specs.Parts.{output_of, shown_of}
 use Rattle.sentinel_rules.specs.Plans.{Plan, master_count}
 use Rattle.sentinel_rules.specs.States.{Core, is_failing_over, is_tilted, is_wished}
 use Rattle.sentinel_rules.specs.Takes.{next, next_at, part_of, cleared}
 use Rattle.sentinel_rules.proofs.Choices.{length-numbers_from}
-use Rattle.port_answers.specs.Answers.{ok_line, in_progress, in_tilt, no_good_replica, command_fault}
-use Rattle.resp2.specs.declared.command.CommandFault.TheVariants.{UnknownCommand}
 use Rattle.sentinel_rules.specs.Profiles.{by_profile}
 use Rattle.sentinel_rules.specs.declared.profiles.Profile.{Profile}
 use Rattle.sentinel_rules.specs.declared.profiles.Profile.TheVariants.{Strict, Redis}
@@ -39,23 +38,24 @@ about_few : (core : Core) (m : Option ℕ) (body : ℕ → Body) → ((m : ℕ) 
 about_few core None body each = omega arith
 about_few core (Some m) body each = each m
 
-switch_few : (plan : Plan) (m now : ℕ) (busy tilted heir : Bool) (core : Core) →
-    IsFewIn (if busy then unchanged core (reply core [] in_progress)
-    else (if tilted then unchanged core (reply core [] in_tilt)
-    else (if heir then record { core = wished m now core; body = reply core [] ok_line } else unchanged core (reply core [] no_good_replica)))).body
-switch_few plan m now true tilted heir core = omega arith
-switch_few plan m now false true heir core = omega arith
-switch_few plan m now false false true core = omega arith
-switch_few plan m now false false false core = omega arith
+switch_few : (m now : ℕ) (busy tilted heir : Bool) (core : Core) (going tilt ok none : List ℕ) →
+    IsFewIn (if busy then unchanged core (PortReply [] going)
+    else (if tilted then unchanged core (PortReply [] tilt)
+    else (if heir then record { core = wished m now core; body = PortReply [] ok } else unchanged core (PortReply [] none)))).body
+switch_few m now true tilted heir core going tilt ok none = omega arith
+switch_few m now false true heir core going tilt ok none = omega arith
+switch_few m now false false true core going tilt ok none = omega arith
+switch_few m now false false false core going tilt ok none = omega arith
 
 asked_switch_few : (plan : Plan) (now : ℕ) (m : Option ℕ) (core : Core) → IsFewIn (asked_to_switch plan now m core).body
 asked_switch_few plan now None core = omega arith
 asked_switch_few plan now (Some m) core =
-    switch_few plan m now (is_failing_over core m || is_wished core m now) (is_tilted core) (has_heir plan core m now) core
+    switch_few m now (is_failing_over core m || is_wished core m now) (is_tilted core) (has_heir plan core m now) core _ _ _ _
 
-either_few : (profile : Profile) (strict redis : Answered) → IsFewIn strict.body → IsFewIn redis.body → IsFewIn (by_profile profile strict redis).body
-either_few Strict strict redis f g = f
-either_few Redis strict redis f g = g
+either_few : (profile : Profile) (core : Core) (text : List ℕ) (redis : Answered) → IsFewIn redis.body →
+    IsFewIn (by_profile profile (unchanged core (PortReply [] text)) redis).body
+either_few Strict core text redis f = omega arith
+either_few Redis core text redis f = f
 
 answer_few : (plan : Plan) (now : ℕ) (command : Command) (core : Core) → IsSoundPlan plan → IsFewIn (commanded plan now command core).body
 answer_few plan now Ping core p = tt
@@ -70,8 +70,7 @@ answer_few plan now (Sentinels name) core p = about_few core (named plan name) _
 answer_few plan now MyId core p = omega arith
 answer_few plan now (CkQuorum name) core p = about_few core (named plan name) _ (λ m. omega arith)
 answer_few plan now (Failover name) core p =
-    either_few plan.profile (unchanged core (reply core [] (command_fault UnknownCommand))) (asked_to_switch plan now (named plan name) core) (omega arith)
-    (asked_switch_few plan now (named plan name) core)
+    either_few plan.profile core _ (asked_to_switch plan now (named plan name) core) (asked_switch_few plan now (named plan name) core)
 answer_few plan now FlushConfig core p = omega arith
 answer_few plan now Subscribe core p = omega arith
 

@@ -9,7 +9,7 @@ use Rattle.ballot_law.specs.declared.commands.Command.TheVariants.{Ping, IsMaste
 use Rattle.ballot_law.specs.declared.events.Event.{Event}
 use Rattle.ballot_law.specs.declared.events.Event.TheVariants.{Tick, Command as Commanded, Answered as AnswerCame, Pinged, InfoRead, HelloRead, Disconnected, Refused, Become, Handed}
 use Rattle.ballot_law.specs.declared.messages.Body.{Body}
-use Rattle.ballot_law.specs.declared.messages.Body.TheVariants.{AddressAnswer}
+use Rattle.ballot_law.specs.declared.messages.Body.TheVariants.{AddressAnswer, PortReply}
 use Rattle.ballot_law.specs.declared.replies.Hello.{Hello}
 use Rattle.ballot_law.specs.Clocks.{clock}
 use Rattle.ballot_law.specs.Rosters.{Roster, master_named}
@@ -19,13 +19,11 @@ use Rattle.sentinel_rules.specs.declared.frames.Frame.{Frame}
 use Rattle.sentinel_rules.specs.declared.frames.Frame.TheVariants.{PingTo, InfoTo, HelloTo, AskTo, PromoteTo, HandOverTo, FollowTo, NoteOf}
 use Rattle.sentinel_rules.specs.Named.{IsNamed}
 use Rattle.sentinel_rules.proofs.NamedFrames.{hellos_name_masters}
-use Rattle.sentinel_rules.specs.Answers.{commanded, asked_of, master_with_card, named, about, address_of, numbers_from, Answered, unchanged, reply, has_heir, wished, asked_to_switch}
+use Rattle.sentinel_rules.specs.Answers.{commanded, asked_of, master_with_card, named, about, address_of, numbers_from, Answered, unchanged, has_heir, wished, asked_to_switch}
 use Rattle.sentinel_rules.specs.Parts.{output_of, shown_of, hello_of_master}
 use Rattle.sentinel_rules.specs.Plans.{Plan, roster_of, master_count}
 use Rattle.sentinel_rules.specs.States.{Core, is_failing_over, is_tilted, is_wished}
 use Rattle.sentinel_rules.specs.Takes.{next, next_at, part_of, cleared}
-use Rattle.port_answers.specs.Answers.{ok_line, in_progress, in_tilt, no_good_replica, command_fault}
-use Rattle.resp2.specs.declared.command.CommandFault.TheVariants.{UnknownCommand}
 use Rattle.sentinel_rules.specs.Profiles.{by_profile}
 use Rattle.sentinel_rules.specs.declared.profiles.Profile.{Profile}
 use Rattle.sentinel_rules.specs.declared.profiles.Profile.TheVariants.{Strict, Redis}
@@ -65,23 +63,24 @@ about_listed : (plan : Plan) (core : Core) (found : Option ℕ) (body : ℕ → 
 about_listed plan core None body each = tt
 about_listed plan core (Some m) body each = each m refl
 
-switch_listed : (plan : Plan) (m now : ℕ) (busy tilted heir : Bool) (core : Core) →
-    IsListedIn (roster_of plan) (if busy then unchanged core (reply core [] in_progress)
-    else (if tilted then unchanged core (reply core [] in_tilt)
-    else (if heir then record { core = wished m now core; body = reply core [] ok_line } else unchanged core (reply core [] no_good_replica)))).body
-switch_listed plan m now true tilted heir core = tt
-switch_listed plan m now false true heir core = tt
-switch_listed plan m now false false true core = tt
-switch_listed plan m now false false false core = tt
+switch_listed : (roster : Roster) (m now : ℕ) (busy tilted heir : Bool) (core : Core) (going tilt ok none : List ℕ) →
+    IsListedIn roster (if busy then unchanged core (PortReply [] going)
+    else (if tilted then unchanged core (PortReply [] tilt)
+    else (if heir then record { core = wished m now core; body = PortReply [] ok } else unchanged core (PortReply [] none)))).body
+switch_listed roster m now true tilted heir core going tilt ok none = tt
+switch_listed roster m now false true heir core going tilt ok none = tt
+switch_listed roster m now false false true core going tilt ok none = tt
+switch_listed roster m now false false false core going tilt ok none = tt
 
 asked_switch_listed : (plan : Plan) (now : ℕ) (m : Option ℕ) (core : Core) → IsListedIn (roster_of plan) (asked_to_switch plan now m core).body
 asked_switch_listed plan now None core = tt
 asked_switch_listed plan now (Some m) core =
-    switch_listed plan m now (is_failing_over core m || is_wished core m now) (is_tilted core) (has_heir plan core m now) core
+    switch_listed (roster_of plan) m now (is_failing_over core m || is_wished core m now) (is_tilted core) (has_heir plan core m now) core _ _ _ _
 
-either_listed : (plan : Plan) (profile : Profile) (strict redis : Answered) → IsListedIn (roster_of plan) strict.body → IsListedIn (roster_of plan) redis.body → IsListedIn (roster_of plan) (by_profile profile strict redis).body
-either_listed plan Strict strict redis f g = f
-either_listed plan Redis strict redis f g = g
+either_listed : (roster : Roster) (profile : Profile) (core : Core) (text : List ℕ) (redis : Answered) → IsListedIn roster redis.body →
+    IsListedIn roster (by_profile profile (unchanged core (PortReply [] text)) redis).body
+either_listed roster Strict core text redis f = tt
+either_listed roster Redis core text redis f = f
 
 answer_listed : (plan : Plan) (now : ℕ) (command : Command) (core : Core) → IsListedIn (roster_of plan) (commanded plan now command core).body
 answer_listed plan now Ping core = tt
@@ -94,8 +93,7 @@ answer_listed plan now (Sentinels name) core = about_listed plan core (named pla
 answer_listed plan now MyId core = tt
 answer_listed plan now (CkQuorum name) core = about_listed plan core (named plan name) _ (λ m found. tt)
 answer_listed plan now (Failover name) core =
-    either_listed plan plan.profile (unchanged core (reply core [] (command_fault UnknownCommand))) (asked_to_switch plan now (named plan name) core) tt
-    (asked_switch_listed plan now (named plan name) core)
+    either_listed (roster_of plan) plan.profile core _ (asked_to_switch plan now (named plan name) core) (asked_switch_listed plan now (named plan name) core)
 answer_listed plan now FlushConfig core = tt
 answer_listed plan now Subscribe core = tt
 

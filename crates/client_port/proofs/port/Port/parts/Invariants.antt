@@ -1,6 +1,6 @@
 use Rattle.std.proofs.Common.{◌≡◌, ℕ, ◌+◌, length, All}
 use Rattle.client_port.specs.declared.port.Port.{Port}
-use Rattle.client_port.proofs.port.Port.open_at.Given as goal
+use Rattle.client_port.proofs.port.Port.parts.Given as goal
 
 -- each further thread has its part, and wants the same password
 abbrev pub invariant-loop-thread : goal.invariant-loop-thread

@@ -1,7 +1,7 @@
 use Rattle.std.proofs.Common.{rules, ◌≡◌, All, subst, sym}
 use Rattle.std.proofs.lemmas.List.Elements.{All-push}
 use Rattle.client_port.specs.declared.port.Port.{Port}
-use Rattle.client_port.proofs.port.Port.open_at.Goals as goal
+use Rattle.client_port.proofs.port.Port.parts.Goals as goal
 
 pub loop-thread-preserved : goal.loop-thread-preserved
 loop-thread-preserved c c' =
