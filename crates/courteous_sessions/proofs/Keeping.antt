@@ -1,9 +1,9 @@
 -- What a session with courtesies keeps of the one without.
-use Rattle.std.proofs.Common.{◌≡◌, ◌≢◌, ◌∙◌, ◌⊎◌, inl, inr, ℕ, Bool, true, false, ◌||◌, List, Option, refl, ap, sym, subst, Ok, Err, Result, true≢false}
+use Rattle.std.proofs.Common.{◌≡◌, ◌≢◌, ◌∙◌, ◌⊎◌, inl, inr, ℕ, Bool, true, false, ◌||◌, List, Option, None, refl, ap, sym, subst, Ok, Err, Result, true≢false}
 use Rattle.std.specs.Prelude.{bytes_eq}
 use Rattle.std.specs.List.{list_any}
 use Rattle.ballot_law.specs.Rosters.{master_at}
-use Rattle.pubsub.specs.Answering.{Answer as ChannelAnswer, other, answer as channel_answer}
+use Rattle.pubsub.specs.Answering.{Answer as ChannelAnswer, other, said as confirmed, answer as channel_answer}
 use Rattle.pubsub.specs.Globs.{matches}
 use Rattle.pubsub.specs.Listening.{Listening, holds, is_listening}
 use Rattle.pubsub.specs.Telling.{channel_name, hears, told}
@@ -20,17 +20,19 @@ use Rattle.port_sessions.specs.Talks.{Party, party, Responds}
 use Rattle.resp2.specs.declared.command.CommandFault.{CommandFault}
 use Rattle.resp2.specs.declared.command.CommandFault.TheVariants.{UnknownCommand, WrongArguments}
 use Rattle.resp2.specs.Asked.{IsCommon}
-use Rattle.resp2.specs.Commands.{command_of}
+use Rattle.resp2.specs.Commands.{command_of, redis_command_of}
 use Rattle.resp2.proofs.Switches.{known_too}
-use Rattle.resp2.specs.Framing.Frame.{Frame, FrameList, no_frames}
+use Rattle.resp2.specs.Framing.Frame.{Frame, FrameList, no_frames, spellings}
 use Rattle.sentinel_cell.specs.Histories.{World}
 use Rattle.courteous_sessions.specs.Visits.{Guest, guest, switches, turn_in, channel_turn, Answers, Serves, ServesBy, ServesBesideBy, ServesBeside, ServesIn}
-use Rattle.courteous_sessions.specs.Retelling.{first_word, is_subscribing, shape_of, IsTold}
+use Rattle.courteous_sessions.specs.declared.shapes.Shape.{Shape}
+use Rattle.courteous_sessions.specs.declared.shapes.Shape.TheVariants.{Pushes}
+use Rattle.courteous_sessions.specs.Retelling.{first_word, second_word, is_subscribing, shape_of_asked, shape_of, IsTold}
 use Rattle.courteous_sessions.proofs.Retold.{told_of_nothing}
 use Rattle.client_commands.specs.declared.protocols.Protocol.{Protocol}
 use Rattle.client_commands.specs.declared.protocols.Protocol.TheVariants.{Two, Three}
 use Rattle.courteous_sessions.specs.Epochs.{heard, heard_as}
-use Rattle.courteous_sessions.specs.Laws.{TellsAsItIs, AnswersOwnAsBefore, AnswersOwnInThree, HearsAll, HearsNear, HearsFar, AnswersListeners, TakesNoTurn, IsPassedOver, StrangersTakeNoTurn, NothingElseIsTold, NoOtherNoteIsTold}
+use Rattle.courteous_sessions.specs.Laws.{TellsAsItIs, AnswersOwnAsBefore, AnswersOwnInThree, ConfirmsByPushes, HearsAll, HearsNear, HearsFar, AnswersListeners, TakesNoTurn, IsPassedOver, StrangersTakeNoTurn, NothingElseIsTold, NoOtherNoteIsTold}
 
 pub hears_all : HearsAll
 hears_all (IsMasterDownByAddr addr epoch candidate) = refl
@@ -150,6 +152,24 @@ own_in_three start now g h value command bytes speaks known differs is tells =
     in
     let speaks_on : h.asker.protocol ≡ Three = ap (λ (x : Guest). x.asker.protocol) after ∙ speaks in
     (tells.0, q, heard, subst (λ (x : Protocol). IsTold x (shape_of value) tells.0 bytes) speaks_on tells.2, after)
+
+pub confirms_by_pushes : ConfirmsByPushes
+confirms_by_pushes start now g h value answers after bytes speaks known subscribes is tells =
+    let l = g.listening in
+    let turn : channel_turn g.asker l value ≡ confirmed answers after =
+    at_home g.asker l value known ∙ ap (λ (p : Protocol). turn_in p l value) speaks
+    ∙ ap (λ (b : Bool). elim b as (λ _. ChannelAnswer) [ true ↦ channel_answer value l | false ↦ other ]) subscribes ∙ is
+    in
+    let there : ServesBeside start now g value tells.0 h = subst (λ (p : Protocol). ServesIn start now p g value tells.0 h) speaks tells.1 in
+    let by : ServesBesideBy start now (confirmed answers after) g value tells.0 h = subst (λ (t : ChannelAnswer). ServesBesideBy start now t g value tells.0 h) turn there in
+    let speaks_on : h.asker.protocol ≡ Three = ap (λ (x : Guest). x.asker.protocol) by.3 ∙ speaks in
+    let shape : shape_of value ≡ Pushes =
+    ap (λ (b : Bool). elim b as (λ _. Shape) [ true ↦ Pushes | false ↦ shape_of_asked (redis_command_of value) (first_word value) (second_word value) ]) subscribes
+    in
+    let told : IsTold Three (shape_of value) tells.0 bytes = subst (λ (p : Protocol). IsTold p (shape_of value) tells.0 bytes) speaks_on tells.2 in (
+      subst (λ (s : Shape). IsTold Three s (spellings answers) bytes) shape (subst (λ (t : List ℕ). IsTold Three (shape_of value) t bytes) by.2 told),
+      ap (λ (x : Guest). x.listening) by.3,
+    )
 
 pub listeners_answered : AnswersListeners
 listeners_answered start now g h value command bytes speaks known listens is tells =

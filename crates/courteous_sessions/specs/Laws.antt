@@ -18,6 +18,7 @@ use Rattle.resp2.specs.Framing.Frame.{Frame, FrameList, no_frames, spelling, spe
 use Rattle.sentinel_cell.specs.Histories.{World}
 use Rattle.courteous_sessions.specs.Epochs.{is_far, heard}
 use Rattle.courteous_sessions.specs.Events.{told_of, event_told}
+use Rattle.courteous_sessions.specs.declared.shapes.Shape.TheVariants.{Pushes}
 use Rattle.courteous_sessions.specs.Retelling.{first_word, is_subscribing, shape_of, IsTold}
 use Rattle.courteous_sessions.specs.Visits.{Guest, guest, hears_switches, channel_turn, Serves, Tells, IsAnswered}
 
@@ -39,6 +40,13 @@ AnswersOwnInThree =
     → Tells start now g value bytes h
     → (answer : List ℕ) × (q : Party) × Responds start now (party g.party.view None) (Ok (heard g.asker.current command)) answer q
     × IsTold Three (shape_of value) answer bytes × (h ≡ guest (party q.view g.party.listens) g.listening g.told g.asker)
+
+-- There a command that changes to what a connection listens is answered by Pub/Sub as at protocol 2, and told as pushes
+abbrev pub ConfirmsByPushes : Type 0
+ConfirmsByPushes =
+    (start : World) (now : ℕ) (g h : Guest) (value : Frame) (answers : FrameList) (after : Listening) (bytes : List ℕ)
+    → g.asker.protocol ≡ Three → is_stranger g.asker ≡ false → is_subscribing (first_word value) ≡ true → channel_answer value g.listening ≡ confirmed answers after
+    → Tells start now g value bytes h → IsTold Three Pushes (spellings answers) bytes × (h.listening ≡ after)
 
 -- at protocol 2 each answer is told as it is
 abbrev pub TellsAsItIs : Type 0

@@ -1,7 +1,7 @@
 //! What a session with courtesies keeps of the one without.
 
 ghost use Rattle.courteous_sessions.specs.Retelling.{PlainIsSpelled, SaysTheSame};
-ghost use Rattle.courteous_sessions.specs.Laws.{AnswersListeners, AnswersOwnAsBefore, AnswersOwnInThree, TellsAsItIs, HearsAll, HearsFar, HearsNear, IsPassedOver, NoOtherNoteIsTold, NothingElseIsTold, PiecesJoin, StrangersTakeNoTurn, TakesNoTurn};
+ghost use Rattle.courteous_sessions.specs.Laws.{AnswersListeners, AnswersOwnAsBefore, AnswersOwnInThree, ConfirmsByPushes, TellsAsItIs, HearsAll, HearsFar, HearsNear, IsPassedOver, NoOtherNoteIsTold, NothingElseIsTold, PiecesJoin, StrangersTakeNoTurn, TakesNoTurn};
 
 /// Where no password is wanted that the client didn't give, and the connection speaks protocol 2 and doesn't listen, a
 /// command of the Sentinel's rules but SUBSCRIBE is answered as by a session without courtesies, and changes nothing
@@ -23,10 +23,12 @@ pub fn law_protocols_say_the_same()
 {}
 
 /// At protocol 2 each answer is told as it is. At protocol 3 a command of the Sentinel's rules but SUBSCRIBE is answered
-/// as to one who listens to nothing, whether the connection listens or not, and then told in protocol 3's way.
+/// as to one who listens to nothing, whether the connection listens or not, and then told in protocol 3's way. What
+/// changes to what it listens is answered as at protocol 2, and told as pushes.
 pub fn law_protocols_tell_the_same_answers()
     ensures two { TellsAsItIs }
     ensures three { AnswersOwnInThree }
+    ensures channels { ConfirmsByPushes }
 {}
 
 /// While a connection listens at protocol 2, Pub/Sub alone answers the commands of the Sentinel's rules.
