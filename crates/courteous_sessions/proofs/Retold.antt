@@ -1,8 +1,8 @@
 -- What protocol 3 tells of an answer.
-use Rattle.std.proofs.Common.{◌≡◌, ◌∙◌, ◌+◌, ◌/◌, ◌<◌, ℕ, suc, Bool, true, false, true≢false, List, [], ◌∷◌, ◌++◌, None, Result, Ok, Err, refl, sym, ap, append_assoc, decimal, length, map, take, get_or}
+use Rattle.std.proofs.Common.{◌≡◌, ◌∙◌, ◌+◌, ◌/◌, ◌<◌, ℕ, suc, Bool, true, false, true≢false, List, [], ◌∷◌, ◌++◌, None, Result, Ok, Err, refl, sym, ap, append_assoc, decimal, length, map, take, drop, get_or}
 use Rattle.std.specs.List.{flat_map}
 use Rattle.std.specs.Prelude.{bytes_eq, is_err, OnOk}
-use Rattle.std.proofs.lemmas.List.{append-nil, take_more, map-append}
+use Rattle.std.proofs.lemmas.List.{append-nil, take_more, map-append, take-append-drop}
 use Rattle.std.proofs.lemmas.Slice.Eq.{bytes_eq-Decides}
 use Rattle.client_commands.specs.declared.protocols.Protocol.{Protocol}
 use Rattle.client_commands.specs.declared.protocols.Protocol.TheVariants.{Two, Three}
@@ -14,7 +14,7 @@ use Rattle.resp2.specs.Framing.Stream.{Held, reading, bytes_in, Feeds, Answers, 
 use Rattle.resp2.proofs.FramingLemmas.Drains.{end_drains}
 use Rattle.courteous_sessions.specs.declared.shapes.Shape.{Shape}
 use Rattle.courteous_sessions.specs.declared.shapes.Shape.TheVariants.{Plain, Whole, Pairs, Tables, Verbatim, Pushes}
-use Rattle.courteous_sessions.specs.Retelling.{spelling3, spellings3, all_told_as, AreTold, IsTold, IsTold3, first_of, second_of}
+use Rattle.courteous_sessions.specs.Retelling.{spelling3, spellings3, all_told_as, AreTold, IsTold, IsTold3, JoinsTold, null_line, is_null, first_of, second_of}
 
 -- ---- the words of a command
 
@@ -91,6 +91,23 @@ array_read n rest bytes again vs is size all same =
 
 pub text_read : (text bytes again : List ℕ) → again ≡ spelling (bulk text) → bytes_eq again bytes ≡ true → bytes ≡ spelling (bulk text)
 text_read text bytes again is same = sym ((bytes_eq-Decides again bytes).0 same) ∙ is
+
+-- ---- what is told as it is
+
+pub told_plain : (n : ℕ) (unsent answer : List ℕ) → answer ≡ drop n unsent → is_null answer ≡ false → JoinsTold Three Plain (drop n unsent) (take n unsent) unsent
+told_plain n unsent answer is full =
+    let here : is_null (drop n unsent) ≡ false = ap is_null (sym is) ∙ full in (
+      drop n unsent,
+      sym (take-append-drop n unsent),
+      sym (ap (λ (b : Bool). elim b as (λ _. List ℕ) [ true ↦ null_line | false ↦ drop n unsent ]) here),
+    )
+
+-- a null is another one
+pub told_null : (n : ℕ) (unsent answer after : List ℕ) → answer ≡ drop n unsent → is_null answer ≡ true → after ≡ take n unsent ++ null_line
+    → JoinsTold Three Plain (drop n unsent) (take n unsent) after
+told_null n unsent answer after is null added =
+    let here : is_null (drop n unsent) ≡ true = ap is_null (sym is) ∙ null in
+    (null_line, added, sym (ap (λ (b : Bool). elim b as (λ _. List ℕ) [ true ↦ null_line | false ↦ drop n unsent ]) here))
 
 -- ---- where there is no answer
 

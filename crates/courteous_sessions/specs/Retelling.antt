@@ -120,8 +120,11 @@ SaysTheSame =
 -- ---- how an answer of protocol 2 is told
 
 -- an answer that holds no null is spelled alike in both; one that is a null is protocol 3's
+abbrev pub is_null : List ℕ → Bool
+is_null answer = bytes_eq answer (spelling null_bulk) || bytes_eq answer (spelling null_items)
+
 abbrev pub without_null : List ℕ → List ℕ
-without_null answer = elim (bytes_eq answer (spelling null_bulk) || bytes_eq answer (spelling null_items)) [ true ↦ null_line | false ↦ answer ]
+without_null answer = elim (is_null answer) [ true ↦ null_line | false ↦ answer ]
 
 -- a value holds no null
 abbrev mutual

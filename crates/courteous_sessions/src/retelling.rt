@@ -4,7 +4,7 @@ ghost use Rattle.std.specs.Prelude.{◌≡◌, ◌++◌, ◌∷◌, ◌/◌, ℕ
 ghost use Rattle.resp2.specs.Framing.Frame as frames;
 ghost use Rattle.resp2.specs.Framing.Frame.{view, frames_view, line_end, spelling, spellings};
 ghost use Rattle.resp2.specs.Framing.Stream.{SoFar};
-ghost use Rattle.courteous_sessions.specs.Retelling.{spelling3, spellings3, map_spelling, map_spellings, table_spelling, text_spelling, push_spelling, told_as, all_told_as, without_null, AreTold, IsTold3, IsTold, JoinsTold};
+ghost use Rattle.courteous_sessions.specs.Retelling.{spelling3, spellings3, map_spelling, map_spellings, table_spelling, text_spelling, push_spelling, told_as, all_told_as, is_null, without_null, AreTold, IsTold3, IsTold, JoinsTold};
 
 use crate::exchange::put_out;
 use crate::shapes::Shape;
@@ -18,7 +18,7 @@ use sentinel_core::ServeFault;
 use std::alloc::Global;
 
 /// The null of protocol 3.
-const NULL: &[u8] = b"_\r\n";
+pub(crate) const NULL: &[u8] = b"_\r\n";
 
 /// Adds the header of an array of these items, with the byte of its kind.
 fn push_header(out: &mut OutText, kind: u8, items: &[Value]) -> Result<(), NoMemory>
@@ -290,11 +290,18 @@ fn retell_values(
     push_all_told(out, shape, values.as_slice())
 }
 
+/// Whether the answer is a null of protocol 2.
+pub(crate) fn is_null(answer: &[u8]) -> bool
+    ensures { result ≡ is_null answer.now }
+{
+    answer == b"$-1\r\n".as_slice() || answer == b"*-1\r\n".as_slice()
+}
+
 /// The answer, or the null of protocol 3 where it is a null.
 fn without_null(answer: &[u8]) -> &[u8]
     ensures { result.now ≡ without_null answer.now }
 {
-    if answer == b"$-1\r\n".as_slice() || answer == b"*-1\r\n".as_slice() {
+    if is_null(answer) {
         return NULL;
     }
     answer
@@ -316,7 +323,7 @@ fn retell(alloc: Global, shape: Shape, answer: &[u8], out: &mut OutText) -> Resu
 }
 
 /// Adds what protocol 3 tells of an answer to what isn't sent yet.
-fn put_retold(
+pub(crate) fn put_retold(
     alloc: Global,
     unsent: &mut BytesMut,
     shape: Shape,

@@ -6,9 +6,10 @@ ghost use Rattle.courteous_sessions.specs.OnTheWay.{IsReady, guest_of};
 ghost use Rattle.courteous_sessions.specs.Retelling.{JoinsTold};
 ghost use Rattle.courteous_sessions.specs.Visits.{Tells};
 
-use crate::exchange::Exchange;
-use crate::retelling::put_told;
+use crate::exchange::{Exchange, put_out};
+use crate::retelling::{NULL, is_null, put_retold};
 use crate::shapes::{Shape, shape_of};
+use ballot_law::Text;
 use client_commands::Protocol;
 use resp2::Value;
 use sentinel_cell::{Seat, SharedSentinel};
@@ -16,7 +17,54 @@ use sentinel_conf::ConfStore;
 use sentinel_core::ServeFault;
 use std::sync::Wait;
 
+/// The bytes from this place on.
+fn bytes_from(bytes: &[u8], start: usize) -> &[u8]
+    requires { start ≤ length bytes.now }
+    ensures { result.now ≡ drop start bytes.now }
+{
+    let (_, rest) = bytes.split_at(start);
+    rest
+}
+
 impl Exchange {
+    /// Has what isn't sent yet, from this place on, be told as protocol 3 tells what it tells as it is: a null alone is
+    /// another one there. At a fault it is gone.
+    #[tactic(auto, using(crate::proofs::Retold::told_plain, crate::proofs::Retold::told_null))]
+    fn retell_plain(&mut self, start: usize) -> Result<(), ServeFault>
+        requires { start ≤ length self.old.unsent.items }
+        ensures ok { OnOk result (JoinsTold Protocol.Three Shape.Plain (drop start self.old.unsent.items) (take start self.old.unsent.items)
+            self.new.unsent.items) }
+        ensures err { OnErr result (self.new.unsent.items ≡ take start self.old.unsent.items) }
+        ensures fault { IfErr result (λ fault. fault ≡ ServeFault.NoMemory) }
+        ensures session { self.new.session ≡ self.old.session }
+        ensures attendant { self.new.attendant ≡ self.old.attendant }
+        ensures kept { (self.new.knows_masters ≡ self.old.knows_masters) × (self.new.subscriptions ≡ self.old.subscriptions) }
+    {
+        if !is_null(bytes_from(self.unsent.as_slice(), start)) {
+            return Ok(());
+        }
+        self.unsent.truncate(start);
+        put_out(&mut self.unsent, NULL)
+    }
+
+    /// The same of what it tells in another way.
+    fn retell_anew(&mut self, start: usize, shape: Shape) -> Result<(), ServeFault>
+        requires { start ≤ length self.old.unsent.items }
+        ensures ok { OnOk result (JoinsTold Protocol.Three shape (drop start self.old.unsent.items) (take start self.old.unsent.items) self.new.unsent.items) }
+        ensures err { OnErr result (self.new.unsent.items ≡ take start self.old.unsent.items) }
+        ensures fault { IfErr result (λ fault. fault ≡ ServeFault.NoMemory) }
+        ensures session { self.new.session ≡ self.old.session }
+        ensures attendant { self.new.attendant ≡ self.old.attendant }
+        ensures kept { (self.new.knows_masters ≡ self.old.knows_masters) × (self.new.subscriptions ≡ self.old.subscriptions) }
+    {
+        let answer = Text::from_slice(self.alloc, bytes_from(self.unsent.as_slice(), start));
+        self.unsent.truncate(start);
+        match answer {
+            Ok(answer) => put_retold(self.alloc, &mut self.unsent, shape, answer.as_slice()),
+            Err(_) => Err(ServeFault::NoMemory),
+        }
+    }
+
     /// Has what isn't sent yet, from this place on, be told as protocol 3 tells it. At a fault it is gone.
     fn retell(&mut self, start: usize, shape: Shape) -> Result<(), ServeFault>
         requires { start ≤ length self.old.unsent.items }
@@ -27,21 +75,13 @@ impl Exchange {
         ensures attendant { self.new.attendant ≡ self.old.attendant }
         ensures kept { (self.new.knows_masters ≡ self.old.knows_masters) × (self.new.subscriptions ≡ self.old.subscriptions) }
     {
-        match self.unsent.split_off(start) {
-            Ok(answer) => {
-                let unsent = &mut self.unsent;
-                put_told(
-                    self.alloc,
-                    unsent,
-                    Protocol::Three,
-                    shape,
-                    answer.as_slice(),
-                )
-            }
-            Err(_) => {
-                self.unsent.truncate(start);
-                Err(ServeFault::NoMemory)
-            }
+        match shape {
+            Shape::Plain => self.retell_plain(start),
+            Shape::Whole => self.retell_anew(start, Shape::Whole),
+            Shape::Pairs => self.retell_anew(start, Shape::Pairs),
+            Shape::Tables => self.retell_anew(start, Shape::Tables),
+            Shape::Verbatim => self.retell_anew(start, Shape::Verbatim),
+            Shape::Pushes => self.retell_anew(start, Shape::Pushes),
         }
     }
 

@@ -16,7 +16,7 @@ returns-in-Two-clause-served g c =
 pub retell-requires : goal.retell-requires
 retell-requires g c =
     let got = c.in_ok-answer_value.ensures.served in
-    is_behind c.len.result c.args.self.now.unsent.items c.answer_value.new.self.unsent.items got.0 c.len.ensures got.1
+    is_behind c.len.result c.args.self.now.unsent.items c.answer_value.new.self.unsent.items got.0 c.len.ensures.value got.1
 
 pub returns-in-Three-clause-served : goal.returns-in-Three-clause-served
 returns-in-Three-clause-served g c =
@@ -27,12 +27,12 @@ returns-in-Three-clause-served g c =
     (λ told.
     tells_in_three c.args.cell.now.start c.args.now (guest_of before.attendant before.subscriptions before.session c.args.seat.now.view) mid.attendant after.attendant
     mid.subscriptions after.subscriptions mid.session after.session c.answer_value.new.seat.view (view c.args.value.now) before.unsent.items mid.unsent.items
-    after.unsent.items c.len.result c.len.ensures (sym c.protocol.ensures ∙ c.in-Three.is) c.retell.ensures.attendant c.retell.ensures.kept.1 c.retell.ensures.session
+    after.unsent.items c.len.result c.len.ensures.value (sym c.protocol.ensures ∙ c.in-Three.is) c.retell.ensures.attendant c.retell.ensures.kept.1 c.retell.ensures.session
     c.in_ok-answer_value.ensures.served told)
     c.retell.ensures.ok
 
 pub returns-in-Three-clause-fault : goal.returns-in-Three-clause-fault
 returns-in-Three-clause-fault g c =
     let got = c.in_ok-answer_value.ensures.served in
-    none_told_of c.retell.result c.len.result c.args.self.now.unsent.items c.answer_value.new.self.unsent.items got.0 c.retell.new.self.unsent.items c.len.ensures got.1
+    none_told_of c.retell.result c.len.result c.args.self.now.unsent.items c.answer_value.new.self.unsent.items got.0 c.retell.new.self.unsent.items c.len.ensures.value got.1
     c.retell.ensures.err c.retell.ensures.fault
