@@ -191,6 +191,10 @@ is_same_epoch (Some epoch) (Some other) = epoch == other
 abbrev pub is_planned : Core → (m : ℕ) → Bool
 is_planned core m = is_same_epoch (epoch_of (failover_of core m).state) (master_of core m).planned
 
+-- and the master didn't refuse to hand over in it
+abbrev pub is_unrefused : Core → (m : ℕ) → Bool
+is_unrefused core m = is_planned core m && not (master_of core m).refused
+
 abbrev pub is_awaiting : FailoverState → Bool
 is_awaiting Idle = false
 is_awaiting (WaitStart epoch) = false

@@ -83,9 +83,13 @@ pub(crate) fn take_row(state: &mut State, m: u16, now: u64)
 {
     let epoch = state.core.campaign_epoch(m);
     let planned = state.core.is_planned(m);
+    let unrefused = state.core.is_unrefused(m);
     let hands_over = hands_over(state, m, now);
     let act = turn(state, m, now, false);
-    promote_choice(state, m, planned, hands_over, act.row);
+    promote_choice(state, m, unrefused, hands_over, act.row);
+    state
+        .core
+        .note_master_if(planned && is_too_late(act.row), m, MasterNotice::Stays);
     order_replicas(&state.core, &state.plan, m, &mut state.frames);
     state.core.give_vote(&state.plan, m, now, epoch, act.vote);
     note_win(&mut state.core, m, epoch, act.row);
@@ -174,12 +178,12 @@ fn order_to(state: &State, m: u16, k: usize, hands_over: bool) -> Frame
     Frame::PromoteTo(state.plan.node_name(m, k))
 }
 
-/// Has the choice be the master, where the row does; a master that was to hand over, and didn't in time, is told to
-/// stay.
-fn promote_choice(state: &mut State, m: u16, planned: bool, hands_over: bool, row: Option<Row>)
+/// Has the choice be the master, where the row does; a master that was to hand over, and neither did in time nor
+/// refused, is told to stay.
+fn promote_choice(state: &mut State, m: u16, unrefused: bool, hands_over: bool, row: Option<Row>)
     ensures { state.new ≡ record state.old {
       frames = added state.old.frames
-          (promote_frames state.old.plan state.old.core m planned hands_over row (choice_of (failover_of state.old.core m).state));
+          (promote_frames state.old.plan state.old.core m unrefused hands_over row (choice_of (failover_of state.old.core m).state));
     } }
 {
     let choice = state.core.choice(m);
@@ -192,10 +196,7 @@ fn promote_choice(state: &mut State, m: u16, planned: bool, hands_over: bool, ro
         target: state.plan.node_name(m, place),
         heir: None,
     };
-    state.frames.push_if(planned && is_too_late(row), stay);
-    state
-        .core
-        .note_master_if(planned && is_too_late(row), m, MasterNotice::Stays);
+    state.frames.push_if(unrefused && is_too_late(row), stay);
 }
 
 /// Tells replicas to follow the new master, by address.
