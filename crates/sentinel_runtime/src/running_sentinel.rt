@@ -302,8 +302,8 @@ impl<J: Which, S: ConfStore> RunningSentinel<J, S> {
         }
     }
 
-    /// For how many milliseconds it is in TILT at this reading of the clock, as far as calls of `carry_out` saw it; none
-    /// where it isn't.
+    /// For how many milliseconds it is in TILT at this reading of the clock, as far as calls of `carry_out` saw it;
+    /// none where it isn't.
     pub fn tilted_for(&self, now: u64) -> Option<u64> {
         match self.tilted.load(Ordering::SeqCst) {
             NOT_TILTED => None,

@@ -4,8 +4,8 @@
 //! opening. Each call's contract is an equation with the definitions of `sentinel_rules`. What an input does stands in
 //! `sentinel_core`: each part of it is a call on the `State` with one clause, `state.new ≡ with_part state.old ..`.
 //!
-//! A rule that does something which somebody may want to hear of leaves a `Notice` where it acts. `Core` keeps the notices
-//! until they are taken, outside what contracts see, so nothing is promised of them but that they are safe.
+//! A rule that does something which somebody may want to hear of leaves a `Notice` where it acts. `Core` keeps the
+//! notices until they are taken, outside what contracts see, so nothing is promised of them but that they are safe.
 #![tactic(auto)]
 
 mod cards;

@@ -49,8 +49,8 @@ pub enum MasterNotice {
     Stays,
     /// All its nodes and all other Sentinels are down.
     AllDown,
-    /// The next failover begins in `left` milliseconds at the earliest: twice the `failover-timeout` after the last one or
-    /// the last vote.
+    /// The next failover begins in `left` milliseconds at the earliest: twice the `failover-timeout` after the last one
+    /// or the last vote.
     PutOff { left: u64, timeout: u64 },
     /// No failover can begin, since the current epoch is the greatest one.
     NoEpochLeft,
