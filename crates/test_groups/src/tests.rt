@@ -2,11 +2,17 @@
 
 mod clients;
 mod confs;
+mod ending_files;
 mod groups;
+mod lookers;
+mod node_ports;
 mod note_queues;
 mod orders;
 mod outlets;
+mod played_nodes;
 mod ports;
 mod stores_held;
 mod talks;
 mod told_files;
+mod watch_runs;
+mod watched;

@@ -6,10 +6,22 @@ use std::alloc::Global;
 use std::io;
 use std::net::{Ipv4Addr, Net, OpenListener, SocketAddr, TcpListener};
 
+/// Who listens at a port of this machine, whichever it is.
+pub(crate) fn listening<R: Net>(rt: &R) -> io::Result<R::Listener> {
+    TcpListener::bind(rt, SocketAddr::from((Ipv4Addr::LOCALHOST, 0)))
+}
+
 /// A port of this machine that nobody has now.
 pub(crate) fn free_port<R: Net>(rt: &R) -> io::Result<u16> {
-    let any = SocketAddr::from((Ipv4Addr::LOCALHOST, 0));
-    Ok(TcpListener::bind(rt, any)?.local_addr()?.port())
+    Ok(listening(rt)?.local_addr()?.port())
+}
+
+/// Two of them, the lower one first.
+pub(crate) fn free_ports<R: Net>(rt: &R) -> io::Result<(u16, u16)> {
+    // (the first one is held until the other one is had, so they differ)
+    let (one, other) = (listening(rt)?, listening(rt)?);
+    let (one, other) = (one.local_addr()?.port(), other.local_addr()?.port());
+    Ok((one.min(other), one.max(other)))
 }
 
 /// The conf of a Sentinel that is alone: one master at 6379 with a replica at 6380.

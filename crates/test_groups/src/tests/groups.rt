@@ -2,7 +2,7 @@
 
 ghost use Rattle.std.specs.Prelude.{◌≡◌, All, IfSome};
 
-use crate::tests::confs::{Paired, both_of, free_port, text_of_one};
+use crate::tests::confs::{Paired, both_of, free_port, free_ports, text_of_one};
 use client_port::ReadsTimes;
 use log::Log;
 use sentinel_conf::{Conf, MemoryStore, read};
@@ -36,10 +36,9 @@ fn two_stores(alloc: Global) -> Option<Vec<MemoryStore>>
 
 /// The confs of a pair with these quorums, at ports that nobody has.
 fn pair<R: Net>(rt: &R, alloc: Global, quorums: (u32, u32)) -> Option<Vec<Conf>> {
-    let ports = (free_port(rt).ok()?, free_port(rt).ok()?);
     let one = Paired {
         quorum: quorums.0,
-        ..Paired::at(ports, 3000)
+        ..Paired::at(free_ports(rt).ok()?, 3000)
     };
     let other = Paired {
         quorum: quorums.1,

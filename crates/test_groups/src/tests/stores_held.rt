@@ -3,7 +3,7 @@
 ghost use Rattle.std.specs.Prelude.{◌≡◌, All, IfSome};
 
 use crate::tests::clients::{connected, vote_of, voted_in};
-use crate::tests::confs::{Paired, both_of, free_port};
+use crate::tests::confs::{Paired, both_of, free_ports};
 use crate::tests::told_files::{Told, ToldFile};
 use client_port::ReadsTimes;
 use log::Log;
@@ -16,8 +16,8 @@ use std::sync::atomic::{AtomicU64, Ordering};
 use std::test::Fail;
 use std::thread::{self, Threads};
 
-/// The first epoch of which a vote is asked for, and the one behind the last: a hundred of three digits each.
-const EPOCHS: (u64, u64) = (101, 201);
+/// The first epoch of which a vote is asked for, and the one behind the last: thirty of three digits each.
+const EPOCHS: (u64, u64) = (101, 131);
 
 /// Asks the first Sentinel for its vote of an epoch, whose store is held, then the second one, and tells of its answer;
 /// what both answered.
@@ -101,7 +101,7 @@ fn files<'a, R: Clock>(
 #[test]
 fn store_held_until_other_answers(rt: HostRuntime) -> Result<(), Fail> {
     let alloc = rt.alloc();
-    let (port, other_port) = (free_port(&rt)?, free_port(&rt)?);
+    let (port, other_port) = free_ports(&rt)?;
     let one = Paired::at((port, other_port), 4_294_967_295);
     let confs = both_of(alloc, one, one.counterpart()).ok_or("no confs")?;
     let (told, answered) = (Told::new(), AtomicU64::new(0));
@@ -111,7 +111,7 @@ fn store_held_until_other_answers(rt: HostRuntime) -> Result<(), Fail> {
     };
     let (one, other) = (connected(&rt, port)?, connected(&rt, other_port)?);
     let (given, ended) = ask_beside(&rt, alloc, group, one, other, &answered);
-    assert_eq!(rt; given?, 100);
+    assert_eq!(rt; given?, 30);
     assert_eq!(rt; ended, Ok(()));
     Ok(())
 }

@@ -3,7 +3,7 @@
 ghost use Rattle.std.specs.Prelude.{◌≡◌, All, IfSome};
 
 use crate::tests::clients::{MASTER, REPLICAS, SENTINELS, connected, shows_down};
-use crate::tests::confs::{Paired, both_of, free_port};
+use crate::tests::confs::{Paired, both_of, free_ports};
 use crate::tests::told_files::{MOST_LOOKS, Told, ToldFile, wait_for};
 use client_port::ReadsTimes;
 use log::Log;
@@ -118,7 +118,7 @@ fn files<'a, R: Clock>(
 #[test]
 fn group_talks(rt: HostRuntime) -> Result<(), Fail> {
     let alloc = rt.alloc();
-    let (port, other_port) = (free_port(&rt)?, free_port(&rt)?);
+    let (port, other_port) = free_ports(&rt)?;
     let one = Paired::at((port, other_port), 50);
     let other = Paired {
         after_ms: 4_294_967_295,
@@ -188,7 +188,7 @@ fn run_beside<'a, R: Threads + Wait + Net + Clock + ReadsTimes + Log + Sync>(
 #[test]
 fn run_group_talks(rt: HostRuntime) -> Result<(), Fail> {
     let alloc = rt.alloc();
-    let one = Paired::at((free_port(&rt)?, free_port(&rt)?), 50);
+    let one = Paired::at(free_ports(&rt)?, 50);
     let other = Paired {
         after_ms: 4_294_967_295,
         epoch: 5,
